@@ -89,7 +89,7 @@ closes other = false
 -- The past at the item's point, where its statement counts: before the first entry by which it has come to the end of its changes.
 abbrev pub at_point : ℕ → List Event → List Event
 at_point s [] = []
-at_point s (e ∷ past) = if did closes s past then at_point s past else if did closes s (e ∷ past) then past else e ∷ past
+at_point s (e ∷ past) = if did closes s (e ∷ past) then (if did closes s past then at_point s past else past) else e ∷ past
 
 -- ---- transactions
 
