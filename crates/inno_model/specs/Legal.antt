@@ -160,7 +160,7 @@ pub record MayEnd (s j : ℕ) (reply : Reply) (past : List Event) : Type 0 where
 abbrev pub MayFollow : List Event → Event → Type 0
 MayFollow past (events.Opened db) = past ≡ []
 MayFollow past (events.Started s j item) = (under_way s past ≡ None) × (j ≡ started s past + 1)
-MayFollow past (events.Begin s txn l) = (txn ≡ begins past + 1) × (l ≡ session_level s past) × IsClosed s past × (did begins_txn s past ≡ false) × (((snapshot : Bool) × Asks s (commands.Begin snapshot) past) ⊎ AsksOnTable s past)
+MayFollow past (events.Begin s txn l) = (txn ≡ begins past + 1) × (l ≡ session_level s past) × IsClosed s past × (did begins_txn s past ≡ false) × (awaits_ack (of_item s past) ≡ false) × (((snapshot : Bool) × Asks s (commands.Begin snapshot) past) ⊎ AsksOnTable s past)
 MayFollow past (events.View s) = MayView s past
 -- no two open transactions change one place
 MayFollow past (events.Changed s change) = ((key value : ℤ) × Asks s (commands.Insert key value) past × (change ≡ Put 0 (pair_row key value))) × IsOpen s past × (did closes s past ≡ false) × ((other : ℕ) → other ≢ s → AllByRecursion (λ c. place_of (opening past).schemas c ≢ place_of (opening past).schemas change) (own other past))
