@@ -166,7 +166,7 @@ MayFollow past (events.View s) = MayView s past
 MayFollow past (events.Changed s change) = ((key value : ℤ) × Asks s (commands.Insert key value) past × (change ≡ Put 0 (pair_row key value))) × IsOpen s past × (did closes s past ≡ false) × ((other : ℕ) → other ≢ s → AllByRecursion (λ c. place_of (opening past).schemas c ≢ place_of (opening past).schemas change) (own other past))
 MayFollow past (events.Undone s keep) = IsOpen s past × (length (own s past) ≡ keep + 1) × MayUndo s past
 MayFollow past (events.Committed s) = IsOpen s past × MayCommit s past
-MayFollow past (events.Acked s moment) = awaits_ack (of_item s past) ≡ true
+MayFollow past (events.Acked s moment) = (awaits_ack (of_item s past) ≡ true) × IsClosed s past
 MayFollow past (events.RolledBack s) = IsOpen s past × (own s past ≡ []) × (MayUndo s past ⊎ IsAuto s past)
 MayFollow past (events.Ended s j reply) = MayEnd s j reply past
 -- nothing waits by a lock list, is signalled or stops so far

@@ -64,6 +64,7 @@ impl History {
         ensures ok { OnOk result (entries ≤ self.new.room) }
         ensures kept { self.old.room ≤ self.new.room }
         ensures same { SameEntries self.old self.new }
+        ensures err { OnErr result (self.new ≡ self.old) }
     {
         self.events.reserve(entries)
     }

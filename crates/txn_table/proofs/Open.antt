@@ -1,5 +1,5 @@
 -- What the calls of the table make of its entries.
-use Rattle.std.proofs.Common.{◌≡◌, ℕ, ◌+◌, ◌<◌, ◌≤◌, Bool, true, false, cond, Option, None, Some, List, [], ◌∷◌, ◌++◌, nat_eq, refl, sym, ap, ◌∙◌, arith}
+use Rattle.std.proofs.Common.{◌≡◌, ℕ, ◌+◌, ◌<◌, ◌≤◌, Bool, true, false, cond, Option, None, Some, List, [], ◌∷◌, ◌++◌, nat_eq, refl, sym, ap, subst, ◌∙◌, arith}
 use Rattle.std.proofs.lemmas.Bool.Decides.{nat_tests}
 use Rattle.std.specs.Prelude.{not, is_some, Result, Ok, Err, OnOk, OnErr}
 use Rattle.std.specs.List.{AllByRecursion}
@@ -45,31 +45,38 @@ pub removed : (begun txn : ℕ) (entries : List Entry) → AreBegun begun entrie
 removed begun txn [] all = refl
 removed begun txn (e ∷ entries) all = grind (arith, nat_tests, removed begun txn entries all.2, none_below e.0 entries all.1)
 
+same_number : (txn id : ℕ) (e : Entry) (b : Bool) → (cond b (e.0, record e.1 { id = id }) e).0 ≡ e.0
+same_number txn id e true = refl
+same_number txn id e false = refl
+
 below_given : (n txn id : ℕ) (entries : List Entry) → AllByRecursion (λ (later : Entry). n < later.0) entries → AllByRecursion (λ (later : Entry). n < later.0) (with_id txn id entries)
 below_given n txn id [] all = tt
-below_given n txn id (e ∷ entries) all = go (nat_eq txn e.0) (below_given n txn id entries all.1) where
-  go : (b : Bool) → AllByRecursion (λ (later : Entry). n < later.0) (with_id txn id entries) → AllByRecursion (λ (later : Entry). n < later.0) (cond b ((e.0, record e.1 { id = id }) ∷ entries) (e ∷ with_id txn id entries))
-  go true rest = (all.0, all.1)
-  go false rest = (all.0, rest)
+below_given n txn id (e ∷ entries) all = (omega (arith, same_number txn id e (nat_eq txn e.0), all.0), below_given n txn id entries all.1)
 
 pub begun_given : (begun txn id : ℕ) (entries : List Entry) → AreBegun begun entries → AreBegun begun (with_id txn id entries)
 begun_given begun txn id [] all = tt
-begun_given begun txn id (e ∷ entries) all = go (nat_eq txn e.0) (begun_given begun txn id entries all.2) where
-  go : (b : Bool) → AreBegun begun (with_id txn id entries) → AreBegun begun (cond b ((e.0, record e.1 { id = id }) ∷ entries) (e ∷ with_id txn id entries))
-  go true rest = (all.0, all.1, all.2)
-  go false rest = (all.0, below_given e.0 txn id entries all.1, rest)
+begun_given begun txn id (e ∷ entries) all =
+    let number = same_number txn id e (nat_eq txn e.0) in (
+      omega (arith, number, all.0),
+      subst (λ m. AllByRecursion (λ (later : Entry). m < later.0) (with_id txn id entries)) (sym number) (below_given e.0 txn id entries all.1),
+      begun_given begun txn id entries all.2,
+    )
+
+none_given : (txn id : ℕ) (entries : List Entry) → AllByRecursion (λ (later : Entry). txn < later.0) entries → with_id txn id entries ≡ entries
+none_given txn id [] all = refl
+none_given txn id (e ∷ entries) all = grind (arith, nat_tests, none_given txn id entries all.1, all.0)
 
 -- a value put at a number that is there takes the old one's place
-pub given : (txn id : ℕ) (entries : List Entry) (kept : OpenTxn) → lookup (nat_eq txn) entries ≡ Some kept → insert_entry nat_eq entries txn (record kept { id = id }) ≡ with_id txn id entries
-given txn id [] kept is = cc
-given txn id (e ∷ entries) kept is = grind (arith, nat_tests, given txn id entries kept, is)
+pub given : (begun txn id : ℕ) (entries : List Entry) (kept : OpenTxn) → AreBegun begun entries → lookup (nat_eq txn) entries ≡ Some kept → insert_entry nat_eq entries txn (record kept { id = id }) ≡ with_id txn id entries
+given begun txn id [] kept all is = cc
+given begun txn id (e ∷ entries) kept all is = grind (arith, nat_tests, given begun txn id entries kept all.2, is, none_given e.0 id entries all.1)
 
 pub found : (txn : ℕ) (entries : List Entry) → is_there txn entries → is_some (lookup (nat_eq txn) entries) ≡ true
 found txn [] is = cc
 found txn (e ∷ entries) is = grind (arith, nat_tests, found txn entries, is)
 
 -- an insert at a number that is there never wants memory
-pub given_of : {T E : Type 0} (txn id : ℕ) (entries new : List Entry) (kept : OpenTxn) → lookup (nat_eq txn) entries ≡ Some kept → (result : Result T E)
+pub given_of : {T E : Type 0} (begun txn id : ℕ) (entries new : List Entry) (kept : OpenTxn) → AreBegun begun entries → lookup (nat_eq txn) entries ≡ Some kept → (result : Result T E)
     → OnOk result (new ≡ insert_entry nat_eq entries txn (record kept { id = id })) → OnErr result (lookup (nat_eq txn) entries ≡ None) → new ≡ with_id txn id entries
-given_of txn id entries new kept is (Ok value) ok err = ok ∙ given txn id entries kept is
-given_of txn id entries new kept is (Err error) ok err = absurd (cc (is, err))
+given_of begun txn id entries new kept all is (Ok value) ok err = ok ∙ given begun txn id entries kept all is
+given_of begun txn id entries new kept all is (Err error) ok err = absurd (cc (is, err))

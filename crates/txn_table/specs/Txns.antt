@@ -33,7 +33,7 @@ ids_of entries = filter (λ id. not (id == 0)) (map (λ t. t.id) (map (λ e. e.1
 -- the transaction has the id, and the others are as they were
 abbrev pub with_id : ℕ → ℕ → List Entry → List Entry
 with_id txn id [] = []
-with_id txn id (e ∷ entries) = if txn == e.0 then (e.0, record e.1 { id = id }) ∷ entries else e ∷ with_id txn id entries
+with_id txn id (e ∷ entries) = (if txn == e.0 then (e.0, record e.1 { id = id }) else e) ∷ with_id txn id entries
 
 -- the transaction's id, or 0
 abbrev pub id_at : ℕ → List Entry → ℕ

@@ -1,0 +1,5 @@
+pub mod State
+pub mod Rows
+pub mod Slots
+pub mod Ids
+pub mod Agreement
