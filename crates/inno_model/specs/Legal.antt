@@ -39,10 +39,6 @@ IsOnTable other = ⊥
 abbrev pub AsksOnTable : ℕ → List Event → Type 0
 AsksOnTable s past = (command : Command) × IsOnTable command × Asks s command past
 
--- Autocommit: the item under way opened its transaction for itself alone.
-abbrev pub IsAuto : ℕ → List Event → Type 0
-IsAuto s past = AsksOnTable s past × (did begins_txn s past ≡ true)
-
 -- ---- the bases of answers
 
 -- the database of a consistent read: at its point, under its view
@@ -90,6 +86,12 @@ pub record Inserts (s : ℕ) (outcome : Outcome) (reply : Reply) (past : List Ev
   pub answer : reply ≡ outcome.reply
   pub changes : OfItem s outcome.changes past
 
+-- what the rows say of a statement's reply, at its point
+abbrev pub Settles : ℕ → Command → Reply → List Event → Type 0
+Settles s (commands.Insert key value) reply past = Inserts s (insert_outcome key value (base s past)) reply past
+Settles s commands.Select reply past = (l : Level) × (level_at s past ≡ Some l) × Reads l s reply past
+Settles s other reply past = ⊥
+
 abbrev pub EndsInsert : ℕ → Reply → List Event → Type 0
 EndsInsert s (Count n) past = Keeps s past
 EndsInsert s (Fail error) past = (did begins_txn s past ≡ true → did rolls_back_txn s past ≡ true) × GivesUp s past
@@ -105,8 +107,8 @@ pub record EndsBegin (s : ℕ) (snapshot : Bool) (past : List Event) : Type 0 wh
 
 -- the answers to a command, but for want of memory
 abbrev pub Answers : ℕ → Command → Reply → List Event → Type 0
-Answers s (commands.Insert key value) reply past = Inserts s (insert_outcome key value (base s past)) reply past × EndsInsert s reply past
-Answers s commands.Select reply past = Keeps s past × ((l : Level) × (level_at s past ≡ Some l) × Reads l s reply past)
+Answers s (commands.Insert key value) reply past = Settles s (commands.Insert key value) reply past × EndsInsert s reply past
+Answers s commands.Select reply past = Settles s commands.Select reply past × Keeps s past
 Answers s (commands.Begin snapshot) reply past = (reply ≡ Done) × EndsBegin s snapshot past
 Answers s commands.Commit reply past = (reply ≡ Done) × IsClosed s past × (did rolls_back_txn s past ≡ false)
 Answers s commands.Rollback reply past = (reply ≡ Done) × IsClosed s past × (did commits_txn s past ≡ false)
@@ -136,9 +138,17 @@ TakesView Serializable s past = ⊥
 abbrev pub MayView : ℕ → List Event → Type 0
 MayView s past = (Asks s commands.Select past × ((l : Level) × (level s past ≡ Some l) × TakesView l s past)) ⊎ (Asks s (commands.Begin true) past × (level s past ≡ Some RepeatableRead) × (view_of s past ≡ None))
 
--- COMMIT and BEGIN commit the open transaction, and a statement its own by autocommit
+-- Autocommit: a statement commits the transaction that it opened for itself alone, once its answer is settled.
+pub record MayAutocommit (s : ℕ) (past : List Event) : Type 0 where
+  pub command : Command
+  pub asks : Asks s command past
+  pub begun : did begins_txn s past ≡ true
+  pub reply : Reply
+  pub settled : Settles s command reply past
+
+-- COMMIT and BEGIN commit the open transaction, and a statement its own
 abbrev pub MayCommit : ℕ → List Event → Type 0
-MayCommit s past = Asks s commands.Commit past ⊎ (((snapshot : Bool) × Asks s (commands.Begin snapshot) past × (did begins_txn s past ≡ false)) ⊎ IsAuto s past)
+MayCommit s past = Asks s commands.Commit past ⊎ (((snapshot : Bool) × Asks s (commands.Begin snapshot) past × (did begins_txn s past ≡ false)) ⊎ MayAutocommit s past)
 
 -- the item is ROLLBACK, or the session is ending
 abbrev pub MayUndo : ℕ → List Event → Type 0
@@ -166,8 +176,10 @@ MayFollow past (events.View s) = MayView s past
 MayFollow past (events.Changed s change) = ((key value : ℤ) × Asks s (commands.Insert key value) past × (change ≡ Put 0 (pair_row key value))) × IsOpen s past × (did closes s past ≡ false) × ((other : ℕ) → other ≢ s → AllByRecursion (λ c. place_of (opening past).schemas c ≢ place_of (opening past).schemas change) (own other past))
 MayFollow past (events.Undone s keep) = IsOpen s past × (length (own s past) ≡ keep + 1) × MayUndo s past
 MayFollow past (events.Committed s) = IsOpen s past × MayCommit s past
-MayFollow past (events.Acked s moment) = (awaits_ack (of_item s past) ≡ true) × IsClosed s past
-MayFollow past (events.RolledBack s) = IsOpen s past × (own s past ≡ []) × (MayUndo s past ⊎ IsAuto s past)
+-- moments are those of the log, and stand at 0 until it comes
+MayFollow past (events.Acked s moment) = (awaits_ack (of_item s past) ≡ true) × IsClosed s past × (moment ≡ 0)
+-- ROLLBACK or a session's end rolls back its transaction, and an item that is given up its own
+MayFollow past (events.RolledBack s) = IsOpen s past × (own s past ≡ []) × (MayUndo s past ⊎ (did begins_txn s past ≡ true))
 MayFollow past (events.Ended s j reply) = MayEnd s j reply past
 -- nothing waits by a lock list, is signalled or stops so far
 MayFollow past other = ⊥

@@ -25,6 +25,10 @@ pub record IsFirst (db : Database) : Type 0 where
   pub primary : schema.primary ≡ 0
   pub rows : db.rows ≡ from_entries []
 
+-- what holds of every past: it is legal, and opened with one table and no row
+abbrev pub IsSound : List Event → Type 0
+IsSound h = IsLegal h × IsFirst (opening h)
+
 abbrev pub IsCommitted : List Event → ℕ → Type 0
 IsCommitted h id = (n : ℕ) × (is_among h n id ≡ true)
 

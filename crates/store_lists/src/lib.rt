@@ -12,7 +12,7 @@ ghost use Rattle.inno_model.specs.Recorded.{SameEntries};
 ghost use Rattle.store_lists.specs.State.{Adds, Closes, writer_without, seen};
 ghost use Rattle.store_lists.specs.Rows.{key_of_row, row_at, sortable, key_of_value, IsUnseen, IsNext};
 ghost use Rattle.store_lists.specs.Slots.{fresh, id_for, GivesId};
-ghost use Rattle.store_lists.specs.Agreement.{IsFirst};
+ghost use Rattle.store_lists.specs.Agreement.{IsFirst, IsSound};
 ghost use Rattle.txn_table.specs.Txns.{is_there, id_at};
 
 mod slots;
@@ -156,6 +156,7 @@ impl Lists {
     pub fn next_from(&self, place: u128) -> Option<u64>
         ensures some { IfSome result (IsNext self.now.past place) }
         ensures none { IfNone result ((other : ℕ) → place ≤ other → IsUnseen self.now.past other) }
+        ensures sound { IsSound self.now.past }
     {
         self.table.next_from(place)
     }
@@ -279,6 +280,7 @@ impl Lists {
         requires is_open { IsOpen session self.old.past }
         ensures locked { IfNone result (self.new ≡ record self.old { writer = Some session }) }
         ensures alone { IfNone result ((other : ℕ) → other ≢ session → own other self.old.past ≡ []) }
+        ensures sound { IsSound self.old.past }
         ensures held { IfSome result (λ other. (self.old.writer ≡ Some other) × (other ≢ session) × IsOpen other self.old.past × (self.new ≡ self.old)) }
     {
         match without(self.writer, session) {
@@ -416,7 +418,7 @@ fn key_of_value(value: &Value) -> u64
 }
 
 /// The number plus 2^63: the order of the codes is the order of the numbers.
-fn sortable(n: i64) -> u64
+pub fn sortable(n: i64) -> u64
     ensures { result ≡ sortable n }
 {
     (i128::from(n) + (1 << 63)) as u64
