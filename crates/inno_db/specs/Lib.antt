@@ -1,3 +1,9 @@
+pub mod Calculated
 pub mod Changes
+pub mod Conditions
 pub mod Database
+pub mod Expressions
+pub mod Names
 pub mod Order
+pub mod Seen
+pub mod Storing

@@ -3,7 +3,15 @@
 #![tactic(auto)]
 
 mod change;
+mod condition;
+mod datum;
 mod db;
+mod expression;
+mod names;
 
 pub use change::Change;
+pub use condition::{Truth, compare, evaluate, is_match, order};
+pub use datum::{Datum, at_place, in_column, of_literal, of_operand, of_value};
 pub use db::Db;
+pub use expression::{compute, given};
+pub use names::{place_of_column, place_of_table};
