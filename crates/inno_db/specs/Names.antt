@@ -10,6 +10,10 @@ use Rattle.inno_types.specs.declared.value.Schema.{Schema}
 abbrev pub column_place : List Column → List ℕ → Option ℕ
 column_place columns name = position (λ c. str_eq_ignore_ascii_case c.name name) columns
 
+-- the place of a column's name in a list of names
+abbrev pub name_place : List (List ℕ) → List ℕ → Option ℕ
+name_place names name = position (λ n. str_eq_ignore_ascii_case n name) names
+
 -- the number of the table of this name, byte for byte
 abbrev pub table_place : List Schema → List ℕ → Option ℕ
 table_place schemas name = position (λ s. bytes_eq s.name name) schemas

@@ -11,7 +11,7 @@ use Rattle.inno_types.specs.declared.stmt.Literal.TheVariants as literal
 use Rattle.inno_types.specs.declared.stmt.Set.{Set}
 use Rattle.inno_types.specs.declared.reply.SqlError.{SqlError}
 use Rattle.inno_types.specs.declared.reply.SqlError.TheVariants.{IsNull, TooLong}
-use Rattle.inno_db.specs.Names.{column_place}
+use Rattle.inno_db.specs.Names.{column_place, name_place}
 use Rattle.inno_db.specs.Expressions.{Valued, and_then, literal_given, expr_value}
 
 abbrev pub is_too_long : Kind → List ℕ → Bool
@@ -53,7 +53,7 @@ all_assigned columns row (set ∷ sets) = and_then (assigned columns row set) (�
 -- or without a list at the column's own place
 abbrev pub place_in_tuple : Option (List (List ℕ)) → ℕ → Column → Option ℕ
 place_in_tuple None place column = Some place
-place_in_tuple (Some names) place column = position (λ name. str_eq_ignore_ascii_case column.name name) names
+place_in_tuple (Some names) place column = name_place names column.name
 
 -- a column that the list leaves out is given NULL
 abbrev pub literal_at : List Literal → Option ℕ → Literal

@@ -1,12 +1,13 @@
 //! Values that are looked at where they stand, in a row or in a statement.
 
-ghost use Rattle.std.specs.Prelude.{◌≡◌, Option, slice_index_or};
+ghost use Rattle.std.specs.Prelude.{◌≡◌, IfOk, Option, slice_index_or};
 ghost use Rattle.inno_db.specs.Conditions.{literal_value, operand_value, is_null};
 ghost use Rattle.inno_db.specs.Names.{value_at, column_value};
 ghost use Rattle.inno_db.specs.Seen.{seen};
 
 use crate::names::place_of_column;
 use inno_types::{Bytes, Columns, Literal, Operand, Row, Value};
+use std::alloc::AllocError;
 
 /// A value, seen where it stands.
 #[derive(Clone, Copy)]
@@ -72,5 +73,16 @@ pub fn is_null_datum(datum: Datum<'_>) -> bool
     match datum {
         Datum::Null => true,
         Datum::Int(_) | Datum::Text(_) => false,
+    }
+}
+
+/// The same value, on its own.
+pub fn to_value(datum: Datum<'_>) -> Result<Value, AllocError>
+    ensures { IfOk result (λ value. value ≡ seen datum.entry) }
+{
+    match datum {
+        Datum::Null => Ok(Value::Null),
+        Datum::Int(number) => Ok(Value::Int(number)),
+        Datum::Text(text) => Ok(Value::Text(text.copied()?)),
     }
 }

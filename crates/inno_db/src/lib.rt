@@ -8,10 +8,12 @@ mod datum;
 mod db;
 mod expression;
 mod names;
+mod storing;
 
 pub use change::Change;
 pub use condition::{Truth, compare, evaluate, is_match, order};
-pub use datum::{Datum, at_place, in_column, of_literal, of_operand, of_value};
+pub use datum::{Datum, at_place, in_column, of_literal, of_operand, of_value, to_value};
 pub use db::Db;
 pub use expression::{compute, given};
-pub use names::{place_of_column, place_of_table};
+pub use names::{is_same_column, is_same_table, place_of_column, place_of_table};
+pub use storing::{assign_all, make_row};
