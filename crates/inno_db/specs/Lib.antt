@@ -7,3 +7,4 @@ pub mod Names
 pub mod Order
 pub mod Seen
 pub mod Storing
+pub mod Typing

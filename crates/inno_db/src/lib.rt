@@ -9,6 +9,7 @@ mod db;
 mod expression;
 mod names;
 mod storing;
+mod typing;
 
 pub use change::Change;
 pub use condition::{Truth, compare, evaluate, is_match, order};
@@ -17,3 +18,4 @@ pub use db::Db;
 pub use expression::{compute, given};
 pub use names::{is_same_column, is_same_table, place_of_column, place_of_table};
 pub use storing::{assign_all, make_row};
+pub use typing::{DataType, fits_set, fits_tuple, fits_where, knows_all, knows_set, knows_where};

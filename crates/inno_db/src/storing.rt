@@ -123,7 +123,7 @@ fn given_at(tuple: &Literals, place: usize) -> Result<Datum<'_>, SqlError>
     }
 }
 
-fn place_of_value(names: &Option<Names>, place: usize, column: &Column) -> Option<usize>
+pub fn place_of_value(names: &Option<Names>, place: usize, column: &Column) -> Option<usize>
     ensures { result ≡ place_in_tuple names.now place column.now }
 {
     match names {
