@@ -2,9 +2,11 @@ pub mod Calculated
 pub mod Changes
 pub mod Conditions
 pub mod Database
+pub mod Declarations
 pub mod Expressions
 pub mod Names
 pub mod Order
+pub mod Refusals
 pub mod Seen
 pub mod Storing
 pub mod Typing

@@ -1,5 +1,5 @@
 -- Columns and tables by their names.
-use Rattle.std.specs.Prelude.{ℕ, List, Option, Some, None, position, bytes_eq, slice_index_or}
+use Rattle.std.specs.Prelude.{ℕ, List, Option, Some, None, position, bytes_eq, slice_get, slice_index_or}
 use Rattle.std.specs.Str.{str_eq_ignore_ascii_case}
 use Rattle.inno_types.specs.declared.value.Value.{Value}
 use Rattle.inno_types.specs.declared.value.Value.TheVariants.{Null}
@@ -17,6 +17,10 @@ name_place names name = position (λ n. str_eq_ignore_ascii_case n name) names
 -- the number of the table of this name, byte for byte
 abbrev pub table_place : List Schema → List ℕ → Option ℕ
 table_place schemas name = position (λ s. bytes_eq s.name name) schemas
+
+abbrev pub column_at : List Column → Option ℕ → Option Column
+column_at columns None = None
+column_at columns (Some place) = slice_get columns place
 
 -- the value of a row at a place, or NULL where there is no such place
 abbrev pub value_at : List Value → Option ℕ → Value

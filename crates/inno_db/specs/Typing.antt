@@ -16,7 +16,7 @@ use Rattle.inno_types.specs.declared.stmt.Filter.TheVariants.{Compare, Between, 
 use Rattle.inno_types.specs.declared.stmt.Set.{Set}
 use Rattle.inno_db.specs.declared.typing.DataType.{DataType}
 use Rattle.inno_db.specs.declared.typing.DataType.TheVariants.{Number, Text}
-use Rattle.inno_db.specs.Names.{column_place}
+use Rattle.inno_db.specs.Names.{column_at, column_place}
 use Rattle.inno_db.specs.Storing.{place_in_tuple, literal_at}
 
 -- whether a column of this name is there
@@ -74,10 +74,6 @@ given_fits type literal.Null = true
 given_fits type (literal.Int n) = is_same_type type Number
 given_fits type literal.TooBig = is_same_type type Number
 given_fits type (literal.Text text) = is_same_type type Text
-
-abbrev pub column_at : List Column → Option ℕ → Option Column
-column_at columns None = None
-column_at columns (Some place) = slice_get columns place
 
 abbrev pub type_if : Option Column → Option DataType
 type_if None = None
