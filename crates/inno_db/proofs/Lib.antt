@@ -1,2 +1,3 @@
 pub mod Declaring
 pub mod Numbers
+pub mod Tables

@@ -6,6 +6,7 @@ pub mod Declarations
 pub mod Expressions
 pub mod Names
 pub mod Order
+pub mod Outcome
 pub mod Refusals
 pub mod Seen
 pub mod Storing
