@@ -1,5 +1,5 @@
 -- A list of one primary key.
-use Rattle.std.proofs.Common.{◌≡◌, ℕ, ◌<◌, ◌≤◌, List, [], ◌∷◌, length, get_or, sym, ap, arith}
+use Rattle.std.proofs.Common.{◌≡◌, ℕ, ◌<◌, ◌≤◌, List, [], ◌∷◌, length, get_or, ap, arith}
 use Rattle.inno_types.specs.declared.stmt.Definition.{Definition}
 use Rattle.inno_db.specs.Declarations.{columns_of, schema_if, declared_by}
 

@@ -1,6 +1,5 @@
 -- What rows INSERT and UPDATE make of the values that they are given.
-use Rattle.std.specs.Prelude.{ℕ, ◌+◌, Bool, false, List, [], ◌∷◌, Option, Some, None, Result, Ok, Err, nat_lt, length, if◌then◌else◌, position, slice_get, slice_set, slice_index_or}
-use Rattle.std.specs.Str.{str_eq_ignore_ascii_case}
+use Rattle.std.specs.Prelude.{ℕ, ◌+◌, Bool, false, List, [], ◌∷◌, Option, Some, None, Result, Ok, Err, nat_lt, length, if◌then◌else◌, slice_get, slice_set, slice_index_or}
 use Rattle.inno_types.specs.declared.value.Value.{Value}
 use Rattle.inno_types.specs.declared.value.Value.TheVariants.{Null, Int, Text}
 use Rattle.inno_types.specs.declared.value.Kind.{Kind}

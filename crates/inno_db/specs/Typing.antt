@@ -1,5 +1,5 @@
 -- Which columns a statement names, and whether the types of its values agree.
-use Rattle.std.specs.Prelude.{ℕ, ◌+◌, Bool, true, false, not, ◌&&◌, ◌||◌, ◌==◌, List, [], ◌∷◌, Option, Some, None, is_some, slice_get}
+use Rattle.std.specs.Prelude.{ℕ, ◌+◌, Bool, true, false, not, ◌&&◌, ◌||◌, ◌==◌, List, [], ◌∷◌, Option, Some, None, is_some}
 use Rattle.std.specs.List.{list_all}
 use Rattle.inno_types.specs.declared.value.Kind.{Kind}
 use Rattle.inno_types.specs.declared.value.Kind.TheVariants.{BigInt, VarBinary}

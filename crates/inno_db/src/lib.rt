@@ -20,7 +20,7 @@ pub use datum::{Datum, at_place, in_column, of_literal, of_operand, of_value, to
 pub use db::Db;
 pub use declaration::{MOST_BYTES_OF_INDEX, MOST_BYTES_OF_ROW, MOST_COLUMNS, MOST_KEYS, declare};
 pub use expression::{compute, given};
-pub use names::{is_same_column, is_same_table, place_of_column, place_of_table};
+pub use names::{is_same_column, is_same_table, place_of_column, place_of_name, place_of_table};
 pub use outcome::{Changes, Outcome, Written};
 pub use refusal::{MOST_TABLES, refuse, schema_of_table};
 pub use storing::{assign_all, make_row};
