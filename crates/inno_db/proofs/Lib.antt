@@ -1,3 +1,1 @@
-pub mod Declaring
-pub mod Numbers
 pub mod Tables

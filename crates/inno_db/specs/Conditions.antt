@@ -13,8 +13,8 @@ use Rattle.inno_types.specs.declared.stmt.Operand.{Operand}
 use Rattle.inno_types.specs.declared.stmt.Operand.TheVariants as operand
 use Rattle.inno_types.specs.declared.stmt.Filter.{Filter}
 use Rattle.inno_types.specs.declared.stmt.Filter.TheVariants.{Compare, Between, In, IsNull, Not', And', Or'}
-use Rattle.inno_db.specs.declared.condition.Truth.{Truth}
-use Rattle.inno_db.specs.declared.condition.Truth.TheVariants.{True, False, Unknown}
+use Rattle.inno_db.specs.declared.truth.Truth.{Truth}
+use Rattle.inno_db.specs.declared.truth.Truth.TheVariants.{True, False, Unknown}
 use Rattle.inno_db.specs.Database.{value_cmp}
 use Rattle.inno_db.specs.Names.{column_value}
 

@@ -11,20 +11,8 @@ use Rattle.inno_types.specs.declared.stmt.DeclaredKind.{DeclaredKind}
 use Rattle.inno_types.specs.declared.stmt.DeclaredKind.TheVariants as declared
 use Rattle.inno_types.specs.declared.stmt.Definition.{Definition}
 use Rattle.inno_types.specs.declared.stmt.Definition.TheVariants as definition
+use Rattle.inno_db.specs.declared.limits.TheConstants.{MOST_COLUMNS, MOST_KEYS, MOST_BYTES_OF_INDEX, MOST_BYTES_OF_ROW}
 use Rattle.inno_db.specs.Names.{column_at, column_place}
-
--- the limits of a table
-abbrev pub most_columns : ℕ
-most_columns = 16
-
-abbrev pub most_keys : ℕ
-most_keys = 4
-
-abbrev pub most_bytes_of_index : ℕ
-most_bytes_of_index = 32
-
-abbrev pub most_bytes_of_row : ℕ
-most_bytes_of_row = 1000
 
 -- a column's name twice
 abbrev pub has_twins : List Column → Bool
@@ -107,7 +95,7 @@ is_sized (VarBinary size) = not (size == 0)
 -- and one of at most 32 where it is indexed, by the primary key or a secondary one
 abbrev pub is_short : Kind → Bool
 is_short BigInt = true
-is_short (VarBinary size) = nat_le size most_bytes_of_index
+is_short (VarBinary size) = nat_le size MOST_BYTES_OF_INDEX
 
 -- an indexed column must be there
 abbrev pub is_indexable : Option Column → Bool
@@ -127,13 +115,13 @@ row_bytes columns = sum_by (λ c. key_bytes c.kind + 1) columns - 1
 -- the columns are few, small and of different names
 abbrev pub are_good_columns : List Column → Bool
 are_good_columns columns =
-    nat_le (length columns) most_columns
-    && (not (has_twins columns) && (list_all (λ c. is_sized c.kind) columns && nat_le (row_bytes columns) most_bytes_of_row))
+    nat_le (length columns) MOST_COLUMNS
+    && (not (has_twins columns) && (list_all (λ c. is_sized c.kind) columns && nat_le (row_bytes columns) MOST_BYTES_OF_ROW))
 
 -- the keys are few, and on columns that can be indexed; the primary key's column is not declared NULL
 abbrev pub are_good_keys : List ℕ → List Column → List Definition → Bool
 are_good_keys primary columns definitions =
-    nat_le (length (key_columns_of definitions)) most_keys
+    nat_le (length (key_columns_of definitions)) MOST_KEYS
     && (list_all (λ name. is_indexable (column_at columns (column_place columns name))) (primary ∷ key_columns_of definitions)
     && not (list_any (declares_null primary) definitions))
 

@@ -1,4 +1,3 @@
-pub mod Calculated
 pub mod Changes
 pub mod Conditions
 pub mod Database
@@ -8,6 +7,5 @@ pub mod Names
 pub mod Order
 pub mod Outcome
 pub mod Refusals
-pub mod Seen
 pub mod Storing
 pub mod Typing

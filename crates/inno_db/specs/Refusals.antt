@@ -14,13 +14,10 @@ use Rattle.inno_types.specs.declared.stmt.Stmt.{Stmt}
 use Rattle.inno_types.specs.declared.stmt.Stmt.TheVariants.{CreateTable, Select, Insert, Update, Delete, Begin, Commit, Rollback, RollbackTo, Savepoint, SetAutocommit, SetLevel}
 use Rattle.inno_types.specs.declared.reply.SqlError.{SqlError}
 use Rattle.inno_types.specs.declared.reply.SqlError.TheVariants.{Syntax, NoTable, NoColumn, TwiceNamed, WrongCount, NoDefault, TableThere, CatalogFull}
+use Rattle.inno_db.specs.declared.limits.TheConstants.{MOST_TABLES}
 use Rattle.inno_db.specs.Names.{table_place, name_place}
 use Rattle.inno_db.specs.Typing.{is_known, where_known, set_known, where_fits, set_fits, tuple_fits}
 use Rattle.inno_db.specs.Declarations.{schema_declared}
-
--- the most tables of a database
-abbrev pub most_tables : ℕ
-most_tables = 16
 
 -- refused where the test holds, and else as what comes after says
 abbrev pub refused_if : Bool → SqlError → Option SqlError → Option SqlError
@@ -43,7 +40,7 @@ schema_named schemas name = schema_at schemas (table_place schemas name)
 -- a table that is there refuses another of its name, unless the statement passes that over; else there are at most 16
 abbrev pub name_refusal : List Schema → Bool → Bool → Option SqlError
 name_refusal schemas true if_not_exists = refused_if (not if_not_exists) TableThere None
-name_refusal schemas false if_not_exists = refused_if (nat_le most_tables (length schemas)) (CatalogFull most_tables) None
+name_refusal schemas false if_not_exists = refused_if (nat_le MOST_TABLES (length schemas)) (CatalogFull MOST_TABLES) None
 
 abbrev pub create_refusal : List Schema → List ℕ → Bool → List Definition → Option SqlError
 create_refusal schemas table if_not_exists definitions =

@@ -14,8 +14,8 @@ use Rattle.inno_types.specs.declared.stmt.Expr.TheVariants as expr
 use Rattle.inno_types.specs.declared.stmt.Filter.{Filter}
 use Rattle.inno_types.specs.declared.stmt.Filter.TheVariants.{Compare, Between, In, IsNull, Not', And', Or'}
 use Rattle.inno_types.specs.declared.stmt.Set.{Set}
-use Rattle.inno_db.specs.declared.typing.DataType.{DataType}
-use Rattle.inno_db.specs.declared.typing.DataType.TheVariants.{Number, Text}
+use Rattle.inno_db.specs.declared.data_type.DataType.{DataType}
+use Rattle.inno_db.specs.declared.data_type.DataType.TheVariants.{Number, Text}
 use Rattle.inno_db.specs.Names.{column_at, column_place}
 use Rattle.inno_db.specs.Storing.{place_in_tuple, literal_at}
 

@@ -4,6 +4,7 @@
 ghost use Rattle.std.specs.Prelude.{◌≡◌, ◌≤◌, ◌<◌, length};
 ghost use Rattle.inno_db.specs.Database.{database_of, IsInOrder, rows_of};
 
+use crate::limits::MOST_TABLES;
 use inno_types::{Listed, Rows, Schema};
 use std::marker::Model;
 
@@ -37,7 +38,7 @@ impl Db {
 
     pub fn schemas(&self) -> &Listed<Schema>
         ensures same { result.now ≡ self.now.schemas }
-        ensures few { length result.now ≤ 16 }
+        ensures few { length result.now ≤ MOST_TABLES }
     {
         &self.schemas
     }

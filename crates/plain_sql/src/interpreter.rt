@@ -11,10 +11,12 @@ ghost use Rattle.inno_db.specs.Outcome.{answered, counted, on_number, on_rows, c
 
 use crate::changes::{delete, insert, update};
 use crate::selection::select;
-use inno_db::{Change, Changes, Db, Outcome, Written, declare, place_of_table, refuse};
+use inno_db::{Change, Changes, Db, Outcome, Written};
 use inno_types::{
     Bytes, Definitions, Filter, Listed, Names, Reply, Rows, Schema, Selected, Sets, Stmt, Tuples,
 };
+use sql_refusals::{declare, refuse};
+use sql_values::place_of_table;
 use std::alloc::{AllocError, Global};
 use store_api::NoMemory;
 

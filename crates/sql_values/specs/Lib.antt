@@ -1,0 +1,2 @@
+pub mod Calculated
+pub mod Seen
