@@ -1,1 +1,4 @@
+pub mod Applying
+pub mod Keys
+pub mod Outcomes
 pub mod Tables
