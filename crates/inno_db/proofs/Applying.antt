@@ -1,20 +1,18 @@
 -- What changes do to the rows of a database.
-use Rattle.std.proofs.Common.{◌≡◌, ◌≢◌, ◌∙◌, ap, sym, subst, refl, ℕ, Bool, List, [], ◌∷◌, ◌++◌, map, true, false, not, T, cond, eqb, Option, Some, None, Ordering, arith}
+use Rattle.std.proofs.Common.{◌≡◌, ◌≢◌, ◌∙◌, ap, sym, subst, refl, ℕ, Bool, List, [], ◌∷◌, ◌++◌, map, true, false, not, cond, Some, None, Ordering}
 use Rattle.std.specs.Prelude.{filter, ◌==◌}
-use Rattle.std.specs.List.{fold}
-use Rattle.std.specs.Ordering.{eq_by_cmp, is_eq, nat_cmp, ordering_then}
+use Rattle.std.specs.Ordering.{eq_by_cmp, is_eq}
 use Rattle.std.specs.declared.cmp.Ordering.TheVariants.{Less, Equal, Greater}
-use Rattle.std.specs.FinMap.{FinMap, entries, entries_sorted, get, insert, remove, find, put, from_sorted, entries-from_sorted, entries-insert, get-from_sorted, get-entries, get-insert, get-remove, same_map}
+use Rattle.std.specs.FinMap.{entries, entries_sorted, get, remove, find, put, from_sorted, entries-from_sorted, entries-insert, get-from_sorted, get-entries, get-insert, get-remove, same_map}
 use Rattle.std.specs.FinMap.Entries.{by_order, where_key, is_sorted-where_key, find-where_key}
 use Rattle.std.specs.Cmp.{alike_right, eq_by_cmp_equiv}
 use Rattle.std.proofs.lemmas.Cmp.{tied_itself}
 use Rattle.std.proofs.lemmas.List.Sums.{fold-append}
 use Rattle.std.proofs.lemmas.Bool.{ne_eqb}
 use Rattle.inno_types.specs.declared.value.Value.{Value}
-use Rattle.inno_types.specs.declared.value.Schema.{Schema}
 use Rattle.inno_db.specs.declared.change.Change.{Change}
 use Rattle.inno_db.specs.declared.change.Change.TheVariants.{Create, Put, Remove}
-use Rattle.inno_db.specs.Database.{Database, Place, RowMap, place_cmp, value_cmp, key_in, rows_of}
+use Rattle.inno_db.specs.Database.{Database, Place, RowMap, place_cmp, key_in, rows_of}
 use Rattle.inno_db.specs.Order.{place_cmp_total}
 use Rattle.inno_db.specs.Changes.{apply_one, apply}
 use Rattle.inno_db.proofs.Tables.{place_cmp-IsAntisymmetric}
@@ -94,9 +92,9 @@ of_table-put table other key row (e ∷ es) apart =
     elim (place_cmp (other, key) e.0) as (λ o. place_cmp (other, key) e.0 ≡ o → of_table table (by_order o (((other, key), row) ∷ e ∷ es) ((e.0, row) ∷ es) (e ∷ put place_cmp (other, key) row es)) ≡ of_table table (e ∷ es)) [
       | Less ↦ λ is. not_of_table table ((other, key), row) (e ∷ es) apart
       | Equal ↦ λ is.
-        let there : other ≡ e.0.0 = ap (λ (p : Place). p.0) (place_cmp-IsAntisymmetric (other, key) e.0 is) in
-        let elsewhere : e.0.0 ≢ table = λ here. apart (there ∙ here) in
-        not_of_table table (e.0, row) es elsewhere ∙ sym (not_of_table table e es elsewhere)
+          let there : other ≡ e.0.0 = ap (λ (p : Place). p.0) (place_cmp-IsAntisymmetric (other, key) e.0 is) in
+          let elsewhere : e.0.0 ≢ table = λ here. apart (there ∙ here) in
+          not_of_table table (e.0, row) es elsewhere ∙ sym (not_of_table table e es elsewhere)
       | Greater ↦ λ is. ap (λ rest. cond (e.0.0 == table) (e ∷ rest) rest) (of_table-put table other key row es apart)
     ] refl
 
@@ -107,8 +105,8 @@ of_table-removed table other key (e ∷ es) apart =
     let rest = of_table-removed table other key es apart in
     elim (eq_by_cmp place_cmp (other, key) e.0) as (λ b. eq_by_cmp place_cmp (other, key) e.0 ≡ b → of_table table (cond (not b) (e ∷ where_key place_cmp (λ x. not (eq_by_cmp place_cmp (other, key) x)) es) (where_key place_cmp (λ x. not (eq_by_cmp place_cmp (other, key) x)) es)) ≡ of_table table (e ∷ es)) [
       | true ↦ λ is.
-        let there : other ≡ e.0.0 = ap (λ (p : Place). p.0) (place_cmp-IsAntisymmetric (other, key) e.0 (eq_is (place_cmp (other, key) e.0) is)) in
-        rest ∙ sym (not_of_table table e es (λ here. apart (there ∙ here)))
+          let there : other ≡ e.0.0 = ap (λ (p : Place). p.0) (place_cmp-IsAntisymmetric (other, key) e.0 (eq_is (place_cmp (other, key) e.0) is)) in
+          rest ∙ sym (not_of_table table e es (λ here. apart (there ∙ here)))
       | false ↦ λ is. ap (λ after. cond (e.0.0 == table) (e ∷ after) after) rest
     ] refl
 

@@ -1,14 +1,12 @@
 -- Each row stands at its key, and a table has a row of a key exactly where one stands there.
-use Rattle.std.proofs.Common.{◌≡◌, ◌≢◌, ◌∙◌, ap, sym, subst, refl, ℕ, zero, suc, ◌+◌, ◌<◌, Bool, List, [], ◌∷◌, ◌++◌, map, length, true, false, not, cond, Option, Some, None, is_some, ⊎_elim, arith, length-append, append_assoc}
+use Rattle.std.proofs.Common.{◌≡◌, ◌∙◌, ap, sym, subst, refl, ℕ, zero, suc, ◌+◌, ◌<◌, Bool, List, [], ◌∷◌, ◌++◌, map, length, true, false, not, cond, Option, Some, is_some, ⊎_elim, arith, length-append, append_assoc}
 use Rattle.std.specs.Prelude.{filter, ◌==◌, ◌||◌, slice_get}
-use Rattle.std.specs.List.{list_any}
-use Rattle.std.specs.Ordering.{eq_by_cmp, is_eq, nat_cmp, ordering_then}
+use Rattle.std.specs.Ordering.{eq_by_cmp, is_eq, ordering_then}
 use Rattle.std.specs.Cmp.{eq_by_cmp_equiv, nat_cmp_total}
 use Rattle.std.proofs.lemmas.Cmp.{tied_itself}
-use Rattle.std.proofs.lemmas.Bool.{eqb-false}
 use Rattle.std.proofs.lemmas.Bool.Decides.{eqb_tells}
 use Rattle.std.specs.declared.cmp.Ordering.TheVariants.{Less, Equal, Greater}
-use Rattle.std.specs.FinMap.{FinMap, entries, get, find, put, get-entries, entries-insert}
+use Rattle.std.specs.FinMap.{entries, get, find, put, get-entries, entries-insert}
 use Rattle.std.specs.FinMap.Entries.{by_order, where_key}
 use Rattle.std.proofs.lemmas.Option.{slice_get_within}
 use Rattle.inno_types.specs.declared.value.Value.{Value}
@@ -68,8 +66,8 @@ has_key-find schemas table schema key (e ∷ es) is at =
     let rest = has_key-find schemas table schema key es is at.1 in
     ⊎_elim
     (λ here. rw here.0 (
-      (ap (λ b. is_same_value (key_of schema e.1) key || b) rest)
-      ∙ or_found (is_same_value (key_of schema e.1) key) (eq_by_cmp place_cmp (table, key) e.0) e.1 (find place_cmp (table, key) es) (key_here schemas table schema key e is at.0 here.1)))
+    (ap (λ b. is_same_value (key_of schema e.1) key || b) rest)
+    ∙ or_found (is_same_value (key_of schema e.1) key) (eq_by_cmp place_cmp (table, key) e.0) e.1 (find place_cmp (table, key) es) (key_here schemas table schema key e is at.0 here.1)))
     (λ there. rw there.0 (rest ∙ sym (ap (λ b. is_some (cond b (Some e.1) (find place_cmp (table, key) es))) (apart_of table e.0.0 key e.0.1 (λ same. there.1 (sym same))))))
     (eqb_tells e.0.0 table)
 

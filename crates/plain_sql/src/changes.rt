@@ -2,14 +2,14 @@
 
 ghost use Rattle.std.specs.Prelude.{◌≡◌, ◌++◌, ◌∷◌, [], IfOk, Option, Some, None, Result, map};
 ghost use Rattle.inno_db.specs.Database.{key_of};
-ghost use Rattle.sql_values.specs.Seen.{seen};
+ghost use Rattle.inno_db.specs.Seen.{seen};
 ghost use Rattle.inno_db.specs.Outcome.{is_same_value, is_same_row, has_key, new_row, row_for, inserted, change_to, row_update, updated, deleted, matching, nothing};
 
-use inno_db::{Change, Changes, Written};
+use inno_db::{Change, Changes, Datum, Written, at_place, of_value, order, to_value};
 use inno_types::{
     Filter, Listed, Literals, Names, Row, Rows, Schema, Sets, SqlError, Tuples, Value,
 };
-use sql_values::{Datum, assign_all, at_place, is_match, make_row, of_value, order, to_value};
+use sql_values::{assign_all, is_match, make_row};
 use std::alloc::{AllocError, Global};
 
 fn is_same_datum(a: Datum<'_>, b: Datum<'_>) -> bool

@@ -4,8 +4,9 @@ ghost use Rattle.std.specs.Prelude.{◌≡◌, ◌++◌, ◌∷◌, [], IfOk, ma
 ghost use Rattle.inno_db.specs.Names.{column_value};
 ghost use Rattle.inno_db.specs.Outcome.{selected_of, matching};
 
+use inno_db::to_value;
 use inno_types::{Columns, Filter, Listed, Names, Row, Rows, Selected};
-use sql_values::{in_column, is_match, to_value};
+use sql_values::{in_column, is_match};
 use std::alloc::{AllocError, Global};
 
 /// The values of a row in the columns of these names.

@@ -3,33 +3,12 @@
 ghost use Rattle.std.specs.Prelude.{◌≡◌, Option};
 ghost use Rattle.inno_db.specs.Database.{value_cmp};
 ghost use Rattle.inno_db.specs.Conditions.{holds, compared, between, is_in, truth_of, matches};
-ghost use Rattle.sql_values.specs.Seen.{seen};
+ghost use Rattle.inno_db.specs.Seen.{seen};
 
-use crate::datum::{Datum, in_column, is_null_datum, of_literal, of_operand};
-use inno_db::Truth;
+use crate::operand::{in_column, of_literal, of_operand};
+use inno_db::{Datum, Truth, is_null_datum, order};
 use inno_types::{Columns, Comparison, Filter, Literal, Literals, Row};
 use std::cmp::Ordering;
-
-/// The order of two values: NULL stands first, then numbers, then texts.
-pub fn order(left: Datum<'_>, right: Datum<'_>) -> Ordering
-    ensures { result ≡ value_cmp (seen left.entry) (seen right.entry) }
-{
-    match left {
-        Datum::Null => match right {
-            Datum::Null => Ordering::Equal,
-            Datum::Int(_) | Datum::Text(_) => Ordering::Less,
-        },
-        Datum::Int(a) => match right {
-            Datum::Null => Ordering::Greater,
-            Datum::Int(b) => a.cmp(&b),
-            Datum::Text(_) => Ordering::Less,
-        },
-        Datum::Text(a) => match right {
-            Datum::Null | Datum::Int(_) => Ordering::Greater,
-            Datum::Text(b) => a.as_slice().cmp(&b.as_slice()),
-        },
-    }
-}
 
 fn is_met(comparison: Comparison, order: Ordering) -> bool
     ensures { result ≡ holds comparison order }

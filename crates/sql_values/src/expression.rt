@@ -3,9 +3,11 @@
 ghost use Rattle.std.specs.Prelude.{◌≡◌, ◌+ℤ◌, ◌-ℤ◌, ◌*ℤ◌, neg_ℤ};
 ghost use Rattle.inno_db.specs.Expressions.{in_range, both, negated, literal_given, expr_value};
 ghost use Rattle.sql_values.specs.Calculated.{number_or_refusal};
-ghost use Rattle.sql_values.specs.Seen.{seen, valued};
+ghost use Rattle.inno_db.specs.Seen.{seen};
+ghost use Rattle.sql_values.specs.Calculated.{valued};
 
-use crate::datum::{Datum, in_column, of_literal};
+use crate::operand::{in_column, of_literal};
+use inno_db::Datum;
 use inno_types::{Columns, Expr, Literal, Row, SqlError};
 
 /// A value, or a refusal.

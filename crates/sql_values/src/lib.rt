@@ -3,13 +3,13 @@
 #![tactic(auto)]
 
 mod condition;
-mod datum;
 mod expression;
 mod names;
+mod operand;
 mod storing;
 
-pub use condition::{compare, evaluate, is_match, order};
-pub use datum::{Datum, at_place, in_column, of_literal, of_operand, of_value, to_value};
+pub use condition::{compare, evaluate, is_match};
 pub use expression::{compute, given};
 pub use names::{is_same_column, is_same_table, place_of_column, place_of_name, place_of_table};
+pub use operand::{in_column, of_literal, of_operand};
 pub use storing::{assign_all, make_row, place_of_value};

@@ -2,12 +2,13 @@
 
 ghost use Rattle.std.specs.Prelude.{◌≡◌, ◌++◌, ◌∷◌, [], IfOk, Option, Some, None, slice_get, slice_set, slice_index_or};
 ghost use Rattle.inno_db.specs.Expressions.{literal_given, and_then};
-ghost use Rattle.sql_values.specs.Seen.{seen, valued};
+ghost use Rattle.inno_db.specs.Seen.{seen};
+ghost use Rattle.sql_values.specs.Calculated.{valued};
 ghost use Rattle.inno_db.specs.Storing.{misfit, stored, put_in, put_at, assigned, all_assigned, place_in_tuple, literal_at, values_from, row_of_tuple, is_too_long};
 
-use crate::datum::{Datum, of_value, to_value};
 use crate::expression::{compute, given};
 use crate::names::{place_of_column, place_of_name};
+use inno_db::{Datum, of_value, to_value};
 use inno_types::{
     Bytes, Column, Columns, Kind, Listed, Literal, Literals, Names, Row, Set, Sets, SqlError, Value,
 };

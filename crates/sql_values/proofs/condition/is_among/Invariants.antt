@@ -1,6 +1,6 @@
 use Rattle.std.proofs.Common.{◌≡◌, drop}
 use Rattle.inno_db.specs.Conditions.{is_in, or_of}
-use Rattle.sql_values.specs.Seen.{seen}
+use Rattle.inno_db.specs.Seen.{seen}
 use Rattle.sql_values.proofs.condition.is_among.Given as goal
 
 -- what is found so far, or the rest, is the whole
