@@ -5,5 +5,7 @@
 mod changes;
 mod interpreter;
 mod selection;
+#[cfg(test)]
+mod tests;
 
 pub use interpreter::plain;
