@@ -1,2 +1,3 @@
+pub mod Applicable
 pub mod Inserting
 pub mod Rows

@@ -14,7 +14,7 @@ ghost use Rattle.inno_db.specs.Outcome.{outcome, inserted};
 ghost use Rattle.inno_db.proofs.Applying.{AreElsewhere};
 ghost use Rattle.inno_db.proofs.Keys.{IsKeyed};
 ghost use Rattle.inno_db.proofs.Outcomes.{table_read};
-ghost use Rattle.db_laws.specs.RowChanges.{rows_after, AreOfTables, AllStand};
+ghost use Rattle.db_laws.specs.RowChanges.{rows_after, AreOfTables, AreApplicable, AllStand};
 
 /// To make some changes and then others is to make them all.
 pub fn changes_follow_one_another()
@@ -39,4 +39,9 @@ pub fn a_statement_reads_its_table()
 /// After an INSERT each row that it put stands at its key.
 pub fn inserted_rows_stand()
     ensures { (db : Database) (table : ℕ) (schema : Schema) (names : Option (List (List ℕ))) (tuples : List (List Literal)) → slice_get db.schemas table ≡ Some schema → AllStand (apply db (inserted table schema names (rows_of table db) tuples).changes) (inserted table schema names (rows_of table db) tuples).changes }
+{}
+
+/// The changes of an outcome can be made to its database.
+pub fn outcomes_can_be_made()
+    ensures { (stmt : Stmt) (db : Database) → AreApplicable db (outcome stmt db).changes }
 {}
