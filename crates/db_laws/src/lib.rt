@@ -14,6 +14,7 @@ ghost use Rattle.inno_db.specs.Outcome.{outcome, inserted};
 ghost use Rattle.inno_db.proofs.Applying.{AreElsewhere};
 ghost use Rattle.inno_db.proofs.Keys.{IsKeyed};
 ghost use Rattle.inno_db.proofs.Outcomes.{table_read};
+ghost use Rattle.db_laws.specs.Fitting.{AreRowsOf, AllFit};
 ghost use Rattle.db_laws.specs.RowChanges.{rows_after, AreOfTables, AreApplicable, AllStand};
 
 /// To make some changes and then others is to make them all.
@@ -44,4 +45,9 @@ pub fn inserted_rows_stand()
 /// The changes of an outcome can be made to its database.
 pub fn outcomes_can_be_made()
     ensures { (stmt : Stmt) (db : Database) → AreApplicable db (outcome stmt db).changes }
+{}
+
+/// Where each row of a database fits its table's columns, so do the rows that an outcome puts.
+pub fn outcomes_fit_their_tables()
+    ensures { (stmt : Stmt) (db : Database) → ((n : ℕ) (schema : Schema) → slice_get db.schemas n ≡ Some schema → AreRowsOf schema.columns (rows_of n db)) → AllFit db.schemas (outcome stmt db).changes }
 {}
