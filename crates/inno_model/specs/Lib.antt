@@ -1,0 +1,7 @@
+pub mod Commands
+pub mod Legal
+pub mod Loose
+pub mod Outcome
+pub mod Past
+pub mod Recorded
+pub mod Text

@@ -1,0 +1,12 @@
+//! The model of the storage engine: which histories it may have, and what their texts are.
+//! Everything that is proved of the engine is stated by the definitions of specs/.
+#![tactic(auto)]
+
+mod command;
+mod event;
+mod history;
+
+pub use command::Command;
+pub use event::Event;
+pub use history::History;
+pub use inno_db::{Change, Db};

@@ -1,0 +1,6 @@
+mod Ids
+mod Opens
+mod Standing
+mod Rows
+mod Owed
+mod Agree
