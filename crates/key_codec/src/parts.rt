@@ -2,10 +2,22 @@
 //! Each writer appends to a vector; on an `Err` a part of its bytes may stand there.
 
 ghost use Rattle.std.specs.Prelude.{◌≡◌, ℕ, List, ◌<◌, ◌≤◌, ◌^◌, ◌++◌, length, OnOk, IfSome, IfNone};
-ghost use Rattle.key_codec.specs.Keys.{padded};
+ghost use Rattle.key_codec.specs.Keys.{padded, key_width};
 ghost use Rattle.key_codec.specs.Numbers.{u64_bytes};
 
+use inno_types::Kind;
 use std::alloc::AllocError;
+
+/// How many bytes a key of this kind has.
+pub fn key_len(kind: Kind) -> usize
+    ensures width { result ≡ key_width kind }
+    ensures small { result ≤ 256 }
+{
+    match kind {
+        Kind::BigInt => 8,
+        Kind::VarBinary(size) => usize::from(size) + 1,
+    }
+}
 
 /// Appends the eight bytes of a number.
 #[tactic(auto, unfolding(crate::specs::Numbers::u64_bytes))]

@@ -1,9 +1,9 @@
 //! Writes a value as a key, and a value with a primary key as an entry of a secondary index.
 
 ghost use Rattle.std.specs.Prelude.{◌≡◌, ◌++◌, OnOk, OnErr};
-ghost use Rattle.key_codec.specs.Keys.{IsOfKind, IsOfKindOrNull, key_code, key_width, entry_front, entry_code};
+ghost use Rattle.key_codec.specs.Keys.{IsOfKind, IsOfKindOrNull, key_code, entry_front, entry_code};
 
-use crate::parts::{put_padded, put_u64};
+use crate::parts::{key_len, put_padded, put_u64};
 use inno_types::{Bytes, Kind, Value};
 use std::alloc::AllocError;
 use store_api::NoMemory;
@@ -38,15 +38,6 @@ pub fn put_key(value: &Value, kind: Kind, out: &mut Bytes) -> Result<(), NoMemor
     put_value(value, kind, &mut bytes)?;
     *out = Bytes::from_vec(bytes);
     Ok(())
-}
-
-fn key_len(kind: Kind) -> usize
-    ensures { result ≡ key_width kind }
-{
-    match kind {
-        Kind::BigInt => 8,
-        Kind::VarBinary(size) => usize::from(size) + 1,
-    }
 }
 
 fn put_front(value: &Value, kind: Kind, out: &mut Vec<u8>) -> Result<(), AllocError>
