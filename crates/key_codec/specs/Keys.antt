@@ -25,6 +25,14 @@ Has64Bits Null = Unit {0}
 Has64Bits (Int n) = FitsSigned w64 n
 Has64Bits (Text text) = Unit {0}
 
+-- a value that has a key of its own
+abbrev pub HasKey : Kind → Value → Type 0
+HasKey kind value = IsOfKind kind value × Has64Bits value
+
+-- a value that has entries of its own
+abbrev pub HasEntry : Kind → Value → Type 0
+HasEntry kind value = IsOfKindOrNull kind value × Has64Bits value
+
 -- the number plus 2 ^ 63, so that the least number becomes 0
 abbrev pub raised : ℤ → ℕ
 raised (pos n) = 2 ^ 63 + n

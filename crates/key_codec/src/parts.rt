@@ -51,8 +51,10 @@ pub fn put_padded(text: &[u8], size: u8, out: &mut Vec<u8>) -> Result<(), AllocE
 
 /// The text of that length that these bytes are the padding of, if they are.
 pub fn padded_text(bytes: &[u8], len: u8) -> Option<&[u8]>
-    ensures found { IfSome result (λ text. (length text.now ≡ len) × (bytes.now ≡ padded (length bytes.now) text.now) × (len ≤ length bytes.now)) }
-    ensures none { IfNone result ((text : List ℕ) → length text ≡ len → len ≤ length bytes.now → bytes.now ≡ padded (length bytes.now) text → ⊥) }
+    ensures found { IfSome result (λ text. (length text.now ≡ len)
+        × (bytes.now ≡ padded (length bytes.now) text.now) × (len ≤ length bytes.now)) }
+    ensures none { IfNone result ((text : List ℕ) → length text ≡ len → len ≤ length bytes.now
+        → bytes.now ≡ padded (length bytes.now) text → ⊥) }
 {
     if usize::from(len) > bytes.len() {
         return None;

@@ -1,7 +1,8 @@
-//! Reads a key back as its value.
+//! Reads a key back as its value. Nothing is handed out where bytes are refused.
+//! A number is read by std's `from_be_bytes`, which accepts all eight bytes.
 
 ghost use Rattle.std.specs.Prelude.{◌≡◌, ℕ, ℤ, List, ◌<◌, ◌≤◌, ◌∷◌, [], ◌++◌, length, IfOk, Err, IfSome, IfNone};
-ghost use Rattle.key_codec.specs.Keys.{IsOfKind, Has64Bits, key_code, padded, raised};
+ghost use Rattle.key_codec.specs.Keys.{IsOfKind, Has64Bits, HasKey, key_code, padded, raised};
 ghost use Rattle.key_codec.specs.Numbers.{u64_bytes};
 ghost use Rattle.key_codec.specs.Refused.{IsOrNoMemory};
 
@@ -48,8 +49,10 @@ fn number_of(bytes: &[u8]) -> Option<i64>
 
 /// The text whose key these bytes are, in a column of that size.
 fn text_of(bytes: &[u8], size: u8) -> Option<&[u8]>
-    ensures found { IfSome result (λ text. (length text.now ≤ size) × (bytes.now ≡ padded size text.now ++ length text.now ∷ [])) }
-    ensures none { IfNone result ((text : List ℕ) → length text ≤ size → bytes.now ≡ padded size text ++ length text ∷ [] → ⊥) }
+    ensures found { IfSome result (λ text. (length text.now ≤ size)
+        × (bytes.now ≡ padded size text.now ++ length text.now ∷ [])) }
+    ensures none { IfNone result ((text : List ℕ) → length text ≤ size
+        → bytes.now ≡ padded size text ++ length text ∷ [] → ⊥) }
 {
     let (last, front) = bytes.split_last()?;
     if front.len() == usize::from(size) {
@@ -65,9 +68,11 @@ pub fn get_key(alloc: Global, bytes: &[u8], kind: Kind) -> Result<Value, KeyBad>
     ensures found { IfOk result (λ value. IsOfKind kind value × (bytes.now ≡ key_code kind value)) }
     ensures range { IfOk result Has64Bits }
     // What was written as a key is read again, unless memory runs out.
-    ensures back { (value : Value) → IsOfKind kind value → Has64Bits value → bytes.now ≡ key_code kind value → IsOrNoMemory result value }
+    ensures back { (value : Value) → HasKey kind value → bytes.now ≡ key_code kind value
+        → IsOrNoMemory result value }
     // Bytes are refused only where no value has that key.
-    ensures bad { result ≡ Err KeyBad.Bad → (value : Value) → IsOfKind kind value → bytes.now ≡ key_code kind value → ⊥ }
+    ensures bad { result ≡ Err KeyBad.Bad → (value : Value) → IsOfKind kind value
+        → bytes.now ≡ key_code kind value → ⊥ }
 {
     match kind {
         Kind::BigInt => {

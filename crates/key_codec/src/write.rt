@@ -1,4 +1,5 @@
 //! Writes a value as a key, and a value with a primary key as an entry of a secondary index.
+//! A call works on a copy of what stands in `out`, so that a refused one leaves that as it was.
 
 ghost use Rattle.std.specs.Prelude.{◌≡◌, ◌++◌, OnOk, OnErr};
 ghost use Rattle.key_codec.specs.Keys.{IsOfKind, IsOfKindOrNull, key_code, entry_front, entry_code};

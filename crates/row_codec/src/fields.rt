@@ -1,4 +1,5 @@
-//! Fields: the values of single columns within a record.
+//! Fields: the values of single columns within a record, each with its flag in front.
+//! Writers append to a vector; on an `Err` a part of their bytes may stand there.
 
 ghost use Rattle.std.specs.Prelude.{◌≡◌, ℕ, List, ◌+◌, ◌≤◌, ◌∷◌, ◌++◌, length, take, drop, All, IfOk, OnOk, Err};
 ghost use Rattle.inno_types.specs.declared.value.Value.{Value};
@@ -71,9 +72,11 @@ pub fn put_fields(columns: &[Column], row: &[Value], out: &mut Vec<u8>) -> Resul
 
 /// The text whose length and padding these bytes are.
 fn text_of(alloc: Global, bytes: &[u8], size: u8) -> Result<Value, RowBad>
-    ensures found { IfOk result (λ value. IsOfKind (Kind.VarBinary size) value × (bytes.now ≡ body_code (Kind.VarBinary size) value)) }
+    ensures found { IfOk result (λ value. IsOfKind (Kind.VarBinary size) value
+        × (bytes.now ≡ body_code (Kind.VarBinary size) value)) }
     ensures range { IfOk result Has64Bits }
-    ensures shape { result ≡ Err RowBad.Shape → (text : List ℕ) → length text ≤ size → bytes.now ≡ length text ∷ padded size text → ⊥ }
+    ensures shape { result ≡ Err RowBad.Shape → (text : List ℕ) → length text ≤ size
+        → bytes.now ≡ length text ∷ padded size text → ⊥ }
 {
     let (len, front) = bytes.split_first().ok_or(RowBad::Shape)?;
     if front.len() != usize::from(size) {
@@ -87,7 +90,8 @@ fn text_of(alloc: Global, bytes: &[u8], size: u8) -> Result<Value, RowBad>
 fn present_of(alloc: Global, bytes: &[u8], kind: Kind) -> Result<Value, RowBad>
     ensures found { IfOk result (λ value. IsOfKind kind value × (bytes.now ≡ body_code kind value)) }
     ensures range { IfOk result Has64Bits }
-    ensures shape { result ≡ Err RowBad.Shape → (value : Value) → IsOfKind kind value → bytes.now ≡ body_code kind value → ⊥ }
+    ensures shape { result ≡ Err RowBad.Shape → (value : Value) → IsOfKind kind value
+        → bytes.now ≡ body_code kind value → ⊥ }
 {
     match kind {
         Kind::BigInt => {
@@ -101,9 +105,11 @@ fn present_of(alloc: Global, bytes: &[u8], kind: Kind) -> Result<Value, RowBad>
 /// The value of a field of which these are all bytes.
 fn whole_field(alloc: Global, column: &Column, flag: u8, body: &[u8]) -> Result<Value, RowBad>
     requires { length body.now ≡ key_width column.now.kind }
-    ensures found { IfOk result (λ value. FitsColumn column.now value × (flag ∷ body.now ≡ field_code column.now.kind value)) }
+    ensures found { IfOk result (λ value. FitsColumn column.now value
+        × (flag ∷ body.now ≡ field_code column.now.kind value)) }
     ensures range { IfOk result Has64Bits }
-    ensures shape { result ≡ Err RowBad.Shape → (value : Value) → FitsColumn column.now value → flag ∷ body.now ≡ field_code column.now.kind value → ⊥ }
+    ensures shape { result ≡ Err RowBad.Shape → (value : Value) → FitsColumn column.now value
+        → flag ∷ body.now ≡ field_code column.now.kind value → ⊥ }
 {
     if flag == PRESENT {
         return present_of(alloc, body, column.kind);
@@ -120,9 +126,12 @@ fn field_of<'a>(
     column: &Column,
     bytes: &'a [u8],
 ) -> Result<(Value, &'a [u8]), RowBad>
-    ensures found { IfOk result (λ read. FitsColumn column.now read.0 × (bytes.now ≡ field_code column.now.kind read.0 ++ read.1.now)) }
+    ensures found { IfOk result (λ read. FitsColumn column.now read.0
+        × (bytes.now ≡ field_code column.now.kind read.0 ++ read.1.now)) }
     ensures range { IfOk result (λ read. Has64Bits read.0) }
-    ensures shape { result ≡ Err RowBad.Shape → (value : Value) (rest : List ℕ) → FitsColumn column.now value → bytes.now ≡ field_code column.now.kind value ++ rest → ⊥ }
+    ensures shape { result ≡ Err RowBad.Shape → (value : Value) (rest : List ℕ)
+        → FitsColumn column.now value → bytes.now ≡ field_code column.now.kind value ++ rest
+        → ⊥ }
 {
     let (flag, behind) = bytes.split_first().ok_or(RowBad::Shape)?;
     let len = key_len(column.kind);
@@ -141,9 +150,11 @@ pub fn fields_of<'a>(
     bytes: &'a [u8],
     row: &mut Vec<Value>,
 ) -> Result<&'a [u8], RowBad>
-    ensures found { IfOk result (λ rest. (values : List Value) × (row.new.items ≡ row.old.items ++ values) × Reads columns.now bytes.now values rest.now) }
+    ensures found { IfOk result (λ rest. (values : List Value) × (row.new.items ≡ row.old.items ++ values)
+        × Reads columns.now bytes.now values rest.now) }
     ensures range { All Has64Bits row.old.items → All Has64Bits row.new.items }
-    ensures shape { result ≡ Err RowBad.Shape → (values : List Value) (rest : List ℕ) → Reads columns.now bytes.now values rest → ⊥ }
+    ensures shape { result ≡ Err RowBad.Shape → (values : List Value) (rest : List ℕ)
+        → Reads columns.now bytes.now values rest → ⊥ }
 {
     let mut rest = bytes;
     for column in columns {

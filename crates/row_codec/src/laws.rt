@@ -1,4 +1,5 @@
 //! What callers may rest on about the bytes of records.
+//! Each law is the contract of a function that does nothing; proofs above cite the lemmas behind them, in proofs/.
 
 ghost use Rattle.std.specs.Prelude.{◌≡◌, List, ℕ, ◌+◌, length, remove, sum_by};
 ghost use Rattle.inno_types.specs.declared.value.Schema.{Schema};
@@ -8,10 +9,13 @@ ghost use Rattle.row_codec.specs.Rows.{IsRowOf, IsRecordOf, IsVersion, version_c
 
 /// No two versions have one record.
 pub fn one_version()
-    ensures { (schema : Schema) (v w : Version) (key value : List ℕ) → IsVersion v → IsVersion w → IsRecordOf schema v key value → IsRecordOf schema w key value → v ≡ w }
+    ensures { (schema : Schema) (v w : Version) (key value : List ℕ) → IsVersion v → IsVersion w
+        → IsRecordOf schema v key value → IsRecordOf schema w key value → v ≡ w }
 {}
 
-/// All records of a table have one length.
+/// The values of all records of a table have one length.
 pub fn one_length()
-    ensures { (schema : Schema) (v : Version) → IsRowOf schema.columns v.row → length (version_code schema v) ≡ 17 + sum_by (λ column. 1 + key_width column.kind) (remove schema.columns schema.primary) }
+    ensures { (schema : Schema) (v : Version) → IsRowOf schema.columns v.row
+        → length (version_code schema v)
+        ≡ 17 + sum_by (λ column. 1 + key_width column.kind) (remove schema.columns schema.primary) }
 {}

@@ -1,4 +1,5 @@
-//! Versions of rows as the values of clustered records: mark, writer, roll pointer, and the fields of all columns but the primary one.
+//! Versions of rows as the values of clustered records: mark, writer, roll pointer, and the fields
+//! of all columns but the primary one.
 //! The layouts stand in specs/Rows.antt; a record's key is written and read by `key_codec`.
 #![tactic(auto)]
 

@@ -1,4 +1,5 @@
-//! Reads a clustered record as the version that it stands for.
+//! Reads a clustered record as the version that it stands for. Nothing is handed out where bytes are refused.
+//! The key is read by `key_codec`.
 
 ghost use Rattle.std.specs.Prelude.{◌≡◌, ℕ, List, Bool, ◌+◌, ◌≤◌, ◌∷◌, ◌++◌, length, All, IfOk, IfSome, IfNone, Err, remove};
 ghost use Rattle.inno_types.specs.declared.value.Value.{Value};
@@ -42,7 +43,8 @@ fn number_of(bytes: &[u8]) -> Option<(u64, &[u8])>
 /// The mark, the writer and the roll pointer at the front of the bytes, and the bytes behind them.
 fn head_of(bytes: &[u8]) -> Option<(bool, u64, u64, &[u8])>
     ensures found { IfSome result (λ read. bytes.now ≡ head_code read.0 read.1 read.2 ++ read.3.now) }
-    ensures none { IfNone result ((marked : Bool) (writer pointer : ℕ) (rest : List ℕ) → bytes.now ≡ head_code marked writer pointer ++ rest → ⊥) }
+    ensures none { IfNone result ((marked : Bool) (writer pointer : ℕ) (rest : List ℕ)
+        → bytes.now ≡ head_code marked writer pointer ++ rest → ⊥) }
 {
     let (mark, behind) = bytes.split_first()?;
     let marked = mark_of(*mark)?;
@@ -55,7 +57,8 @@ fn head_of(bytes: &[u8]) -> Option<(bool, u64, u64, &[u8])>
 fn row_of(alloc: Global, schema: &Schema, key: &[u8], fields: &[u8]) -> Result<Row, RowBad>
     ensures found { IfOk result (λ row. IsStored schema.now row key.now fields.now) }
     ensures range { IfOk result (All Has64Bits) }
-    ensures shape { result ≡ Err RowBad.Shape → (row : List Value) → IsStored schema.now row key.now fields.now → ⊥ }
+    ensures shape { result ≡ Err RowBad.Shape → (row : List Value)
+        → IsStored schema.now row key.now fields.now → ⊥ }
 {
     let columns = schema.columns.as_slice();
     let column = columns
@@ -80,9 +83,11 @@ pub fn decode(alloc: Global, schema: &Schema, key: &[u8], value: &[u8]) -> Resul
     ensures found { IfOk result (λ version. IsRecordOf schema.now version key.now value.now) }
     ensures range { IfOk result IsVersion }
     // What was written as a record is read again, unless memory runs out.
-    ensures back { (version : Version) → IsVersion version → IsRecordOf schema.now version key.now value.now → IsOrNoMemory result version }
+    ensures back { (version : Version) → IsVersion version
+        → IsRecordOf schema.now version key.now value.now → IsOrNoMemory result version }
     // Bytes are refused only where no version's record has them.
-    ensures shape { result ≡ Err RowBad.Shape → (version : Version) → IsRecordOf schema.now version key.now value.now → ⊥ }
+    ensures shape { result ≡ Err RowBad.Shape → (version : Version)
+        → IsRecordOf schema.now version key.now value.now → ⊥ }
 {
     let (marked, writer, pointer, fields) = head_of(value).ok_or(RowBad::Shape)?;
     let row = row_of(alloc, schema, key, fields)?;

@@ -1,4 +1,5 @@
 //! Why a record is refused.
+//! A bad key makes a bad record, and want of memory stays that.
 
 ghost use Rattle.std.specs.Prelude.{◌≡◌};
 

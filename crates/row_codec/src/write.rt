@@ -1,4 +1,5 @@
 //! Writes a version as the value of its clustered record.
+//! A call works on a copy of what stands in `out`, so that a refused one leaves that as it was.
 
 ghost use Rattle.std.specs.Prelude.{◌≡◌, ◌++◌, OnOk, OnErr};
 ghost use Rattle.row_codec.specs.Rows.{IsRowOf, head_code, others_code, version_code};
