@@ -14,7 +14,7 @@ fn name_of(alloc: Global, name: &[u8]) -> Result<Bytes, AllocError> {
 #[test]
 fn a_disk_keeps_its_files(rt: HostRuntime) -> Result<(), Fail> {
     let name = name_of(rt.alloc(), b"disk_file_keeps")?;
-    let mut disk = FileDisk::new(&rt, rt.alloc(), &name)?;
+    let mut disk = FileDisk::new(rt, rt.alloc(), &name)?;
     let mut into = [7; 8];
     assert_eq!(&rt; disk.len(Area::Pages), Ok(0));
     assert_eq!(&rt; disk.read(Area::Pages, 0, &mut into), Ok(0));
@@ -25,7 +25,7 @@ fn a_disk_keeps_its_files(rt: HostRuntime) -> Result<(), Fail> {
     disk.sync(Area::Pages)?;
     assert_eq!(&rt; disk.moment(), 6);
 
-    let mut again = FileDisk::new(&rt, rt.alloc(), &name)?;
+    let mut again = FileDisk::new(rt, rt.alloc(), &name)?;
     assert_eq!(&rt; again.len(Area::Pages), Ok(6));
     assert_eq!(&rt; again.read(Area::Pages, 1, &mut into), Ok(5));
     assert_eq!(&rt; into, *b"\0abde\x07\x07\x07");
