@@ -19,7 +19,7 @@ pub length-group : (g : Group) → length (group_bytes g) ≡ 4 + length (body g
 unfolding group_bytes
 length-group g = omega (arith, length-append (u32_bytes (length (body g))) (body g), length-u32 (length (body g)))
 
-length-body : (g : Group) → length (body g) ≡ 10 + length (flat_map record_bytes g.records)
+pub length-body : (g : Group) → length (body g) ≡ 10 + length (flat_map record_bytes g.records)
 unfolding body
 length-body g = simp (length-append, length-u64, length-u16) (omega arith)
 

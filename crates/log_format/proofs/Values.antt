@@ -1,5 +1,5 @@
 -- Values and schemas are read as they are spelled.
-use Rattle.std.proofs.Common.{◌≡◌, inl, inr, ℕ, suc, ◌^◌, ◌<◌, Bool, true, false, cond, eqb, List, [], ◌∷◌, ◌++◌, length, Option, Some, None, refl, sym, ap, subst, ◌∙◌, arith}
+use Rattle.std.proofs.Common.{◌≡◌, inl, inr, ℕ, suc, Bool, true, false, cond, eqb, List, [], ◌∷◌, ◌++◌, Option, Some, None, refl, sym, ap, subst, arith}
 use Rattle.std.specs.Int.{w64, cast_signed, cast_unsigned}
 use Rattle.std.proofs.lemmas.Bool.{cases_eq}
 use Rattle.std.proofs.lemmas.Bool.Decides.{nat_tests}
@@ -9,14 +9,11 @@ use Rattle.inno_types.specs.declared.value.Value.{Value}
 use Rattle.inno_types.specs.declared.value.Value.TheVariants.{Null, Int, Text}
 use Rattle.inno_types.specs.declared.value.Kind.{Kind}
 use Rattle.inno_types.specs.declared.value.Kind.TheVariants.{BigInt, VarBinary}
-use Rattle.inno_types.specs.declared.value.Column.{Column}
-use Rattle.inno_types.specs.declared.value.Key.{Key}
-use Rattle.inno_types.specs.declared.value.Schema.{Schema}
 use Rattle.log_format.specs.Numbers.{u64_bytes}
-use Rattle.log_format.specs.Group.{counted, IsCounted, name_bytes, IsName, value_bytes, IsValue, kind_bytes, IsKind, flag_bytes, column_bytes, IsColumn, key_bytes, IsKey, schema_bytes, IsSchema}
-use Rattle.log_format.specs.Reading.{◌>>=◌, u8_at, u64_at, name_at, value_at, kind_at, flag_at, column_at, key_at, counted_at, both_at, schema_at}
+use Rattle.log_format.specs.Group.{value_bytes, IsValue, kind_bytes, IsKind, flag_bytes, column_bytes, IsColumn, key_bytes, IsKey, schema_bytes, IsSchema}
+use Rattle.log_format.specs.Reading.{◌>>=◌, u8_at, u64_at, name_at, value_at, kind_at, flag_at, column_at, key_at, schema_at}
 use Rattle.log_format.proofs.Fields.{IsBytes, bind_some, some_is, Takes, u64_takes, u64_again}
-use Rattle.log_format.proofs.Spells.{Spells, IsByte, u8_spells, both_spells, make_spells, counted_spells, name_spells}
+use Rattle.log_format.proofs.Spells.{Spells, u8_spells, both_spells, make_spells, counted_spells, name_spells}
 
 int_takes : (bytes : List ℕ) (x : Value × List ℕ) → IsBytes bytes → (u64_at bytes >>= λ n. Some (Int (cast_signed w64 n.0), n.1)) ≡ Some x → Takes (1 ∷ bytes) (value_bytes x.0) x.1 × IsValue x.0
 int_takes bytes x fits e =

@@ -115,6 +115,11 @@ fn groups_are_spelled_as_worked_out(rt: HostRuntime) -> Result<(), Fail> {
     Ok(())
 }
 
+/// So many bytes, or all.
+fn front(bytes: &[u8], len: usize) -> &[u8] {
+    bytes.get(..len).unwrap_or(bytes)
+}
+
 fn count(groups: Groups) -> usize {
     groups.len()
 }
@@ -136,12 +141,12 @@ fn a_scan_ends_where_blocks_or_groups_do(rt: HostRuntime) -> Result<(), Fail> {
         "another first group"
     );
     assert_eq!(&rt;
-        count(get_groups(alloc, &area[..1535], 3, 5)?),
+        count(get_groups(alloc, front(&area, 1535), 3, 5)?),
         1,
         "a torn last block"
     );
     assert_eq!(&rt;
-        count(get_groups(alloc, &area[..1023], 3, 5)?),
+        count(get_groups(alloc, front(&area, 1023), 3, 5)?),
         0,
         "half a group"
     );

@@ -1,6 +1,5 @@
-use Rattle.std.proofs.Common.{◌≡◌, ◌+◌, ◌<◌, ◌++◌, length, arith, sym, ◌∙◌, ap, subst, List, ℕ, take-append-drop}
+use Rattle.std.proofs.Common.{◌≡◌, ◌+◌, ◌<◌, ◌++◌, length, arith, sym, ◌∙◌, subst, List, ℕ, take-append-drop}
 use Rattle.std.proofs.lemmas.Bool.Decides.{nat_tests}
-use Rattle.log_format.specs.Block.{block_bytes}
 use Rattle.log_format.proofs.Blocks.{BlocksSoFar, none_so_far, one_more, all_done}
 use Rattle.log_format.proofs.block.put_blocks.Goals as goal
 

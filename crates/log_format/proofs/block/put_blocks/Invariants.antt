@@ -1,5 +1,4 @@
-use Rattle.std.proofs.Common.{◌≡◌, ◌+◌, ◌*◌, ◌≤◌, List, ℕ, ◌++◌, length, vec_len, vec_capacity}
-use Rattle.log_format.specs.Block.{AreBlocks, blocks_for}
+use Rattle.std.proofs.Common.{◌≡◌, ◌+◌, ◌*◌, ◌≤◌, length, vec_len, vec_capacity}
 use Rattle.log_format.proofs.Blocks.{BlocksSoFar}
 use Rattle.log_format.proofs.block.put_blocks.Given as goal
 

@@ -1,4 +1,4 @@
-use Rattle.std.proofs.Common.{[], ◌∷◌, length}
+use Rattle.std.proofs.Common.{[]}
 use Rattle.log_format.specs.Group.{record_bytes}
 use Rattle.log_format.proofs.Puts.{PutSoFar}
 use Rattle.log_format.proofs.write.put_records.Given as goal

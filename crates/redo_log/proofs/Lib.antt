@@ -1,0 +1,6 @@
+mod Appended
+mod Begun
+mod Crash
+mod Flush
+mod Spare
+mod Written
