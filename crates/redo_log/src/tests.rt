@@ -11,6 +11,7 @@ use std::test::Fail;
 use store_api::{Area, Disk, Failed, NoMemory};
 
 /// From this moment on this LSN is flushed.
+#[derive(Drop)]
 struct Mark {
     moment: u64,
     flushed: u64,
