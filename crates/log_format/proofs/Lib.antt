@@ -1,3 +1,4 @@
+mod Behind
 pub mod Blocks
 mod Each
 mod Fields

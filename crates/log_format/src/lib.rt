@@ -13,7 +13,7 @@ mod write;
 pub use block::put_blocks;
 pub use group::{Group, Groups, Record, Records};
 pub use reading::{Stop, group_of};
-pub use scan::{get_groups, one_scan};
+pub use scan::{Found, get_groups, one_scan, scan_log};
 pub use write::{put_group, put_group_as};
 
 #[cfg(test)]

@@ -6,7 +6,7 @@ ghost use Rattle.store_api.specs.Areas.{PassesSum};
 ghost use Rattle.log_format.specs.Block.{payload_of, IsGood, payloads};
 ghost use Rattle.log_format.specs.Group.{group_bytes, IsGroup, AreGroups};
 ghost use Rattle.log_format.specs.declared.group.Group.{Group as GroupValue};
-ghost use Rattle.log_format.specs.Scan.{NoGroup, HoldsGroups, HoldsPayloads, IsScan};
+ghost use Rattle.log_format.specs.Scan.{HasPayloads, NoGroup, HoldsGroups, HoldsPayloads, IsScan, EndsAt, stream_of};
 
 use crate::block::BLOCK;
 use crate::group::{Group, Groups};
@@ -38,7 +38,8 @@ fn is_good(block: &[u8], run: u64, number: u64) -> bool
 #[tactic(auto, unfolding(crate::specs::Block::payload_of))]
 fn payload(block: &[u8]) -> &[u8]
     requires { length block.now ≡ 512 }
-    ensures { result.now ≡ payload_of block.now }
+    ensures payload { result.now ≡ payload_of block.now }
+    ensures small { length result.now ≤ 484 }
 {
     let used = usize::from(u16::from_be_bytes([block[24], block[25]]));
     let rest = &block[28..];
@@ -82,8 +83,10 @@ fn next_group(alloc: Global, bytes: &[u8], lsn: u64) -> Result<Option<(Group, &[
     }
 }
 
-fn groups_in(alloc: Global, stream: &[u8], first: u64) -> Result<Vec<Group>, AllocError>
-    ensures { IfOk result (λ groups. HoldsGroups first stream.now groups.items) }
+/// The groups at the front of the bytes, and how many bytes they take.
+fn groups_in(alloc: Global, stream: &[u8], first: u64) -> Result<(Vec<Group>, usize), AllocError>
+    ensures groups { IfOk result (λ found. HoldsGroups first stream.now found.0.items) }
+    ensures len { IfOk result (λ found. found.1 ≡ length (stream_of found.0.items)) }
 {
     let mut groups = Vec::new(alloc);
     let mut rest = stream;
@@ -92,19 +95,65 @@ fn groups_in(alloc: Global, stream: &[u8], first: u64) -> Result<Vec<Group>, All
         groups.push(group)?;
         rest = after;
         let Some(later) = next.checked_add(1) else {
-            return Ok(groups);
+            return Ok((groups, stream.len() - rest.len()));
         };
         next = later;
     }
-    Ok(groups)
+    Ok((groups, stream.len() - rest.len()))
+}
+
+/// The number of the first block before which good blocks have payloads of this length together.
+fn block_behind(bytes: &[u8], run: u64, len: usize) -> Option<u64>
+    ensures some { IfSome result (λ n. HasPayloads run n bytes.now len) }
+    ensures none { IfNone result ((n : ℕ) → HasPayloads run n bytes.now len → ⊥) }
+{
+    let mut total = 0;
+    for number in 0..bytes.len() / BLOCK {
+        if total == len {
+            return Some(number as u64);
+        }
+        let block = &bytes[BLOCK * number..BLOCK * number + BLOCK];
+        if !is_good(block, run, number as u64) {
+            return None;
+        }
+        total += payload(block).len();
+    }
+    if total == len {
+        return Some((bytes.len() / BLOCK) as u64);
+    }
+    None
+}
+
+/// What a scan of a log area finds.
+#[derive(Drop)]
+pub struct Found {
+    /// The whole groups of the blocks up to the first that isn't good, as far as their numbers rise by one.
+    pub groups: Groups,
+    /// The number of the block behind them, or None where more stands in a block of theirs.
+    pub blocks: Option<u64>,
+}
+
+/// The groups that count, and the block behind them.
+pub fn scan_log(alloc: Global, bytes: &[u8], run: u64, first: u64) -> Result<Found, NoMemory>
+    ensures groups { IfOk result (λ found. IsScan run first bytes.now found.groups) }
+    ensures ends { IfOk result (λ found. IfSome found.blocks (λ n. EndsAt run n bytes.now found.groups)) }
+    ensures none { IfOk result (λ found. IfNone found.blocks ((n : ℕ) → EndsAt run n bytes.now found.groups → ⊥)) }
+{
+    let stream = good_payloads(alloc, bytes, run)?;
+    let (groups, len) = groups_in(alloc, &stream, first)?;
+    let blocks = block_behind(bytes, run, len);
+    Ok(Found {
+        groups: Listed::from_vec(groups),
+        blocks,
+    })
 }
 
 /// The whole groups of the blocks up to the first that isn't good, as far as their LSNs rise by one from the first.
 pub fn get_groups(alloc: Global, bytes: &[u8], run: u64, first: u64) -> Result<Groups, NoMemory>
     ensures { IfOk result (λ groups. IsScan run first bytes.now groups) }
 {
-    let stream = good_payloads(alloc, bytes, run)?;
-    Ok(Listed::from_vec(groups_in(alloc, &stream, first)?))
+    let Found { groups, blocks: _ } = scan_log(alloc, bytes, run, first)?;
+    Ok(groups)
 }
 
 /// An area is a scan of one list of groups and no other.

@@ -1,6 +1,6 @@
 //! Worked bytes, and what a scan makes of blocks that a crash or a stranger left.
 
-use crate::{Group, Groups, Record, get_groups, put_blocks, put_group};
+use crate::{Group, Groups, Record, get_groups, put_blocks, put_group, scan_log};
 use inno_types::{Bytes, Column, Key, Kind, Listed, Schema, Value};
 use std::alloc::{AllocError, Global};
 use std::process::Abort;
@@ -162,6 +162,25 @@ fn a_scan_ends_where_blocks_or_groups_do(rt: HostRuntime) -> Result<(), Fail> {
         count(get_groups(alloc, &lies, 3, 5)?),
         0,
         "a length that lies"
+    );
+    Ok(())
+}
+
+#[test]
+fn the_block_behind_the_groups_is_told(rt: HostRuntime) -> Result<(), Fail> {
+    let alloc = rt.alloc();
+    let mut bytes = spelled(&rt, alloc, 5, b"b")?.into_vec();
+    let mut area = Vec::new(alloc);
+    put(&rt, 3, 0, &bytes, &mut area)?;
+    assert_eq!(&rt; scan_log(alloc, &area, 3, 5)?.blocks, Some(1));
+    assert_eq!(&rt; scan_log(alloc, &area, 3, 6)?.blocks, Some(0));
+    bytes.push(7)?;
+    area.clear();
+    put(&rt, 3, 0, &bytes, &mut area)?;
+    assert_eq!(&rt;
+        scan_log(alloc, &area, 3, 5)?.blocks,
+        None,
+        "a byte behind the group"
     );
     Ok(())
 }

@@ -2,5 +2,6 @@ mod Appended
 mod Begun
 mod Crash
 mod Flush
+mod GoesOn
 mod Spare
 mod Written

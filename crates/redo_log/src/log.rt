@@ -1,11 +1,12 @@
 //! The log as it is in memory, with what it stands for together with the log area of a disk.
 
-ghost use Rattle.std.specs.Prelude.{◌≡◌, ◌+◌, ◌-◌, ◌*◌, ◌^◌, ◌<◌, ◌≤◌, ◌∷◌, [], ◌++◌, ℕ, List, length, min, IsOk, OnOk, OnErr, IfOk};
+ghost use Rattle.std.specs.Prelude.{◌≡◌, ◌+◌, ◌-◌, ◌*◌, ◌^◌, ◌<◌, ◌≤◌, ◌∷◌, [], ◌++◌, ℕ, List, length, take, replicate, min, IsOk, OnOk, OnErr, IfOk};
 ghost use Rattle.store_api.specs.Areas.{Contents};
 ghost use Rattle.store_api.specs.Causes.{HasCause};
 ghost use Rattle.store_api.specs.Past.{Now, Meanwhile};
 ghost use Rattle.log_format.specs.Group.{AreRecords};
 ghost use Rattle.log_format.specs.declared.group.Group.{Group as GroupValue};
+ghost use Rattle.log_format.specs.Scan.{IsScan, EndsAt};
 ghost use Rattle.redo_log.specs.View.{LogView, room_of, numbers_left};
 ghost use Rattle.redo_log.specs.Logged.{GoesOnAt, IsLogged, LeavesPrefix, Stands, StandsMeanwhile};
 
@@ -166,4 +167,10 @@ impl Log {
 /// What a log and a log area stand for together is what a crash leaves of it.
 pub fn stands_for_what_is_left()
     ensures { (first : ℕ) (groups : List GroupValue) (log : LogView) (c : Contents) → IsLogged first groups log c → LeavesPrefix log.run first groups log.flushed c }
+{}
+
+/// A log goes on behind the groups of a scan, where zeros were written from there to the end and synced.
+pub fn goes_on_before_zeros()
+    ensures { (run first blocks : ℕ) (groups : List GroupValue) (area : List ℕ) (c : Contents) → IsScan run first area groups → EndsAt run blocks area groups
+        → c.writes ≡ [] → c.synced ≡ take (512 * blocks) area ++ replicate (length area - 512 * blocks) 0 → GoesOnAt run first blocks groups c }
 {}
