@@ -66,17 +66,20 @@ unfoldable mutual
   doubled quote [] = Some ([], [])
   doubled quote (b ∷ bytes) = if b == quote then with_front (quote ∷ []) (quoted quote bytes) else Some ([], b ∷ bytes)
 
--- what a byte behind a backslash stands for
-unfoldable pub escaped : ℕ → List ℕ
-escaped b =
-    if b == 48 then 0 ∷ []
-    else (if b == 98 then 8 ∷ []
-    else (if b == 110 then 10 ∷ []
-    else (if b == 114 then 13 ∷ []
-    else (if b == 116 then 9 ∷ []
-    else (if b == 90 then 26 ∷ []
-    else (if b == 37 || b == 95 then 92 ∷ b ∷ []
-    else b ∷ []))))))
+-- the letters that stand for another byte behind a backslash
+abbrev pub unescaped : ℕ → ℕ
+unescaped b =
+    if b == 48 then 0
+    else (if b == 98 then 8
+    else (if b == 110 then 10
+    else (if b == 114 then 13
+    else (if b == 116 then 9
+    else (if b == 90 then 26
+    else b)))))
+
+-- what a byte behind a backslash stands for; `%` and `_` keep the backslash
+abbrev pub escaped : ℕ → List ℕ
+escaped b = if b == 37 || b == 95 then 92 ∷ b ∷ [] else unescaped b ∷ []
 
 -- the bytes that a text stands for up to its closing quote, and what follows it
 unfoldable mutual
@@ -121,9 +124,10 @@ abbrev pub as_token_if : (List ℕ → Bool) → (List ℕ → Token) → Option
 as_token_if may token None = None
 as_token_if may token (Some read) = as_token may token read
 
--- the operator or the sign that begins with the first byte
-unfoldable pub sign_at : ℕ → List ℕ → Option (Token × List ℕ)
-sign_at b bytes =
+-- the operator or the sign at the front, and what follows it
+unfoldable pub sign_at : List ℕ → Option (Token × List ℕ)
+sign_at [] = None
+sign_at (b ∷ bytes) =
     if b == 40 then Some (Open, bytes)
     else (if b == 41 then Some (Close, bytes)
     else (if b == 44 then Some (Comma, bytes)
@@ -147,7 +151,7 @@ token_at (b ∷ bytes) =
     else (if is_digit b then as_token (λ _. true) Number (front_while is_digit (b ∷ bytes))
     else (if b == 96 then as_token_if fits_name Quoted (quoted 96 bytes)
     else (if b == 39 || b == 34 then as_token_if (λ _. true) Text (text_in b bytes)
-    else sign_at b bytes)))
+    else sign_at (b ∷ bytes))))
 
 -- The bytes are these tokens, with white space and comments before, between and behind them.
 pub data AreTokens : List ℕ → List Token → Type 0 where
