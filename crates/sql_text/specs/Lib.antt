@@ -1,0 +1,4 @@
+pub mod Parts
+pub mod Statements
+pub mod Atoms
+pub mod Conditions
