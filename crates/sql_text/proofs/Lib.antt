@@ -1,2 +1,5 @@
 pub mod Lists
 mod Numbers
+mod Settled
+mod Sound
+mod Waiting

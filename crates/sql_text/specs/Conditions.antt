@@ -96,11 +96,15 @@ unfoldable pub settle : List Mark → List Token → Result Stage (List Token)
 settle [] tokens = Ok (at_bottom tokens (follow_of tokens))
 settle (mark ∷ below) tokens = close mark below tokens >>= λ step. carry (settle below) step
 
+-- at a comparison or a test
+unfoldable pub atom_step : List Mark → List Token → Result Stage (List Token)
+atom_step waiting tokens = atom_at tokens >>= λ atom. settle waiting atom.1
+
 -- where an operand is wanted
 unfoldable pub operand_step : List Mark → List Token → Result Stage (List Token)
 operand_step waiting (Key word.Not ∷ rest) = Ok (More (Negation ∷ waiting) rest)
 operand_step waiting (Open ∷ rest) = Ok (More (Bracket ∷ waiting) rest)
-operand_step waiting tokens = atom_at tokens >>= λ atom. settle waiting atom.1
+operand_step waiting tokens = atom_step waiting tokens
 
 abbrev pub resume : (List Mark → List Token → Result (List Token) (List Token)) → Stage → Result (List Token) (List Token)
 resume more (Whole rest) = Ok rest
@@ -139,18 +143,28 @@ Stands all (frame.Open ∷ below) tokens = Stands all below (Open ∷ tokens)
 Stands all (frame.And left ∷ below) tokens = (start : List Token) × Condition Tight start left (Key word.And ∷ tokens) × AllowsAnd below × Stands all below start
 Stands all (frame.Or left ∷ below) tokens = (start : List Token) × Condition Loose start left (Key word.Or ∷ tokens) × AllowsOr below × Stands all below start
 
-abbrev pub Allows : Strength → List Frame → Type 0
-Allows Loose frames = AllowsOr frames
-Allows Tight frames = AllowsAnd frames
-Allows Single frames = Unit {0}
+abbrev pub BeginsNoAnd : List Token → Type 0
+BeginsNoAnd [] = Unit {0}
+BeginsNoAnd (Key word.And ∷ rest) = ⊥
+BeginsNoAnd (other ∷ rest) = Unit {0}
+
+-- how strongly an operand holds together, as the frames below it and the tokens behind it leave it
+abbrev pub Allows : Strength → List Frame → List Token → Type 0
+Allows Loose frames tokens = AllowsOr frames × BeginsNoAnd tokens
+Allows Tight frames tokens = AllowsAnd frames
+Allows Single frames tokens = Unit {0}
 
 -- the same, and an operand behind them
 pub record HasOperand (all : List Token) (frames : List Frame) (operand : Filter) (tokens : List Token) : Type 0 where
   pub strength : Strength
   pub start : List Token
   pub spelled : Condition strength start operand tokens
-  pub allowed : Allows strength frames
+  pub allowed : Allows strength frames tokens
   pub below : Stands all frames start
+
+abbrev pub KeepsFrames : List Frame → List Frame → Closed → Type 0
+KeepsFrames old new (closed.Goes operand rest) = new ≡ old
+KeepsFrames old new (closed.Wants rest) = Unit {0}
 
 abbrev pub ClosesTo : List Token → List Frame → Closed → Type 0
 ClosesTo all frames (closed.Goes operand rest) = HasOperand all frames operand rest.now
