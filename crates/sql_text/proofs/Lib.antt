@@ -1,5 +1,7 @@
 pub mod Lists
 mod Numbers
+mod Operands
 mod Settled
+mod SettledExpressions
 mod Sound
 mod Waiting

@@ -2,3 +2,4 @@ pub mod Parts
 pub mod Statements
 pub mod Atoms
 pub mod Conditions
+pub mod Expressions

@@ -5,6 +5,7 @@
 mod atom;
 mod condition;
 mod create;
+mod expression;
 mod insert;
 mod list;
 mod literal;
