@@ -4,4 +4,5 @@ mod Operands
 mod Settled
 mod SettledExpressions
 mod Sound
+mod SoundStatements
 mod Waiting

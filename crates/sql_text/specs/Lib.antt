@@ -3,3 +3,4 @@ pub mod Statements
 pub mod Atoms
 pub mod Conditions
 pub mod Expressions
+pub mod Whole

@@ -10,5 +10,6 @@ mod insert;
 mod list;
 mod literal;
 mod refusal;
+mod select;
 mod set;
 mod stack;
