@@ -4,5 +4,7 @@ mod Operands
 mod Settled
 mod SettledExpressions
 mod Sound
+mod SoundPlain
 mod SoundStatements
+mod SoundWhole
 mod Waiting

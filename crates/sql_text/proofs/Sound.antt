@@ -119,7 +119,7 @@ null_test_sound column (Key word.Not ∷ xs) =
     (λ ys e. subst (λ (ts : List Token). ColumnTest column (Key word.Is ∷ Key word.Not ∷ ts) (filter.IsNull column true) ys) (sym e) something)
 null_test_sound column (other ∷ xs) = tt
 
-weaker : {A : Type 0} (r : Result A (List Token)) (P Q : A → Type 0) → IfOk r P → ((a : A) → P a → Q a) → IfOk r Q
+pub weaker : {A : Type 0} (r : Result A (List Token)) (P Q : A → Type 0) → IfOk r P → ((a : A) → P a → Q a) → IfOk r Q
 weaker (Ok a) P Q h k = k a h
 weaker (Err e) P Q h k = tt
 

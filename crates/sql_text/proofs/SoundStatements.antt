@@ -45,7 +45,7 @@ equal_sound [] = tt
 equal_sound (Compare Equal ∷ ys) = refl
 equal_sound (other ∷ ys) = tt
 
-end_sound : (xs : List Token) → IfOk (end_of xs) (λ _. xs ≡ [])
+pub end_sound : (xs : List Token) → IfOk (end_of xs) (λ _. xs ≡ [])
 end_sound [] = refl
 end_sound (x ∷ xs) = tt
 
@@ -54,7 +54,7 @@ unfolding read.choice_at
 choice_sound (Star ∷ rest) = grammar.all
 choice_sound xs = bind (commas_at name_at xs) (λ names. Ok (Columns names.0, names.1)) (λ r. Commas Name xs r.0 r.1) (λ r. Choice xs r.0 r.1) (items_sound name_at Name name_sound (length xs) xs) (λ names c. grammar.some c)
 
-ends_sound : {A : Type 0} (a : A) (P : A → Type 0) (xs : List Token) → (xs ≡ [] → P a) → IfOk (read.ends_as a xs) P
+pub ends_sound : {A : Type 0} (a : A) (P : A → Type 0) (xs : List Token) → (xs ≡ [] → P a) → IfOk (read.ends_as a xs) P
 ends_sound a P [] h = h refl
 ends_sound a P (x ∷ xs) h = tt
 

@@ -8,6 +8,8 @@ use Rattle.sql_grammar.specs.declared.token.Word.{Word}
 use Rattle.sql_grammar.specs.declared.token.Word.TheVariants as word
 use Rattle.sql_grammar.specs.declared.token.Token.{Token}
 use Rattle.sql_grammar.specs.declared.token.Token.TheVariants.{Key, Bare, Compare}
+use Rattle.sql_text.specs.declared.statement.First.{First}
+use Rattle.sql_text.specs.declared.statement.First.TheVariants as first
 use Rattle.sql_text.specs.Parts.{Read, ◌>>=◌, name_at, commas_at, end_of}
 use Rattle.sql_text.specs.Statements.{choice_at, locking_of, create_of, insert_of, after_work, start_of, rollback_of, name_of, set_of}
 use Rattle.sql_text.specs.Conditions.{after_condition}
@@ -80,8 +82,14 @@ abbrev pub after_table : List Token → Result (List Token) (List Token)
 after_table (Key word.Table ∷ rest) = Ok rest
 after_table rest = Err rest
 
+unfoldable pub create_statement_of : List Token → Result Stmt (List Token)
+create_statement_of tokens = after_table tokens >>= λ rest. create_of rest
+
+abbrev pub create_table_of : List Token → Result (Unit {0}) (List Token)
+create_table_of tokens = read_it (create_statement_of tokens)
+
 unfoldable pub behind_key : Word → List Token → List Token → Result (Unit {0}) (List Token)
-behind_key word.Create all rest = after_table rest >>= λ r. read_it (create_of r)
+behind_key word.Create all rest = create_table_of rest
 behind_key word.Select all rest = select_of rest
 behind_key word.Insert all rest = read_it (insert_of rest)
 behind_key word.Update all rest = update_of rest
@@ -106,7 +114,26 @@ behind_word word.Rollback all rest = rollback_of (after_work rest)
 behind_word word.Savepoint all rest = savepoint_statement_of rest
 behind_word other all rest = Err all
 
+-- the first word of a statement, and what stands behind it
+pub data InFront : Type 0 where
+  OfKey : Word → List Token → InFront
+  OfBare : Word → List Token → InFront
+  OfOther : InFront
+
+abbrev pub first_by : First → InFront
+first_by (first.Key w rest) = OfKey w rest.now
+first_by (first.Bare w rest) = OfBare w rest.now
+first_by first.Other = OfOther
+
+unfoldable pub first_of : List Token → InFront
+first_of (Key w ∷ rest) = OfKey w rest
+first_of (Bare (Some w) name ∷ rest) = OfBare w rest
+first_of tokens = OfOther
+
+abbrev pub by_first : List Token → InFront → Result (Unit {0}) (List Token)
+by_first all (OfKey w rest) = behind_key w all rest
+by_first all (OfBare w rest) = read_it (behind_word w all rest)
+by_first all OfOther = Err all
+
 unfoldable pub statement_of : List Token → Result (Unit {0}) (List Token)
-statement_of (Key w ∷ rest) = behind_key w (Key w ∷ rest) rest
-statement_of (Bare (Some w) name ∷ rest) = read_it (behind_word w (Bare (Some w) name ∷ rest) rest)
-statement_of tokens = Err tokens
+statement_of tokens = by_first tokens (first_of tokens)

@@ -13,3 +13,4 @@ mod refusal;
 mod select;
 mod set;
 mod stack;
+mod statement;
