@@ -1,3 +1,7 @@
+mod Complete
+mod CompleteConditions
+mod CompleteExpressions
+mod CompleteStatements
 pub mod Lists
 mod Numbers
 mod Operands
