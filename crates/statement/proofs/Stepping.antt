@@ -236,7 +236,7 @@ steps_locked s old mid new st (advance.Done reply) free is steps = (moves_locked
 
 -- ---- the end of a statement on the table
 
-still_in : (auto : Bool) (s : ℕ) (e : Event) (h : List Event) → level s (e ∷ h) ≡ level s h → before_item s (e ∷ h) ≡ before_item s h → did begins_txn s (e ∷ h) ≡ did begins_txn s h → InTxn auto s h → InTxn auto s (e ∷ h)
+pub still_in : (auto : Bool) (s : ℕ) (e : Event) (h : List Event) → level s (e ∷ h) ≡ level s h → before_item s (e ∷ h) ≡ before_item s h → did begins_txn s (e ∷ h) ≡ did begins_txn s h → InTxn auto s h → InTxn auto s (e ∷ h)
 still_in false s e h same-level same-before same-begun txn = (same-level ∙ (txn.0 ∙ ap (level s) (sym same-before)), same-begun ∙ txn.1)
 still_in true s e h same-level same-before same-begun txn = (ap is_some same-level ∙ txn.0, ap (level s) same-before ∙ txn.1, ap (own s) same-before ∙ txn.2, same-begun ∙ txn.3)
 
