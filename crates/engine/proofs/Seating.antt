@@ -117,10 +117,10 @@ seats_kept old new seats s seat are joined moves agrees =
     record {
       enough = rw (moves.names_stay, length-set seats s seat) are.enough;
       each = λ u.
-        elim (eqb_tells u s) [
-          | inl same ↦ subst (λ v. SeatAgrees new v (get_or (set seats s seat) v Idle)) (sym same.1) (subst (SeatAgrees new s) (sym (get_or-set_same seats s seat Idle (omega (arith, joined, are.enough)))) agrees)
-          | inr differ ↦ subst (SeatAgrees new u) (sym (get_or-set_other seats s u seat Idle differ.1)) (moved old new s u moves.adding differ.1 (moves.writer_stays u differ.1) (get_or seats u Idle) (are.each u))
-        ];
+          elim (eqb_tells u s) [
+            | inl same ↦ subst (λ v. SeatAgrees new v (get_or (set seats s seat) v Idle)) (sym same.1) (subst (SeatAgrees new s) (sym (get_or-set_same seats s seat Idle (omega (arith, joined, are.enough)))) agrees)
+            | inr differ ↦ subst (SeatAgrees new u) (sym (get_or-set_other seats s u seat Idle differ.1)) (moved old new s u moves.adding differ.1 (moves.writer_stays u differ.1) (get_or seats u Idle) (are.each u))
+          ];
     }
 
 -- ---- a session that joins
@@ -187,7 +187,7 @@ seats_started old new seats s text item command statement are joined item-is is 
     let new-is : new ≡ to = is ∙ ap (λ i. record old { past = events.Started s (started s old.past + 1) i ∷ old.past }) item-is in
     let moves : Moves s old to = record { names_stay = refl; adding = inr (e, starts_of s (started s old.past + 1) (Sql text), refl, λ x. absurd (false≢true x)); writer_stays = λ u apart w. w } in
     subst (λ l. AreSeats l (set seats s (Busy statement))) (sym new-is)
-      (seats_kept old to seats s (Busy statement) are joined moves (started_runs old.names old.writer s (started s old.past + 1) text old.past command statement reads made))
+    (seats_kept old to seats s (Busy statement) are joined moves (started_runs old.names old.writer s (started s old.past + 1) text old.past command statement reads made))
 
 -- ---- a step
 
