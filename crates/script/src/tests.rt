@@ -1,6 +1,6 @@
 use crate::{ScriptBad, read_script, transcript};
 use inno_model::{Event, History};
-use inno_types::{Bytes, Item, Listed, Reply, SqlError, Value};
+use inno_types::{Bytes, Item, Listed, Reply, Rows, SqlError, Value};
 use std::alloc::{AllocError, Global};
 use std::test::Fail;
 
@@ -66,9 +66,7 @@ fn started(alloc: Global, s: u32) -> Result<Event, AllocError> {
     })
 }
 
-#[test]
-fn prints_each_reply(rt: HostRuntime) -> Result<(), Fail> {
-    let alloc = rt.alloc();
+fn rows_of_each_kind(alloc: Global) -> Result<Rows, AllocError> {
     let mut row = Listed::new(alloc);
     row.push(Value::Null)?;
     row.push(Value::Int(-7))?;
@@ -76,26 +74,41 @@ fn prints_each_reply(rt: HostRuntime) -> Result<(), Fail> {
     let mut rows = Listed::new(alloc);
     rows.push(row)?;
     rows.push(Listed::new(alloc))?;
-    let events = [
-        started(alloc, 1)?,
-        ended(1, Reply::Done),
-        ended(2, Reply::Count(18446744073709551615)),
-        ended(3, Reply::Rows(rows)),
-        ended(4, Reply::Fail(SqlError::NoTable)),
-        ended(5, Reply::RunLimit { rows: 1 }),
-        ended(6, Reply::NotSignalled { waited: 50 }),
-        ended(7, Reply::Stopped),
-        ended(8, Reply::NoMemory),
-        started(alloc, 3)?,
-    ];
-    let mut history = History::new(alloc);
+    Ok(rows)
+}
+
+fn add(history: &mut History, event: Event) -> Result<(), AllocError> {
+    history.reserve(1)?;
+    history.add(event);
+    Ok(())
+}
+
+fn add_names(alloc: Global, history: &mut History) -> Result<(), AllocError> {
     for name in ["setup", "a", "b", "c"] {
         history.add_name(bytes(alloc, name)?)?;
     }
-    for event in events {
-        history.reserve(1)?;
-        history.add(event);
-    }
+    Ok(())
+}
+
+fn add_replies(alloc: Global, history: &mut History) -> Result<(), AllocError> {
+    add(history, ended(1, Reply::Done))?;
+    add(history, ended(2, Reply::Count(18446744073709551615)))?;
+    add(history, ended(3, Reply::Rows(rows_of_each_kind(alloc)?)))?;
+    add(history, ended(4, Reply::Fail(SqlError::NoTable)))?;
+    add(history, ended(5, Reply::RunLimit { rows: 1 }))?;
+    add(history, ended(6, Reply::NotSignalled { waited: 50 }))?;
+    add(history, ended(7, Reply::Stopped))?;
+    add(history, ended(8, Reply::NoMemory))
+}
+
+#[test]
+fn prints_each_reply(rt: HostRuntime) -> Result<(), Fail> {
+    let alloc = rt.alloc();
+    let mut history = History::new(alloc);
+    add_names(alloc, &mut history)?;
+    add(&mut history, started(alloc, 1)?)?;
+    add_replies(alloc, &mut history)?;
+    add(&mut history, started(alloc, 3)?)?;
     let text = transcript(alloc, &history).expect(&rt, "a text");
     let wanted =
         "@session a\n1> OK\n2> OK 18446744073709551615\n3> ROWS 2\nNULL\t-7\ta\\0\\t\\n\\\\b\n\n4> ERROR 1146 (42S02)\n5> RUN LIMIT\n6> NOT SIGNALLED\n7> STOPPED\n8> NO MEMORY\n@session c\n";
