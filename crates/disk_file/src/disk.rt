@@ -1,0 +1,93 @@
+//! The three files of a database as a disk.
+
+ghost use Rattle.std.specs.Prelude.{None};
+
+use crate::area::AreaFile;
+use crate::fault::counted;
+use crate::path::path_of;
+use inno_types::Bytes;
+use std::alloc::Global;
+use std::fs::Files;
+use store_api::{Area, Disk, Failed, NoMemory};
+
+/// The files NAME.log, NAME.dbl and NAME.pag. A missing file has length 0, and is made by its first write.
+#[derive(Drop)]
+pub struct FileDisk<R: Files> {
+    runtime: R,
+    log: AreaFile<R>,
+    double: AreaFile<R>,
+    pages: AreaFile<R>,
+    moment: u64,
+    faults: u64,
+}
+
+impl<R: Files> FileDisk<R> {
+    /// Opens nothing yet. Where the name is no text, each call of the disk fails.
+    pub fn new(runtime: R, alloc: Global, name: &Bytes) -> Result<FileDisk<R>, NoMemory>
+    where
+        R: Drop,
+    {
+        let name = name.as_slice();
+        let log = AreaFile::new(path_of(alloc, name, ".log")?);
+        let double = AreaFile::new(path_of(alloc, name, ".dbl")?);
+        let pages = AreaFile::new(path_of(alloc, name, ".pag")?);
+        Ok(FileDisk {
+            runtime,
+            log,
+            double,
+            pages,
+            moment: 0,
+            faults: 0,
+        })
+    }
+}
+
+impl<R: Files> Disk for FileDisk<R> {
+    ghost past = { λ d. record { moment = d.moment; faults = d.faults; state_at = λ _. None } };
+
+    ghost seen_may_be_left = { λ d m s told. absurd (Prim.cc) };
+
+    fn len(&mut self, area: Area) -> Result<u64, Failed> {
+        self.moment = self.moment.saturating_add(1);
+        let outcome = match area {
+            Area::Log => self.log.len(&self.runtime),
+            Area::Double => self.double.len(&self.runtime),
+            Area::Pages => self.pages.len(&self.runtime),
+        };
+        counted(&mut self.faults, outcome)
+    }
+
+    fn read(&mut self, area: Area, at: u64, into: &mut [u8]) -> Result<usize, Failed> {
+        self.moment = self.moment.saturating_add(1);
+        let outcome = match area {
+            Area::Log => self.log.read(&self.runtime, at, into),
+            Area::Double => self.double.read(&self.runtime, at, into),
+            Area::Pages => self.pages.read(&self.runtime, at, into),
+        };
+        counted(&mut self.faults, outcome)
+    }
+
+    fn write(&mut self, area: Area, at: u64, bytes: &[u8]) -> Result<(), Failed> {
+        self.moment = self.moment.saturating_add(1);
+        let outcome = match area {
+            Area::Log => self.log.write(&self.runtime, at, bytes),
+            Area::Double => self.double.write(&self.runtime, at, bytes),
+            Area::Pages => self.pages.write(&self.runtime, at, bytes),
+        };
+        counted(&mut self.faults, outcome)
+    }
+
+    fn sync(&mut self, area: Area) -> Result<(), Failed> {
+        self.moment = self.moment.saturating_add(1);
+        let outcome = match area {
+            Area::Log => self.log.sync(&self.runtime),
+            Area::Double => self.double.sync(&self.runtime),
+            Area::Pages => self.pages.sync(&self.runtime),
+        };
+        counted(&mut self.faults, outcome)
+    }
+
+    fn moment(&self) -> u64 {
+        self.moment
+    }
+}
