@@ -1,5 +1,5 @@
 -- The numbers of the sessions are below the count of their names.
-use Rattle.std.proofs.Common.{◌≡◌, refl, ℕ, ◌+◌, ◌<◌, ◌≤◌, List, [], ◌∷◌, ◌++◌, length, Bool, true, false, cond, eqb, arith}
+use Rattle.std.proofs.Common.{◌≡◌, refl, subst, sym, ℕ, ◌+◌, ◌<◌, ◌≤◌, List, [], ◌∷◌, ◌++◌, length, Bool, true, false, cond, eqb, arith}
 use Rattle.std.specs.Prelude.{◌≢◌, All}
 use Rattle.std.proofs.lemmas.Bool.{eqb-false}
 use Rattle.std.proofs.lemmas.List.{length-append}
@@ -9,6 +9,7 @@ use Rattle.inno_types.specs.declared.reply.Item.TheVariants.{Sql}
 use Rattle.script.specs.declared.line.Line.{Line}
 use Rattle.script.specs.declared.line.Line.TheVariants.{Session, Statement}
 use Rattle.script.specs.declared.script.ScriptItem.{ScriptItem}
+use Rattle.script.specs.Script.{IsPlayable}
 use Rattle.script.specs.Lines.{number_of, with_name, names_of, session_of, items_of}
 
 number_within : (name : List ℕ) (names : List (List ℕ)) → number_of name names ≤ length names
@@ -34,8 +35,23 @@ session_fits [] = omega arith
 session_fits (Session name ∷ lines) = (grown (names_of lines) name).1
 session_fits (Statement text ∷ lines) = session_fits lines
 
-pub numbered : (lines : List Line) → All (λ item. item.s < length (names_of lines)) (items_of lines)
+numbered : (lines : List Line) → All (λ item. item.s < length (names_of lines)) (items_of lines)
 numbered [] = All-nil (λ (item : ScriptItem). item.s < length (names_of []))
 numbered (Session name ∷ lines) = λ k d h. omega (arith, numbered lines k d h, (grown (names_of lines) name).0)
 numbered (Statement text ∷ lines) =
     All-push (λ (item : ScriptItem). item.s < length (names_of lines)) (items_of lines) (record { s = session_of lines; item = Sql text }) (numbered lines) (session_fits lines)
+
+statements : (lines : List Line) → All (λ item. (text : List ℕ) × (item.item ≡ Sql text)) (items_of lines)
+statements [] = All-nil (λ (item : ScriptItem). (text : List ℕ) × (item.item ≡ Sql text))
+statements (Session name ∷ lines) = statements lines
+statements (Statement text ∷ lines) =
+    All-push (λ (item : ScriptItem). (text : List ℕ) × (item.item ≡ Sql text)) (items_of lines) (record { s = session_of lines; item = Sql text }) (statements lines) (text, refl)
+
+-- what lines say can be played
+pub playable : (names : List (List ℕ)) (items : List ScriptItem) (lines : List Line) → names ≡ names_of lines → items ≡ items_of lines → IsPlayable (record { names = names; items = items })
+playable names items lines names_are items_are = record {
+  named =
+      subst (λ list. All (λ (item : ScriptItem). item.s < length names) list) (sym items_are)
+      (subst (λ list. All (λ (item : ScriptItem). item.s < length list) (items_of lines)) (sym names_are) (numbered lines));
+  statements = subst (λ list. All (λ (item : ScriptItem). (text : List ℕ) × (item.item ≡ Sql text)) list) (sym items_are) (statements lines);
+}

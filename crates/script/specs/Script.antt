@@ -1,6 +1,7 @@
 -- Which bytes are a script, what they spell, and where other bytes are none.
 use Rattle.std.specs.Prelude.{◌≡◌, ◌≢◌, ℕ, ◌+◌, ◌<◌, List, [], ◌∷◌, ◌++◌, length, All}
 use Rattle.std.specs.List.{AllByRecursion}
+use Rattle.inno_types.specs.declared.reply.Item.TheVariants.{Sql}
 use Rattle.script.specs.declared.line.Line.{Line}
 use Rattle.script.specs.declared.script.Script.{Script}
 use Rattle.script.specs.declared.script.ScriptBad.{ScriptBad}
@@ -19,9 +20,10 @@ pub record Spells (bytes : List ℕ) (script : Script) : Type 0 where
 abbrev pub IsScript : List ℕ → Type 0
 IsScript bytes = (script : Script) × Spells bytes script
 
--- each item belongs to a session that has a name
-abbrev pub IsNumbered : Script → Type 0
-IsNumbered script = All (λ item. item.s < length script.names) script.items
+-- each item is a statement of a session that has a name
+pub record IsPlayable (script : Script) : Type 0 where
+  pub named : All (λ item. item.s < length script.names) script.items
+  pub statements : All (λ item. (text : List ℕ) × (item.item ≡ Sql text)) script.items
 
 -- Before the line of this number all are lines of a script. From there on something stands that begins with none.
 pub record IsBadAt (number : ℕ) (bytes : List ℕ) : Type 0 where

@@ -2,7 +2,7 @@
 
 ghost use Rattle.std.specs.Prelude.{◌≡◌, ◌≢◌, ◌<◌, ◌≤◌, ◌^◌, ◌+◌, ◌++◌, ◌∷◌, [], ℕ, List, length, take, drop, All, IfOk, OnOk, IfErr, MatchOption, codes};
 ghost use Rattle.script.specs.Lines.{number_of, IsOneLine};
-ghost use Rattle.script.specs.Script.{Spells, IsNumbered, IsRefused, Tells};
+ghost use Rattle.script.specs.Script.{Spells, IsPlayable, IsRefused, Tells};
 
 use crate::line::{Line, read_line};
 use crate::script::{Script, ScriptBad, ScriptItem};
@@ -12,7 +12,7 @@ use std::alloc::{AllocError, Global};
 /// Reads a script, all of the bytes. A script of 2^32 lines finds no memory.
 pub fn read_script(alloc: Global, bytes: &[u8]) -> Result<Script, ScriptBad>
     ensures spells { IfOk result (Spells bytes.now) }
-    ensures numbered { IfOk result IsNumbered }
+    ensures playable { IfOk result IsPlayable }
     ensures refused { IfErr result (IsRefused bytes.now) }
 {
     let mut reading = Reading::new(alloc)?;

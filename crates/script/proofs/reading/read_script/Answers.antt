@@ -1,17 +1,14 @@
-use Rattle.std.proofs.Common.{sym, ap, subst, ◌+◌, ◌<◌, length, take, drop, arith, rules}
-use Rattle.std.specs.Prelude.{All}
-use Rattle.script.specs.declared.script.ScriptItem.{ScriptItem}
-use Rattle.script.specs.Lines.{items_of, ReadAs}
+use Rattle.std.proofs.Common.{ap, subst, ◌+◌, length, take, drop, arith, rules}
+use Rattle.script.specs.Lines.{ReadAs}
 use Rattle.script.specs.Script.{IsBadAt}
 use Rattle.script.proofs.Soundness.{no_script, unended, unread, next_so_far}
-use Rattle.script.proofs.Numbers.{names_few, numbered}
+use Rattle.script.proofs.Numbers.{names_few, playable}
 use Rattle.script.proofs.reading.read_script.Goals as goal
 
-pub returns-then-is_empty-clause-numbered : goal.returns-then-is_empty-clause-numbered
-returns-then-is_empty-clause-numbered c =
+pub returns-then-is_empty-clause-playable : goal.returns-then-is_empty-clause-playable
+returns-then-is_empty-clause-playable c =
     let tells = c.loop-line.invariant.tells in
-    subst (λ items. All (λ (item : ScriptItem). item.s < length c.loop-line.reading.script.names) items) (sym tells.items)
-    (subst (λ names. All (λ (item : ScriptItem). item.s < length names) (items_of c.loop-line.invariant.lines)) (sym tells.names) (numbered c.loop-line.invariant.lines))
+    playable c.loop-line.reading.script.names c.loop-line.reading.script.items c.loop-line.invariant.lines tells.names tells.items
 
 pub returns-in_default-clause-refused : goal.returns-in_default-clause-refused
 returns-in_default-clause-refused c =
