@@ -1,3 +1,13 @@
 pub mod Changes
+pub mod Conditions
 pub mod Database
+pub mod Declarations
+pub mod Expressions
+pub mod Keeping
+pub mod Names
 pub mod Order
+pub mod Outcome
+pub mod Refusals
+pub mod Seen
+pub mod Storing
+pub mod Typing

@@ -1,5 +1,6 @@
 pub mod State
 pub mod Rows
+pub mod Reading
 pub mod Slots
 pub mod Ids
 pub mod Agreement

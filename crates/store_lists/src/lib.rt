@@ -105,9 +105,11 @@ impl Lists {
     }
 
     /// The level of the session's open transaction.
+    /// Without one no changes stand.
     pub fn level(&self, session: u32) -> Option<Level>
         requires { session < length self.now.names }
-        ensures { result ≡ level session self.now.past }
+        ensures level { result ≡ level session self.now.past }
+        ensures closed { level session self.now.past ≡ None → own session self.now.past ≡ [] }
     {
         match self.slots.work(session) {
             Some(work) => Some(work.level()),
@@ -278,10 +280,11 @@ impl Lists {
     pub fn lock(&mut self, session: u32) -> Option<u32>
         requires joined { session < length self.old.names }
         requires is_open { IsOpen session self.old.past }
+        ensures free { result ≡ writer_without self.old.writer session }
         ensures locked { IfNone result (self.new ≡ record self.old { writer = Some session }) }
         ensures alone { IfNone result ((other : ℕ) → other ≢ session → own other self.old.past ≡ []) }
         ensures sound { IsSound self.old.past }
-        ensures held { IfSome result (λ other. (self.old.writer ≡ Some other) × (other ≢ session) × IsOpen other self.old.past × (self.new ≡ self.old)) }
+        ensures held { IfSome result (λ other. (self.old.writer ≡ Some other) × (other ≢ session) × IsOpen other self.old.past × (other < length self.old.names) × (self.new ≡ self.old)) }
     {
         match without(self.writer, session) {
             Some(other) => Some(other),

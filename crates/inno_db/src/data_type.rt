@@ -1,0 +1,8 @@
+//! The types of SQL values, which a statement's operands must agree in.
+
+/// The type of a column, its size aside.
+#[derive(Clone, Copy, Debug, PartialEq, Eq)]
+pub enum DataType {
+    Number,
+    Text,
+}

@@ -1,0 +1,16 @@
+//! The limits of tables and databases.
+
+/// The most columns of a table.
+pub const MOST_COLUMNS: usize = 16;
+
+/// The most secondary keys of a table.
+pub const MOST_KEYS: usize = 4;
+
+/// The longest VARBINARY that an index holds.
+pub const MOST_BYTES_OF_INDEX: u8 = 32;
+
+/// The longest row, its key and its fields.
+pub const MOST_BYTES_OF_ROW: usize = 1000;
+
+/// The most tables of a database.
+pub const MOST_TABLES: usize = 16;

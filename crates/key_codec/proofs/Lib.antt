@@ -1,0 +1,5 @@
+pub mod ByteOrder
+pub mod Lengths
+pub mod Once
+pub mod Texts
+pub mod ValueOrder

@@ -1,0 +1,5 @@
+pub mod Puts
+pub mod Places
+pub mod Gets
+pub mod Tables
+pub mod Loose

@@ -1,0 +1,20 @@
+//! The bytes of the redo log: groups of changes, and the blocks that they stand in.
+//! The log writes them, and a mount reads them; nothing here knows of a disk.
+#![tactic(auto)]
+
+mod block;
+mod fits;
+mod group;
+mod numbers;
+mod reading;
+mod scan;
+mod write;
+
+pub use block::put_blocks;
+pub use group::{Group, Groups, Record, Records};
+pub use reading::{Stop, group_of};
+pub use scan::{Found, get_groups, one_scan, scan_log};
+pub use write::{put_group, put_group_as};
+
+#[cfg(test)]
+mod tests;

@@ -1,0 +1,11 @@
+//! The plain interpreter: what a statement makes of a database, by reading every row of its table.
+//! It is slow and knows no index. Tests compare engines with it, and no engine calls it.
+#![tactic(auto)]
+
+mod changes;
+mod interpreter;
+mod selection;
+#[cfg(test)]
+mod tests;
+
+pub use interpreter::plain;

@@ -1,0 +1,11 @@
+//! The redo log: groups go into it in order, and a flush brings them onto the disk.
+//! Whoever changes pages or rows appends here first; only a flush of this log writes to the log area.
+#![tactic(auto)]
+
+mod log;
+mod room;
+
+pub use log::{Log, goes_on_before_zeros, stands_for_what_is_left};
+
+#[cfg(test)]
+mod tests;

@@ -1,0 +1,176 @@
+//! The log as it is in memory, with what it stands for together with the log area of a disk.
+
+ghost use Rattle.std.specs.Prelude.{◌≡◌, ◌+◌, ◌-◌, ◌*◌, ◌^◌, ◌<◌, ◌≤◌, ◌∷◌, [], ◌++◌, ℕ, List, length, take, replicate, min, IsOk, OnOk, OnErr, IfOk};
+ghost use Rattle.store_api.specs.Areas.{Contents};
+ghost use Rattle.store_api.specs.Causes.{HasCause};
+ghost use Rattle.store_api.specs.Past.{Now, Meanwhile};
+ghost use Rattle.log_format.specs.Group.{AreRecords};
+ghost use Rattle.log_format.specs.declared.group.Group.{Group as GroupValue};
+ghost use Rattle.log_format.specs.Scan.{IsScan, EndsAt};
+ghost use Rattle.redo_log.specs.View.{LogView, room_of, numbers_left};
+ghost use Rattle.redo_log.specs.Logged.{GoesOnAt, IsLogged, LeavesPrefix, Stands, StandsMeanwhile};
+
+use crate::room::{numbers_from, widened};
+use log_format::{Group, put_blocks, put_group_as};
+use std::alloc::Global;
+use std::marker::Model;
+use store_api::{Area, Disk, Failed, NoMemory};
+
+/// How much may be appended to a new log without memory.
+const FIRST_SPARE: usize = 1_048_576;
+
+/// The log as it is in memory.
+#[derive(Drop)]
+pub struct Log {
+    run: u64,
+    block: u64,
+    /// The blocks that wait for a flush, and how many they are.
+    pending: Vec<u8>,
+    count: u64,
+    next: u64,
+    flushed: u64,
+    /// One group, before it stands in blocks.
+    work: Vec<u8>,
+    /// So much may wait without memory.
+    room: usize,
+}
+
+impl Model for Log {
+    ghost use Rattle.std.specs.Prelude.{◌+◌, length, vec_capacity};
+    ghost use Rattle.redo_log.specs.View.{LogView, IsBounded, spare_of};
+
+    ghost Value = { LogView };
+
+    ghost invariant = { λ l. IsBounded l.run l.block l.count l.next l.flushed l.room (length l.pending.items) (vec_capacity l.pending) (vec_capacity l.work) };
+
+    ghost view = { λ l. record { run = l.run; block = l.block; pending = l.pending.items; count = l.count; next = l.next; flushed = l.flushed; spare = spare_of l.room (length l.pending.items) (l.block + l.count) l.next } };
+}
+
+impl Log {
+    /// A log whose groups go on at this block and with this LSN. Where the numbers end within its first spare, it
+    /// answers as if there were no memory for it.
+    pub fn new(alloc: Global, run: u64, block: u64, first: u64) -> Result<Log, NoMemory>
+        requires { 0 < first }
+        ensures log { IfOk result (λ log. log ≡ record { run = run; block = block; pending = []; count = 0; next = first; flushed = first - 1; spare = 1048576 }) }
+
+        // It goes on where a scan of the log area ended, if nothing that a scan would take stands from there on.
+        ensures stands { IfOk result (λ log. (scan_first : ℕ) (groups : List GroupValue) (c : Contents) → first ≡ scan_first + length groups
+            → GoesOnAt run scan_first block groups c → IsLogged scan_first groups log c) }
+    {
+        if block > 1 << 53 || first > u64::MAX - 2048 {
+            return Err(NoMemory);
+        }
+        Ok(Log {
+            run,
+            block,
+            pending: Vec::with_capacity(alloc, FIRST_SPARE)?,
+            count: 0,
+            next: first,
+            flushed: first - 1,
+            work: Vec::with_capacity(alloc, FIRST_SPARE)?,
+            room: FIRST_SPARE,
+        })
+    }
+
+    /// The LSN of the last group that is on the disk for good.
+    pub fn flushed(&self) -> u64
+        ensures { result ≡ self.now.flushed }
+    {
+        self.flushed
+    }
+
+    /// Makes the spare at least so large.
+    pub fn reserve(&mut self, bytes: u32) -> Result<(), NoMemory>
+        ensures ok { OnOk result (bytes ≤ self.new.spare) }
+        ensures kept { self.old.spare ≤ self.new.spare }
+        ensures same { record self.new { spare = self.old.spare } ≡ self.old }
+        ensures enough { bytes ≤ self.old.spare → IsOk result }
+        ensures err { OnErr result (self.new ≡ self.old) }
+    {
+        if numbers_from(self.block + self.count, self.next) < u64::from(bytes) {
+            return Err(NoMemory);
+        }
+        let want = self.pending.len() + bytes as usize;
+        self.room = widened(&mut self.pending, &mut self.work, self.room, want)?;
+        Ok(())
+    }
+
+    /// Takes a group, which gets the next LSN in place of its own.
+    pub fn append(&mut self, group: &Group) -> Result<u64, NoMemory>
+        requires { AreRecords group.now.records }
+        ensures lsn { IfOk result (λ lsn. lsn ≡ self.old.next) }
+        ensures run { self.new.run ≡ self.old.run }
+        ensures flushed { self.new.flushed ≡ self.old.flushed }
+        ensures next { OnOk result (self.new.next ≡ self.old.next + 1) }
+        ensures ok { OnOk result ((first : ℕ) (groups : List GroupValue) (c : Contents) → IsLogged first groups self.old c
+            → IsLogged first (groups ++ record { lsn = self.old.next; records = group.now.records } ∷ []) self.new c) }
+
+        // It is never refused where the spare suffices.
+        ensures suffices { room_of group.now.records ≤ self.old.spare → IsOk result }
+        ensures spare { OnOk result (self.old.spare ≤ self.new.spare + room_of group.now.records) }
+        ensures err { OnErr result (self.new ≡ self.old) }
+    {
+        self.work.clear();
+        put_group_as(self.next, &group.records, &mut self.work)?;
+        let need = 512 * ((self.work.len() + 483) / 484);
+        if numbers_from(self.block + self.count, self.next) < need as u64 {
+            return Err(NoMemory);
+        }
+        let want = self.pending.len() + need;
+        self.room = widened(&mut self.pending, &mut self.work, self.room, want)?;
+        let count = put_blocks(
+            self.run,
+            self.block + self.count,
+            &self.work,
+            &mut self.pending,
+        );
+        self.count += count;
+        self.next += 1;
+        Ok(self.next - 1)
+    }
+
+    /// Brings all groups onto the disk, in one write and a sync. After a failure the next flush writes the same
+    /// blocks again and then new ones, so that each place only ever has one block that counts.
+    pub fn flush<D: Disk>(&mut self, disk: &mut D) -> Result<(), Failed>
+        ensures run { self.new.run ≡ self.old.run }
+        ensures next { self.new.next ≡ self.old.next }
+        ensures later { self.old.flushed ≤ self.new.flushed }
+        ensures flushed { OnOk result (self.new.flushed + 1 ≡ self.old.next) }
+        ensures err { OnErr result (self.new ≡ self.old) }
+
+        // What was flushed is given back to the spare, as far as numbers are left.
+        ensures spare { OnOk result (min (self.old.spare + length self.old.pending) (numbers_left (self.old.block + self.old.count) self.old.next) ≤ self.new.spare) }
+        ensures cause { HasCause (D.past disk.old).faults (D.past disk.new).faults result }
+
+        // The log and the disk stand for the same groups as before,
+        ensures stands { (first : ℕ) (groups : List GroupValue) (double pages : Contents) →
+            Now (Stands first groups self.old double pages) (D.past disk.old) → Now (Stands first groups self.new double pages) (D.past disk.new) }
+
+        // and at each moment of the call a crash leaves those that were flushed, and a prefix of the others.
+        ensures crash { (first : ℕ) (groups : List GroupValue) (double pages : Contents) →
+            Now (Stands first groups self.old double pages) (D.past disk.old) →
+            Meanwhile (StandsMeanwhile self.old.run first groups self.old.flushed double pages) (D.past disk.old) (D.past disk.new) }
+    {
+        if self.flushed + 1 == self.next {
+            return Ok(());
+        }
+        disk.write(Area::Log, 512 * self.block, &self.pending)?;
+        disk.sync(Area::Log)?;
+        self.block += self.count;
+        self.count = 0;
+        self.pending.clear();
+        self.flushed = self.next - 1;
+        Ok(())
+    }
+}
+
+/// What a log and a log area stand for together is what a crash leaves of it.
+pub fn stands_for_what_is_left()
+    ensures { (first : ℕ) (groups : List GroupValue) (log : LogView) (c : Contents) → IsLogged first groups log c → LeavesPrefix log.run first groups log.flushed c }
+{}
+
+/// A log goes on behind the groups of a scan, where zeros were written from there to the end and synced.
+pub fn goes_on_before_zeros()
+    ensures { (run first blocks : ℕ) (groups : List GroupValue) (area : List ℕ) (c : Contents) → IsScan run first area groups → EndsAt run blocks area groups
+        → c.writes ≡ [] → c.synced ≡ take (512 * blocks) area ++ replicate (length area - 512 * blocks) 0 → GoesOnAt run first blocks groups c }
+{}

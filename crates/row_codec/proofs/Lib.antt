@@ -1,0 +1,4 @@
+pub mod Joined
+pub mod Once
+pub mod Parts
+pub mod Stored

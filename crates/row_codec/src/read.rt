@@ -1,0 +1,100 @@
+//! Reads a clustered record as the version that it stands for. Nothing is handed out where bytes are refused.
+//! The key is read by `key_codec`.
+
+ghost use Rattle.std.specs.Prelude.{◌≡◌, ℕ, List, Bool, ◌+◌, ◌≤◌, ◌∷◌, ◌++◌, length, All, IfOk, IfSome, IfNone, Err, remove};
+ghost use Rattle.inno_types.specs.declared.value.Value.{Value};
+ghost use Rattle.store_api.specs.declared.answers.Version.{Version};
+ghost use Rattle.key_codec.specs.Keys.{Has64Bits};
+ghost use Rattle.key_codec.specs.Numbers.{u64_bytes};
+ghost use Rattle.row_codec.specs.Refused.{IsOrNoMemory};
+ghost use Rattle.row_codec.specs.Rows.{IsStored, IsRecordOf, IsVersion, head_code, mark_code};
+
+use crate::fields::{around, fields_of};
+use crate::refused::RowBad;
+use inno_types::{Row, Schema};
+use key_codec::{get_key, u64_of};
+use std::alloc::Global;
+use store_api::Version;
+
+fn mark_of(byte: u8) -> Option<bool>
+    ensures found { IfSome result (λ marked. byte ≡ mark_code marked) }
+    ensures none { IfNone result ((marked : Bool) → byte ≡ mark_code marked → ⊥) }
+{
+    match byte {
+        0 => Some(false),
+        1 => Some(true),
+        _ => None,
+    }
+}
+
+/// The number at the front of the bytes, and the bytes behind it.
+fn number_of(bytes: &[u8]) -> Option<(u64, &[u8])>
+    ensures found { IfSome result (λ read. bytes.now ≡ u64_bytes read.0 ++ read.1.now) }
+    ensures none { IfNone result ((n : ℕ) (rest : List ℕ) → bytes.now ≡ u64_bytes n ++ rest → ⊥) }
+{
+    if bytes.len() < 8 {
+        return None;
+    }
+    let (front, rest) = bytes.split_at(8);
+    let number = u64_of(front)?;
+    Some((number, rest))
+}
+
+/// The mark, the writer and the roll pointer at the front of the bytes, and the bytes behind them.
+fn head_of(bytes: &[u8]) -> Option<(bool, u64, u64, &[u8])>
+    ensures found { IfSome result (λ read. bytes.now ≡ head_code read.0 read.1 read.2 ++ read.3.now) }
+    ensures none { IfNone result ((marked : Bool) (writer pointer : ℕ) (rest : List ℕ)
+        → bytes.now ≡ head_code marked writer pointer ++ rest → ⊥) }
+{
+    let (mark, behind) = bytes.split_first()?;
+    let marked = mark_of(*mark)?;
+    let (writer, behind) = number_of(behind)?;
+    let (pointer, behind) = number_of(behind)?;
+    Some((marked, writer, pointer, behind))
+}
+
+/// The row of these fields whose primary value has this key.
+fn row_of(alloc: Global, schema: &Schema, key: &[u8], fields: &[u8]) -> Result<Row, RowBad>
+    ensures found { IfOk result (λ row. IsStored schema.now row key.now fields.now) }
+    ensures range { IfOk result (All Has64Bits) }
+    ensures shape { result ≡ Err RowBad.Shape → (row : List Value)
+        → IsStored schema.now row key.now fields.now → ⊥ }
+{
+    let columns = schema.columns.as_slice();
+    let column = columns
+        .get(usize::from(schema.primary))
+        .ok_or(RowBad::Shape)?;
+    let primary = get_key(alloc, key, column.kind)?;
+    let (before, behind) = around(columns, schema.primary);
+    let mut row = Vec::new(alloc);
+    let rest = fields_of(alloc, before, fields, &mut row)?;
+    row.push(primary)?;
+    let rest = fields_of(alloc, behind, rest, &mut row)?;
+    if rest.is_empty() {
+        Ok(Row::from_vec(row))
+    } else {
+        Err(RowBad::Shape)
+    }
+}
+
+/// The version whose clustered record has this key and this value, all of their bytes.
+pub fn decode(alloc: Global, schema: &Schema, key: &[u8], value: &[u8]) -> Result<Version, RowBad>
+    // What is read is a version of the table, and these are the bytes of its record.
+    ensures found { IfOk result (λ version. IsRecordOf schema.now version key.now value.now) }
+    ensures range { IfOk result IsVersion }
+    // What was written as a record is read again, unless memory runs out.
+    ensures back { (version : Version) → IsVersion version
+        → IsRecordOf schema.now version key.now value.now → IsOrNoMemory result version }
+    // Bytes are refused only where no version's record has them.
+    ensures shape { result ≡ Err RowBad.Shape → (version : Version)
+        → IsRecordOf schema.now version key.now value.now → ⊥ }
+{
+    let (marked, writer, pointer, fields) = head_of(value).ok_or(RowBad::Shape)?;
+    let row = row_of(alloc, schema, key, fields)?;
+    Ok(Version {
+        row,
+        writer,
+        pointer,
+        marked,
+    })
+}

@@ -1,0 +1,14 @@
+mod Complete
+mod CompleteConditions
+mod CompleteExpressions
+mod CompleteStatements
+pub mod Lists
+mod Numbers
+mod Operands
+mod Settled
+mod SettledExpressions
+mod Sound
+mod SoundPlain
+mod SoundStatements
+mod SoundWhole
+mod Waiting

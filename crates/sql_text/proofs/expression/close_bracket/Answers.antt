@@ -1,0 +1,36 @@
+use Rattle.std.proofs.Common.{◌≡◌, [], ◌∷◌, sym, refl}
+use Rattle.sql_text.specs.declared.expression.Frame.TheVariants as frame
+use Rattle.sql_text.specs.Expressions as read
+use Rattle.sql_text.proofs.Waiting.{twice, on_bottom}
+use Rattle.sql_text.proofs.Operands.{closes_negate, closes_times, closes_plus, closes_minus, waits_times, waits_plus, waits_minus, closes_bracket, goes_in_sum, goes_in_difference, waits_in_sum, waits_in_difference, times_in_brackets, plus_in_brackets, minus_in_brackets, times_at_bottom, plus_at_bottom, minus_at_bottom, closing_in_brackets, open_in_brackets, no_star_at, no_operator_at, whole_at_bottom, whole_expression, negate_waits, bracket_waits, negate_step, bracket_step, value_opens}
+use Rattle.sql_text.proofs.expression.close_bracket.Goals as goal
+
+pub returns-in_ok-push-in-Times-2-clause-exact : goal.returns-in_ok-push-in-Times-2-clause-exact
+returns-in_ok-push-in-Times-2-clause-exact c = times_in_brackets c.args.operand c.args.stack.now c.push.new.self c.push-in-Times.new.self c.args.tokens.now c.in-Times.rest.now c.in_ok-push-in-Times.ensures c.in_ok-push-in-Times-2.ensures (sym c.in-Times.ensures)
+
+pub returns-in_ok-push-in-Times-2-clause-spelled : goal.returns-in_ok-push-in-Times-2-clause-spelled
+returns-in_ok-push-in-Times-2-clause-spelled c = λ all h.
+    waits_times all (frame.Open ∷ c.args.stack.now) c.push-in-Times.new.self c.args.operand c.args.tokens.now c.in-Times.rest.now (twice c.in_ok-push-in-Times.ensures c.in_ok-push-in-Times-2.ensures) tt (sym c.in-Times.ensures) h
+
+pub returns-in_ok-push-in-Plus-2-clause-exact : goal.returns-in_ok-push-in-Plus-2-clause-exact
+returns-in_ok-push-in-Plus-2-clause-exact c = plus_in_brackets c.args.operand c.args.stack.now c.push-in-Plus.new.self c.push-in-Plus-2.new.self c.args.tokens.now c.in-Plus.rest.now c.in_ok-push-in-Plus.ensures c.in_ok-push-in-Plus-2.ensures (sym c.in-Plus.ensures)
+
+pub returns-in_ok-push-in-Plus-2-clause-spelled : goal.returns-in_ok-push-in-Plus-2-clause-spelled
+returns-in_ok-push-in-Plus-2-clause-spelled c = λ all h.
+    waits_plus all (frame.Open ∷ c.args.stack.now) c.push-in-Plus-2.new.self c.args.operand c.args.tokens.now c.in-Plus.rest.now (twice c.in_ok-push-in-Plus.ensures c.in_ok-push-in-Plus-2.ensures) tt (sym c.in-Plus.ensures) h
+
+pub returns-in_ok-push-in-Minus-2-clause-exact : goal.returns-in_ok-push-in-Minus-2-clause-exact
+returns-in_ok-push-in-Minus-2-clause-exact c = minus_in_brackets c.args.operand c.args.stack.now c.push-in-Minus.new.self c.push-in-Minus-2.new.self c.args.tokens.now c.in-Minus.rest.now c.in_ok-push-in-Minus.ensures c.in_ok-push-in-Minus-2.ensures (sym c.in-Minus.ensures)
+
+pub returns-in_ok-push-in-Minus-2-clause-spelled : goal.returns-in_ok-push-in-Minus-2-clause-spelled
+returns-in_ok-push-in-Minus-2-clause-spelled c = λ all h.
+    waits_minus all (frame.Open ∷ c.args.stack.now) c.push-in-Minus-2.new.self c.args.operand c.args.tokens.now c.in-Minus.rest.now (twice c.in_ok-push-in-Minus.ensures c.in_ok-push-in-Minus-2.ensures) tt (sym c.in-Minus.ensures) h
+
+pub returns-in-Close-clause-exact : goal.returns-in-Close-clause-exact
+returns-in-Close-clause-exact c = closing_in_brackets c.args.stack.now c.args.tokens.now c.in-Close.rest.now (sym c.in-Close.ensures)
+
+pub returns-in-Close-clause-spelled : goal.returns-in-Close-clause-spelled
+returns-in-Close-clause-spelled c = λ all h. closes_bracket all c.args.stack.now c.args.operand c.args.tokens.now c.in-Close.rest.now (sym c.in-Close.ensures) h
+
+pub returns-in-Other-clause-exact : goal.returns-in-Other-clause-exact
+returns-in-Other-clause-exact c = rw c.unexpected.ensures (c.args.tokens.now, open_in_brackets c.args.stack.now c.args.tokens.now (sym c.in-Other.ensures), refl)

@@ -1,0 +1,20 @@
+use Rattle.std.proofs.Common.{◌≡◌, [], ◌∷◌, sym, refl}
+use Rattle.sql_text.specs.declared.expression.Frame.TheVariants as frame
+use Rattle.sql_text.specs.Expressions as read
+use Rattle.sql_text.proofs.Waiting.{twice, on_bottom}
+use Rattle.sql_text.proofs.Operands.{closes_negate, closes_times, closes_plus, closes_minus, waits_times, waits_plus, waits_minus, closes_bracket, goes_in_sum, goes_in_difference, waits_in_sum, waits_in_difference, times_in_brackets, plus_in_brackets, minus_in_brackets, times_at_bottom, plus_at_bottom, minus_at_bottom, closing_in_brackets, open_in_brackets, no_star_at, no_operator_at, whole_at_bottom, whole_expression, negate_waits, bracket_waits, negate_step, bracket_step, value_opens}
+use Rattle.sql_text.proofs.expression.close_plus.Goals as goal
+
+pub returns-in_ok-push-in-Times-2-clause-exact : goal.returns-in_ok-push-in-Times-2-clause-exact
+returns-in_ok-push-in-Times-2-clause-exact c = waits_in_sum c.args.left c.args.operand c.args.stack.now c.push.new.self c.push-in-Times.new.self c.args.tokens.now c.in-Times.rest.now c.in_ok-push-in-Times.ensures c.in_ok-push-in-Times-2.ensures (sym c.in-Times.ensures)
+
+pub returns-in_ok-push-in-Times-2-clause-spelled : goal.returns-in_ok-push-in-Times-2-clause-spelled
+returns-in_ok-push-in-Times-2-clause-spelled c = λ all h.
+    waits_times all (frame.Plus c.args.left ∷ c.args.stack.now) c.push-in-Times.new.self c.args.operand c.args.tokens.now c.in-Times.rest.now (twice c.in_ok-push-in-Times.ensures c.in_ok-push-in-Times-2.ensures) tt (sym c.in-Times.ensures) h
+
+pub returns-in_ok-right-in_default-clause-exact : goal.returns-in_ok-right-in_default-clause-exact
+returns-in_ok-right-in_default-clause-exact c = goes_in_sum c.args.stack.now c.args.tokens.now (no_star_at c.next_of.result c.args.tokens.now c.next_of.ensures c.in_default.not-Times)
+
+pub returns-in_ok-right-in_default-clause-spelled : goal.returns-in_ok-right-in_default-clause-spelled
+returns-in_ok-right-in_default-clause-spelled c = λ all h.
+    closes_plus all c.args.stack.now c.args.left c.args.operand _ _ _ _ c.args.tokens.now (no_star_at c.next_of.result c.args.tokens.now c.next_of.ensures c.in_default.not-Times) c.in_ok-left-in_default.ensures.ok c.in_ok-right-in_default.ensures.ok h

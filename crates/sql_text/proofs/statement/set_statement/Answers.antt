@@ -1,0 +1,14 @@
+use Rattle.sql_grammar.specs.declared.token.Word.TheVariants as word
+use Rattle.sql_grammar.specs.declared.token.Token.TheVariants.{Key}
+use Rattle.std.proofs.Common.{◌∷◌}
+use Rattle.sql_grammar.specs.Grammar.{Statement}
+use Rattle.sql_text.specs.Statements.{set_of}
+use Rattle.sql_text.proofs.SoundPlain.{set_sound}
+use Rattle.sql_text.proofs.SoundWhole.{gives_unit, gives_spelled}
+use Rattle.sql_text.proofs.statement.set_statement.Goals as goal
+
+pub returns-clause-exact : goal.returns-clause-exact
+returns-clause-exact c = gives_unit c.set.result (set_of c.args.tokens.now) c.set.ensures
+
+pub returns-clause-spelled : goal.returns-clause-spelled
+returns-clause-spelled c = gives_spelled c.set.result (set_of c.args.tokens.now) (λ s. Statement (Key word.Set ∷ c.args.tokens.now) s) c.set.ensures (set_sound c.args.tokens.now)

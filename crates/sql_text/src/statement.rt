@@ -1,0 +1,146 @@
+//! A whole statement, by its first words.
+
+ghost use Rattle.std.specs.Prelude.{◌≡◌, ◌∷◌, IfOk};
+ghost use Rattle.sql_grammar.specs.declared.token.Token.TheVariants.{Key};
+ghost use Rattle.sql_grammar.specs.declared.token.Word.TheVariants as words;
+ghost use Rattle.sql_grammar.specs.Grammar.{Statement};
+ghost use Rattle.sql_text.specs.Parts.{Gives};
+ghost use Rattle.sql_text.specs.Statements as plain;
+ghost use Rattle.sql_text.specs.Whole as read;
+
+use crate::create::create;
+use crate::insert::insert;
+use crate::refusal::{Refusal, unexpected};
+use crate::select::{delete, select, update};
+use crate::set::{after_work, end, last_name, rollback, set, start};
+use inno_types::Stmt;
+use sql_grammar::{Token, Word};
+use std::alloc::Global;
+
+/// The statement that all of the tokens spell.
+pub fn statement(alloc: Global, tokens: &[Token]) -> Result<Stmt, Refusal>
+    ensures exact { Gives (λ _. tt) result (read.statement_of tokens.now) }
+    ensures spelled { IfOk result (λ s. Statement tokens.now s) }
+{
+    match first_of(tokens) {
+        First::Key(word, rest) => behind_key(alloc, word, tokens, rest),
+        First::Bare(word, rest) => behind_word(word, tokens, rest),
+        First::Other => Err(unexpected(tokens)),
+    }
+}
+
+/// The first word of a statement, and what stands behind it.
+#[derive(Clone, Copy)]
+pub enum First<'a> {
+    Key(Word, &'a [Token]),
+    Bare(Word, &'a [Token]),
+    Other,
+}
+
+#[tactic(auto, unfolding(crate::specs::Whole::first_of))]
+fn first_of(tokens: &[Token]) -> First<'_>
+    ensures { read.first_by result ≡ read.first_of tokens.now }
+{
+    match tokens {
+        [Token::Key(word), rest @ ..] => First::Key(*word, rest),
+        [Token::Bare(Some(word), _), rest @ ..] => First::Bare(*word, rest),
+        _ => First::Other,
+    }
+}
+
+#[tactic(auto, unfolding(crate::specs::Whole::behind_key))]
+fn behind_key(
+    alloc: Global,
+    word: Word,
+    tokens: &[Token],
+    rest: &[Token],
+) -> Result<Stmt, Refusal>
+    ensures exact { Gives (λ _. tt) result (read.behind_key word tokens.now rest.now) }
+    ensures spelled { IfOk result (λ s. Statement (Key word ∷ rest.now) s) }
+{
+    match word {
+        Word::Create => create_statement(alloc, rest),
+        Word::Select => select(alloc, rest),
+        Word::Insert => insert_statement(alloc, rest),
+        Word::Update => update(alloc, rest),
+        Word::Delete => delete(alloc, rest),
+        Word::Set => set_statement(rest),
+        _ => Err(unexpected(tokens)),
+    }
+}
+
+fn create_statement(alloc: Global, tokens: &[Token]) -> Result<Stmt, Refusal>
+    ensures exact { Gives (λ _. tt) result (read.create_table_of tokens.now) }
+    ensures spelled { IfOk result (λ s. Statement (Key words.Create ∷ tokens.now) s) }
+{
+    create_table(alloc, tokens)
+}
+
+#[tactic(auto, unfolding(crate::specs::Whole::create_statement_of))]
+fn create_table(alloc: Global, tokens: &[Token]) -> Result<Stmt, Refusal>
+    ensures { Gives (λ s. s) result (read.create_statement_of tokens.now) }
+{
+    let rest = after_table(tokens)?;
+    create(alloc, rest)
+}
+
+fn after_table(tokens: &[Token]) -> Result<&[Token], Refusal>
+    ensures { Gives (λ r. r.now) result (read.after_table tokens.now) }
+{
+    match tokens {
+        [Token::Key(Word::Table), rest @ ..] => Ok(rest),
+        _ => Err(unexpected(tokens)),
+    }
+}
+
+fn insert_statement(alloc: Global, tokens: &[Token]) -> Result<Stmt, Refusal>
+    ensures exact { Gives (λ _. tt) result (read.read_it (plain.insert_of tokens.now)) }
+    ensures spelled { IfOk result (λ s. Statement (Key words.Insert ∷ tokens.now) s) }
+{
+    insert(alloc, tokens)
+}
+
+fn set_statement(tokens: &[Token]) -> Result<Stmt, Refusal>
+    ensures exact { Gives (λ _. tt) result (read.read_it (plain.set_of tokens.now)) }
+    ensures spelled { IfOk result (λ s. Statement (Key words.Set ∷ tokens.now) s) }
+{
+    set(tokens)
+}
+
+#[tactic(auto, unfolding(crate::specs::Whole::behind_word))]
+fn behind_word(word: Word, tokens: &[Token], rest: &[Token]) -> Result<Stmt, Refusal>
+    ensures { Gives (λ s. s) result (read.behind_word word tokens.now rest.now) }
+{
+    match word {
+        Word::Begin => begin(rest),
+        Word::Start => start(rest),
+        Word::Commit => commit(rest),
+        Word::Rollback => rollback(after_work(rest)),
+        Word::Savepoint => savepoint(rest),
+        _ => Err(unexpected(tokens)),
+    }
+}
+
+#[tactic(auto, unfolding(crate::specs::Whole::begin_of))]
+fn begin(tokens: &[Token]) -> Result<Stmt, Refusal>
+    ensures { Gives (λ s. s) result (read.begin_of tokens.now) }
+{
+    end(after_work(tokens))?;
+    Ok(Stmt::Begin { snapshot: false })
+}
+
+#[tactic(auto, unfolding(crate::specs::Whole::commit_of))]
+fn commit(tokens: &[Token]) -> Result<Stmt, Refusal>
+    ensures { Gives (λ s. s) result (read.commit_of tokens.now) }
+{
+    end(after_work(tokens))?;
+    Ok(Stmt::Commit)
+}
+
+#[tactic(auto, unfolding(crate::specs::Whole::savepoint_statement_of))]
+fn savepoint(tokens: &[Token]) -> Result<Stmt, Refusal>
+    ensures { Gives (λ s. s) result (read.savepoint_statement_of tokens.now) }
+{
+    let name = last_name(tokens)?;
+    Ok(Stmt::Savepoint { name })
+}

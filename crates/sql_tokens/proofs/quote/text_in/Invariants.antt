@@ -1,0 +1,9 @@
+use Rattle.std.proofs.Common.{◌≡◌, length}
+use Rattle.sql_grammar.specs.Tokens as spelled
+use Rattle.sql_tokens.proofs.quote.text_in.Given as goal
+
+abbrev pub invariant-loop-rest : goal.invariant-loop-rest
+invariant-loop-rest l = spelled.with_front l.text.items (spelled.text_in l.quote l.rest) ≡ spelled.text_in l.quote l.bytes
+
+abbrev pub decreases-loop-rest : goal.decreases-loop-rest
+decreases-loop-rest l = length l.rest

@@ -1,0 +1,15 @@
+//! Values of SQL: names looked up, conditions and expressions on a row, and the rows that INSERT and UPDATE make.
+//! Engines and the plain interpreter call it; nothing here changes a database.
+#![tactic(auto)]
+
+mod condition;
+mod expression;
+mod names;
+mod operand;
+mod storing;
+
+pub use condition::{compare, evaluate, is_match};
+pub use expression::{compute, given};
+pub use names::{is_same_column, is_same_table, place_of_column, place_of_name, place_of_table};
+pub use operand::{in_column, of_literal, of_operand};
+pub use storing::{assign_all, make_row, place_of_value};
