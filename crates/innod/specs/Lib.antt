@@ -2,3 +2,4 @@ pub mod Words
 pub mod Streams
 pub mod Sessions
 pub mod Run
+pub mod Engines
