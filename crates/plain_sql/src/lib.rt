@@ -5,7 +5,5 @@
 mod changes;
 mod interpreter;
 mod selection;
-#[cfg(test)]
-mod tests;
 
 pub use interpreter::plain;

@@ -1,13 +1,12 @@
 -- What is spelled so is read: conditions.
-use Rattle.std.proofs.Common.{◌≡◌, ℕ, zero, suc, ◌+◌, ◌-◌, ◌<◌, ◌≤◌, List, [], ◌∷◌, length, Option, Some, None, Result, Ok, Err, refl, sym, ap, ◌∙◌, subst, arith, add_assoc}
+use Rattle.std.proofs.Common.{◌≡◌, ℕ, suc, ◌+◌, ◌-◌, ◌<◌, ◌≤◌, List, [], ◌∷◌, length, Result, Ok, refl, sym, ap, ◌∙◌, arith, add_assoc}
 use Rattle.inno_types.specs.declared.stmt.Filter.{Filter}
 use Rattle.sql_grammar.specs.declared.token.Word.TheVariants as word
 use Rattle.sql_grammar.specs.declared.token.Token.{Token}
-use Rattle.sql_grammar.specs.declared.token.Token.TheVariants.{Key, Bare, Quoted, Number, Text, Open, Close, Minus}
+use Rattle.sql_grammar.specs.declared.token.Token.TheVariants.{Key, Open, Close}
 use Rattle.sql_grammar.specs.Grammar.{Condition, Strength, Loose, Tight, Single, Atom}
 use Rattle.sql_grammar.specs.Grammar as grammar
 use Rattle.sql_text.specs.Parts.{◌>>=◌}
-use Rattle.sql_text.specs.Atoms.{atom_at}
 use Rattle.sql_text.specs.Conditions as read
 use Rattle.sql_text.specs.Conditions.{Mark, Negation, Bracket, Conjunction, Disjunction, settle, steps, resume, operand_step, atom_step, after_condition, follow_of, close, BeginsNoAnd}
 use Rattle.sql_text.proofs.Complete.{atom_complete, atom_shorter}

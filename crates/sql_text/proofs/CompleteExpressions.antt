@@ -1,13 +1,12 @@
 -- What is spelled so is read: expressions.
-use Rattle.std.proofs.Common.{◌≡◌, ℕ, zero, suc, ◌+◌, ◌-◌, ◌<◌, ◌≤◌, List, [], ◌∷◌, length, Option, Some, None, Result, Ok, Err, refl, sym, ap, ◌∙◌, subst, arith, add_assoc}
+use Rattle.std.proofs.Common.{◌≡◌, ℕ, suc, ◌+◌, ◌-◌, ◌<◌, ◌≤◌, List, [], ◌∷◌, length, Result, Ok, refl, sym, ap, ◌∙◌, arith, add_assoc}
 use Rattle.inno_types.specs.declared.stmt.Expr.{Expr}
-use Rattle.inno_types.specs.declared.stmt.Expr.TheVariants as expr
 use Rattle.inno_types.specs.declared.stmt.Literal.{Literal}
 use Rattle.sql_grammar.specs.declared.token.Token.{Token}
 use Rattle.sql_grammar.specs.declared.token.Token.TheVariants.{Number, Open, Close, Star, Plus, Minus}
 use Rattle.sql_grammar.specs.Grammar.{Expression, Strength, Loose, Tight, Single, Name, Lit, BeginsNoNumber}
 use Rattle.sql_grammar.specs.Grammar as grammar
-use Rattle.sql_text.specs.Parts.{◌>>=◌, lit_at, name_at}
+use Rattle.sql_text.specs.Parts.{◌>>=◌, lit_at}
 use Rattle.sql_text.specs.Expressions as read
 use Rattle.sql_text.specs.Expressions.{Mark, Negation, Bracket, Product, Sum, Difference, settle, steps, resume, operand_step, value_step, value_at, after_expression, follow_of, opening_of, close, BeginsNoStar}
 use Rattle.sql_text.proofs.Complete.{lit_shorter, name_shorter}

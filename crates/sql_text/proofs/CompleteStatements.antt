@@ -1,5 +1,5 @@
 -- What is spelled so is read: statements.
-use Rattle.std.proofs.Common.{◌≡◌, ℕ, ◌+◌, ◌<◌, ◌≤◌, List, [], ◌∷◌, ◌++◌, length, Option, Some, None, Bool, true, false, map, Result, Ok, Err, refl, sym, ap, ◌∙◌, subst, arith}
+use Rattle.std.proofs.Common.{◌≡◌, ℕ, ◌<◌, ◌≤◌, List, [], ◌∷◌, length, Option, Some, None, Bool, false, Ok, refl, ◌∙◌, arith}
 use Rattle.inno_types.specs.declared.lock.Mode.{Mode}
 use Rattle.inno_types.specs.declared.lock.Level.{Level}
 use Rattle.inno_types.specs.declared.stmt.Comparison.TheVariants.{Equal}
@@ -17,13 +17,13 @@ use Rattle.inno_types.specs.declared.stmt.Stmt.{Stmt}
 use Rattle.inno_types.specs.declared.stmt.Stmt.TheVariants as stmt
 use Rattle.sql_grammar.specs.declared.token.Word.TheVariants as word
 use Rattle.sql_grammar.specs.declared.token.Token.{Token}
-use Rattle.sql_grammar.specs.declared.token.Token.TheVariants.{Key, Bare, Quoted, Number, Text, Compare, Open, Close, Comma, Star, Plus, Minus}
+use Rattle.sql_grammar.specs.declared.token.Token.TheVariants.{Key, Bare, Compare, Open, Close, Comma}
 use Rattle.sql_grammar.specs.Grammar.{Name, Commas, Tuple, ColumnKind, Nullable, Primary, KeyWord, Bracketed, Define, IfNotExists, Engine, Choice, Locking, Into, ColumnList, ValuesWord, Work, SavepointWord, Switch, Scope, LevelName, Where, Assignment, Statement}
 use Rattle.sql_grammar.specs.Grammar as grammar
-use Rattle.sql_text.specs.Parts.{Read, ◌>>=◌, name_at, tuple_at, commas_at, end_of}
+use Rattle.sql_text.specs.Parts.{◌>>=◌, name_at, commas_at}
 use Rattle.sql_text.specs.Statements as read
 use Rattle.sql_text.specs.Whole as whole
-use Rattle.sql_text.proofs.Complete.{name_complete, name_shorter, BeginsNoComma, commas_complete, commas_short, names_complete, tuples_complete}
+use Rattle.sql_text.proofs.Complete.{name_complete, name_shorter, BeginsNoComma, commas_complete, names_complete, tuples_complete}
 use Rattle.sql_text.proofs.CompleteConditions.{condition_complete}
 use Rattle.sql_text.proofs.CompleteConditions as conditions
 use Rattle.sql_text.proofs.CompleteExpressions.{expression_complete, expression_shorter}

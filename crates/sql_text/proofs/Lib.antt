@@ -5,6 +5,7 @@ mod CompleteStatements
 pub mod Lists
 mod Numbers
 mod Operands
+mod Parsing
 mod Settled
 mod SettledExpressions
 mod Sound

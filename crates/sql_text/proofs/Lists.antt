@@ -1,10 +1,9 @@
 -- Reading items with commas between them one after the other, as a loop does.
-use Rattle.std.proofs.Common.{◌≡◌, ℕ, zero, suc, ◌-◌, ◌+◌, ◌≤◌, ◌<◌, List, [], ◌∷◌, ◌++◌, Option, Some, None, Result, Ok, Err, refl, sym, ap, ◌∙◌, append_assoc, arith}
-use Rattle.std.proofs.lemmas.List.{append-nil}
+use Rattle.std.proofs.Common.{◌≡◌, ℕ, suc, ◌-◌, ◌+◌, ◌≤◌, ◌<◌, List, [], ◌∷◌, ◌++◌, Some, None, Ok, Err, refl, sym, ap, ◌∙◌, append_assoc, arith}
 use Rattle.sql_grammar.specs.declared.token.Token.{Token}
 use Rattle.sql_text.specs.declared.refusal.Refusal.{Refusal}
 use Rattle.sql_text.specs.declared.refusal.Refusal.TheVariants as refusal
-use Rattle.sql_text.specs.Parts.{Read, ◌>>=◌, Fails, next_item, after_comma, items_at}
+use Rattle.sql_text.specs.Parts.{Read, ◌>>=◌, Fails, after_comma, items_at}
 
 -- what was read before, and what is still read
 abbrev pub with_items : {A : Type 0} → List A → Read (List A) → Read (List A)

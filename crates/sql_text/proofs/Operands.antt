@@ -1,5 +1,5 @@
 -- What an operand of an expression with the frame below it stands for.
-use Rattle.std.proofs.Common.{◌≡◌, List, [], ◌∷◌, map, Result, Ok, Err, length, refl, sym, ap, ◌∙◌, subst}
+use Rattle.std.proofs.Common.{◌≡◌, List, [], ◌∷◌, Result, Ok, Err, refl, sym, ap, subst}
 use Rattle.inno_types.specs.declared.stmt.Expr.{Expr}
 use Rattle.inno_types.specs.declared.stmt.Expr.TheVariants as expr
 use Rattle.sql_grammar.specs.declared.token.Token.{Token}
@@ -10,7 +10,6 @@ use Rattle.sql_text.specs.declared.expression.Frame.{Frame}
 use Rattle.sql_text.specs.declared.expression.Frame.TheVariants as frame
 use Rattle.sql_text.specs.declared.expression.Next.{Next}
 use Rattle.sql_text.specs.declared.expression.Next.TheVariants as next
-use Rattle.sql_text.specs.declared.expression.Opening.{Opening as Opens}
 use Rattle.sql_text.specs.Expressions as read
 use Rattle.sql_text.specs.Expressions.{HasOperand, Stands, Allows, AllowsTight, AllowsLoose, BeginsNoStar, follow_of, Follow, marks, mark_of, close, opening_of}
 

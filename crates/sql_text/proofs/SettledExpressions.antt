@@ -1,5 +1,5 @@
 -- The steps of the loops over an expression.
-use Rattle.std.proofs.Common.{◌≡◌, ℕ, zero, suc, ◌+◌, ◌-◌, ◌<◌, ◌≤◌, List, [], ◌∷◌, map, Result, Ok, Err, IfOk, length, refl, sym, ap, ◌∙◌, subst, arith}
+use Rattle.std.proofs.Common.{◌≡◌, ℕ, suc, ◌+◌, ◌-◌, ◌<◌, ◌≤◌, List, ◌∷◌, Result, Ok, Err, IfOk, refl, sym, ◌∙◌, subst, arith}
 use Rattle.inno_types.specs.declared.stmt.Expr.{Expr}
 use Rattle.sql_grammar.specs.declared.token.Token.{Token}
 use Rattle.sql_grammar.specs.Grammar.{Expression, Single}
@@ -7,7 +7,6 @@ use Rattle.sql_grammar.specs.Grammar as grammar
 use Rattle.sql_text.specs.declared.expression.Frame.{Frame}
 use Rattle.sql_text.specs.declared.expression.After.{After}
 use Rattle.sql_text.specs.declared.refusal.Refusal.{Refusal}
-use Rattle.sql_text.specs.declared.refusal.Refusal.TheVariants as refusal
 use Rattle.sql_text.specs.Parts.{◌>>=◌, Fails, Gives}
 use Rattle.sql_text.specs.Expressions as read
 use Rattle.sql_text.specs.Expressions.{HasOperand, Stands, StandsAfter, marks, mark_of, close, settle, carry, steps, resume, operand_step, value_step, value_at, stage_of}

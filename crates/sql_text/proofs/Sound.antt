@@ -1,5 +1,5 @@
 -- What is read is spelled so: the parts.
-use Rattle.std.proofs.Common.{◌≡◌, ℕ, zero, suc, List, [], ◌∷◌, length, Option, Some, None, Bool, true, false, Result, Ok, Err, IfOk, refl, sym, ap, subst}
+use Rattle.std.proofs.Common.{◌≡◌, ℕ, zero, suc, List, [], ◌∷◌, length, Bool, true, false, Result, Ok, Err, IfOk, refl, sym, subst}
 use Rattle.inno_types.specs.declared.stmt.Literal.{Literal}
 use Rattle.inno_types.specs.declared.stmt.Operand.{Operand}
 use Rattle.inno_types.specs.declared.stmt.Operand.TheVariants as operand
@@ -7,7 +7,7 @@ use Rattle.inno_types.specs.declared.stmt.Filter.{Filter}
 use Rattle.inno_types.specs.declared.stmt.Filter.TheVariants as filter
 use Rattle.sql_grammar.specs.declared.token.Word.TheVariants as word
 use Rattle.sql_grammar.specs.declared.token.Token.{Token}
-use Rattle.sql_grammar.specs.declared.token.Token.TheVariants.{Key, Bare, Quoted, Number, Text, Compare, Open, Close, Comma, Star, Plus, Minus}
+use Rattle.sql_grammar.specs.declared.token.Token.TheVariants.{Key, Bare, Quoted, Number, Text, Compare, Open, Close, Comma, Minus}
 use Rattle.sql_grammar.specs.Grammar.{Name, Lit, Commas, Tuple, Oper, Atom}
 use Rattle.sql_grammar.specs.Grammar as grammar
 use Rattle.sql_text.specs.Parts.{Read, ◌>>=◌, name_at, lit_at, after_comma, next_item, items_at, commas_at, after_close, tuple_at}

@@ -1,11 +1,10 @@
 -- What is read is spelled so: statements with neither conditions nor expressions.
-use Rattle.std.proofs.Common.{◌≡◌, ℕ, List, [], ◌∷◌, length, Option, Some, None, Bool, true, false, cond, Result, Ok, Err, IfOk, refl, sym, ap, subst}
+use Rattle.std.proofs.Common.{◌≡◌, ℕ, List, [], ◌∷◌, length, Some, None, Bool, true, false, cond, Result, Ok, Err, IfOk, refl, sym, subst}
 use Rattle.std.specs.Str.{bytes_eq}
 use Rattle.std.proofs.lemmas.Slice.Eq.{bytes_eq-Decides}
 use Rattle.inno_types.specs.declared.lock.Level.{Level}
 use Rattle.inno_types.specs.declared.lock.Level.TheVariants as level
 use Rattle.inno_types.specs.declared.stmt.Comparison.TheVariants.{Equal}
-use Rattle.inno_types.specs.declared.stmt.DeclaredKind.{DeclaredKind}
 use Rattle.inno_types.specs.declared.stmt.DeclaredKind.TheVariants as kind
 use Rattle.inno_types.specs.declared.stmt.Definition.{Definition}
 use Rattle.inno_types.specs.declared.stmt.Definition.TheVariants as definition
@@ -15,10 +14,10 @@ use Rattle.inno_types.specs.declared.stmt.Stmt.{Stmt}
 use Rattle.inno_types.specs.declared.stmt.Stmt.TheVariants as stmt
 use Rattle.sql_grammar.specs.declared.token.Word.TheVariants as word
 use Rattle.sql_grammar.specs.declared.token.Token.{Token}
-use Rattle.sql_grammar.specs.declared.token.Token.TheVariants.{Key, Bare, Quoted, Number, Text, Compare, Open, Close, Comma, Star, Plus, Minus}
+use Rattle.sql_grammar.specs.declared.token.Token.TheVariants.{Key, Bare, Number, Compare, Open, Close}
 use Rattle.sql_grammar.specs.Grammar.{Name, Lit, Commas, Tuple, ColumnKind, Nullable, Primary, KeyWord, Bracketed, Define, IfNotExists, Engine, Into, ColumnList, ValuesWord, Work, SavepointWord, Switch, Scope, LevelName, Statement, size_of}
 use Rattle.sql_grammar.specs.Grammar as grammar
-use Rattle.sql_text.specs.Parts.{Read, ◌>>=◌, name_at, tuple_at, after_close, commas_at, end_of}
+use Rattle.sql_text.specs.Parts.{◌>>=◌, name_at, tuple_at, after_close, commas_at, end_of}
 use Rattle.sql_text.specs.Statements as read
 use Rattle.sql_text.specs.Whole as whole
 use Rattle.sql_text.proofs.Sound.{bind, weaker, name_sound, tuple_sound, items_sound, close_sound}
@@ -247,12 +246,12 @@ switch_sound a (Number digits ∷ rest) =
     let P = λ (on : Bool). Statement (Key word.Set ∷ Bare (Some word.Autocommit) a ∷ Compare Equal ∷ Number digits ∷ rest) (stmt.SetAutocommit on) in
     test_sound (bytes_eq digits (48 ∷ [])) (read.ends_as false rest) (cond (bytes_eq digits (49 ∷ [])) (read.ends_as true rest) (Err (Number digits ∷ rest))) P
     (λ t. ends_sound false P rest (λ e. let d = (bytes_eq-Decides digits (48 ∷ [])).0 t in
-        subst (λ (ds : List ℕ). Statement (Key word.Set ∷ Bare (Some word.Autocommit) a ∷ Compare Equal ∷ Number ds ∷ rest) (stmt.SetAutocommit false)) (sym d)
-        (subst (λ (ts : List Token). Statement (Key word.Set ∷ Bare (Some word.Autocommit) a ∷ Compare Equal ∷ Number (48 ∷ []) ∷ ts) (stmt.SetAutocommit false)) (sym e) (grammar.set_autocommit grammar.zero_digit))))
+    subst (λ (ds : List ℕ). Statement (Key word.Set ∷ Bare (Some word.Autocommit) a ∷ Compare Equal ∷ Number ds ∷ rest) (stmt.SetAutocommit false)) (sym d)
+    (subst (λ (ts : List Token). Statement (Key word.Set ∷ Bare (Some word.Autocommit) a ∷ Compare Equal ∷ Number (48 ∷ []) ∷ ts) (stmt.SetAutocommit false)) (sym e) (grammar.set_autocommit grammar.zero_digit))))
     (test_sound (bytes_eq digits (49 ∷ [])) (read.ends_as true rest) (Err (Number digits ∷ rest)) P
     (λ t. ends_sound true P rest (λ e. let d = (bytes_eq-Decides digits (49 ∷ [])).0 t in
-        subst (λ (ds : List ℕ). Statement (Key word.Set ∷ Bare (Some word.Autocommit) a ∷ Compare Equal ∷ Number ds ∷ rest) (stmt.SetAutocommit true)) (sym d)
-        (subst (λ (ts : List Token). Statement (Key word.Set ∷ Bare (Some word.Autocommit) a ∷ Compare Equal ∷ Number (49 ∷ []) ∷ ts) (stmt.SetAutocommit true)) (sym e) (grammar.set_autocommit grammar.one_digit))))
+    subst (λ (ds : List ℕ). Statement (Key word.Set ∷ Bare (Some word.Autocommit) a ∷ Compare Equal ∷ Number ds ∷ rest) (stmt.SetAutocommit true)) (sym d)
+    (subst (λ (ts : List Token). Statement (Key word.Set ∷ Bare (Some word.Autocommit) a ∷ Compare Equal ∷ Number (49 ∷ []) ∷ ts) (stmt.SetAutocommit true)) (sym e) (grammar.set_autocommit grammar.one_digit))))
     tt)
 switch_sound a (Bare (Some word.On) b ∷ rest) =
     ends_sound true (λ on. Statement (Key word.Set ∷ Bare (Some word.Autocommit) a ∷ Compare Equal ∷ Bare (Some word.On) b ∷ rest) (stmt.SetAutocommit on)) rest

@@ -1,6 +1,5 @@
 -- What is read is spelled so: whole statements.
-use Rattle.std.proofs.Common.{◌≡◌, ℕ, List, [], ◌∷◌, ◌++◌, length, Option, Some, None, Bool, true, false, Result, Ok, Err, IfOk, refl, sym, ap, ◌∙◌, subst, append_assoc}
-use Rattle.std.proofs.lemmas.List.{append-nil}
+use Rattle.std.proofs.Common.{◌≡◌, ℕ, List, [], ◌∷◌, ◌++◌, length, Option, Some, Result, Ok, IfOk, refl, sym, ap, subst}
 use Rattle.inno_types.specs.declared.lock.Mode.{Mode}
 use Rattle.inno_types.specs.declared.lock.Mode.TheVariants.{S, X}
 use Rattle.inno_types.specs.declared.stmt.Comparison.TheVariants.{Equal}
@@ -8,15 +7,14 @@ use Rattle.inno_types.specs.declared.stmt.Filter.{Filter}
 use Rattle.inno_types.specs.declared.stmt.Expr.{Expr}
 use Rattle.inno_types.specs.declared.stmt.Set.{Set}
 use Rattle.inno_types.specs.declared.stmt.Selected.{Selected}
-use Rattle.inno_types.specs.declared.stmt.Selected.TheVariants.{AllColumns, Columns}
-use Rattle.inno_types.specs.declared.stmt.Stmt.{Stmt}
+use Rattle.inno_types.specs.declared.stmt.Selected.TheVariants.{Columns}
 use Rattle.inno_types.specs.declared.stmt.Stmt.TheVariants as stmt
 use Rattle.sql_grammar.specs.declared.token.Word.TheVariants as word
 use Rattle.sql_grammar.specs.declared.token.Token.{Token}
-use Rattle.sql_grammar.specs.declared.token.Token.TheVariants.{Key, Bare, Quoted, Number, Text, Compare, Open, Close, Comma, Star, Plus, Minus}
+use Rattle.sql_grammar.specs.declared.token.Token.TheVariants.{Key, Bare, Compare, Comma, Star}
 use Rattle.sql_grammar.specs.Grammar.{Name, Lit, Commas, Tuple, Condition, Loose, Where, Expression, Assignment, Choice, Locking, Statement}
 use Rattle.sql_grammar.specs.Grammar as grammar
-use Rattle.sql_text.specs.Parts.{Read, ◌>>=◌, name_at, after_comma, commas_at, end_of}
+use Rattle.sql_text.specs.Parts.{name_at, after_comma, commas_at, end_of}
 use Rattle.sql_text.specs.Statements as read
 use Rattle.sql_text.specs.Whole as whole
 use Rattle.sql_text.proofs.Sound.{bind, name_sound, items_sound}

@@ -1,5 +1,5 @@
 -- What is read is spelled so: by the first words.
-use Rattle.std.proofs.Common.{◌≡◌, ℕ, List, [], ◌∷◌, Option, Some, None, Result, Ok, Err, IfOk, refl, sym, ap, ◌∙◌, subst}
+use Rattle.std.proofs.Common.{◌≡◌, ℕ, List, [], ◌∷◌, Some, Result, Ok, Err, IfOk, refl, sym, ap, ◌∙◌, subst}
 use Rattle.inno_types.specs.declared.stmt.Stmt.{Stmt}
 use Rattle.sql_grammar.specs.declared.token.Word.{Word}
 use Rattle.sql_grammar.specs.declared.token.Word.TheVariants as word
@@ -7,12 +7,11 @@ use Rattle.sql_grammar.specs.declared.token.Token.{Token}
 use Rattle.sql_grammar.specs.declared.token.Token.TheVariants.{Key, Bare}
 use Rattle.sql_grammar.specs.Grammar.{Statement}
 use Rattle.sql_text.specs.declared.refusal.Refusal.{Refusal}
-use Rattle.sql_text.specs.declared.refusal.Refusal.TheVariants as refusal
-use Rattle.sql_text.specs.Parts.{◌>>=◌, Fails, Gives}
+use Rattle.sql_text.specs.Parts.{Gives}
 use Rattle.sql_text.specs.Statements.{create_of}
 use Rattle.sql_text.specs.Whole as whole
 use Rattle.sql_text.specs.Whole.{read_it, first_of, behind_key, behind_word, statement_of}
-use Rattle.sql_text.proofs.Settled.{fails_bind, same_fails}
+use Rattle.sql_text.proofs.Settled.{fails_bind}
 use Rattle.sql_text.proofs.Sound.{bind}
 use Rattle.sql_text.proofs.SoundPlain.{create_sound, begin_sound, start_sound, commit_sound, rollback_sound, savepoint_statement_sound}
 

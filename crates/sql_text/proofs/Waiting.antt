@@ -1,5 +1,5 @@
 -- What an operand with the frame below it stands for.
-use Rattle.std.proofs.Common.{◌≡◌, List, [], ◌∷◌, map, Result, Ok, Err, length, refl, sym, ap, ◌∙◌, subst}
+use Rattle.std.proofs.Common.{◌≡◌, List, [], ◌∷◌, Result, Ok, Err, refl, sym, ap, ◌∙◌, subst}
 use Rattle.inno_types.specs.declared.stmt.Filter.{Filter}
 use Rattle.inno_types.specs.declared.stmt.Filter.TheVariants as filter
 use Rattle.sql_grammar.specs.declared.token.Word.TheVariants as word

@@ -1,5 +1,5 @@
 -- Reading one comparison or test of a condition from left to right.
-use Rattle.std.specs.Prelude.{ℕ, List, [], ◌∷◌, Bool, true, false, Result, Ok, Err}
+use Rattle.std.specs.Prelude.{ℕ, List, ◌∷◌, Bool, true, false, Result, Ok, Err}
 use Rattle.inno_types.specs.declared.stmt.Operand.{Operand}
 use Rattle.inno_types.specs.declared.stmt.Operand.TheVariants as operand
 use Rattle.inno_types.specs.declared.stmt.Filter.{Filter}
@@ -51,4 +51,3 @@ test_at (operand.Literal value) rest = Err rest
 
 unfoldable pub atom_at : List Token → Read Filter
 atom_at tokens = oper_at tokens >>= λ left. test_at left.0 left.1
-

@@ -4,3 +4,4 @@ pub mod Atoms
 pub mod Conditions
 pub mod Expressions
 pub mod Whole
+pub mod Parsed

@@ -1,11 +1,11 @@
 -- Reading parts of a statement from left to right: what a part is and the tokens behind it, or the tokens from the first that can't stand there.
-use Rattle.std.specs.Prelude.{◌≡◌, ℕ, zero, suc, List, [], ◌∷◌, length, Option, Some, None, Bool, true, false, Result, Ok, Err}
+use Rattle.std.specs.Prelude.{◌≡◌, ℕ, zero, suc, List, [], ◌∷◌, length, Option, Some, None, Result, Ok, Err}
 use Rattle.inno_types.specs.declared.stmt.Literal.{Literal}
 use Rattle.inno_types.specs.declared.stmt.Literal.TheVariants as literal
 use Rattle.sql_grammar.specs.declared.token.Word.TheVariants as word
 use Rattle.sql_grammar.specs.declared.token.Token.{Token}
-use Rattle.sql_grammar.specs.declared.token.Token.TheVariants.{Key, Bare, Quoted, Number, Text, Compare, Open, Close, Comma, Star, Plus, Minus}
-use Rattle.sql_grammar.specs.Grammar.{plain_number, negative_number, size_of}
+use Rattle.sql_grammar.specs.declared.token.Token.TheVariants.{Key, Bare, Quoted, Number, Text, Open, Close, Comma, Minus}
+use Rattle.sql_grammar.specs.Grammar.{plain_number, negative_number}
 use Rattle.sql_text.specs.declared.refusal.Refusal.{Refusal}
 use Rattle.sql_text.specs.declared.refusal.Refusal.TheVariants as refusal
 

@@ -18,7 +18,7 @@ use Rattle.inno_types.specs.declared.stmt.Stmt.{Stmt}
 use Rattle.inno_types.specs.declared.stmt.Stmt.TheVariants as stmt
 use Rattle.sql_grammar.specs.declared.token.Word.TheVariants as word
 use Rattle.sql_grammar.specs.declared.token.Token.{Token}
-use Rattle.sql_grammar.specs.declared.token.Token.TheVariants.{Key, Bare, Number, Compare, Open, Close, Star}
+use Rattle.sql_grammar.specs.declared.token.Token.TheVariants.{Key, Bare, Number, Compare, Open, Star}
 use Rattle.sql_grammar.specs.Grammar.{size_of}
 use Rattle.sql_text.specs.Parts.{Read, ◌>>=◌, name_at, tuple_at, commas_at, after_close, end_of}
 

@@ -1,5 +1,5 @@
 -- Reading whole statements from left to right: whether they can be read, or from which token on they can't.
-use Rattle.std.specs.Prelude.{ℕ, List, [], ◌∷◌, map, length, Option, Some, None, false, Result, Ok, Err}
+use Rattle.std.specs.Prelude.{ℕ, List, ◌∷◌, map, Option, Some, None, false, Result, Ok, Err}
 use Rattle.inno_types.specs.declared.stmt.Comparison.TheVariants.{Equal}
 use Rattle.inno_types.specs.declared.stmt.Set.{Set}
 use Rattle.inno_types.specs.declared.stmt.Stmt.{Stmt}

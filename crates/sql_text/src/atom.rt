@@ -112,11 +112,7 @@ fn range_test(
 }
 
 #[tactic(auto, unfolding(crate::specs::Atoms::between_at))]
-fn between(
-    column: Bytes,
-    negated: bool,
-    tokens: &[Token],
-) -> Result<(Filter, &[Token]), Refusal>
+fn between(column: Bytes, negated: bool, tokens: &[Token]) -> Result<(Filter, &[Token]), Refusal>
     ensures { Gives (λ x. (x.0, x.1.now)) result (read.between_at column negated tokens.now) }
 {
     let (low, rest) = literal(tokens)?;

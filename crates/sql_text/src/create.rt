@@ -36,9 +36,12 @@ fn if_not_exists(tokens: &[Token]) -> Result<(bool, &[Token]), Refusal>
     ensures { Gives (λ x. (x.0, x.1.now)) result (read.if_not_exists_at tokens.now) }
 {
     match tokens {
-        [Token::Key(Word::If), Token::Key(Word::Not), Token::Key(Word::Exists), rest @ ..] => {
-            Ok((true, rest))
-        }
+        [
+            Token::Key(Word::If),
+            Token::Key(Word::Not),
+            Token::Key(Word::Exists),
+            rest @ ..,
+        ] => { Ok((true, rest)) }
         [Token::Key(Word::If), Token::Key(Word::Not), rest @ ..] => Err(unexpected(rest)),
         [Token::Key(Word::If), rest @ ..] => Err(unexpected(rest)),
         _ => Ok((false, tokens)),
@@ -143,7 +146,12 @@ fn kind(tokens: &[Token]) -> Result<(DeclaredKind, &[Token]), Refusal>
 {
     match tokens {
         [Token::Key(Word::BigInt), rest @ ..] => Ok((DeclaredKind::BigInt, rest)),
-        [Token::Key(Word::VarBinary), Token::Open, Token::Number(digits), rest @ ..] => {
+        [
+            Token::Key(Word::VarBinary),
+            Token::Open,
+            Token::Number(digits),
+            rest @ ..,
+        ] => {
             let rest = after_close(rest)?;
             Ok((DeclaredKind::VarBinary(size(digits.as_slice())), rest))
         }

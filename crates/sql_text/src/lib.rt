@@ -9,8 +9,14 @@ mod expression;
 mod insert;
 mod list;
 mod literal;
+mod parser;
 mod refusal;
 mod select;
 mod set;
 mod stack;
 mod statement;
+
+pub use parser::{ParseBad, parse};
+
+#[cfg(test)]
+mod tests;

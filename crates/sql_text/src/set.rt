@@ -54,9 +54,11 @@ fn snapshot(tokens: &[Token]) -> Result<Stmt, Refusal>
             end(rest)?;
             Ok(Stmt::Begin { snapshot: true })
         }
-        [Token::Key(Word::With), Token::Bare(Some(Word::Consistent), _), rest @ ..] => {
-            Err(unexpected(rest))
-        }
+        [
+            Token::Key(Word::With),
+            Token::Bare(Some(Word::Consistent), _),
+            rest @ ..,
+        ] => { Err(unexpected(rest)) }
         [Token::Key(Word::With), rest @ ..] => Err(unexpected(rest)),
         _ => Err(unexpected(tokens)),
     }
@@ -189,16 +191,28 @@ fn level_name(tokens: &[Token]) -> Result<Level, Refusal>
     ensures { Gives (λ x. x) result (read.level_name_of tokens.now) }
 {
     match tokens {
-        [Token::Bare(Some(Word::Read), _), Token::Bare(Some(Word::Uncommitted), _), rest @ ..] => {
+        [
+            Token::Bare(Some(Word::Read), _),
+            Token::Bare(Some(Word::Uncommitted), _),
+            rest @ ..,
+        ] => {
             end(rest)?;
             Ok(Level::ReadUncommitted)
         }
-        [Token::Bare(Some(Word::Read), _), Token::Bare(Some(Word::Committed), _), rest @ ..] => {
+        [
+            Token::Bare(Some(Word::Read), _),
+            Token::Bare(Some(Word::Committed), _),
+            rest @ ..,
+        ] => {
             end(rest)?;
             Ok(Level::ReadCommitted)
         }
         [Token::Bare(Some(Word::Read), _), rest @ ..] => Err(unexpected(rest)),
-        [Token::Bare(Some(Word::Repeatable), _), Token::Bare(Some(Word::Read), _), rest @ ..] => {
+        [
+            Token::Bare(Some(Word::Repeatable), _),
+            Token::Bare(Some(Word::Read), _),
+            rest @ ..,
+        ] => {
             end(rest)?;
             Ok(Level::RepeatableRead)
         }

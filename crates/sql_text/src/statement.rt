@@ -49,12 +49,7 @@ fn first_of(tokens: &[Token]) -> First<'_>
 }
 
 #[tactic(auto, unfolding(crate::specs::Whole::behind_key))]
-fn behind_key(
-    alloc: Global,
-    word: Word,
-    tokens: &[Token],
-    rest: &[Token],
-) -> Result<Stmt, Refusal>
+fn behind_key(alloc: Global, word: Word, tokens: &[Token], rest: &[Token]) -> Result<Stmt, Refusal>
     ensures exact { Gives (λ _. tt) result (read.behind_key word tokens.now rest.now) }
     ensures spelled { IfOk result (λ s. Statement (Key word ∷ rest.now) s) }
 {

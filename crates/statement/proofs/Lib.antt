@@ -1,3 +1,3 @@
-mod Stepping
+pub mod Stepping
 mod Gather
 mod Closing

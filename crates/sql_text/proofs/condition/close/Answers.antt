@@ -1,4 +1,4 @@
-use Rattle.std.proofs.Common.{◌≡◌, ◌∷◌, sym, refl}
+use Rattle.std.proofs.Common.{refl}
 use Rattle.sql_text.specs.Conditions as read
 use Rattle.sql_text.proofs.Waiting.{closes_not, closes_and}
 use Rattle.sql_text.proofs.condition.close.Goals as goal

@@ -1,4 +1,4 @@
-use Rattle.std.proofs.Common.{◌≡◌, ◌∷◌, sym, refl}
+use Rattle.std.proofs.Common.{◌∷◌, sym, refl}
 use Rattle.sql_text.specs.declared.condition.Frame.TheVariants as frame
 use Rattle.sql_text.proofs.Waiting.{waits_and, waits_or, closes_bracket, and_in_brackets, or_in_brackets, closing_in_brackets, open_in_brackets, twice}
 use Rattle.sql_text.proofs.condition.close_bracket.Goals as goal

@@ -1,4 +1,4 @@
-use Rattle.std.proofs.Common.{◌≡◌, ◌∷◌, sym, refl}
+use Rattle.std.proofs.Common.{◌∷◌, sym}
 use Rattle.sql_text.specs.declared.condition.Frame.TheVariants as frame
 use Rattle.sql_text.proofs.Waiting.{waits_and, closes_or, waits_in_disjunction, goes_in_disjunction, no_and_at, twice}
 use Rattle.sql_text.proofs.condition.close_or.Goals as goal

@@ -1,4 +1,4 @@
-use Rattle.std.proofs.Common.{◌≡◌, [], ◌∷◌, sym, refl}
+use Rattle.std.proofs.Common.{[], sym}
 use Rattle.sql_text.proofs.Waiting.{waits_and, waits_or, on_bottom, and_at_bottom, or_at_bottom, no_operator_at, whole_at_bottom, whole_condition}
 use Rattle.sql_text.proofs.condition.finish.Goals as goal
 

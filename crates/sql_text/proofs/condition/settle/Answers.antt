@@ -1,4 +1,3 @@
-use Rattle.std.proofs.Common.{◌≡◌, sym, refl}
 use Rattle.std.proofs.lemmas.Result.{err_from_is_err_and}
 use Rattle.sql_text.specs.Conditions.{marks, settle}
 use Rattle.sql_text.proofs.Settled.{settle_fails, settle_goes, settle_waits, joins}

@@ -1,4 +1,4 @@
-use Rattle.std.proofs.Common.{◌≡◌, length, sym, refl}
+use Rattle.std.proofs.Common.{length, refl}
 use Rattle.std.proofs.lemmas.Result.{err_from_is_err_and}
 use Rattle.sql_text.specs.Expressions.{marks, after_expression}
 use Rattle.sql_text.proofs.SettledExpressions.{steps_fail, steps_whole, steps_more, steps_run_out}

@@ -1,4 +1,3 @@
-use Rattle.std.proofs.Common.{◌≡◌, sym, refl}
 use Rattle.std.proofs.lemmas.Result.{err_from_is_err_and}
 use Rattle.sql_text.specs.Expressions.{marks, settle}
 use Rattle.sql_text.proofs.SettledExpressions.{settle_fails, settle_goes, settle_waits, joins}

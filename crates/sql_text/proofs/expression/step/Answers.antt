@@ -1,8 +1,6 @@
-use Rattle.std.proofs.Common.{◌≡◌, [], ◌∷◌, sym, refl}
-use Rattle.sql_text.specs.declared.expression.Frame.TheVariants as frame
+use Rattle.std.proofs.Common.{sym}
 use Rattle.sql_text.specs.Expressions as read
-use Rattle.sql_text.proofs.Waiting.{twice, on_bottom}
-use Rattle.sql_text.proofs.Operands.{closes_negate, closes_times, closes_plus, closes_minus, waits_times, waits_plus, waits_minus, closes_bracket, goes_in_sum, goes_in_difference, waits_in_sum, waits_in_difference, times_in_brackets, plus_in_brackets, minus_in_brackets, times_at_bottom, plus_at_bottom, minus_at_bottom, closing_in_brackets, open_in_brackets, no_star_at, no_operator_at, whole_at_bottom, whole_expression, negate_waits, bracket_waits, negate_step, bracket_step, value_opens}
+use Rattle.sql_text.proofs.Operands.{negate_waits, bracket_waits, negate_step, bracket_step, value_opens}
 use Rattle.sql_text.proofs.expression.step.Goals as goal
 
 pub returns-in_ok-push-in-Minus-clause-exact : goal.returns-in_ok-push-in-Minus-clause-exact

@@ -1,4 +1,4 @@
-use Rattle.std.proofs.Common.{◌≡◌, refl, length, ap, ◌∙◌, sym}
+use Rattle.std.proofs.Common.{refl, length, sym}
 use Rattle.std.proofs.lemmas.Result.{err_from_is_err_and}
 use Rattle.sql_text.specs.Parts.{name_at, commas_at}
 use Rattle.sql_text.proofs.Lists.{goes_on, stops, fails, runs_out}

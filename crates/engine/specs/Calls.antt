@@ -1,0 +1,107 @@
+-- What each call of the engine does, between two states.
+use Rattle.std.specs.Prelude.{◌≡◌, ◌≢◌, ◌⊎◌, ℕ, ◌+◌, Bool, true, false, Option, None, Some, List, [], ◌∷◌, ◌++◌}
+use Rattle.inno_types.specs.declared.reply.Item.{Item}
+use Rattle.inno_types.specs.declared.reply.Reply.{Reply}
+use Rattle.inno_types.specs.declared.reply.Reply.TheVariants.{Done}
+use Rattle.inno_model.specs.declared.event.Event.{Event}
+use Rattle.inno_model.specs.declared.event.Event.TheVariants.{Opened, Started, Ended}
+use Rattle.inno_model.specs.Past.{is_of, started, under_way, txn}
+use Rattle.inno_model.specs.Legal.{IsOpen, IsClosed}
+use Rattle.store_api.specs.declared.answers.Progress.{Progress}
+use Rattle.store_api.specs.declared.answers.Progress.TheVariants as progress
+use Rattle.store_lists.specs.Agreement.{IsFirst}
+use Rattle.store_lists.specs.State.{State as Lists}
+use Rattle.statement.specs.declared.Statement.{Statement}
+use Rattle.statement.specs.declared.Advance.{Advance}
+use Rattle.statement.specs.declared.Advance.TheVariants as advance
+use Rattle.statement.specs.Running.{Moves, plain_edge}
+use Rattle.engine.specs.declared.seats.Seat.{Seat}
+use Rattle.engine.specs.declared.seats.Seat.TheVariants as seats
+use Rattle.engine.specs.Seats.{State, seat_at, is_working}
+
+-- lists that have just been opened
+abbrev pub IsNew : Lists → Type 0
+IsNew lists = (db : _) × IsFirst db × (lists ≡ record { names = []; past = Opened db ∷ []; writer = None })
+
+pub record IsOpened {D : Type 0} (disk : D) (state : State D) : Type 0 where
+  pub disk_is : state.disk ≡ disk
+  pub lists_are : IsNew state.lists
+  pub nobody : state.seats ≡ []
+
+-- the state is the same to all sessions
+pub record SameState {D : Type 0} (old new : State D) : Type 0 where
+  pub disk_stays : new.disk ≡ old.disk
+  pub lists_stay : new.lists ≡ old.lists
+  pub seats_stay : (s : ℕ) → seat_at new.seats s ≡ seat_at old.seats s
+
+-- the seats of the other sessions are as they were
+abbrev pub OthersStay : ℕ → List Seat → List Seat → Type 0
+OthersStay s old new = (u : ℕ) → u ≢ s → seat_at new u ≡ seat_at old u
+
+pub record Joins {D : Type 0} (name : List ℕ) (old new : State D) : Type 0 where
+  pub disk_stays : new.disk ≡ old.disk
+  pub lists_are : new.lists ≡ record old.lists { names = old.lists.names ++ name ∷ [] }
+  pub seats_stay : (s : ℕ) → seat_at new.seats s ≡ seat_at old.seats s
+
+pub record Starts {D : Type 0} (s : ℕ) (item : Item) (old new : State D) : Type 0 where
+  pub disk_stays : new.disk ≡ old.disk
+  pub lists_are : new.lists ≡ record old.lists { past = Started s (started s old.lists.past + 1) item ∷ old.lists.past }
+  pub works : is_working (seat_at new.seats s) ≡ true
+  pub others_stay : OthersStay s old.seats new.seats
+
+pub record Leaves {D : Type 0} (s : ℕ) (old new : State D) : Type 0 where
+  pub disk_stays : new.disk ≡ old.disk
+  pub lists_stay : new.lists ≡ old.lists
+  pub leaving : seat_at new.seats s ≡ seats.Leaving
+  pub others_stay : OthersStay s old.seats new.seats
+
+-- the step starts and ends no item
+abbrev pub KeepsItems : Event → Type 0
+KeepsItems (Started s j item) = ⊥
+KeepsItems (Ended s j reply) = ⊥
+KeepsItems other = Unit {0}
+
+-- nothing is added, or one entry of the session's within its item or its ending
+abbrev pub GoesOn : ℕ → List Event → List Event → Type 0
+GoesOn s old new = (new ≡ old) ⊎ ((e : Event) × (is_of s e ≡ true) × KeepsItems e × (new ≡ e ∷ old))
+
+-- a step of a session: what it leaves as it was
+pub record StepsOn {D : Type 0} (s : ℕ) (old new : State D) : Type 0 where
+  pub disk_stays : new.disk ≡ old.disk
+  pub names_stay : new.lists.names ≡ old.lists.names
+  pub others_stay : OthersStay s old.seats new.seats
+
+-- the session waits for one other, which alone may write
+pub record WaitsFor {D : Type 0} (s : ℕ) (blockers : List _) (state : State D) : Type 0 where
+  pub by : ℕ
+  pub other : by ≢ s
+  pub holds : state.lists.writer ≡ Some by
+  pub is_open : IsOpen by state.lists.past
+  pub edge : blockers ≡ plain_edge (txn s state.lists.past) (txn by state.lists.past) ∷ []
+
+-- the step ends the session's item with the reply, or its ending
+abbrev pub EndsBy : {D : Type 0} → ℕ → Reply → State D → State D → Type 0
+EndsBy s reply old new =
+    ((new.lists.past ≡ Ended s (started s old.lists.past) reply ∷ old.lists.past) × (seat_at new.seats s ≡ seats.Idle))
+    ⊎ ((seat_at old.seats s ≡ seats.Leaving) × (reply ≡ Done) × (new.lists ≡ old.lists) × (seat_at new.seats s ≡ seats.Left))
+
+-- the seat and the answer that a statement's step comes to
+abbrev pub Settled : Statement → Advance → Seat → Progress → Type 0
+Settled statement advance.Went seat answer = (seat ≡ seats.Busy statement) × (answer ≡ progress.Went)
+Settled statement (advance.Waiting by blockers) seat answer = (seat ≡ seats.Busy statement) × (answer ≡ progress.Waiting blockers)
+Settled statement advance.NoMemory seat answer = (seat ≡ seats.Busy statement) × (answer ≡ progress.NoMemory)
+Settled statement (advance.Done reply) seat answer = (seat ≡ seats.Idle) × (answer ≡ progress.Done reply)
+
+-- what a step of a session's ending does
+abbrev pub GoesOut : ℕ → Lists → Lists → Seat → Progress → Type 0
+GoesOut s old new seat progress.Went = Moves s old new × GoesOn s old.past new.past × (under_way s new.past ≡ None) × (seat ≡ seats.Leaving)
+GoesOut s old new seat (progress.Done reply) = (reply ≡ Done) × (new ≡ old) × IsClosed s old.past × (seat ≡ seats.Left)
+GoesOut s old new seat other = ⊥
+
+-- what a step does, by its answer
+abbrev pub StepsBy : {D : Type 0} → ℕ → Progress → State D → State D → Type 0
+StepsBy s progress.Went old new = StepsOn s old new × GoesOn s old.lists.past new.lists.past × (is_working (seat_at new.seats s) ≡ true)
+StepsBy s (progress.Waiting blockers) old new = StepsOn s old new × (new.lists ≡ old.lists) × (is_working (seat_at new.seats s) ≡ true) × WaitsFor s blockers old
+StepsBy s progress.NoMemory old new = StepsOn s old new × (new.lists.past ≡ old.lists.past) × (is_working (seat_at new.seats s) ≡ true)
+StepsBy s (progress.Done reply) old new = StepsOn s old new × EndsBy s reply old new
+StepsBy s other old new = ⊥

@@ -1,0 +1,201 @@
+//! The engine's calls. Each step of a session is a step of its statement; the seats say which sessions are at work.
+
+ghost use Rattle.std.specs.Prelude.{◌≡◌, ℕ, ◌<◌, ◌^◌, ◌∷◌, ◌++◌, [], length, None, Ok, IfOk, IfErr, OnOk, OnErr};
+ghost use Rattle.inno_types.specs.declared.reply.Item.TheVariants.{Sql};
+ghost use Rattle.inno_model.specs.Past.{under_way};
+ghost use Rattle.engine.specs.Calls.{IsNew, IsOpened, Settled, GoesOut};
+
+use crate::opening::first_database;
+use crate::seats::{Seat, Seats};
+use command_text::parse;
+use inno_model::History;
+use inno_types::{Bytes, Cause, Item, Reply};
+use statement::{Advance, Statement};
+use std::alloc::Global;
+use std::marker::Model;
+use store_api::{Disk, MountBad, NoMemory, Progress};
+use store_lists::Lists;
+
+/// An engine over a disk, on which the files of a database will lie. So far it leaves the disk untouched.
+#[derive(Drop)]
+pub struct Engine<D> {
+    alloc: Global,
+    disk: D,
+    lists: Lists,
+    seats: Seats,
+}
+
+impl<D> Model for Engine<D> {
+    ghost use Rattle.engine.specs.Seats.{State, state_code, AreSeats};
+
+    ghost Value = { State D };
+
+    ghost coded = { state_code D.code };
+
+    ghost view = { λ e. record { disk = e.disk; lists = e.lists; seats = e.seats } };
+
+    ghost invariant = { λ e. AreSeats e.lists e.seats };
+}
+
+/// Opens an engine over a disk, with the empty table `t`. A refusal hands the disk back.
+pub fn mount<D: Disk>(alloc: Global, disk: D) -> Result<Engine<D>, (D, MountBad)>
+    ensures ok { IfOk result (IsOpened disk) }
+    ensures err { IfErr result (λ e. (e.0 ≡ disk) × (e.1 ≡ MountBad.NoMemory)) }
+{
+    match opened(alloc) {
+        Ok(lists) => Ok(Engine {
+            alloc,
+            disk,
+            lists,
+            seats: Seats::new(alloc),
+        }),
+        Err(_) => Err((disk, MountBad::NoMemory)),
+    }
+}
+
+fn opened(alloc: Global) -> Result<Lists, NoMemory>
+    ensures { IfOk result IsNew }
+{
+    let db = first_database(alloc)?;
+    Lists::new(alloc, db)
+}
+
+impl<D: Disk> Engine<D> {
+    ghost use Rattle.engine.specs.Seats.{IsJoined, IsIdle, IsWorking};
+    ghost use Rattle.engine.specs.Calls.{Joins, Starts, StepsBy, Leaves, SameState};
+    ghost use Rattle.engine.specs.Seats.{has_left, is_working, seat_at};
+    ghost use Rattle.inno_model.specs.Legal.{IsLegal};
+
+    /// What has happened, which is legal.
+    pub fn history(&self) -> &History
+        ensures names { result.now.names ≡ self.now.lists.names }
+        ensures past { result.now.past ≡ self.now.lists.past }
+        ensures legal { IsLegal self.now.lists.past }
+    {
+        self.lists.history()
+    }
+
+    /// Adds a session, whose number is that of the sessions before it.
+    pub fn join(&mut self, name: &Bytes) -> Result<u32, NoMemory>
+        requires { length self.old.lists.names < 2 ^ 32 }
+        ensures number { IfOk result (λ s. s ≡ length self.old.lists.names) }
+        ensures ok { OnOk result (Joins name.now self.old self.new) }
+        ensures err { OnErr result (SameState self.old self.new) }
+    {
+        let name = name.copied()?;
+        self.seats.join()?;
+        self.lists.join(name)
+    }
+
+    /// Whether the session has an item under way, or is on its way out.
+    pub fn is_working(&self, s: u32) -> bool
+        requires { IsJoined s self.now }
+        ensures { result ≡ is_working (seat_at self.now.seats s) }
+    {
+        self.seats.is_working(s)
+    }
+
+    /// Whether the session's ending has come to its end.
+    pub fn left(&self, s: u32) -> bool
+        requires { IsJoined s self.now }
+        ensures { result ≡ has_left (seat_at self.now.seats s) }
+    {
+        self.seats.has_left(s)
+    }
+
+    /// Starts an item of the session: a statement, since nothing else can be asked for so far.
+    pub fn start(&mut self, s: u32, item: &Item) -> Result<(), NoMemory>
+        requires joined { IsJoined s self.old }
+        requires idle { IsIdle s self.old }
+        requires sql { (text : _) × (item.now ≡ Sql text) }
+        ensures ok { OnOk result (Starts s item.now self.old self.new) }
+        ensures err { OnErr result (SameState self.old self.new) }
+    {
+        let Item::Sql(text) = item else {
+            unreachable!()
+        };
+        let statement = Statement::new(parse(text.as_slice()));
+        self.lists.start(s, item.copied()?)?;
+        let _ = self.seats.replace(s, Seat::Busy(statement));
+        Ok(())
+    }
+
+    /// Makes a step of the session's item under way, or of its ending.
+    pub fn step(&mut self, s: u32, _now: u64) -> Progress
+        requires joined { IsJoined s self.old }
+        requires working { IsWorking s self.old }
+        ensures { StepsBy s result self.old self.new }
+    {
+        match self.seats.replace(s, Seat::Idle) {
+            Seat::Busy(statement) => {
+                let (statement, advance) = statement.step(self.alloc, s, &mut self.lists);
+                let (seat, progress) = settled(statement, advance);
+                let _ = self.seats.replace(s, seat);
+                progress
+            }
+            _ => {
+                let (seat, progress) = go_out(s, &mut self.lists);
+                let _ = self.seats.replace(s, seat);
+                progress
+            }
+        }
+    }
+
+    /// Begins the session's ending, whose steps `step` makes.
+    pub fn leave(&mut self, s: u32)
+        requires joined { IsJoined s self.old }
+        requires idle { IsIdle s self.old }
+        ensures { Leaves s self.old self.new }
+    {
+        let _ = self.seats.replace(s, Seat::Leaving);
+    }
+
+    /// Gives the disk and the history back.
+    pub fn close(self) -> (D, History, Result<(), Cause>)
+        ensures disk { result.0 ≡ self.disk }
+        ensures names { result.1.names ≡ self.lists.names }
+        ensures past { result.1.past ≡ self.lists.past }
+        ensures legal { IsLegal self.lists.past }
+        ensures ok { result.2 ≡ Ok tt }
+    {
+        let Engine {
+            alloc: _,
+            disk,
+            lists,
+            seats: _,
+        } = self;
+        (disk, lists.into_history(), Ok(()))
+    }
+}
+
+/// The seat and the answer that a statement's step comes to.
+fn settled(statement: Statement, advance: Advance) -> (Seat, Progress)
+    ensures { Settled statement advance result.0 result.1 }
+{
+    match advance {
+        Advance::Went => (Seat::Busy(statement), Progress::Went),
+        Advance::Waiting { by: _, blockers } => (
+            Seat::Busy(statement),
+            Progress::Waiting { blockers },
+        ),
+        Advance::NoMemory => (Seat::Busy(statement), Progress::NoMemory),
+        Advance::Done(reply) => (Seat::Idle, Progress::Done(reply)),
+    }
+}
+
+/// A step of a session's ending: its open transaction is rolled back, one change at a step.
+fn go_out(s: u32, lists: &mut Lists) -> (Seat, Progress)
+    requires joined { s < length lists.old.names }
+    requires idle { under_way s lists.old.past ≡ None }
+    ensures { GoesOut s lists.old lists.new result.0 result.1 }
+{
+    if lists.level(s).is_none() {
+        return (Seat::Left, Progress::Done(Reply::Done));
+    }
+    if lists.change_count(s) > 0 {
+        lists.undo(s);
+    } else {
+        lists.roll_back(s);
+    }
+    (Seat::Leaving, Progress::Went)
+}

@@ -1,0 +1,11 @@
+pub mod Bodies
+pub mod Edited
+pub mod Halves
+pub mod Headed
+pub mod Moved
+pub mod Orders
+pub mod Pieces
+pub mod Places
+pub mod Rising
+pub mod Sealed
+pub mod Decided

@@ -1,0 +1,22 @@
+-- The record at a place of a page, and where a key is looked for.
+use Rattle.std.proofs.Common.{◌≡◌, ℕ, zero, suc, ◌+◌, ◌*◌, ◌<◌, ◌≤◌, List, [], length, take, drop, get_or, sym, ap, subst, ◌∙◌, arith}
+use Rattle.std.specs.declared.cmp.Ordering.TheVariants.{Less}
+use Rattle.std.proofs.lemmas.List.{drop-drop, take-take, take_more}
+use Rattle.std.proofs.lemmas.List.Elements.{All-push}
+use Rattle.page_format.specs.Words.{pieces, records_of, record_len_of, count_of}
+use Rattle.page_format.specs.Found.{key_cmp, AreBelow}
+
+get_or-pieces : (width n i : ℕ) (bytes : List ℕ) → i < n → get_or (pieces width n bytes) i [] ≡ take width (drop (i * width) bytes)
+get_or-pieces width zero i bytes inside = absurd (omega (arith, inside))
+get_or-pieces width (suc n) zero bytes inside = let none : 0 * width ≡ 0 = omega arith in ap (λ (k : ℕ). take width (drop k bytes)) (sym none)
+get_or-pieces width (suc n) (suc i) bytes inside =
+    get_or-pieces width n i (drop width bytes) (omega (arith, inside)) ∙ ap (take width) (drop-drop (i * width) width bytes) ∙ ap (λ (k : ℕ). take width (drop k bytes)) (omega arith)
+
+-- the first bytes of a record, as they stand in the page
+pub front_of : (bytes : List ℕ) (i n : ℕ) → i < count_of bytes → n ≤ record_len_of bytes → take n (drop (208 + i * record_len_of bytes) bytes) ≡ take n (get_or (records_of bytes) i [])
+front_of bytes i n inside short =
+    let here = get_or-pieces (record_len_of bytes) (count_of bytes) i (drop 208 bytes) inside in
+    sym (ap (take n) here ∙ take-take n (record_len_of bytes) (drop (i * record_len_of bytes) (drop 208 bytes)) short ∙ ap (take n) (drop-drop (i * record_len_of bytes) 208 bytes))
+
+pub below_more : (key : List ℕ) (rs : List (List ℕ)) (i : ℕ) → i < length rs → AreBelow key (take i rs) → key_cmp key (get_or rs i []) ≡ Less → AreBelow key (take (i + 1) rs)
+below_more key rs i inside below less = subst (λ (l : List (List ℕ)). AreBelow key l) (sym (take_more rs i [] inside)) (All-push (λ (r : List ℕ). key_cmp key r ≡ Less) (take i rs) (get_or rs i []) below less)

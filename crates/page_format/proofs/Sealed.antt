@@ -1,0 +1,60 @@
+-- A page whose sum is set.
+use Rattle.std.proofs.Common.{◌≡◌, ℕ, ◌^◌, ◌<◌, Bool, true, false, List, ◌++◌, take, drop, refl, sym, ap, ◌∙◌, arith}
+use Rattle.std.specs.Int.{w16, w32, w64, to_be_bytes, from_be_bytes}
+use Rattle.std.specs.Prelude.{MatchBool}
+use Rattle.std.proofs.lemmas.List.{take_at, drop_at}
+use Rattle.std.proofs.lemmas.Nat.{from_be_bytes-to_be_bytes_8}
+use Rattle.sum64.specs.Fnv.{fnv_of}
+use Rattle.sum64.proofs.Bound.{fnv_of_below}
+use Rattle.store_api.specs.Areas.{PassesSum}
+use Rattle.page_format.specs.Words.{u16_at, u32_at, number_of, kind_of, records_of, pieces}
+use Rattle.page_format.specs.Shape.{HasFields, HasOrder, HasTreeFields, HasPlainFields, AreRising, IsPage, is_tree}
+use Rattle.page_format.proofs.Headed.{back_part, back_byte, back_more, tree_from}
+
+pub sealed : (old new : List ℕ) (sum : ℕ) → sum ≡ fnv_of (drop 8 old) → new ≡ to_be_bytes w64 sum ++ drop 8 old → PassesSum new × (drop 8 new ≡ drop 8 old)
+sealed old new sum sum_is new_is =
+    let rest : drop 8 new ≡ drop 8 old = ap (drop 8) new_is ∙ drop_at (to_be_bytes w64 sum) (drop 8 old) 8 refl in
+    let front : take 8 new ≡ to_be_bytes w64 sum = ap (take 8) new_is ∙ take_at (to_be_bytes w64 sum) (drop 8 old) 8 refl in
+    let below : sum < 2 ^ 64 = rw sum_is (fnv_of_below (drop 8 old)) in
+    (ap (from_be_bytes w64) front ∙ from_be_bytes-to_be_bytes_8 sum below ∙ sum_is ∙ ap fnv_of (sym rest), rest)
+
+-- ---- all words but the sum stand behind it
+
+match_along : (a b : Bool) (P Q P' Q' : Type 0) → b ≡ a → (P → P') → (Q → Q') → MatchBool a P Q → MatchBool b P' Q'
+match_along true true P Q P' Q' e f g m = f m
+match_along true false P Q P' Q' e f g m = absurd cc
+match_along false true P Q P' Q' e f g m = absurd cc
+match_along false false P Q P' Q' e f g m = g m
+
+same_tree : (old new : List ℕ) → drop 8 new ≡ drop 8 old → HasTreeFields old → HasTreeFields new × (records_of new ≡ records_of old)
+unfolding u16_at
+same_tree old new back fields =
+    tree_from old new fields (record {
+      kind = back_byte new old 8 20 (omega arith) back;
+      level = back_byte new old 8 21 (omega arith) back;
+      count = ap (from_be_bytes w16) (back_part new old 8 22 2 (omega arith) back);
+      width = ap (from_be_bytes w16) (back_part new old 8 32 2 (omega arith) back);
+      body = back_more new old 8 196 (omega arith) back;
+    }) (rw (back_byte new old 8 34 (omega arith) back, back_part new old 8 36 80 (omega arith) back) fields.low) (rw (back_byte new old 8 35 (omega arith) back, back_part new old 8 116 80 (omega arith) back) fields.high)
+
+same_plain : (old new : List ℕ) → drop 8 new ≡ drop 8 old → HasPlainFields old → HasPlainFields new
+same_plain old new back fields = record { kind = rw (back_byte new old 8 20 (omega arith) back) fields.kind; none = rw (back_part new old 8 21 11 (omega arith) back) fields.none }
+
+same_records : (old new : List ℕ) → drop 8 new ≡ drop 8 old → records_of new ≡ records_of old
+unfolding u16_at
+same_records old new back =
+    let count = ap (from_be_bytes w16) (back_part new old 8 22 2 (omega arith) back) in
+    let width = ap (from_be_bytes w16) (back_part new old 8 32 2 (omega arith) back) in
+    let body = back_more new old 8 208 (omega arith) back in
+    λ i. pieces (width i) (count i) (body i)
+
+pub readable : (old new : List ℕ) → PassesSum new → drop 8 new ≡ drop 8 old → HasFields old → HasOrder old → IsPage (number_of old) new
+unfolding u32_at
+readable old new sum back fields order =
+    let kind : is_tree (kind_of new) ≡ is_tree (kind_of old) = ap is_tree (back_byte new old 8 20 (omega arith) back) in
+    record {
+      sum = sum;
+      number_is = ap (from_be_bytes w32) (back_part new old 8 8 4 (omega arith) back);
+      fields = match_along (is_tree (kind_of old)) (is_tree (kind_of new)) (HasTreeFields old) (HasPlainFields old) (HasTreeFields new) (HasPlainFields new) kind (λ t. (same_tree old new back t).0) (same_plain old new back) fields;
+      order = match_along (is_tree (kind_of old)) (is_tree (kind_of new)) (AreRising (records_of old)) (Unit {0}) (AreRising (records_of new)) (Unit {0}) kind (λ r. rw (same_records old new back) r) (λ u. u) order;
+    }

@@ -1,0 +1,5 @@
+pub mod Changes
+pub mod Found
+pub mod Refused
+pub mod Shape
+pub mod Words

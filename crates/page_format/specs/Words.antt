@@ -1,0 +1,57 @@
+-- What stands where in the bytes of a page. All numbers are big-endian.
+use Rattle.std.specs.Prelude.{ℕ, zero, suc, List, [], ◌∷◌, take, drop, slice_index, Option, Some, None, ◌==◌, if◌then◌else◌}
+use Rattle.std.specs.Int.{w16, w32, w64, from_be_bytes}
+
+unfoldable pub u16_at : ℕ → List ℕ → ℕ
+u16_at at bytes = from_be_bytes w16 (take 2 (drop at bytes))
+
+unfoldable pub u32_at : ℕ → List ℕ → ℕ
+u32_at at bytes = from_be_bytes w32 (take 4 (drop at bytes))
+
+unfoldable pub u64_at : ℕ → List ℕ → ℕ
+u64_at at bytes = from_be_bytes w64 (take 8 (drop at bytes))
+
+abbrev pub number_of : List ℕ → ℕ
+number_of bytes = u32_at 8 bytes
+
+-- the LSN of the last group that changed the page
+abbrev pub lsn_of : List ℕ → ℕ
+lsn_of bytes = u64_at 12 bytes
+
+abbrev pub kind_of : List ℕ → ℕ
+kind_of bytes = slice_index bytes 20
+
+abbrev pub level_of : List ℕ → ℕ
+level_of bytes = slice_index bytes 21
+
+abbrev pub count_of : List ℕ → ℕ
+count_of bytes = u16_at 22 bytes
+
+abbrev pub index_of : List ℕ → ℕ
+index_of bytes = u32_at 24 bytes
+
+-- the right neighbour on the page's level, 0 for none
+abbrev pub right_of : List ℕ → ℕ
+right_of bytes = u32_at 28 bytes
+
+abbrev pub record_len_of : List ℕ → ℕ
+record_len_of bytes = u16_at 32 bytes
+
+-- a fence of that length, 255 for none
+abbrev pub fence : ℕ → List ℕ → Option (List ℕ)
+fence len bytes = if len == 255 then None else Some (take len bytes)
+
+abbrev pub low_of : List ℕ → Option (List ℕ)
+low_of bytes = fence (slice_index bytes 34) (take 80 (drop 36 bytes))
+
+abbrev pub high_of : List ℕ → Option (List ℕ)
+high_of bytes = fence (slice_index bytes 35) (take 80 (drop 116 bytes))
+
+-- so many pieces of one size, one behind the other
+abbrev pub pieces : ℕ → ℕ → List ℕ → List (List ℕ)
+pieces size zero bytes = []
+pieces size (suc n) bytes = take size bytes ∷ pieces size n (drop size bytes)
+
+-- the records of a tree page, in order
+abbrev pub records_of : List ℕ → List (List ℕ)
+records_of bytes = pieces (record_len_of bytes) (count_of bytes) (drop 208 bytes)

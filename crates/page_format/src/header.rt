@@ -1,0 +1,64 @@
+//! Edits of the fields in front of a tree page's records, on its bytes.
+//! A split of a page is made of these and of the edits of records.
+
+ghost use Rattle.std.specs.Prelude.{◌≡◌, ℕ, ◌≤◌, length, take, drop, slice_index, Some};
+ghost use Rattle.page_format.specs.Words.{number_of, right_of, low_of, high_of, records_of};
+ghost use Rattle.page_format.specs.Shape.{HasTreeFields};
+
+use crate::edits::{clear, write_over};
+
+pub fn set_number(bytes: &mut [u8], number: u32)
+    requires size { length bytes.old ≡ 4096 }
+    requires fields { HasTreeFields bytes.old }
+    ensures fields { HasTreeFields bytes.new }
+    ensures records { records_of bytes.new ≡ records_of bytes.old }
+    ensures number { number_of bytes.new ≡ number }
+    ensures front { take 8 bytes.new ≡ take 8 bytes.old }
+    ensures back { drop 12 bytes.new ≡ drop 12 bytes.old }
+{
+    write_over(bytes, 8, &number.to_be_bytes());
+}
+
+pub fn set_right(bytes: &mut [u8], number: u32)
+    requires size { length bytes.old ≡ 4096 }
+    requires fields { HasTreeFields bytes.old }
+    ensures fields { HasTreeFields bytes.new }
+    ensures records { records_of bytes.new ≡ records_of bytes.old }
+    ensures right { right_of bytes.new ≡ number }
+    ensures front { take 28 bytes.new ≡ take 28 bytes.old }
+    ensures back { drop 32 bytes.new ≡ drop 32 bytes.old }
+{
+    write_over(bytes, 28, &number.to_be_bytes());
+}
+
+pub fn set_low(bytes: &mut [u8], key: &[u8])
+    requires size { length bytes.old ≡ 4096 }
+    requires fields { HasTreeFields bytes.old }
+    requires key { length key.now ≤ 80 }
+    ensures fields { HasTreeFields bytes.new }
+    ensures records { records_of bytes.new ≡ records_of bytes.old }
+    ensures low { low_of bytes.new ≡ Some key.now }
+    ensures front { take 34 bytes.new ≡ take 34 bytes.old }
+    ensures between { slice_index bytes.new 35 ≡ slice_index bytes.old 35 }
+    ensures back { drop 116 bytes.new ≡ drop 116 bytes.old }
+{
+    write_over(bytes, 34, &[key.len() as u8]);
+    write_over(bytes, 36, key);
+    clear(bytes, 36 + key.len(), 116);
+}
+
+pub fn set_high(bytes: &mut [u8], key: &[u8])
+    requires size { length bytes.old ≡ 4096 }
+    requires fields { HasTreeFields bytes.old }
+    requires key { length key.now ≤ 80 }
+    ensures fields { HasTreeFields bytes.new }
+    ensures records { records_of bytes.new ≡ records_of bytes.old }
+    ensures high { high_of bytes.new ≡ Some key.now }
+    ensures front { take 35 bytes.new ≡ take 35 bytes.old }
+    ensures between { take 80 (drop 36 bytes.new) ≡ take 80 (drop 36 bytes.old) }
+    ensures back { drop 196 bytes.new ≡ drop 196 bytes.old }
+{
+    write_over(bytes, 35, &[key.len() as u8]);
+    write_over(bytes, 116, key);
+    clear(bytes, 116 + key.len(), 196);
+}

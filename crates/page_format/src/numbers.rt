@@ -1,0 +1,43 @@
+//! Numbers at places of a page's bytes.
+//! Nothing here knows what a page is.
+
+ghost use Rattle.std.specs.Prelude.{◌≡◌, ◌+◌, ◌≤◌, length, drop};
+ghost use Rattle.page_format.specs.Words.{u16_at, u32_at, u64_at};
+
+/// The bytes from a place on.
+pub fn behind(bytes: &[u8], at: usize) -> &[u8]
+    requires { at ≤ length bytes.now }
+    ensures value { result.now ≡ drop at bytes.now }
+    ensures length { at + length result.now ≡ length bytes.now }
+{
+    bytes.split_at(at).1
+}
+
+#[tactic(auto, unfolding(crate::specs::Words::u16_at))]
+pub fn read_u16(bytes: &[u8], at: usize) -> u16
+    requires { at + 2 ≤ length bytes.now }
+    ensures { result ≡ u16_at at bytes.now }
+{
+    let field = &bytes[at..at + 2];
+    u16::from_be_bytes([field[0], field[1]])
+}
+
+#[tactic(auto, unfolding(crate::specs::Words::u32_at))]
+pub fn read_u32(bytes: &[u8], at: usize) -> u32
+    requires { at + 4 ≤ length bytes.now }
+    ensures { result ≡ u32_at at bytes.now }
+{
+    let field = &bytes[at..at + 4];
+    u32::from_be_bytes([field[0], field[1], field[2], field[3]])
+}
+
+#[tactic(auto, unfolding(crate::specs::Words::u64_at))]
+pub fn read_u64(bytes: &[u8], at: usize) -> u64
+    requires { at + 8 ≤ length bytes.now }
+    ensures { result ≡ u64_at at bytes.now }
+{
+    let field = &bytes[at..at + 8];
+    u64::from_be_bytes([
+        field[0], field[1], field[2], field[3], field[4], field[5], field[6], field[7],
+    ])
+}

@@ -1,0 +1,140 @@
+//! Edits of the records of a tree page, on its bytes.
+//! The calls of `Page` are these.
+
+ghost use Rattle.std.specs.Prelude.{◌≡◌, ℕ, ◌+◌, ◌*◌, ◌≤◌, ◌<◌, ◌++◌, length, take, drop, insert, remove};
+ghost use Rattle.std.specs.Int.{w16, to_be_bytes};
+ghost use Rattle.page_format.specs.Changes.{KeepsFields, with_byte};
+ghost use Rattle.page_format.specs.Found.{IsFound};
+ghost use Rattle.page_format.specs.Words.{count_of, record_len_of, records_of};
+ghost use Rattle.page_format.specs.Shape.{HasTreeFields, AreRising};
+
+use crate::edits::{clear, insert_piece, remove_piece, write_over};
+use crate::numbers::{behind, read_u16};
+use crate::shape::RECORDS;
+use std::cmp::Ordering;
+
+/// Where a key stands: at the record of that number, or before it.
+#[derive(Clone, Copy, Debug, PartialEq, Eq)]
+pub enum Found {
+    At(u16),
+    Before(u16),
+}
+
+const COUNT: usize = 22;
+
+const RECORD_LEN: usize = 32;
+
+/// Where the record of that number begins.
+pub fn place_of(bytes: &[u8], i: u16) -> usize
+    requires { 208 ≤ length bytes.now }
+    ensures { result ≡ 208 + i * record_len_of bytes.now }
+{
+    RECORDS + usize::from(i) * usize::from(read_u16(bytes, RECORD_LEN))
+}
+
+fn set_count(bytes: &mut [u8], count: u16)
+    requires { 208 ≤ length bytes.old }
+    ensures { bytes.new ≡ take 22 bytes.old ++ (to_be_bytes w16 count ++ drop 24 bytes.old) }
+{
+    write_over(bytes, COUNT, &count.to_be_bytes());
+}
+
+/// Puts a record in.
+pub fn insert_record(bytes: &mut [u8], i: u16, rec: &[u8])
+    requires size { length bytes.old ≡ 4096 }
+    requires fields { HasTreeFields bytes.old }
+    requires place { i ≤ count_of bytes.old }
+    requires width { length rec.now ≡ record_len_of bytes.old }
+    requires room { 208 + (count_of bytes.old + 1) * record_len_of bytes.old ≤ 4096 }
+    ensures fields { HasTreeFields bytes.new }
+    ensures records { records_of bytes.new ≡ insert (records_of bytes.old) i rec.now }
+    ensures kept { KeepsFields bytes.old bytes.new }
+{
+    let count = read_u16(bytes, COUNT);
+    let at = place_of(bytes, i);
+    let end = place_of(bytes, count);
+    insert_piece(bytes, at, end, rec);
+    set_count(bytes, count + 1);
+}
+
+/// Takes a record out.
+pub fn remove_record(bytes: &mut [u8], i: u16)
+    requires size { length bytes.old ≡ 4096 }
+    requires fields { HasTreeFields bytes.old }
+    requires place { i < count_of bytes.old }
+    ensures fields { HasTreeFields bytes.new }
+    ensures records { records_of bytes.new ≡ remove (records_of bytes.old) i }
+    ensures kept { KeepsFields bytes.old bytes.new }
+{
+    let count = read_u16(bytes, COUNT);
+    let at = place_of(bytes, i);
+    let end = place_of(bytes, count);
+    let width = usize::from(read_u16(bytes, RECORD_LEN));
+    remove_piece(bytes, at, end, width);
+    set_count(bytes, count - 1);
+}
+
+/// Writes the mark of a record, the byte behind its key.
+pub fn mark_record(bytes: &mut [u8], i: u16, key_len: u8, mark: u8)
+    requires size { length bytes.old ≡ 4096 }
+    requires fields { HasTreeFields bytes.old }
+    requires place { i < count_of bytes.old }
+    requires key { key_len < record_len_of bytes.old }
+    ensures fields { HasTreeFields bytes.new }
+    ensures records { records_of bytes.new ≡ with_byte i key_len mark (records_of bytes.old) }
+    ensures kept { KeepsFields bytes.old bytes.new }
+{
+    let at = place_of(bytes, i) + usize::from(key_len);
+    write_over(bytes, at, &[mark]);
+}
+
+/// Where a key stands among the records.
+pub fn find_record(bytes: &[u8], key: &[u8]) -> Found
+    requires size { length bytes.now ≡ 4096 }
+    requires fields { HasTreeFields bytes.now }
+    requires key { length key.now ≤ record_len_of bytes.now }
+    ensures { IsFound (records_of bytes.now) key.now result }
+{
+    let count = read_u16(bytes, COUNT);
+    for i in 0..count {
+        let at = place_of(bytes, i);
+        let (front, _) = behind(bytes, at).split_at(key.len());
+        match front.cmp(key) {
+            Ordering::Less => {}
+            Ordering::Equal => return Found::At(i),
+            Ordering::Greater => return Found::Before(i),
+        }
+    }
+    Found::Before(count)
+}
+
+/// Keeps the records before a place.
+pub fn keep_first(bytes: &mut [u8], i: u16)
+    requires size { length bytes.old ≡ 4096 }
+    requires fields { HasTreeFields bytes.old }
+    requires place { i ≤ count_of bytes.old }
+    ensures fields { HasTreeFields bytes.new }
+    ensures records { records_of bytes.new ≡ take i (records_of bytes.old) }
+    ensures kept { KeepsFields bytes.old bytes.new }
+{
+    let at = place_of(bytes, i);
+    let end = place_of(bytes, read_u16(bytes, COUNT));
+    clear(bytes, at, end);
+    set_count(bytes, i);
+}
+
+/// Keeps the records from a place on.
+pub fn keep_last(bytes: &mut [u8], i: u16)
+    requires size { length bytes.old ≡ 4096 }
+    requires fields { HasTreeFields bytes.old }
+    requires place { i ≤ count_of bytes.old }
+    ensures fields { HasTreeFields bytes.new }
+    ensures records { records_of bytes.new ≡ drop i (records_of bytes.old) }
+    ensures kept { KeepsFields bytes.old bytes.new }
+{
+    let count = read_u16(bytes, COUNT);
+    let at = place_of(bytes, i);
+    let end = place_of(bytes, count);
+    remove_piece(bytes, RECORDS, end, at - RECORDS);
+    set_count(bytes, count - i);
+}

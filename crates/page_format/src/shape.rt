@@ -1,0 +1,119 @@
+//! Whether bytes have the shape of a page: the values of the fields, and the order of the records.
+//! Each test answers true exactly where the fact in its contract holds.
+
+ghost use Rattle.std.specs.Prelude.{◌≡◌, ◌+◌, ◌*◌, ◌≤◌, ◌<◌, length, take, drop, slice_index, ◌==◌, if◌then◌else◌, MatchBool, IsTrue};
+ghost use Rattle.page_format.specs.Words.{kind_of, level_of, count_of, record_len_of, records_of, pieces};
+ghost use Rattle.page_format.specs.Shape.{AreZeros, IsFence, HasTreeFields, HasPlainFields, HasFields, AreRising, HasOrder, fence_width, is_tree};
+
+use crate::numbers::{behind, read_u16};
+use std::cmp::Ordering;
+
+pub const SIZE: usize = 4096;
+
+/// Where the records of a tree page begin.
+pub const RECORDS: usize = 208;
+
+/// The length of a fence that isn't there.
+pub const NO_FENCE: u8 = 255;
+
+fn are_zeros(bytes: &[u8]) -> bool
+    ensures { MatchBool result (AreZeros bytes.now) (AreZeros bytes.now → ⊥) }
+{
+    bytes.iter().all(|byte| *byte == 0)
+}
+
+fn is_fence(len: u8, bytes: &[u8]) -> bool
+    requires { length bytes.now ≡ 80 }
+    ensures { MatchBool result (IsFence len bytes.now) (IsFence len bytes.now → ⊥) }
+{
+    let width = if len == NO_FENCE { 0 } else { usize::from(len) };
+    width <= 80 && are_zeros(behind(bytes, width))
+}
+
+fn tree_kind(level: u8) -> u8
+    ensures { result ≡ (if level == 0 then 3 else 4) }
+{
+    if level == 0 { 3 } else { 4 }
+}
+
+fn has_tree_fields(bytes: &[u8]) -> bool
+    requires { length bytes.now ≡ 4096 }
+    ensures { MatchBool result (HasTreeFields bytes.now) (HasTreeFields bytes.now → ⊥) }
+{
+    let width = usize::from(read_u16(bytes, 32));
+    let end = RECORDS + usize::from(read_u16(bytes, 22)) * width;
+    if bytes[20] != tree_kind(bytes[21]) {
+        return false;
+    }
+    if width == 0 {
+        return false;
+    }
+    if end > SIZE {
+        return false;
+    }
+    if !is_fence(bytes[34], &bytes[36..116]) {
+        return false;
+    }
+    if !is_fence(bytes[35], &bytes[116..196]) {
+        return false;
+    }
+    if !are_zeros(&bytes[196..RECORDS]) {
+        return false;
+    }
+    are_zeros(behind(bytes, end))
+}
+
+fn has_plain_fields(bytes: &[u8]) -> bool
+    requires { length bytes.now ≡ 4096 }
+    ensures { MatchBool result (HasPlainFields bytes.now) (HasPlainFields bytes.now → ⊥) }
+{
+    matches!(bytes[20], 1 | 2 | 5 | 6 | 7) && are_zeros(&bytes[21..32])
+}
+
+pub fn has_fields(bytes: &[u8]) -> bool
+    requires { length bytes.now ≡ 4096 }
+    ensures { MatchBool result (HasFields bytes.now) (HasFields bytes.now → ⊥) }
+{
+    if is_tree_kind(bytes[20]) {
+        has_tree_fields(bytes)
+    } else {
+        has_plain_fields(bytes)
+    }
+}
+
+/// Whether a page of this kind has records.
+pub fn is_tree_kind(kind: u8) -> bool
+    ensures { result ≡ is_tree kind }
+{
+    kind == 3 || kind == 4
+}
+
+/// Whether records of one width rise.
+fn are_rising(count: u16, width: usize, records: &[u8]) -> bool
+    requires width { 0 < width }
+    requires room { count * width ≤ length records.now }
+    ensures { MatchBool result (AreRising (pieces width count records.now)) (AreRising (pieces width count records.now) → ⊥) }
+{
+    let mut rest = records;
+    for _ in 1..count {
+        let (first, others) = rest.split_at(width);
+        match first.cmp(&others[..width]) {
+            Ordering::Less => rest = others,
+            _ => return false,
+        }
+    }
+    true
+}
+
+pub fn has_order(bytes: &[u8]) -> bool
+    requires size { length bytes.now ≡ 4096 }
+    requires fields { HasFields bytes.now }
+    ensures { MatchBool result (HasOrder bytes.now) (HasOrder bytes.now → ⊥) }
+{
+    if is_tree_kind(bytes[20]) {
+        let width = usize::from(read_u16(bytes, 32));
+        are_rising(read_u16(bytes, 22), width, behind(bytes, RECORDS))
+    } else {
+        true
+    }
+}
