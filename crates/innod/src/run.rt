@@ -35,7 +35,6 @@ pub fn run<D: Disk, S: Source, K: Sink, C: Clock, G: Gate>(
     // The sessions of the history do what the script says.
     ensures follows { IfSome (S.left script.old) (λ bytes. Follows bytes result.history.past) }
     ensures played { result.fault ≡ Fault.Nothing → IfSome (S.left script.old) (λ bytes. Plays bytes result.history.names result.history.past) }
-    ensures disk { result.disk ≡ disk }
 
     // Each fault has its cause.
     ensures usage { (result.fault ≡ Fault.Usage) ↔ (IsCommand words.now → ⊥) }
@@ -62,7 +61,6 @@ fn serve<D: Disk, K: Sink>(alloc: Global, script: &Script, disk: D, out: &mut K)
     ensures printed { IsPrinted result.fault (K.taken out.old) (K.taken out.new) (text result.history) }
     ensures follows { FollowsScript script.now.items result.history.past }
     ensures played { result.fault ≡ Fault.Nothing → HasPlayed script.now result.history.names result.history.past }
-    ensures disk { result.disk ≡ disk }
     ensures output_write { result.fault ≡ Fault.OutputWrite → Rose (K.faults out.old) (K.faults out.new) }
     ensures causes { IsOutputFault result.fault }
 {
