@@ -1,0 +1,5 @@
+pub mod Words
+pub mod Streams
+pub mod Sessions
+pub mod Run
+pub mod Engines

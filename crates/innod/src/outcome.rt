@@ -1,0 +1,149 @@
+//! What a run answers, and the parts of a run that meet no engine.
+
+ghost use Rattle.std.specs.Prelude.{◌≡◌, ◌⊎◌, [], IfOk, IfErr, IfSome, IsTrue};
+ghost use Rattle.store_api.specs.Causes.{Rose};
+ghost use Rattle.inno_model.specs.Text.{text};
+ghost use Rattle.script.specs.Script.{Spells, IsPlayable};
+ghost use Rattle.innod.specs.Run.{status_of, IsInputFault, IsOutputFault, IsPrinted, Judges};
+
+use crate::input::{ReadBad, read_all};
+use crate::output::write_all;
+use inno_model::History;
+use script::{Script, ScriptBad, read_script, transcript};
+use std::alloc::Global;
+use store_api::{Failed, MountBad, NoMemory, Sink, Source};
+
+/// Why a run is no full success.
+#[derive(Clone, Copy, Debug, PartialEq, Eq)]
+pub enum Fault {
+    Nothing,
+    Usage,
+    ScriptBad { line: u32 },
+    ScriptRead,
+    OutputWrite,
+    DiskFault,
+    File(MountBad),
+    Limit { what: u8, found: u64, most: u64 },
+    NoMemory,
+}
+
+impl Fault {
+    /// The number with which the program ends.
+    fn status(self) -> u8
+        ensures { result ≡ status_of self }
+    {
+        match self {
+            Fault::Nothing => 0,
+            Fault::Usage => 1,
+            Fault::ScriptBad { .. } => 2,
+            Fault::ScriptRead => 3,
+            Fault::OutputWrite => 4,
+            Fault::DiskFault => 5,
+            Fault::File(_) => 6,
+            Fault::Limit { .. } => 7,
+            Fault::NoMemory => 8,
+        }
+    }
+}
+
+/// What a run leaves. Its history is empty where no engine was mounted.
+#[derive(Drop)]
+pub struct Outcome<D> {
+    pub status: u8,
+    pub fault: Fault,
+    pub history: History,
+    pub disk: D,
+    ghost told: { status ≡ status_of fault },
+}
+
+/// The outcome of a run that mounted no engine.
+pub fn refused<D>(alloc: Global, disk: D, fault: Fault) -> Outcome<D>
+    ensures fault { result.fault ≡ fault }
+    ensures disk { result.disk ≡ disk }
+    ensures names { result.history.names ≡ [] }
+    ensures past { result.history.past ≡ [] }
+{
+    Outcome {
+        status: fault.status(),
+        fault,
+        history: History::new(alloc),
+        disk,
+    }
+}
+
+/// Reads the script, all of the source.
+pub fn read_input<S: Source>(alloc: Global, source: &mut S) -> Result<Script, Fault>
+    ensures script { IfOk result (λ script. IfSome (S.left source.old) (λ bytes. Spells bytes script)) }
+    ensures playable { IfOk result IsPlayable }
+    ensures read { result ≡ Err Fault.ScriptRead → Rose (S.faults source.old) (S.faults source.new) }
+    ensures judged { IfErr result (λ fault. IfSome (S.left source.old) (Judges fault)) }
+    ensures causes { IfErr result IsInputFault }
+{
+    let bytes = match read_all(alloc, source) {
+        Ok(bytes) => bytes,
+        Err(ReadBad::Failed) => return Err(Fault::ScriptRead),
+        Err(ReadBad::NoMemory) => return Err(Fault::NoMemory),
+    };
+    match read_script(alloc, bytes.as_slice()) {
+        Ok(script) => Ok(script),
+        Err(ScriptBad::Line { line }) => Err(Fault::ScriptBad { line }),
+        Err(ScriptBad::NoMemory) => Err(Fault::NoMemory),
+    }
+}
+
+/// Prints what an engine leaves. Want of memory before is told where printing has no fault of its own.
+pub fn finish<D, K: Sink>(
+    alloc: Global,
+    disk: D,
+    history: History,
+    sufficed: bool,
+    out: &mut K,
+) -> Outcome<D>
+    ensures disk { result.disk ≡ disk }
+    ensures history { result.history ≡ history }
+    ensures printed { IsPrinted result.fault (K.taken out.old) (K.taken out.new) (text history) }
+    ensures sufficed { result.fault ≡ Fault.Nothing → IsTrue sufficed }
+    ensures output_write { result.fault ≡ Fault.OutputWrite → Rose (K.faults out.old) (K.faults out.new) }
+    ensures causes { IsOutputFault result.fault }
+{
+    let printed = print(alloc, &history, out);
+    let fault = told_fault(sufficed, printed);
+    Outcome {
+        status: fault.status(),
+        fault,
+        history,
+        disk,
+    }
+}
+
+/// The fault of printing, or else the want of memory that came before it.
+fn told_fault(sufficed: bool, printed: Fault) -> Fault
+    ensures sufficed { result ≡ Fault.Nothing → IsTrue sufficed × (printed ≡ Fault.Nothing) }
+    ensures output { result ≡ Fault.OutputWrite → printed ≡ Fault.OutputWrite }
+    ensures memory { result ≡ Fault.NoMemory → (printed ≡ Fault.Nothing) ⊎ (printed ≡ Fault.NoMemory) }
+    ensures causes { IsOutputFault printed → IsOutputFault result }
+{
+    if sufficed {
+        return printed;
+    }
+    match printed {
+        Fault::Nothing => Fault::NoMemory,
+        other => other,
+    }
+}
+
+/// Prints the text of a history.
+fn print<K: Sink>(alloc: Global, history: &History, out: &mut K) -> Fault
+    ensures printed { IsPrinted result (K.taken out.old) (K.taken out.new) (text history.now) }
+    ensures output_write { result ≡ Fault.OutputWrite → Rose (K.faults out.old) (K.faults out.new) }
+    ensures causes { IsOutputFault result }
+{
+    let bytes = match transcript(alloc, history) {
+        Ok(bytes) => bytes,
+        Err(NoMemory) => return Fault::NoMemory,
+    };
+    match write_all(out, bytes.as_slice()) {
+        Ok(()) => Fault::Nothing,
+        Err(Failed) => Fault::OutputWrite,
+    }
+}
