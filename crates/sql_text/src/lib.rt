@@ -17,6 +17,3 @@ mod stack;
 mod statement;
 
 pub use parser::{ParseBad, parse};
-
-#[cfg(test)]
-mod tests;
