@@ -1,37 +1,34 @@
 -- An entry of another session leaves what a statement knows as it was.
-use Rattle.std.proofs.Common.{◌≡◌, ◌≢◌, ℕ, ◌+◌, ◌<◌, ◌≤◌, Bool, true, false, eqb, Option, Some, None, List, [], ◌∷◌, ◌++◌, refl, sym, ap, subst, ◌∙◌, ◌⊎◌, inl, inr, arith}
+use Rattle.std.proofs.Common.{◌≡◌, ◌≢◌, ℕ, ◌+◌, ◌≤◌, Bool, true, false, Option, Some, List, [], ◌∷◌, ◌++◌, refl, sym, ap, subst, ◌∙◌, inl, inr, arith}
 use Rattle.std.proofs.lemmas.Bool.Decides.{nat_tests, eqb_tells}
 use Rattle.std.proofs.lemmas.Bool.{false≢true}
-use Rattle.std.specs.Prelude.{ℤ, is_some}
-use Rattle.std.specs.FinMap.{get}
+use Rattle.std.specs.Prelude.{is_some}
 use Rattle.inno_types.specs.declared.value.Value.{Value}
 use Rattle.inno_types.specs.declared.lock.Level.{Level}
 use Rattle.inno_types.specs.declared.lock.Level.TheVariants.{ReadUncommitted, ReadCommitted, RepeatableRead, Serializable}
 use Rattle.inno_types.specs.declared.reply.Reply.{Reply}
 use Rattle.inno_types.specs.declared.reply.Reply.TheVariants as replies
-use Rattle.inno_db.specs.Database.{Database, Place}
-use Rattle.inno_db.specs.declared.change.Change.{Change}
+use Rattle.inno_db.specs.Database.{Database}
 use Rattle.inno_model.specs.declared.command.Command.{Command}
 use Rattle.inno_model.specs.declared.command.Command.TheVariants as commands
 use Rattle.inno_model.specs.declared.event.Event.{Event}
 use Rattle.inno_model.specs.declared.event.Event.TheVariants as events
 use Rattle.inno_model.specs.Outcome.{insert_outcome, select_outcome}
-use Rattle.inno_model.specs.Past.{is_of, started, under_way, before_item, of_item, did, begins_txn, takes_view, closes, at_point, level, session_level, own, view_of, commits, committed, opening, changed, snapshot}
-use Rattle.inno_model.specs.Loose.{starts, MayAnswer, IsStill, IsNewest, IsLeftAlone, Sometime, Throughout}
-use Rattle.inno_model.specs.Legal.{awaits_ack, Asks, IsOpen, IsClosed, Settles, Inserts, Reads, SeesSnapshot, Keeps, GivesUp, EndsInsert, base}
+use Rattle.inno_model.specs.Past.{is_of, before_item, of_item, did, begins_txn, takes_view, closes, at_point, level, own, view_of, commits, committed, opening, changed, snapshot}
+use Rattle.inno_model.specs.Loose.{starts, MayAnswer}
+use Rattle.inno_model.specs.Legal.{awaits_ack, Asks, IsClosed, Settles, Reads, SeesSnapshot, Keeps, GivesUp, EndsInsert, base}
 use Rattle.inno_model.proofs.Untouched.{IsUntouched, untouched}
 use Rattle.inno_model.proofs.Commits.{committed_stays, view_within}
 use Rattle.inno_model.proofs.Points.{point_now, point_stays}
 use Rattle.store_lists.specs.State.{State, seen}
 use Rattle.store_lists.specs.Rows.{row_at}
-use Rattle.store_lists.specs.Reading.{IsNewestRow}
 use Rattle.statement.specs.declared.Statement.{Statement}
 use Rattle.statement.specs.declared.Statement.TheVariants as statements
 use Rattle.statement.specs.declared.BeginStage.{BeginStage}
 use Rattle.statement.specs.declared.BeginStage.TheVariants as stages
 use Rattle.statement.specs.declared.CommitStage.{CommitStage}
 use Rattle.statement.specs.declared.CommitStage.TheVariants as commit_stages
-use Rattle.statement.specs.Running.{AreRowsBelow, AreOfView, HasRead, InTxn, IsWorking, IsEarly, IsSteady, StaysSettled, EndsOnTable, IsClosing, IsAnswered, MayGiveUp, IsGivingUp, AsksNothing, HasBegun, AtBegin, AtCommit, IsRunning, changes_rows, Moves}
+use Rattle.statement.specs.Running.{AreOfView, HasRead, InTxn, IsWorking, IsEarly, IsSteady, StaysSettled, EndsOnTable, IsClosing, IsAnswered, MayGiveUp, HasBegun, AtBegin, AtCommit, IsRunning, changes_rows}
 use Rattle.statement.proofs.Stepping.{settles_on, still_in}
 
 -- an entry of one session is no other's, nor an opening

@@ -1,21 +1,20 @@
 -- What holds of the seats is kept by each call of the engine.
-use Rattle.std.proofs.Common.{◌≡◌, ◌≢◌, ℕ, zero, suc, ◌+◌, ◌<◌, ◌≤◌, Bool, true, false, eqb, Option, Some, None, List, [], ◌∷◌, ◌++◌, length, get_or, set, refl, sym, ap, subst, ◌∙◌, ◌⊎◌, inl, inr, arith}
+use Rattle.std.proofs.Common.{◌≡◌, ◌≢◌, ℕ, zero, suc, ◌+◌, ◌<◌, Bool, true, false, Option, Some, None, List, [], ◌∷◌, ◌++◌, length, get_or, set, refl, sym, ap, subst, ◌∙◌, inl, inr, arith}
 use Rattle.std.proofs.lemmas.Bool.Decides.{nat_tests, eqb_tells}
 use Rattle.std.proofs.lemmas.Bool.{false≢true}
 use Rattle.std.proofs.lemmas.List.{get_or-set_same, get_or-set_other, length-set, length-append}
-use Rattle.std.specs.Prelude.{is_some, Result, Ok, Err, IfOk, OnOk, OnErr}
+use Rattle.std.specs.Prelude.{Result, Ok, Err, IfOk, OnOk, OnErr}
 use Rattle.std.specs.List.{list_any}
 use Rattle.inno_types.specs.declared.reply.Item.{Item}
 use Rattle.inno_types.specs.declared.reply.Item.TheVariants.{Sql}
 use Rattle.inno_types.specs.declared.reply.Reply.{Reply}
-use Rattle.inno_types.specs.declared.reply.Reply.TheVariants as replies
 use Rattle.inno_db.specs.Database.{Database}
 use Rattle.inno_model.specs.declared.command.Command.{Command}
 use Rattle.inno_model.specs.declared.command.Command.TheVariants as commands
 use Rattle.inno_model.specs.declared.event.Event.{Event}
 use Rattle.inno_model.specs.declared.event.Event.TheVariants as events
 use Rattle.inno_model.specs.Past.{is_of, started, under_way, before_item, of_item, did, begins_txn, takes_view, closes, rolls_back_txn, commits_txn, level, own}
-use Rattle.inno_model.specs.Legal.{Asks, IsClosed, awaits_ack}
+use Rattle.inno_model.specs.Legal.{IsClosed, awaits_ack}
 use Rattle.inno_model.proofs.Untouched.{IsUntouched, untouched}
 use Rattle.command_text.specs.Texts.{Reads}
 use Rattle.store_api.specs.declared.answers.Progress.{Progress}
@@ -24,16 +23,15 @@ use Rattle.store_lists.specs.Agreement.{IsFirst}
 use Rattle.store_lists.specs.State.{State as Lists}
 use Rattle.statement.specs.declared.Statement.{Statement}
 use Rattle.statement.specs.declared.Statement.TheVariants as statements
-use Rattle.statement.specs.declared.BeginStage.{BeginStage}
-use Rattle.statement.specs.declared.BeginStage.TheVariants as stages
-use Rattle.statement.specs.declared.CommitStage.TheVariants as commit_stages
 use Rattle.statement.specs.declared.Advance.{Advance}
 use Rattle.statement.specs.declared.Advance.TheVariants as advance
-use Rattle.statement.specs.Running.{IsRunning, IsEarly, IsStarted, IsAnswered, StaysSettled, Moves, Adding, Steps, changes_rows}
+use Rattle.statement.specs.Running.{IsRunning, IsEarly, IsStarted, StaysSettled, Moves, Adding, Steps, changes_rows}
+use Rattle.statement.specs.Going.{IsBelow, to_go as statement_to_go, Nears as StatementNears}
 use Rattle.engine.specs.declared.seats.Seat.{Seat}
 use Rattle.engine.specs.declared.seats.Seat.TheVariants.{Idle, Busy, Leaving, Left}
-use Rattle.engine.specs.Seats.{State, seat_at, is_working, SeatAgrees, AreSeats}
-use Rattle.engine.specs.Calls.{IsNew, Joins, SameState, OthersStay, KeepsItems, GoesOn, StepsOn, WaitsFor, EndsBy, Settled, GoesOut, StepsBy}
+use Rattle.engine.specs.Seats.{seat_at, is_working, SeatAgrees, AreSeats}
+use Rattle.engine.specs.Calls.{IsNew, Joins, SameState, OthersStay, KeepsItems, GoesOn, StepsOn, Settled, GoesOut, StepsBy}
+use Rattle.engine.specs.Going.{Nears, NearsEnding}
 use Rattle.engine.proofs.Others.{state_of, runs_on}
 
 -- ---- seats
@@ -267,6 +265,17 @@ module _ (old new : Lists) (seats : List Seat) (s : ℕ) (are : AreSeats old sea
   step_does disk statement (advance.Done reply) seat answer steps settled =
       rw settled.1 (steps_on disk seat steps.0, inl (steps.1, is_at seat ∙ settled.0))
 
+  step_nears_by : {D : Type 0} (disk : D) (before after : Statement) (seat : Seat) → seat_at seats s ≡ Busy before → seat ≡ Busy after → IsBelow (statement_to_go s new.past after) (statement_to_go s old.past before)
+      → Nears s progress.Went (record { disk = disk; lists = old; seats = seats }) (record { disk = disk; lists = new; seats = set (set seats s Idle) s seat })
+  step_nears_by disk before after seat was now below = rw (is_at seat, now, was) below
+
+  pub step_nears : {D : Type 0} (disk : D) (before after : Statement) (adv : Advance) (seat : Seat) (answer : Progress) → seat_at seats s ≡ Busy before → StatementNears s old.past before new.past after adv → Settled after adv seat answer
+      → Nears s answer (record { disk = disk; lists = old; seats = seats }) (record { disk = disk; lists = new; seats = set (set seats s Idle) s seat })
+  step_nears disk before after advance.Went seat answer was nears settled = rw settled.1 (step_nears_by disk before after seat was settled.0 nears)
+  step_nears disk before after (advance.Waiting by blockers) seat answer was nears settled = rw settled.1 tt
+  step_nears disk before after advance.NoMemory seat answer was nears settled = rw settled.1 tt
+  step_nears disk before after (advance.Done reply) seat answer was nears settled = rw settled.1 tt
+
   -- ---- a step of the ending
 
   module _ (leaving : seat_at seats s ≡ Leaving) where
@@ -283,6 +292,12 @@ module _ (old new : Lists) (seats : List Seat) (s : ℕ) (are : AreSeats old sea
     out_does disk seat progress.Went goes = (steps_on disk seat goes.0, goes.1, ap is_working (is_at seat ∙ goes.3))
     out_does disk seat (progress.Done reply) goes = (steps_on disk seat (moves_none old new s goes.1), inr (leaving, goes.0, goes.1, is_at seat ∙ goes.3))
     out_does disk seat other goes = elim goes [ ]
+
+    pub out_nears : {D : Type 0} (disk : D) (seat : Seat) (answer : Progress) → GoesOut s old new seat answer → NearsEnding s old.past new.past answer
+        → Nears s answer (record { disk = disk; lists = old; seats = seats }) (record { disk = disk; lists = new; seats = set (set seats s Idle) s seat })
+    out_nears disk seat progress.Went goes nears = rw (is_at seat, goes.3, leaving) nears
+    out_nears disk seat (progress.Done reply) goes nears = tt
+    out_nears disk seat other goes nears = elim goes [ ]
 
 -- ---- what the calls do
 

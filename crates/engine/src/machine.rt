@@ -4,6 +4,7 @@ ghost use Rattle.std.specs.Prelude.{◌≡◌, ℕ, ◌<◌, ◌^◌, ◌∷◌,
 ghost use Rattle.inno_types.specs.declared.reply.Item.TheVariants.{Sql};
 ghost use Rattle.inno_model.specs.Past.{under_way};
 ghost use Rattle.engine.specs.Calls.{IsNew, IsOpened, Settled, GoesOut};
+ghost use Rattle.engine.specs.Going.{NearsEnding};
 
 use crate::opening::first_database;
 use crate::seats::{Seat, Seats};
@@ -63,6 +64,7 @@ fn opened(alloc: Global) -> Result<Lists, NoMemory>
 impl<D: Disk> Engine<D> {
     ghost use Rattle.engine.specs.Seats.{IsJoined, IsIdle, IsWorking};
     ghost use Rattle.engine.specs.Calls.{Joins, Starts, StepsBy, Leaves, SameState};
+    ghost use Rattle.engine.specs.Going.{Nears};
     ghost use Rattle.engine.specs.Seats.{has_left, is_working, seat_at};
     ghost use Rattle.inno_model.specs.Legal.{IsLegal};
 
@@ -124,7 +126,8 @@ impl<D: Disk> Engine<D> {
     pub fn step(&mut self, s: u32, _now: u64) -> Progress
         requires joined { IsJoined s self.old }
         requires working { IsWorking s self.old }
-        ensures { StepsBy s result self.old self.new }
+        ensures steps { StepsBy s result self.old self.new }
+        ensures nears { Nears s result self.old self.new }
     {
         match self.seats.replace(s, Seat::Idle) {
             Seat::Busy(statement) => {
@@ -187,7 +190,8 @@ fn settled(statement: Statement, advance: Advance) -> (Seat, Progress)
 fn go_out(s: u32, lists: &mut Lists) -> (Seat, Progress)
     requires joined { s < length lists.old.names }
     requires idle { under_way s lists.old.past ≡ None }
-    ensures { GoesOut s lists.old lists.new result.0 result.1 }
+    ensures goes { GoesOut s lists.old lists.new result.0 result.1 }
+    ensures nears { NearsEnding s lists.old.past lists.new.past result.1 }
 {
     if lists.level(s).is_none() {
         return (Seat::Left, Progress::Done(Reply::Done));

@@ -1,8 +1,8 @@
 -- How a statement on the table ends once its reply is settled.
-use Rattle.std.proofs.Common.{◌≡◌, ◌≢◌, ℕ, Bool, true, false, cond, Option, Some, None, List, [], ◌∷◌, ◌++◌, refl, sym, ap, subst, ◌∙◌, ◌⊎◌, inl, inr, arith}
+use Rattle.std.proofs.Common.{◌≡◌, ℕ, Bool, true, false, cond, None, List, [], ◌∷◌, ◌++◌, refl, sym, ap, subst, ◌∙◌, ◌⊎◌, inl, inr, arith}
 use Rattle.std.proofs.lemmas.Bool.Decides.{nat_tests}
 use Rattle.std.proofs.lemmas.Bool.{false≢true}
-use Rattle.std.specs.Prelude.{ℤ, is_some}
+use Rattle.std.specs.Prelude.{ℤ}
 use Rattle.std.specs.FinMap.{contains_key}
 use Rattle.inno_types.specs.declared.value.Value.TheVariants.{Int}
 use Rattle.inno_types.specs.declared.lock.Level.{Level}
@@ -17,8 +17,8 @@ use Rattle.inno_model.specs.declared.command.Command.TheVariants as commands
 use Rattle.inno_model.specs.declared.event.Event.{Event}
 use Rattle.inno_model.specs.declared.event.Event.TheVariants as events
 use Rattle.inno_model.specs.Outcome.{Outcome, insert_outcome, pair_row}
-use Rattle.inno_model.specs.Past.{started, under_way, before_item, of_item, did, begins_txn, takes_view, rolls_back_txn, commits_txn, closes, at_point, level, own, view_of, opening}
-use Rattle.inno_model.specs.Legal.{Asks, IsOpen, IsClosed, Settles, Keeps, GivesUp, EndsInsert, MayEnd, Reads, Answers, awaits_ack, base}
+use Rattle.inno_model.specs.Past.{started, before_item, of_item, did, takes_view, closes, level, own, opening}
+use Rattle.inno_model.specs.Legal.{IsOpen, IsClosed, Settles, Keeps, GivesUp, EndsInsert, MayEnd, Reads, Answers, awaits_ack, base}
 use Rattle.inno_model.proofs.Points.{point_now, point_closing, point_stays}
 use Rattle.store_lists.specs.State.{State, Adds, Closes}
 use Rattle.statement.specs.Running.{Moves, InTxn, EndsOnTable, IsClosing, IsAnswered, is_refusal}

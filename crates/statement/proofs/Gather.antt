@@ -1,5 +1,5 @@
 -- How the rows of a SELECT are gathered.
-use Rattle.std.proofs.Common.{◌≡◌, ◌≢◌, ℕ, ◌+◌, ◌<◌, ◌≤◌, Bool, true, false, Option, Some, None, List, [], ◌∷◌, ◌++◌, refl, sym, ap, subst, ◌∙◌, ◌⊎◌, inl, inr, arith}
+use Rattle.std.proofs.Common.{◌≡◌, ◌≢◌, ℕ, ◌+◌, ◌<◌, ◌≤◌, Bool, false, Option, Some, None, List, [], ◌∷◌, ◌++◌, refl, sym, ap, subst, ◌∙◌, inl, inr, arith}
 use Rattle.std.proofs.lemmas.Bool.Decides.{nat_tests}
 use Rattle.std.proofs.lemmas.Bool.{cases_lt}
 use Rattle.std.specs.Prelude.{is_some}
@@ -7,26 +7,24 @@ use Rattle.std.specs.List.{AllByRecursion}
 use Rattle.inno_types.specs.declared.value.Value.{Value}
 use Rattle.inno_types.specs.declared.lock.Level.{Level}
 use Rattle.inno_types.specs.declared.lock.Level.TheVariants.{ReadUncommitted, ReadCommitted, RepeatableRead, Serializable}
-use Rattle.inno_types.specs.declared.reply.Reply.{Reply}
 use Rattle.inno_types.specs.declared.reply.Reply.TheVariants.{Rows}
 use Rattle.inno_db.specs.declared.change.Change.{Change}
 use Rattle.inno_db.specs.Database.{rows_of}
 use Rattle.inno_model.specs.declared.command.Command.TheVariants as commands
 use Rattle.inno_model.specs.declared.event.Event.{Event}
 use Rattle.inno_model.specs.declared.event.Event.TheVariants.{View}
-use Rattle.inno_model.specs.Outcome.{select_outcome}
-use Rattle.inno_model.specs.Past.{started, did, closes, takes_view, at_point, level, own, view_of, commits, committed, opening, changed, snapshot}
+use Rattle.inno_model.specs.Past.{started, did, closes, at_point, level, own, view_of, commits, committed, opening, snapshot}
 use Rattle.inno_model.specs.Loose.{Sometime, MayAnswer}
 use Rattle.inno_model.specs.Legal.{Asks, IsOpen, Settles, Reads, SeesSnapshot, TakesView}
 use Rattle.inno_model.proofs.Points.{point_now}
 use Rattle.store_lists.specs.Agreement.{IsSound}
 use Rattle.store_lists.specs.State.{State, seen, Adds}
-use Rattle.store_lists.specs.Rows.{key_of_row, key_of_change, row_of, row_at, IsUnseen, IsNext}
+use Rattle.store_lists.specs.Rows.{key_of_row, row_at, IsUnseen, IsNext}
 use Rattle.store_lists.specs.Reading.{IsRising, row_in, IsNewestRow}
 use Rattle.lists_as_db.proofs.Tables.{rows_are}
 use Rattle.lists_as_db.proofs.Loose.{loose}
 use Rattle.statement.specs.Running.{FoundAt, with_row, AreRowsBelow, AreOfView, HasRead, Moves, IsEarly, IsAnswered}
-use Rattle.statement.proofs.Stepping.{moves_none, moves_adds, seen_puts, viewed_early}
+use Rattle.statement.proofs.Stepping.{moves_adds, seen_puts, viewed_early}
 
 pub none_below : (P : ℕ → Option (List Value) → Type 0) → AreRowsBelow 0 [] P
 none_below P = record { ordered = tt; below = tt; each = λ key lt. absurd (omega arith) }

@@ -1,5 +1,5 @@
 -- What one entry of its own makes of a statement.
-use Rattle.std.proofs.Common.{◌≡◌, ◌≢◌, ℕ, ◌+◌, Bool, true, false, cond, eqb, Option, Some, None, List, [], ◌∷◌, ◌++◌, refl, sym, ap, subst, ◌∙◌, ◌⊎◌, inl, inr, arith}
+use Rattle.std.proofs.Common.{◌≡◌, ◌≢◌, ℕ, Bool, true, false, eqb, Option, Some, None, List, [], ◌∷◌, ◌++◌, refl, sym, ap, subst, ◌∙◌, inl, inr, arith}
 use Rattle.std.proofs.lemmas.Bool.Decides.{nat_tests, eqb_tells}
 use Rattle.std.proofs.lemmas.Bool.{false≢true}
 use Rattle.std.specs.Prelude.{ℤ, is_some, FitsSigned, option_copied}
@@ -12,21 +12,20 @@ use Rattle.inno_types.specs.declared.value.Value.TheVariants.{Int}
 use Rattle.inno_types.specs.declared.lock.Level.{Level}
 use Rattle.inno_types.specs.declared.lock.Level.TheVariants.{ReadUncommitted, ReadCommitted, RepeatableRead, Serializable}
 use Rattle.inno_types.specs.declared.reply.Reply.{Reply}
-use Rattle.inno_types.specs.declared.reply.Reply.TheVariants.{Done, Count, Rows, Fail, RunLimit, NotSignalled, Stopped, NoMemory}
+use Rattle.inno_types.specs.declared.reply.Reply.TheVariants.{Done, Count, Fail}
 use Rattle.inno_types.specs.declared.reply.SqlError.TheVariants.{Duplicate}
 use Rattle.inno_db.specs.declared.change.Change.{Change}
 use Rattle.inno_db.specs.declared.change.Change.TheVariants.{Put}
-use Rattle.inno_db.specs.Database.{rows_of}
 use Rattle.inno_model.specs.declared.command.Command.{Command}
 use Rattle.inno_model.specs.declared.command.Command.TheVariants as commands
 use Rattle.inno_model.specs.declared.event.Event.{Event}
 use Rattle.inno_model.specs.declared.event.Event.TheVariants as events
 use Rattle.inno_model.specs.Commands.{Spells}
 use Rattle.inno_model.specs.Outcome.{Outcome, insert_outcome, select_outcome, pair_row}
-use Rattle.inno_model.specs.Past.{is_of, started, under_way, before_item, of_item, did, begins_txn, takes_view, rolls_back_txn, commits_txn, closes, at_point, level, session_level, own, view_of, commits, committed, opening, changed, snapshot}
+use Rattle.inno_model.specs.Past.{is_of, started, before_item, of_item, did, begins_txn, takes_view, rolls_back_txn, commits_txn, closes, at_point, level, session_level, own, view_of, commits, committed, opening, changed, snapshot}
 use Rattle.inno_model.specs.Loose.{MayAnswer}
-use Rattle.inno_model.specs.Legal.{Asks, IsOpen, IsClosed, Settles, Inserts, Keeps, GivesUp, EndsInsert, EndsBegin, MayEnd, Reads, SeesSnapshot, awaits_ack, base}
-use Rattle.inno_model.proofs.Points.{point_now, point_closing, point_stays}
+use Rattle.inno_model.specs.Legal.{Asks, IsOpen, IsClosed, Settles, MayEnd, Reads, SeesSnapshot, awaits_ack, base}
+use Rattle.inno_model.proofs.Points.{point_now}
 use Rattle.store_lists.specs.Agreement.{IsSound}
 use Rattle.store_lists.specs.State.{State, seen, Adds, Closes, writer_without}
 use Rattle.store_lists.specs.Rows.{row_at, sortable}
@@ -37,7 +36,7 @@ use Rattle.lists_as_db.proofs.Puts.{puts_of}
 use Rattle.statement.specs.declared.Statement.{Statement}
 use Rattle.statement.specs.declared.Advance.{Advance}
 use Rattle.statement.specs.declared.Advance.TheVariants as advance
-use Rattle.statement.specs.Running.{Moves, Adding, changes_rows, InTxn, IsWorking, IsEarly, IsSteady, IsWriting, StaysSettled, EndsOnTable, IsClosing, IsAnswered, HasBegun, IsRunning, Steps, is_refusal}
+use Rattle.statement.specs.Running.{Moves, changes_rows, InTxn, IsEarly, IsWriting, IsAnswered, HasBegun, Steps}
 
 -- ---- moves
 

@@ -1,5 +1,5 @@
 -- What holds of a statement between its steps, and what a step does.
-use Rattle.std.specs.Prelude.{◌≡◌, ◌≢◌, ℕ, ◌<◌, ◌⊎◌, ℤ, Bool, true, false, ◌==◌, if◌then◌else◌, Option, Some, None, List, [], ◌∷◌, ◌++◌}
+use Rattle.std.specs.Prelude.{◌≡◌, ◌≢◌, ℕ, ◌<◌, ◌⊎◌, ℤ, Bool, true, false, Option, Some, None, List, [], ◌∷◌, ◌++◌}
 use Rattle.std.specs.List.{AllByRecursion}
 use Rattle.inno_types.specs.declared.value.Value.{Value}
 use Rattle.inno_types.specs.declared.lock.Level.{Level}
@@ -10,15 +10,14 @@ use Rattle.inno_types.specs.declared.lock.Mode.TheVariants.{X}
 use Rattle.inno_types.specs.declared.reply.Item.TheVariants.{Sql}
 use Rattle.inno_types.specs.declared.reply.Reply.{Reply}
 use Rattle.inno_types.specs.declared.reply.Reply.TheVariants.{Fail}
-use Rattle.inno_db.specs.declared.change.Change.{Change}
 use Rattle.inno_model.specs.declared.command.Command.{Command}
 use Rattle.inno_model.specs.declared.command.Command.TheVariants as commands
 use Rattle.inno_model.specs.declared.event.Event.{Event}
 use Rattle.inno_model.specs.declared.event.Event.TheVariants.{Changed, Ended}
 use Rattle.inno_model.specs.Commands.{Spells}
-use Rattle.inno_model.specs.Past.{is_of, started, under_way, before_item, of_item, did, begins_txn, takes_view, rolls_back_txn, commits_txn, closes, level, session_level, own, view_of, commits, committed, txn}
+use Rattle.inno_model.specs.Past.{is_of, started, under_way, before_item, of_item, did, begins_txn, takes_view, rolls_back_txn, commits_txn, closes, level, session_level, own, view_of, txn}
 use Rattle.inno_model.specs.Loose.{Sometime}
-use Rattle.inno_model.specs.Legal.{Asks, IsOpen, IsClosed, IsOnTable, Settles, Keeps, EndsInsert, awaits_ack}
+use Rattle.inno_model.specs.Legal.{Asks, IsOpen, IsClosed, Settles, Keeps, EndsInsert, awaits_ack}
 use Rattle.store_lists.specs.Agreement.{IsSound}
 use Rattle.store_lists.specs.State.{State, seen}
 use Rattle.store_lists.specs.Rows.{key_of_row, row_at}

@@ -9,6 +9,7 @@ ghost use Rattle.inno_model.specs.Legal.{IsOpen, MayEnd, TakesView};
 ghost use Rattle.store_lists.specs.Agreement.{IsSound};
 ghost use Rattle.store_lists.specs.State.{seen};
 ghost use Rattle.store_lists.specs.Rows.{IsUnseen, IsNext, row_at, sortable};
+ghost use Rattle.statement.specs.Going.{Nears};
 ghost use Rattle.statement.specs.Running.{IsRunning, IsWriting, Steps, IsStarted, with_row, is_done, is_refusal, FoundAt, plain_edge};
 
 use inno_model::Command;
@@ -140,7 +141,8 @@ impl Statement {
     pub fn step(self, alloc: Global, session: u32, lists: &mut Lists) -> (Statement, Advance)
         requires joined { session < length lists.old.names }
         requires running { IsRunning lists.old session self }
-        ensures { Steps session lists.old lists.new result.0 result.1 }
+        ensures steps { Steps session lists.old lists.new result.0 result.1 }
+        ensures nears { Nears session lists.old.past self lists.new.past result.0 result.1 }
     {
         match self {
             Statement::Refused => step_refused(session, lists),
@@ -169,7 +171,8 @@ fn end(kept: Reply, given: Reply, session: u32, lists: &mut Lists) -> (Statement
     requires may { MayEnd session (started session lists.old.past) kept lists.old.past }
     requires same { given ≡ kept }
     requires level { level_after (under_way session lists.old.past) kept (session_level session lists.old.past) ≡ session_level session lists.old.past }
-    ensures { Steps session lists.old lists.new result.0 result.1 }
+    ensures steps { Steps session lists.old lists.new result.0 result.1 }
+    ensures over { is_done result.1 ≡ true }
 {
     let later = lists.session_level(session);
     lists.end(session, kept, later);
@@ -179,7 +182,8 @@ fn end(kept: Reply, given: Reply, session: u32, lists: &mut Lists) -> (Statement
 fn step_refused(session: u32, lists: &mut Lists) -> (Statement, Advance)
     requires joined { session < length lists.old.names }
     requires running { IsRunning lists.old session Statement.Refused }
-    ensures { Steps session lists.old lists.new result.0 result.1 }
+    ensures steps { Steps session lists.old lists.new result.0 result.1 }
+    ensures nears { Nears session lists.old.past Statement.Refused lists.new.past result.0 result.1 }
 {
     let kept = Reply::Fail(SqlError::Syntax { at: 0 });
     let given = Reply::Fail(SqlError::Syntax { at: 0 });
@@ -189,7 +193,8 @@ fn step_refused(session: u32, lists: &mut Lists) -> (Statement, Advance)
 fn step_set_level(level: Level, session: u32, lists: &mut Lists) -> (Statement, Advance)
     requires joined { session < length lists.old.names }
     requires running { IsRunning lists.old session (Statement.SetLevel level) }
-    ensures { Steps session lists.old lists.new result.0 result.1 }
+    ensures steps { Steps session lists.old lists.new result.0 result.1 }
+    ensures nears { Nears session lists.old.past (Statement.SetLevel level) lists.new.past result.0 result.1 }
 {
     lists.end(session, Reply::Done, level);
     (Statement::Refused, Advance::Done(Reply::Done))
@@ -204,7 +209,8 @@ fn step_begin(
 ) -> (Statement, Advance)
     requires joined { session < length lists.old.names }
     requires running { IsRunning lists.old session (Statement.Begin snapshot stage) }
-    ensures { Steps session lists.old lists.new result.0 result.1 }
+    ensures steps { Steps session lists.old lists.new result.0 result.1 }
+    ensures nears { Nears session lists.old.past (Statement.Begin snapshot stage) lists.new.past result.0 result.1 }
 {
     match stage {
         BeginStage::Start => {
@@ -229,7 +235,8 @@ fn step_begin(
 fn open_new(snapshot: bool, session: u32, lists: &mut Lists) -> (Statement, Advance)
     requires joined { session < length lists.old.names }
     requires running { IsRunning lists.old session (Statement.Begin snapshot BeginStage.Closed) }
-    ensures { Steps session lists.old lists.new result.0 result.1 }
+    ensures steps { Steps session lists.old lists.new result.0 result.1 }
+    ensures nears { Nears session lists.old.past (Statement.Begin snapshot BeginStage.Closed) lists.new.past result.0 result.1 }
 {
     match lists.begin(session) {
         Ok(()) => {
@@ -244,7 +251,8 @@ fn open_new(snapshot: bool, session: u32, lists: &mut Lists) -> (Statement, Adva
 fn view_at_begin(snapshot: bool, session: u32, lists: &mut Lists) -> (Statement, Advance)
     requires joined { session < length lists.old.names }
     requires running { IsRunning lists.old session (Statement.Begin snapshot BeginStage.Begun) }
-    ensures { Steps session lists.old lists.new result.0 result.1 }
+    ensures steps { Steps session lists.old lists.new result.0 result.1 }
+    ensures nears { Nears session lists.old.past (Statement.Begin snapshot BeginStage.Begun) lists.new.past result.0 result.1 }
 {
     if !snapshot {
         return end(Reply::Done, Reply::Done, session, lists);
@@ -273,7 +281,8 @@ fn is_repeatable_read(level: Option<Level>) -> bool
 fn step_commit(stage: CommitStage, session: u32, lists: &mut Lists) -> (Statement, Advance)
     requires joined { session < length lists.old.names }
     requires running { IsRunning lists.old session (Statement.Commit stage) }
-    ensures { Steps session lists.old lists.new result.0 result.1 }
+    ensures steps { Steps session lists.old lists.new result.0 result.1 }
+    ensures nears { Nears session lists.old.past (Statement.Commit stage) lists.new.past result.0 result.1 }
 {
     match stage {
         CommitStage::Start => {
@@ -297,7 +306,8 @@ fn step_commit(stage: CommitStage, session: u32, lists: &mut Lists) -> (Statemen
 fn step_rollback(session: u32, lists: &mut Lists) -> (Statement, Advance)
     requires joined { session < length lists.old.names }
     requires running { IsRunning lists.old session Statement.Rollback }
-    ensures { Steps session lists.old lists.new result.0 result.1 }
+    ensures steps { Steps session lists.old lists.new result.0 result.1 }
+    ensures nears { Nears session lists.old.past Statement.Rollback lists.new.past result.0 result.1 }
 {
     if lists.level(session).is_none() {
         return end(Reply::Done, Reply::Done, session, lists);
@@ -321,7 +331,8 @@ fn step_insert(
 ) -> (Statement, Advance)
     requires joined { session < length lists.old.names }
     requires running { IsRunning lists.old session (Statement.Insert key value auto) }
-    ensures { Steps session lists.old lists.new result.0 result.1 }
+    ensures steps { Steps session lists.old lists.new result.0 result.1 }
+    ensures nears { Nears session lists.old.past (Statement.Insert key value auto) lists.new.past result.0 result.1 }
 {
     if lists.level(session).is_none() {
         return match lists.begin(session) {
@@ -356,7 +367,8 @@ fn wait_for(
     requires joined { (session < length lists.old.names) × (by < length lists.old.names) }
     requires is_open { IsOpen session lists.old.past × IsOpen by lists.old.past }
     requires held { (lists.old.writer ≡ Some by) × (by ≢ session) }
-    ensures { Steps session lists.old lists.new result.0 result.1 }
+    ensures steps { Steps session lists.old lists.new result.0 result.1 }
+    ensures nears { Nears session lists.old.past (Statement.Insert key value auto) lists.new.past result.0 result.1 }
 {
     match plain_edge(alloc, lists.txn_of(session), lists.txn_of(by)) {
         Ok(blockers) => (
@@ -407,7 +419,8 @@ fn put_new(
 ) -> (Statement, Advance)
     requires joined { session < length lists.old.names }
     requires writing { IsWriting lists.old session key value auto }
-    ensures { Steps session lists.old lists.new result.0 result.1 }
+    ensures steps { Steps session lists.old lists.new result.0 result.1 }
+    ensures nears { Nears session lists.old.past (Statement.Insert key value auto) lists.new.past result.0 result.1 }
 {
     if lists.newest(sortable(key)).is_some() {
         return duplicate(key, value, auto, session, lists);
@@ -428,7 +441,8 @@ fn duplicate(
 ) -> (Statement, Advance)
     requires writing { IsWriting lists.old session key value auto }
     requires there { is_some (row_at (sortable key) (seen lists.old.past session (commits lists.old.past))) ≡ true }
-    ensures { Steps session lists.old lists.new result.0 result.1 }
+    ensures steps { Steps session lists.old lists.new result.0 result.1 }
+    ensures nears { Nears session lists.old.past (Statement.Insert key value auto) lists.new.past result.0 result.1 }
 {
     let kept = Reply::Fail(SqlError::Duplicate {
         key: Value::Int(key),
@@ -452,7 +466,8 @@ fn put_row(
     requires writing { IsWriting lists.old session key value auto }
     requires none { row_at (sortable key) (seen lists.old.past session (commits lists.old.past)) ≡ None }
     requires row { row ≡ pair_row key value }
-    ensures { Steps session lists.old lists.new result.0 result.1 }
+    ensures steps { Steps session lists.old lists.new result.0 result.1 }
+    ensures nears { Nears session lists.old.past (Statement.Insert key value auto) lists.new.past result.0 result.1 }
 {
     match lists.put(session, row) {
         Ok(()) => {
@@ -478,7 +493,8 @@ fn new_row(alloc: Global, key: i64, value: i64) -> Result<Row, NoMemory>
 fn step_select(alloc: Global, auto: bool, session: u32, lists: &mut Lists) -> (Statement, Advance)
     requires joined { session < length lists.old.names }
     requires running { IsRunning lists.old session (Statement.Select auto) }
-    ensures { Steps session lists.old lists.new result.0 result.1 }
+    ensures steps { Steps session lists.old lists.new result.0 result.1 }
+    ensures nears { Nears session lists.old.past (Statement.Select auto) lists.new.past result.0 result.1 }
 {
     match lists.level(session) {
         None => match lists.begin(session) {
@@ -503,7 +519,8 @@ fn view_first(alloc: Global, auto: bool, session: u32, lists: &mut Lists) -> (St
     requires joined { session < length lists.old.names }
     requires running { IsRunning lists.old session (Statement.Select auto) }
     requires takes { (l : _) × (level session lists.old.past ≡ Some l) × TakesView l session lists.old.past }
-    ensures { Steps session lists.old lists.new result.0 result.1 }
+    ensures steps { Steps session lists.old lists.new result.0 result.1 }
+    ensures nears { Nears session lists.old.past (Statement.Select auto) lists.new.past result.0 result.1 }
 {
     match lists.take_view(session) {
         Ok(()) => (Statement::Read(Read::new(alloc, auto)), Advance::Went),
@@ -539,7 +556,8 @@ impl Read {
 fn step_read(read: Read, session: u32, lists: &mut Lists) -> (Statement, Advance)
     requires joined { session < length lists.old.names }
     requires running { IsRunning lists.old session (Statement.Read read) }
-    ensures { Steps session lists.old lists.new result.0 result.1 }
+    ensures steps { Steps session lists.old lists.new result.0 result.1 }
+    ensures nears { Nears session lists.old.past (Statement.Read read) lists.new.past result.0 result.1 }
 {
     match lists.next_from(read.place) {
         Some(key) => visit(read, key, session, lists),
@@ -552,7 +570,8 @@ fn visit(mut read: Read, key: u64, session: u32, lists: &mut Lists) -> (Statemen
     requires joined { session < length lists.old.names }
     requires running { IsRunning lists.old session (Statement.Read read) }
     requires next { IsNext lists.old.past read.place key }
-    ensures { Steps session lists.old lists.new result.0 result.1 }
+    ensures steps { Steps session lists.old lists.new result.0 result.1 }
+    ensures nears { Nears session lists.old.past (Statement.Read read) lists.new.past result.0 result.1 }
 {
     let auto = read.auto;
     match row_found(key, session, lists) {
@@ -590,7 +609,8 @@ fn answer(read: Read, session: u32, lists: &mut Lists) -> (Statement, Advance)
     requires running { IsRunning lists.old session (Statement.Read read) }
     requires none { (other : ℕ) → read.place ≤ other → IsUnseen lists.old.past other }
     requires sound { IsSound lists.old.past }
-    ensures { Steps session lists.old lists.new result.0 result.1 }
+    ensures steps { Steps session lists.old lists.new result.0 result.1 }
+    ensures nears { Nears session lists.old.past (Statement.Read read) lists.new.past result.0 result.1 }
 {
     let Read {
         auto,
@@ -617,7 +637,8 @@ fn step_answered(
 ) -> (Statement, Advance)
     requires joined { session < length lists.old.names }
     requires running { IsRunning lists.old session (Statement.Answered auto kept given) }
-    ensures { Steps session lists.old lists.new result.0 result.1 }
+    ensures steps { Steps session lists.old lists.new result.0 result.1 }
+    ensures nears { Nears session lists.old.past (Statement.Answered auto kept given) lists.new.past result.0 result.1 }
 {
     if !auto {
         return end(kept, given, session, lists);
@@ -639,7 +660,8 @@ fn is_refusal(reply: &Reply) -> bool
 fn step_unacked(kept: Reply, given: Reply, session: u32, lists: &mut Lists) -> (Statement, Advance)
     requires joined { session < length lists.old.names }
     requires running { IsRunning lists.old session (Statement.Unacked kept given) }
-    ensures { Steps session lists.old lists.new result.0 result.1 }
+    ensures steps { Steps session lists.old lists.new result.0 result.1 }
+    ensures nears { Nears session lists.old.past (Statement.Unacked kept given) lists.new.past result.0 result.1 }
 {
     lists.ack(session, 0);
     (Statement::Ending { kept, given }, Advance::Went)
@@ -648,7 +670,8 @@ fn step_unacked(kept: Reply, given: Reply, session: u32, lists: &mut Lists) -> (
 fn step_ending(kept: Reply, given: Reply, session: u32, lists: &mut Lists) -> (Statement, Advance)
     requires joined { session < length lists.old.names }
     requires running { IsRunning lists.old session (Statement.Ending kept given) }
-    ensures { Steps session lists.old lists.new result.0 result.1 }
+    ensures steps { Steps session lists.old lists.new result.0 result.1 }
+    ensures nears { Nears session lists.old.past (Statement.Ending kept given) lists.new.past result.0 result.1 }
 {
     end(kept, given, session, lists)
 }
@@ -657,7 +680,8 @@ fn step_ending(kept: Reply, given: Reply, session: u32, lists: &mut Lists) -> (S
 fn step_failed(auto: bool, session: u32, lists: &mut Lists) -> (Statement, Advance)
     requires joined { session < length lists.old.names }
     requires running { IsRunning lists.old session (Statement.Failed auto) }
-    ensures { Steps session lists.old lists.new result.0 result.1 }
+    ensures steps { Steps session lists.old lists.new result.0 result.1 }
+    ensures nears { Nears session lists.old.past (Statement.Failed auto) lists.new.past result.0 result.1 }
 {
     if auto && lists.level(session).is_some() {
         lists.roll_back(session);

@@ -1,4 +1,4 @@
-use Rattle.std.proofs.Common.{inr, inl, sym, subst}
+use Rattle.std.proofs.Common.{inr, sym, subst}
 use Rattle.statement.specs.Running.{InTxn}
 use Rattle.statement.proofs.Closing.{ends_open, refused_own, rolled_back, committed}
 use Rattle.statement.proofs.step_answered.Goals as goal
@@ -14,10 +14,10 @@ roll_back-requires-clause-may c =
     let txn = subst (λ a. InTxn a c.args.session h) c.if-not-auto.false r.working.in_txn in
     (r.is_open, refused_own c.args.session h r.working.goes_on r.is_open txn r.command c.args.kept r.settled (sym c.if-is_refusal.ensures), inr txn.3)
 
-pub returns-then-is_refusal : goal.returns-then-is_refusal
-returns-then-is_refusal c =
+pub returns-then-is_refusal-clause-steps : goal.returns-then-is_refusal-clause-steps
+returns-then-is_refusal-clause-steps c =
     rolled_back c.args.lists.now c.roll_back.new.self c.args.session c.args.auto c.args.kept c.args.given c.if-not-auto.false (sym c.if-is_refusal.ensures) c.requires.running c.roll_back.ensures
 
-pub returns : goal.returns
-returns c =
+pub returns-clause-steps : goal.returns-clause-steps
+returns-clause-steps c =
     committed c.args.lists.now c.commit.new.self c.args.session c.args.auto c.args.kept c.args.given c.if-not-auto.false (sym c.if-is_refusal.ensures) c.requires.running c.commit.ensures

@@ -1,4 +1,4 @@
-use Rattle.std.proofs.Common.{refl, inr, ap, ◌∙◌}
+use Rattle.std.proofs.Common.{refl, inr, ap}
 use Rattle.inno_model.specs.Legal.{awaits_ack}
 use Rattle.inno_model.specs.declared.command.Command.TheVariants as commands
 use Rattle.statement.proofs.step_set_level.Goals as goal

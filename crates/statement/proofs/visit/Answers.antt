@@ -4,8 +4,8 @@ use Rattle.statement.proofs.Stepping.{moves_none}
 use Rattle.statement.proofs.Gather.{visited, opened_some}
 use Rattle.statement.proofs.visit.Goals as goal
 
-pub returns-in-Ok-take : goal.returns-in-Ok-take
-returns-in-Ok-take c =
+pub returns-in-Ok-take-clause-steps : goal.returns-in-Ok-take-clause-steps
+returns-in-Ok-take-clause-steps c =
     let r = c.requires.running in
     let some = opened_some c.args.lists.now.past c.args.session (ap is_some r.2.1) in
     rw c.in-Ok-take.ensures.ok

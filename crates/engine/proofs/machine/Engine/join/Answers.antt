@@ -1,4 +1,3 @@
-use Rattle.std.proofs.Common.{◌≡◌}
 use Rattle.engine.proofs.Seating.{joined_either, joins, refused_join}
 use Rattle.engine.proofs.machine.Engine.join.Goals as goal
 

@@ -1,6 +1,5 @@
-use Rattle.std.proofs.Common.{length, ◌<◌, ap, subst, sym, ◌∙◌}
+use Rattle.std.proofs.Common.{length, ◌<◌, subst, sym, ◌∙◌}
 use Rattle.command_text.specs.Texts.{Reads}
-use Rattle.engine.specs.Seats.{State}
 use Rattle.engine.proofs.Seating.{seats_started}
 use Rattle.engine.proofs.machine.Engine.start.Goals as goal
 

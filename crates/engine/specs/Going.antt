@@ -1,0 +1,30 @@
+-- A step that went did work: what its session has before it at most, a list of sixteen numbers, gets smaller.
+use Rattle.std.specs.Prelude.{ℕ, List}
+use Rattle.inno_model.specs.declared.event.Event.{Event}
+use Rattle.store_api.specs.declared.answers.Progress.{Progress}
+use Rattle.store_api.specs.declared.answers.Progress.TheVariants as progress
+use Rattle.statement.specs.Going.{IsBelow, left, to_roll_back, to_go as statement_to_go}
+use Rattle.engine.specs.declared.seats.Seat.{Seat}
+use Rattle.engine.specs.declared.seats.Seat.TheVariants as seats
+use Rattle.engine.specs.Seats.{State, seat_at}
+
+-- what a seat has before it at most
+abbrev pub seat_to_go : ℕ → List Event → Seat → List ℕ
+seat_to_go s past seats.Idle = left 0 0 0
+seat_to_go s past (seats.Busy statement) = statement_to_go s past statement
+seat_to_go s past seats.Leaving = to_roll_back s past
+seat_to_go s past seats.Left = left 0 0 0
+
+-- what the session has before it at most
+abbrev pub to_go : {D : Type 0} → ℕ → State D → List ℕ
+to_go s state = seat_to_go s state.lists.past (seat_at state.seats s)
+
+-- a step that went makes it smaller
+abbrev pub Nears : {D : Type 0} → ℕ → Progress → State D → State D → Type 0
+Nears s progress.Went old new = IsBelow (to_go s new) (to_go s old)
+Nears s other old new = Unit {0}
+
+-- so does a step of the ending, between two pasts
+abbrev pub NearsEnding : ℕ → List Event → List Event → Progress → Type 0
+NearsEnding s old new progress.Went = IsBelow (to_roll_back s new) (to_roll_back s old)
+NearsEnding s old new other = Unit {0}
