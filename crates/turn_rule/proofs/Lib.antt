@@ -1,0 +1,3 @@
+mod Claims
+pub mod Steps
+mod Trials

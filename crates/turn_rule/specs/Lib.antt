@@ -1,0 +1,2 @@
+pub mod Turnstile
+pub mod Steps
