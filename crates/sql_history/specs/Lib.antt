@@ -1,0 +1,11 @@
+pub mod Items
+pub mod Settings
+pub mod Statements
+pub mod LooseReading
+pub mod Answers
+pub mod Endings
+pub mod Waiting
+pub mod Counts
+pub mod Legal
+pub mod Serial
+pub mod Readings

@@ -1,0 +1,19 @@
+//! Which histories of SQL sessions are legal, and when they answer as their transactions do alone.
+//! The definitions stand in specs/. Each function here has an empty body, and its contract is a law of them; nothing
+//! calls these functions, they show that the definitions say what a user of a database expects.
+#![tactic(auto)]
+
+mod databases;
+mod readings;
+mod savepoints;
+
+pub use databases::{
+    a_commit_adds_its_changes, a_commit_leaves_others_snapshots, a_later_view_sees_the_commit,
+    all_changes_put_back_leave_the_database, without_own_changes_a_snapshot_is_committed,
+};
+pub use readings::{
+    a_consistent_read_answers_by_its_view, a_locking_read_answers_by_the_latest,
+    after_a_stop_items_answer_stopped, nothing_commits_after_a_stop,
+    the_front_of_a_legal_history_is_legal,
+};
+pub use savepoints::{a_rollback_keeps_its_savepoint, a_savepoint_takes_the_place_of_its_name};

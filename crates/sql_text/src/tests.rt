@@ -1,0 +1,55 @@
+//! Texts of the grammar and beside it. What the trees are is proved; that memory suffices is seen here.
+
+use crate::{ParseBad, parse};
+use std::alloc::Global;
+use std::test::Fail;
+
+/// The byte of a refusal; None for a statement. Want of memory shows as u32::MAX.
+fn refusal(alloc: Global, text: &str) -> Option<u32> {
+    match parse(alloc, text.as_bytes()) {
+        Ok(_) => None,
+        Err(ParseBad::Syntax { at }) => Some(at),
+        Err(ParseBad::NoMemory) => Some(u32::MAX),
+    }
+}
+
+#[test]
+fn statements_are_read(rt: HostRuntime) -> Result<(), Fail> {
+    let texts = [
+        "CREATE TABLE t (id BIGINT PRIMARY KEY, v BIGINT NOT NULL, KEY (v)) ENGINE=InnoDB",
+        "create table if not exists `a``b` (x varbinary(32) null, index i (x), primary key (x)) engine innodb",
+        "SELECT * FROM t WHERE a = 1 OR NOT (b BETWEEN -1 AND 'x' AND c IS NOT NULL) LOCK IN SHARE MODE",
+        "SELECT a, `select` FROM t WHERE a = 1or b IN (1, NULL) FOR UPDATE",
+        "INSERT INTO t (a, b) VALUES (1, 'it''s'), (- 5, \"a\\n\")",
+        "insert value value(99999999999999999999)",
+        "UPDATE t SET a = - - 5, b = --5 * (a + 1) - 2 WHERE id = 1 # all",
+        "DELETE /* from */ FROM t -- x",
+        "BEGIN WORK",
+        "START TRANSACTION WITH CONSISTENT SNAPSHOT",
+        "ROLLBACK TO SAVEPOINT",
+        "ROLLBACK WORK TO SAVEPOINT savepoint",
+        "SET autocommit = 0",
+        "SET SESSION TRANSACTION ISOLATION LEVEL REPEATABLE READ",
+    ];
+    for text in texts {
+        assert_eq!(rt; refusal(rt.alloc(), text), None, "{text}");
+    }
+    Ok(())
+}
+
+#[test]
+fn other_texts_are_refused(rt: HostRuntime) -> Result<(), Fail> {
+    let texts = [
+        ("", 0),
+        ("SELECT * FROM t WHERE", 21),
+        ("SELECT a b FROM t", 9),
+        ("SELECT * FROM t WHERE (a) = 1", 24),
+        ("INSERT INTO t VALUES (1 2)", 24),
+        ("SELECT * FROM t %", 16),
+        ("COMMIT; ", 6),
+    ];
+    for (text, at) in texts {
+        assert_eq!(rt; refusal(rt.alloc(), text), Some(at), "{text}");
+    }
+    Ok(())
+}
