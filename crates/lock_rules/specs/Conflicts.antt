@@ -1,5 +1,5 @@
 -- Which locks conflict, and which lock makes a request needless.
-use Rattle.std.specs.Prelude.{ℕ, Bool, true, false, ◌==◌, ◌&&◌, ◌||◌, not, is_some, if◌then◌else◌}
+use Rattle.std.specs.Prelude.{Bool, false, ◌==◌, ◌&&◌, ◌||◌, not, is_some, if◌then◌else◌}
 use Rattle.inno_types.specs.declared.lock.LockKind.{LockKind}
 use Rattle.inno_types.specs.declared.lock.LockKind.TheVariants.{Rec, Gap, NextKey, Intent}
 use Rattle.inno_types.specs.declared.lock.Mode.{Mode}

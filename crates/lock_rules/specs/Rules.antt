@@ -1,5 +1,5 @@
 -- The rules by which locks are taken, and the lock that each gives.
-use Rattle.std.specs.Prelude.{◌≡◌, ℕ, Bool, true, false, ◌==◌, ◌&&◌, ◌||◌, ◌*◌, ◌/◌, ◌%◌, not, is_some, Option, None, Some, if◌then◌else◌}
+use Rattle.std.specs.Prelude.{◌≡◌, ℕ, Bool, true, false, ◌==◌, ◌&&◌, ◌*◌, ◌/◌, ◌%◌, not, is_some, Option, None, Some, if◌then◌else◌}
 use Rattle.inno_types.specs.declared.lock.LockKind.{LockKind}
 use Rattle.inno_types.specs.declared.lock.LockKind.TheVariants.{Rec, Gap, NextKey, Intent}
 use Rattle.inno_types.specs.declared.lock.Mode.{Mode}

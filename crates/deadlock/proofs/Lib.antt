@@ -1,0 +1,12 @@
+mod Along
+mod Circles
+mod DepthFirst
+mod Edges
+mod First
+mod Lists
+mod Loop
+mod Order
+pub mod Rooms
+mod Rounds
+mod VictimLemmas
+mod Waits

@@ -1,0 +1,3 @@
+pub mod Cycles
+pub mod Steps
+pub mod Victim

@@ -1,0 +1,12 @@
+//! Deadlocks: whether transactions wait for one another in a cycle, and which of them is rolled back.
+//! The engine asks after each step that added a wait; granted locks and requests are read here and never changed.
+#![tactic(auto)]
+
+mod rollback;
+mod search;
+
+pub use rollback::{Size, Sizes, victim};
+pub use search::cycle_through;
+
+#[cfg(test)]
+mod tests;

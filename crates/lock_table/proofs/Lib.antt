@@ -1,0 +1,6 @@
+mod Places
+mod Walk
+mod Gaps
+mod Rooms
+mod Soundness
+mod Covering

@@ -1,0 +1,20 @@
+-- How far each walk along the lists has come.
+use Rattle.std.proofs.Common.{◌≡◌, ℕ, ◌+◌, ◌≤◌, List, [], ◌++◌, length, take, drop}
+use Rattle.std.specs.Prelude.{Option}
+use Rattle.inno_types.specs.declared.lock.Spot.{Spot}
+use Rattle.inno_types.specs.declared.lock.Lock.{Lock}
+use Rattle.lock_table.specs.Queue.{serve}
+use Rattle.lock_table.specs.Records.{moved}
+
+-- the requests before the place still wait, and to serve the rest gives what it gave from the start
+pub record IsServed (held waiting now left : List Lock) (place capacity : ℕ) : Type 0 where
+  pub within : place ≤ length left
+  pub same : serve now (take place left) (drop place left) ≡ serve held [] waiting
+  pub room : length now + length left ≤ capacity
+
+-- the locks before the place are as they will be
+pub record IsMoved (by : Option ℕ) (gone next : Spot) (old now : List Lock) (place before capacity : ℕ) : Type 0 where
+  pub within : place ≤ length now
+  pub same : take place now ++ moved by gone next (drop place now) ≡ moved by gone next old
+  pub fewer : length now ≤ length old
+  pub room : before ≤ capacity

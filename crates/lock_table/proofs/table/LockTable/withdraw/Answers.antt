@@ -1,0 +1,9 @@
+use Rattle.lock_table.proofs.Soundness.{served_as, locks_are, requests_left}
+use Rattle.lock_table.proofs.table.LockTable.withdraw.Goals as goal
+
+pub invariant_of-self : goal.invariant_of-self
+invariant_of-self c =
+    let sound = c.self.invariant.0 in (
+      served_as _ _ _ _ (locks_are _ _ sound) (requests_left _ _ sound _ _ c.keep_others.ensures.items) c.serve.ensures.granted c.serve.ensures.waiting,
+      c.serve.ensures.room,
+    )

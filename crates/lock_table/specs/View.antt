@@ -1,0 +1,60 @@
+-- What contracts see of a lock table, and what a request makes of it.
+use Rattle.std.specs.Prelude.{◌≡◌, ◌≢◌, ℕ, Bool, true, false, ◌&&◌, not, if◌then◌else◌, List, [], ◌∷◌, ◌++◌, length, map}
+use Rattle.inno_types.specs.declared.lock.Lock.{Lock}
+use Rattle.inno_types.specs.declared.lock.Edge.{Edge}
+use Rattle.store_api.specs.declared.answers.Asked.{Asked}
+use Rattle.store_api.specs.declared.answers.Asked.TheVariants.{Granted, Waits, NoMemory}
+use Rattle.lock_rules.specs.declared.rule.Rule.TheVariants.{RecordWent, CopiedOnInsert}
+use Rattle.lock_rules.specs.Rules.{number_of}
+use Rattle.lock_table.specs.declared.room.CycleRoom.{CycleRoom}
+use Rattle.lock_table.specs.Queue.{Lists, blockers, is_blocked, is_covered, edge_to}
+use Rattle.lock_table.specs.Room.{HasRooms, KeepsRooms}
+
+pub record Table : Type 0 where
+  -- the granted locks in order of grant
+  pub granted : List Lock
+  -- the requests that wait, in order
+  pub waiting : List Lock
+  -- the memory for cycles
+  pub rooms : List CycleRoom
+
+-- the table with these lists
+abbrev pub with_lists : Table → Lists → Table
+with_lists t lists = record { granted = lists.granted; waiting = lists.waiting; rooms = t.rooms }
+
+-- locks by two rules are never asked for: what becomes of a lock when its record goes, and copies
+abbrev pub IsAskedFor : ℕ → Type 0
+IsAskedFor rule = (rule ≢ number_of RecordWent) × (rule ≢ number_of CopiedOnInsert)
+
+-- no granted lock covers the request, and something blocks it
+abbrev pub must_wait : Table → Lock → Bool
+must_wait t lock = not (is_covered t.granted lock) && is_blocked t.granted t.waiting lock
+
+-- a lock that is covered adds nothing
+abbrev pub granted_with : List Lock → Lock → List Lock
+granted_with granted lock = if is_covered granted lock then granted else granted ++ lock ∷ []
+
+-- the lock is granted at once
+pub record IsGranted (old new : Table) (lock : Lock) : Type 0 where
+  pub free : must_wait old lock ≡ false
+  pub lists : new ≡ record { granted = granted_with old.granted lock; waiting = old.waiting; rooms = old.rooms }
+
+-- the lock is queued behind all requests; the answer has all its edges
+pub record IsQueued (old new : Table) (lock : Lock) (edges : List Edge) : Type 0 where
+  pub waits : must_wait old lock ≡ true
+  pub edges_are : edges ≡ map (edge_to lock.txn) (blockers old.granted old.waiting lock)
+  pub granted : new.granted ≡ old.granted
+  pub waiting : new.waiting ≡ old.waiting ++ lock ∷ []
+  pub rooms : HasRooms (length new.waiting) new.rooms
+
+-- want of memory changes nothing; there is as much memory for cycles as before
+pub record IsRefused (old new : Table) : Type 0 where
+  pub granted : new.granted ≡ old.granted
+  pub waiting : new.waiting ≡ old.waiting
+  pub rooms : KeepsRooms old.rooms new.rooms
+
+-- what a request is answered
+abbrev pub IsAnswered : Table → Table → Lock → Asked → Type 0
+IsAnswered old new lock Granted = IsGranted old new lock
+IsAnswered old new lock (Waits edges) = IsQueued old new lock edges
+IsAnswered old new lock NoMemory = IsRefused old new

@@ -1,0 +1,220 @@
+//! The table of all locks. Each call that changes it says what its two lists are afterwards.
+
+ghost use Rattle.std.specs.Prelude.{◌≡◌, ◌∷◌, ◌++◌, [], false, true, not, length, map, OnOk, OnErr, IfOk};
+ghost use Rattle.lock_rules.specs.Rules.{FitsItsRule};
+ghost use Rattle.lock_table.specs.Keys.{IsShort};
+ghost use Rattle.lock_table.specs.Queue.{AreSound, blockers, edge_to, edges_of, is_blocked, is_covered, is_waiting, serve, without, without_lock};
+ghost use Rattle.lock_table.specs.Records.{after_removal, after_end, copies};
+ghost use Rattle.lock_table.specs.Room.{HasRooms, KeepsRooms};
+ghost use Rattle.lock_table.specs.View.{with_lists, IsAskedFor, IsAnswered};
+
+use crate::kept::KeptLock;
+use crate::lists::{
+    copies, edges_of, edges_to, give_back, is_blocked, is_waiting, keep_others, leave_gaps,
+    move_locks, serve,
+};
+use crate::room::{CycleRoom, widen};
+use inno_types::{Edges, Lock, Spot};
+use std::alloc::Global;
+use std::marker::Model;
+use std::mem;
+use store_api::{Asked, NoMemory};
+
+/// The granted locks and the requests that wait. Contracts see both as lists of locks.
+#[derive(Drop)]
+pub struct LockTable {
+    alloc: Global,
+    granted: Vec<KeptLock>,
+    waiting: Vec<KeptLock>,
+    rooms: Vec<CycleRoom>,
+}
+
+impl Model for LockTable {
+    ghost use Rattle.std.specs.Prelude.{◌+◌, ◌≤◌, length, vec_capacity};
+    ghost use Rattle.lock_table.specs.View.{Table};
+    ghost use Rattle.lock_table.specs.Queue.{AreSound};
+
+    ghost Value = { Table };
+
+    ghost view = { λ t. record { granted = t.granted.items; waiting = t.waiting.items; rooms = t.rooms.items } };
+
+    ghost invariant = { λ t. AreSound t.granted.items t.waiting.items × (length t.granted.items + length t.waiting.items ≤ vec_capacity t.granted) };
+}
+
+impl LockTable {
+    /// No lock is granted and nobody waits.
+    pub fn new(alloc: Global) -> Self
+        ensures { result ≡ record { granted = []; waiting = []; rooms = [] } }
+    {
+        LockTable {
+            alloc,
+            granted: Vec::new(alloc),
+            waiting: Vec::new(alloc),
+            rooms: Vec::new(alloc),
+        }
+    }
+
+    /// Asks for a lock. Where it waits, the answer has all that it waits for. Want of memory changes nothing.
+    pub fn request(&mut self, lock: Lock) -> Asked
+        requires fits { FitsItsRule lock }
+        requires rule { IsAskedFor lock.reason.rule }
+        requires short { IsShort lock.spot.key }
+        requires single { is_waiting lock.txn self.old.waiting ≡ false }
+        ensures { IsAnswered self.old self.new lock result }
+    {
+        if self.holds(&lock) {
+            return Asked::Granted;
+        }
+        let asked = KeptLock::new(&lock);
+        if is_blocked(&self.granted, &self.waiting, &asked) {
+            match self.queue(asked) {
+                Ok(blockers) => Asked::Waits { blockers },
+                Err(NoMemory) => Asked::NoMemory,
+            }
+        } else {
+            match self.grant(asked) {
+                Ok(()) => Asked::Granted,
+                Err(NoMemory) => Asked::NoMemory,
+            }
+        }
+    }
+
+    /// Whether no request of the transaction waits.
+    pub fn granted(&self, txn: u64) -> bool
+        ensures { result ≡ not (is_waiting txn self.now.waiting) }
+    {
+        !is_waiting(&self.waiting, txn)
+    }
+
+    /// Whether one granted lock of the transaction covers this one. An insert intention is never covered.
+    pub fn holds(&self, lock: &Lock) -> bool
+        ensures { result ≡ is_covered self.now.granted lock.now }
+    {
+        self.granted.iter().any(|held| held.covers(lock))
+    }
+
+    /// Takes the transaction's request back, and grants requests in order.
+    pub fn withdraw(&mut self, txn: u64)
+        ensures { self.new ≡ with_lists self.old (serve self.old.granted [] (without txn self.old.waiting)) }
+    {
+        keep_others(&mut self.waiting, txn);
+        serve(&mut self.granted, &mut self.waiting);
+    }
+
+    /// The transaction ends: its locks and its request go, and requests are granted in order.
+    pub fn release_all(&mut self, txn: u64)
+        ensures { self.new ≡ with_lists self.old (after_end txn self.old.granted self.old.waiting) }
+    {
+        keep_others(&mut self.granted, txn);
+        keep_others(&mut self.waiting, txn);
+        serve(&mut self.granted, &mut self.waiting);
+    }
+
+    /// Gives one lock back, and grants requests in order.
+    pub fn release_one(&mut self, lock: &Lock)
+        ensures { self.new ≡ with_lists self.old (serve (without_lock lock.now self.old.granted) [] self.old.waiting) }
+    {
+        give_back(&mut self.granted, lock);
+        serve(&mut self.granted, &mut self.waiting);
+    }
+
+    /// The transaction inserts a record before the next one, or before the supremum: its own locks of the gap there are
+    /// copied to the record. Want of memory changes nothing.
+    pub fn on_insert(&mut self, txn: u64, new: &Spot, next: &Spot) -> Result<(), NoMemory>
+        requires { IsShort new.now.key }
+        ensures ok { OnOk result (self.new ≡ record self.old { granted = self.old.granted ++ copies txn new.now next.now self.old.granted }) }
+        ensures err { OnErr result (self.new ≡ self.old) }
+    {
+        let mut own = copies(self.alloc, &self.granted, txn, new, next)?;
+        self.granted.reserve(self.waiting.len() + own.len())?;
+        self.granted.append(&mut own)?;
+        Ok(())
+    }
+
+    /// A record goes by the rollback of a transaction, or by purge: locks on it become gap locks on the next record or
+    /// the supremum, and requests on it end their wait.
+    pub fn on_remove(&mut self, by: Option<u64>, gone: &Spot, next: &Spot)
+        requires { IsShort next.now.key }
+        ensures { self.new ≡ with_lists self.old (after_removal by gone.now next.now self.old.granted self.old.waiting) }
+    {
+        move_locks(&mut self.granted, by, gone, next);
+        leave_gaps(&mut self.granted, &mut self.waiting, by, gone, next);
+        serve(&mut self.granted, &mut self.waiting);
+    }
+
+    /// All for which the transaction's request waits: granted locks in order of grant, then earlier requests in order.
+    pub fn edges(&self, txn: u64, out: &mut Edges) -> Result<(), NoMemory>
+        ensures ok { OnOk result (out.new ≡ edges_of txn self.now.granted self.now.waiting) }
+        ensures err { OnErr result (out.new ≡ out.old) }
+    {
+        *out = edges_of(self.alloc, &self.granted, &self.waiting, txn)?;
+        Ok(())
+    }
+
+    /// The granted locks, in order of grant.
+    pub fn granted_locks(&self) -> &[KeptLock]
+        ensures { result.now ≡ self.now.granted }
+    {
+        self.granted.as_slice()
+    }
+
+    /// The requests that wait, in order.
+    pub fn requests(&self) -> &[KeptLock]
+        ensures { result.now ≡ self.now.waiting }
+    {
+        self.waiting.as_slice()
+    }
+
+    /// Takes the memory for cycles out of the table, while the table is read.
+    pub fn take_rooms(&mut self) -> Vec<CycleRoom>
+        ensures rooms { result.items ≡ self.old.rooms }
+        ensures rest { self.new ≡ record self.old { rooms = [] } }
+    {
+        mem::replace(&mut self.rooms, Vec::new(self.alloc))
+    }
+
+    /// Puts the memory for cycles back.
+    pub fn put_rooms(&mut self, rooms: Vec<CycleRoom>)
+        ensures { self.new ≡ record self.old { rooms = rooms.items } }
+    {
+        self.rooms = rooms;
+    }
+
+    /// The facts of every lock table.
+    pub fn facts(&self)
+        ensures { AreSound self.now.granted self.now.waiting }
+    {
+        let _ = &self.granted;
+    }
+
+    /// Puts a request at the end of the queue, and gives all for which it waits.
+    fn queue(&mut self, asked: KeptLock) -> Result<Edges, NoMemory>
+        requires fits { FitsItsRule asked }
+        requires single { is_waiting asked.txn self.old.waiting ≡ false }
+        requires blocked { is_blocked self.old.granted self.old.waiting asked ≡ true }
+        ensures edges { IfOk result (λ edges. edges ≡ map (edge_to asked.txn) (blockers self.old.granted self.old.waiting asked)) }
+        ensures granted { self.new.granted ≡ self.old.granted }
+        ensures ok { OnOk result (self.new.waiting ≡ self.old.waiting ++ asked ∷ []) }
+        ensures rooms { OnOk result (HasRooms (length self.new.waiting) self.new.rooms) }
+        ensures err { OnErr result (self.new.waiting ≡ self.old.waiting) }
+        ensures stays { KeepsRooms self.old.rooms self.new.rooms }
+    {
+        let edges = edges_to(self.alloc, &self.granted, &self.waiting, &asked)?;
+        let waiting = self.waiting.len() + 1;
+        self.granted.reserve(waiting)?;
+        widen(&mut self.rooms, self.alloc, waiting)?;
+        self.waiting.push(asked)?;
+        Ok(edges)
+    }
+
+    fn grant(&mut self, asked: KeptLock) -> Result<(), NoMemory>
+        requires fits { FitsItsRule asked }
+        requires free { is_blocked self.old.granted self.old.waiting asked ≡ false }
+        ensures ok { OnOk result (self.new ≡ record self.old { granted = self.old.granted ++ asked ∷ [] }) }
+        ensures err { OnErr result (self.new ≡ self.old) }
+    {
+        self.granted.reserve(self.waiting.len() + 1)?;
+        self.granted.push(asked)?;
+        Ok(())
+    }
+}
