@@ -1,0 +1,4 @@
+pub mod Admitted
+pub mod Exact
+pub mod Extremes
+pub mod Order

@@ -1,0 +1,6 @@
+pub mod Allowed
+pub mod Bytes
+pub mod Gathered
+pub mod Sound
+pub mod Waiting
+pub mod Within
