@@ -1,6 +1,6 @@
 //! Texts of the grammar and beside it. What the trees are is proved; that memory suffices is seen here.
 
-use crate::{ParseBad, parse};
+use sql_text::{ParseBad, parse};
 use std::alloc::Global;
 use std::test::Fail;
 
