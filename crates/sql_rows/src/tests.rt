@@ -1,8 +1,8 @@
 //! Statements one after another on one database, each a transaction of its own, and the texts of their answers.
 
-use inno_db::Db;
+use inno_db::{Change, Changes, Db};
 use inno_model::{Event, History};
-use inno_types::{Bytes, Item, Listed, Reply, SqlError};
+use inno_types::{Bytes, Item, Listed, Reply, SqlError, Stmt};
 use plain_sql::plain;
 use script::transcript;
 use sql_text::{ParseBad, parse};
@@ -10,40 +10,63 @@ use std::alloc::Global;
 use std::test::Fail;
 use store_api::NoMemory;
 
-/// The answer to a statement, whose changes stand unless it is refused.
-fn answer(alloc: Global, db: &mut Db, text: &str) -> Result<Reply, NoMemory> {
-    let stmt = match parse(alloc, text.as_bytes()) {
-        Ok(stmt) => stmt,
-        Err(ParseBad::Syntax { at }) => return Ok(Reply::Fail(SqlError::Syntax { at })),
-        Err(ParseBad::NoMemory) => return Err(NoMemory),
-    };
-    let (reply, changes) = plain(alloc, db, &stmt)?;
-    if let Reply::Fail(_) = &reply {
-        return Ok(reply);
+fn make(alloc: Global, db: &mut Db, change: Change) -> Result<(), NoMemory> {
+    if !db.can_apply(&change) {
+        return Err(NoMemory);
     }
+    db.apply(alloc, change)?;
+    Ok(())
+}
+
+fn make_all(alloc: Global, db: &mut Db, changes: Changes) -> Result<(), NoMemory> {
     for change in changes.into_vec() {
-        if !db.can_apply(&change) {
-            return Err(NoMemory);
-        }
-        db.apply(alloc, change)?;
+        make(alloc, db, change)?;
+    }
+    Ok(())
+}
+
+/// The answer to a statement, whose changes stand unless it is refused.
+fn run(alloc: Global, db: &mut Db, stmt: &Stmt) -> Result<Reply, NoMemory> {
+    let (reply, changes) = plain(alloc, db, stmt)?;
+    if !matches!(&reply, Reply::Fail(_)) {
+        make_all(alloc, db, changes)?;
     }
     Ok(reply)
 }
 
-/// The text of the answers to statements, as a script's session prints them.
-fn answers(alloc: Global, statements: &[&str]) -> Result<Bytes, NoMemory> {
+fn answer(alloc: Global, db: &mut Db, text: &str) -> Result<Reply, NoMemory> {
+    match parse(alloc, text.as_bytes()) {
+        Ok(stmt) => run(alloc, db, &stmt),
+        Err(ParseBad::Syntax { at }) => Ok(Reply::Fail(SqlError::Syntax { at })),
+        Err(ParseBad::NoMemory) => Err(NoMemory),
+    }
+}
+
+/// An item of the session 0 and its answer.
+fn add(alloc: Global, history: &mut History, j: u32, reply: Reply) -> Result<(), NoMemory> {
+    history.reserve(2)?;
+    let item = Item::Sql(Listed::new(alloc));
+    history.add(Event::Started { s: 0, j, item });
+    history.add(Event::Ended { s: 0, j, reply });
+    Ok(())
+}
+
+fn add_answers(alloc: Global, history: &mut History, statements: &[&str]) -> Result<(), NoMemory> {
     let mut db = Db::new(Listed::new(alloc), Listed::new(alloc));
-    let mut history = History::new(alloc);
-    history.add_name(Listed::from_vec(Vec::from_slice(alloc, b"a")?))?;
     let mut j = 0u32;
     for statement in statements {
         j = j.saturating_add(1);
-        let item = Item::Sql(Listed::from_vec(Vec::from_slice(alloc, statement.as_bytes())?));
         let reply = answer(alloc, &mut db, statement)?;
-        history.reserve(2)?;
-        history.add(Event::Started { s: 0, j, item });
-        history.add(Event::Ended { s: 0, j, reply });
+        add(alloc, history, j, reply)?;
     }
+    Ok(())
+}
+
+/// The text of the answers to statements, as a script's session prints them.
+fn answers(alloc: Global, statements: &[&str]) -> Result<Bytes, NoMemory> {
+    let mut history = History::new(alloc);
+    history.add_name(Listed::from_vec(Vec::from_slice(alloc, b"a")?))?;
+    add_answers(alloc, &mut history, statements)?;
     transcript(alloc, &history)
 }
 
