@@ -14,7 +14,7 @@ use Rattle.inno_model.specs.declared.command.Command.TheVariants as commands
 use Rattle.inno_model.specs.declared.event.Event.{Event}
 use Rattle.inno_model.specs.declared.event.Event.TheVariants as events
 use Rattle.inno_model.specs.Outcome.{insert_outcome, select_outcome}
-use Rattle.inno_model.specs.Past.{is_of, before_item, of_item, did, begins_txn, takes_view, closes, at_point, level, own, view_of, commits, committed, opening, changed, snapshot}
+use Rattle.inno_model.specs.Past.{is_of, before_item, of_item, did, begins_txn, takes_view, commits_txn, closes, at_point, level, own, view_of, commits, committed, opening, changed, snapshot}
 use Rattle.inno_model.specs.Loose.{starts, MayAnswer}
 use Rattle.inno_model.specs.Legal.{awaits_ack, Asks, IsClosed, Settles, Reads, SeesSnapshot, Keeps, GivesUp, EndsInsert, base}
 use Rattle.inno_model.proofs.Untouched.{IsUntouched, untouched}
@@ -28,7 +28,7 @@ use Rattle.statement.specs.declared.BeginStage.{BeginStage}
 use Rattle.statement.specs.declared.BeginStage.TheVariants as stages
 use Rattle.statement.specs.declared.CommitStage.{CommitStage}
 use Rattle.statement.specs.declared.CommitStage.TheVariants as commit_stages
-use Rattle.statement.specs.Running.{AreOfView, HasRead, InTxn, IsWorking, IsEarly, IsSteady, StaysSettled, EndsOnTable, IsClosing, IsAnswered, MayGiveUp, HasBegun, AtBegin, AtCommit, IsRunning, changes_rows}
+use Rattle.statement.specs.Running.{AreOfView, HasRead, InTxn, IsWorking, IsEarly, IsSteady, StaysSettled, EndsOnTable, IsClosing, IsAnswered, MayGiveUp, IsUncommitted, HasBegun, AtBegin, AtCommit, IsRunning, changes_rows}
 use Rattle.statement.proofs.Stepping.{settles_on, still_in}
 
 -- an entry of one session is no other's, nor an opening
@@ -238,6 +238,11 @@ module _ (e : Event) (h : List Event) (t s : ℕ) (mine : is_of t e ≡ true) (d
   give_up_on false may = elim may [ inl stays ↦ inl (same.own_is ∙ (stays ∙ ap (own s) (sym same.before))) | inr closed ↦ inr (same.level_is ∙ closed) ]
   give_up_on true may = (same.own_is ∙ may.0, did_same begins_txn ∙ may.1)
 
+  uncommitted_on : IsUncommitted s h → IsUncommitted s (e ∷ h)
+  uncommitted_on (inl goes-on) = inl (did_same closes ∙ goes-on)
+  uncommitted_on (inr (inl none)) = inr (inl (did_same commits_txn ∙ none))
+  uncommitted_on (inr (inr asks)) = inr (inr (asks.0, (asks.1.0, same.item ∙ asks.1.1, asks.1.2)))
+
   -- a steady session stays so, since no other may change rows
   module _ (names new-names : List (List ℕ)) (writer new-writer : Option ℕ) (changes : changes_rows e ≡ true → new-writer ≡ Some t) (keeps : writer ≡ Some s → new-writer ≡ Some s) where
     abbrev pub old : State
@@ -285,4 +290,4 @@ module _ (e : Event) (h : List Event) (t s : ℕ) (mine : is_of t e ≡ true) (d
     runs_on (statements.Answered auto kept given) r = answered_on auto kept given r
     runs_on (statements.Unacked kept given) r = (closing_on kept given r.0, acks_on ∙ r.1, same.level_is ∙ r.2)
     runs_on (statements.Ending kept given) r = (closing_on kept given r.0, acks_on ∙ r.1)
-    runs_on (statements.Failed auto) r = record { text = r.text; item = same.item ∙ r.item; acked = acks_on ∙ r.acked; may = give_up_on auto r.may }
+    runs_on (statements.Failed auto) r = record { text = r.text; item = same.item ∙ r.item; acked = acks_on ∙ r.acked; may = give_up_on auto r.may; uncommitted = uncommitted_on r.uncommitted }

@@ -120,10 +120,12 @@ pub record IsRefused (s : ℕ) (text : List ℕ) (reply : Reply) (past : List Ev
   pub answer : reply ≡ Fail (Syntax 0)
   pub nothing : of_item s past ≡ []
 
--- Want of memory is free. What the item changed is undone.
+-- Want of memory is free. What the item changed is undone, and it has committed nothing, but for a BEGIN that finds no
+-- memory behind the commit that it brings.
 pub record WantsMemory (s : ℕ) (reply : Reply) (past : List Event) : Type 0 where
   pub answer : reply ≡ NoMemory
   pub own_stay : (own s past ≡ own s (before_item s past)) ⊎ IsClosed s past
+  pub uncommitted : (did commits_txn s past ≡ false) ⊎ ((snapshot : Bool) × Asks s (commands.Begin snapshot) past)
 
 -- ---- what may come next
 

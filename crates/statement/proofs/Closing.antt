@@ -17,11 +17,11 @@ use Rattle.inno_model.specs.declared.command.Command.TheVariants as commands
 use Rattle.inno_model.specs.declared.event.Event.{Event}
 use Rattle.inno_model.specs.declared.event.Event.TheVariants as events
 use Rattle.inno_model.specs.Outcome.{Outcome, insert_outcome, pair_row}
-use Rattle.inno_model.specs.Past.{started, before_item, of_item, did, takes_view, closes, level, own, opening}
-use Rattle.inno_model.specs.Legal.{IsOpen, IsClosed, Settles, Keeps, GivesUp, EndsInsert, MayEnd, Reads, Answers, awaits_ack, base}
+use Rattle.inno_model.specs.Past.{started, before_item, of_item, did, takes_view, commits_txn, closes, level, own, opening}
+use Rattle.inno_model.specs.Legal.{Asks, IsOpen, IsClosed, Settles, Keeps, GivesUp, EndsInsert, MayEnd, Reads, Answers, awaits_ack, base}
 use Rattle.inno_model.proofs.Points.{point_now, point_closing, point_stays}
 use Rattle.store_lists.specs.State.{State, Adds, Closes}
-use Rattle.statement.specs.Running.{Moves, InTxn, EndsOnTable, IsClosing, IsAnswered, is_refusal}
+use Rattle.statement.specs.Running.{Moves, InTxn, EndsOnTable, IsClosing, IsAnswered, IsGivingUp, MayGiveUp, IsUncommitted, is_refusal}
 use Rattle.statement.proofs.Stepping.{acked_of_on, commits_by, rolls_by, not_closed, settles_on, moves_adds, moves_closes}
 
 -- an INSERT is refused and changes nothing, or counts its one row
@@ -237,3 +237,38 @@ acked old new s moment kept given closing adds =
       ),
       ap (started s) past-is,
     )
+
+-- ---- a statement that is given up
+
+commits_none : (s : ℕ) (h : List Event) → IsUncommitted s h → (did commits_txn s h ≡ false) ⊎ ((snapshot : Bool) × Asks s (commands.Begin snapshot) h)
+commits_none s h (inl goes-on) = inl (commits_by (of_item s h) goes-on)
+commits_none s h (inr uncommitted) = uncommitted
+
+own_stays : (auto : Bool) (s : ℕ) (h : List Event) → MayGiveUp auto s h → (auto ≡ true → level s h ≡ None) → (own s h ≡ own s (before_item s h)) ⊎ IsClosed s h
+own_stays false s h may closed = may
+own_stays true s h may closed = inr (closed refl)
+
+-- its item may end with want of memory, once the transaction that it opened is rolled back
+pub ends_failed : (auto : Bool) (s : ℕ) (h : List Event) → IsGivingUp h s auto → (auto ≡ true → level s h ≡ None) → MayEnd s (started s h) NoMemory h
+ends_failed auto s h g closed =
+    record { number = refl; text = g.text; item = g.item; acked = g.acked; answer = inr (inl (record { answer = refl; own_stay = own_stays auto s h g.may closed; uncommitted = commits_none s h g.uncommitted })) }
+
+-- the rollback of that transaction leaves it to end
+pub rolls_failed : (old new : State) (s : ℕ) (auto : Bool) → auto ≡ true → IsGivingUp old.past s auto → Closes (events.RolledBack s) s old new → Moves s old new × IsGivingUp new.past s auto × (started s new.past ≡ started s old.past)
+rolls_failed old new s auto is g closes-it =
+    let h = old.past in
+    let may = subst (λ a. MayGiveUp a s h) is g.may in
+    subst (λ past. Moves s old new × IsGivingUp past s auto × (started s past ≡ started s h)) (sym (ap (λ (x : State). x.past) closes-it)) (
+      moves_closes s (events.RolledBack s) old new (grind (arith, nat_tests)) refl closes-it,
+      record {
+        text = g.text;
+        item = g.item;
+        acked = grind (arith, nat_tests);
+        may = subst (λ a. MayGiveUp a s (events.RolledBack s ∷ h)) (sym is) ((let now : own s (events.RolledBack s ∷ h) ≡ [] = grind (arith, nat_tests) in now), grind (arith, nat_tests, may.1));
+        uncommitted = inr (uncommitted_back (commits_none s h g.uncommitted));
+      },
+      refl,
+    ) where
+      uncommitted_back : (did commits_txn s old.past ≡ false) ⊎ ((snapshot : Bool) × Asks s (commands.Begin snapshot) old.past) → (did commits_txn s (events.RolledBack s ∷ old.past) ≡ false) ⊎ ((snapshot : Bool) × Asks s (commands.Begin snapshot) (events.RolledBack s ∷ old.past))
+      uncommitted_back (inl none) = inl (grind (arith, nat_tests, none))
+      uncommitted_back (inr asks) = inr asks

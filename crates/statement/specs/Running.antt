@@ -125,11 +125,16 @@ abbrev pub MayGiveUp : Bool → ℕ → List Event → Type 0
 MayGiveUp false s h = (own s h ≡ own s (before_item s h)) ⊎ IsClosed s h
 MayGiveUp true s h = (own s h ≡ []) × (did begins_txn s h ≡ true)
 
+-- nothing is committed, and it has come to no end of its changes or to that of being given up; or it is BEGIN
+abbrev pub IsUncommitted : ℕ → List Event → Type 0
+IsUncommitted s h = (did closes s h ≡ false) ⊎ ((did commits_txn s h ≡ false) ⊎ ((snapshot : Bool) × Asks s (commands.Begin snapshot) h))
+
 pub record IsGivingUp (h : List Event) (s : ℕ) (auto : Bool) : Type 0 where
   pub text : List ℕ
   pub item : under_way s h ≡ Some (Sql text)
   pub acked : awaits_ack (of_item s h) ≡ false
   pub may : MayGiveUp auto s h
+  pub uncommitted : IsUncommitted s h
 
 -- a text that asks for nothing
 pub record AsksNothing (h : List Event) (s : ℕ) : Type 0 where
