@@ -1,0 +1,12 @@
+mod Batched
+mod Bytes
+mod Calls
+mod Copying
+mod InPlace
+mod Looked
+mod Newest
+mod Repaired
+mod Repairs
+mod Staging
+mod Wholes
+mod Zeros

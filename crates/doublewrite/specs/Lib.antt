@@ -1,0 +1,4 @@
+pub mod Batches
+pub mod Kept
+pub mod Reading
+pub mod Repairing

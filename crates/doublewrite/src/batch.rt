@@ -1,0 +1,113 @@
+//! Up to 64 sealed pages that are written together.
+//! The buffer pool fills a batch; the doublewrite writes it.
+
+ghost use Rattle.std.specs.Prelude.{◌≡◌, ◌≢◌, [], ◌+◌, ◌*◌, ◌<◌, ◌≤◌, ◌++◌, ℕ, length, vec_len, vec_capacity, IfOk, MatchBool};
+ghost use Rattle.store_api.specs.Areas.{PassesSum};
+ghost use Rattle.page_format.specs.Words.{number_of};
+ghost use Rattle.doublewrite.specs.Batches.{IsBatch, page_at, number_at};
+
+use crate::numbers::number_in;
+use page_format::Page;
+use std::alloc::Global;
+use std::marker::Model;
+use store_api::NoMemory;
+
+pub const PAGE: usize = 4096;
+
+/// The most pages that a batch has, and that Double has room for.
+pub const SLOTS: usize = 64;
+
+/// Up to 64 sealed pages of distinct numbers.
+#[derive(Drop)]
+pub struct Batch {
+    count: usize,
+    bytes: Vec<u8>,
+}
+
+impl Model for Batch {
+    ghost use Rattle.std.specs.Prelude.{vec_capacity};
+    ghost use Rattle.doublewrite.specs.Batches.{BatchView, HasRoom};
+
+    ghost Value = { BatchView };
+
+    ghost invariant = { λ b. HasRoom (record { count = b.count; bytes = b.bytes.items }) (vec_capacity b.bytes) };
+
+    ghost view = { λ b. record { count = b.count; bytes = b.bytes.items } };
+}
+
+fn put_within(bytes: &[u8], out: &mut Vec<u8>)
+    requires { vec_len out.old + length bytes.now ≤ vec_capacity out.old }
+    ensures items { out.new.items ≡ out.old.items ++ bytes.now }
+    ensures len { vec_len out.new ≡ vec_len out.old + length bytes.now }
+    ensures grows { vec_capacity out.old ≤ vec_capacity out.new }
+{
+    let _ = out.extend_from_slice(bytes);
+}
+
+impl Batch {
+    /// An empty batch, with room for all its pages.
+    pub fn new(alloc: Global) -> Result<Batch, NoMemory>
+        ensures { IfOk result (λ batch. batch ≡ record { count = 0; bytes = [] }) }
+    {
+        Ok(Batch {
+            count: 0,
+            bytes: Vec::with_capacity(alloc, SLOTS * PAGE)?,
+        })
+    }
+
+    pub fn len(&self) -> usize
+        ensures value { result ≡ self.now.count }
+        ensures few { result ≤ 64 }
+    {
+        self.count
+    }
+
+    /// The bytes of a page.
+    pub fn page(&self, slot: usize) -> &[u8]
+        requires { slot < self.now.count }
+        ensures is_batch { IsBatch self.now }
+        ensures value { result.now ≡ page_at self.now slot }
+        ensures size { length result.now ≡ 4096 }
+    {
+        &self.bytes[slot * PAGE..(slot + 1) * PAGE]
+    }
+
+    /// Whether it has a page of that number.
+    pub fn contains(&self, number: u32) -> bool
+        ensures { MatchBool result ((k : ℕ) × (k < self.now.count) × (number_at self.now k ≡ number)) ((k : ℕ) → k < self.now.count → number_at self.now k ≢ number) }
+    {
+        for slot in 0..self.len() {
+            if number_in(self.page(slot)) == number {
+                return true;
+            }
+        }
+        false
+    }
+
+    /// All pages, one behind the other.
+    pub fn as_bytes(&self) -> &[u8]
+        ensures is_batch { IsBatch self.now }
+        ensures value { result.now ≡ self.now.bytes }
+    {
+        &self.bytes
+    }
+
+    /// Takes a page, which is sealed and isn't in the batch yet. It takes no memory.
+    pub fn add(&mut self, page: &Page)
+        requires room { self.old.count < 64 }
+        requires sealed { PassesSum page.now }
+        requires distinct { (k : ℕ) → k < self.old.count → number_at self.old k ≢ number_of page.now }
+        ensures { self.new ≡ record { count = self.old.count + 1; bytes = self.old.bytes ++ page.now } }
+    {
+        put_within(page.as_bytes(), &mut self.bytes);
+        self.count += 1;
+    }
+
+    /// Forgets all pages, and keeps the room.
+    pub fn clear(&mut self)
+        ensures { self.new ≡ record { count = 0; bytes = [] } }
+    {
+        self.bytes.clear();
+        self.count = 0;
+    }
+}

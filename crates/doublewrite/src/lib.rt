@@ -1,0 +1,16 @@
+//! The doublewrite: a page is written in place only after a copy of it is synced, and repair puts torn pages right.
+//! Only this crate writes to the areas Double and Pages once files are made.
+#![tactic(auto)]
+
+mod batch;
+mod copies;
+mod numbers;
+mod placing;
+mod restoring;
+
+pub use batch::Batch;
+pub use placing::{Staged, stage};
+pub use restoring::{RepairBad, repair};
+
+#[cfg(test)]
+mod tests;
