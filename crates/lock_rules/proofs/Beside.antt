@@ -11,19 +11,8 @@ use Rattle.inno_types.specs.declared.lock.Spot.{Spot}
 use Rattle.inno_types.specs.declared.lock.Lock.{Lock}
 use Rattle.lock_rules.specs.Kinds.{is_intent, is_shared}
 use Rattle.lock_rules.specs.Spots.{same_key, same_spot}
+use Rattle.lock_rules.proofs.Booleans.{first, second, or_true, split}
 use Rattle.lock_rules.specs.Conflicts.{kind_at, kind_of, kinds_conflict, conflicts}
-
-pub first : (a b : Bool) → (a && b) ≡ true → a ≡ true
-first true b h = refl
-first false b h = h
-
-pub second : (a b : Bool) → (a && b) ≡ true → b ≡ true
-second true b h = h
-second false b h = cc
-
-pub or_true : (a : Bool) → (a || true) ≡ true
-or_true true = refl
-or_true false = refl
 
 pub key_refl : (key : Option (List ℕ)) → same_key key key ≡ true
 key_refl None = refl
@@ -71,10 +60,6 @@ kinds_back NextKey m Gap n h = refl
 kinds_back NextKey m NextKey n h = both_shared (is_shared m) (is_shared n) h
 kinds_back NextKey m Intent n h = refl
 kinds_back Intent m other n h = refl
-
-split : (b : Bool) {A : Type 0} → (b ≡ true → A) → (b ≡ false → A) → A
-split true f g = f refl
-split false f g = g refl
 
 pub conflicts-back : (held asked : Lock) → conflicts held asked ≡ false → (is_intent held.kind || not (conflicts asked held)) ≡ true
 conflicts-back held asked free =

@@ -1,7 +1,7 @@
 //! The table of conflicts, and the numbers of the rules, as the documentation has them.
 
-use crate::{Rule, conflicts};
-use inno_types::{Bytes, Level, Lock, LockKind, Mode, Reason, Spot};
+use crate::{Case, Place, Rule, conflicts, fits, rule_for};
+use inno_types::{Bound, Bytes, Level, Lock, LockKind, Mode, Range, Reason, Spot};
 use std::alloc::{AllocError, Global};
 use std::test::Fail;
 
@@ -81,4 +81,51 @@ fn rules_have_the_numbers_of_the_documentation(rt: HostRuntime) {
     assert_eq!(rt; Rule::ToInsert.number(), 7);
     assert_eq!(rt; Rule::from_number(13), Some(Rule::CopiedOnInsert));
     assert_eq!(rt; Rule::from_number(14), None);
+}
+
+/// A range scan of the first secondary index, for the values from 5 on and below 7, at the entry of these two bytes.
+fn scan(alloc: Global, value: u8, primary: u8, place: Place) -> Result<Case, AllocError> {
+    let low = Bytes::from_vec(vec![in alloc; 5]?);
+    let high = Bytes::from_vec(vec![in alloc; 7]?);
+    let key = Bytes::from_vec(vec![in alloc; value, primary]?);
+    Ok(Case {
+        rule: Rule::RangeRecord.number(),
+        level: Level::Serializable,
+        item: 1,
+        index: 1,
+        range: Range {
+            empty: false,
+            low: Bound::With(low),
+            high: Bound::Without(high),
+        },
+        mode: Mode::S,
+        spot: Spot {
+            index: 1,
+            key: Some(key),
+        },
+        marked: true,
+        place,
+    })
+}
+
+/// Whether a next-key lock on the entry is one of the scan.
+fn is_locked(alloc: Global, value: u8, primary: u8) -> Result<bool, AllocError> {
+    let lock = Lock {
+        txn: 1,
+        spot: scan(alloc, value, primary, Place::Within)?.spot,
+        kind: LockKind::NextKey,
+        mode: Mode::S,
+        reason: rule_for(scan(alloc, value, primary, Place::Within)?),
+    };
+    Ok(fits(&lock, scan(alloc, value, primary, Place::Within)?))
+}
+
+#[test]
+fn a_bound_meets_as_many_bytes_as_it_has(rt: HostRuntime) -> Result<(), Fail> {
+    let alloc = rt.alloc();
+    assert!(rt; !is_locked(alloc, 4, 9)?);
+    assert!(rt; is_locked(alloc, 5, 0)?);
+    assert!(rt; is_locked(alloc, 6, 9)?);
+    assert!(rt; !is_locked(alloc, 7, 0)?);
+    Ok(())
 }

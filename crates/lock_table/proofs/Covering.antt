@@ -3,7 +3,7 @@ use Rattle.std.proofs.Common.{◌≡◌, ◌≢◌, ℕ, Bool, true, false, cond
 use Rattle.std.proofs.lemmas.Bool.{eq-eqb, eqb-true}
 use Rattle.std.proofs.lemmas.List.Folds.{list_any-append}
 use Rattle.std.proofs.lemmas.Cmp.{nat_list_cmp_total}
-use Rattle.std.specs.Prelude.{◌==◌, ◌&&◌, ◌||◌, not, nat_eq, filter, Option, None, Some, is_some}
+use Rattle.std.specs.Prelude.{◌==◌, ◌&&◌, ◌||◌, not, nat_eq, Option, None, Some, is_some}
 use Rattle.std.specs.List.{list_any, list_all, AllByRecursion}
 use Rattle.std.specs.declared.cmp.Ordering.{Ordering}
 use Rattle.std.specs.declared.cmp.Ordering.TheVariants.{Less, Equal, Greater}
@@ -20,9 +20,11 @@ use Rattle.lock_rules.specs.Spots.{same_key, same_spot}
 use Rattle.lock_rules.specs.Conflicts.{conflicts, kind_at, kind_of, kinds_conflict}
 use Rattle.lock_rules.specs.Rules.{number_of}
 use Rattle.lock_rules.specs.Coverage.{is_below, is_before, is_in_gap, stands_in, without_record, covers_key, covered}
-use Rattle.lock_rules.proofs.Beside.{first, second, key_refl, key_same, spot_refl, spot_same}
+use Rattle.lock_rules.proofs.Booleans.{first, second, both, or_left, or_right, or_cases, or_false-left, or_false-right, implies, implied, true_false, split}
+use Rattle.lock_rules.proofs.Beside.{key_refl, key_same, spot_refl, spot_same}
 use Rattle.lock_table.specs.Queue.{serve, is_blocked}
 use Rattle.lock_table.specs.Records.{becomes_gap, is_undone, moved, left_by, elsewhere, copies, as_gap, after_removal}
+use Rattle.lock_table.proofs.Places.{all_filter}
 use Rattle.lock_table.specs.Coverage.{IsRemoval, IsInsertion, AreUpper, StandOnRecords, MayInsert}
 
 less_of : (o : Ordering) → is_lt o ≡ true → o ≡ Less
@@ -53,42 +55,7 @@ pub before_trans : (a b : List ℕ) (spot : Option (List ℕ)) → is_below a b 
 before_trans a b None h g = refl
 before_trans a b (Some c) h g = below_trans a b c h g
 
-implies : (a b : Bool) → (not a || b) ≡ true → a ≡ true → b ≡ true
-implies true b h is = h
-implies false b h is = cc
-
-implied : (a b : Bool) → (a ≡ true → b ≡ true) → (not a || b) ≡ true
-implied true b f = f refl
-implied false b f = refl
-
-or_cases : (a b : Bool) → (a || b) ≡ true → (a ≡ true) ⊎ (b ≡ true)
-or_cases true b h = inl refl
-or_cases false b h = inr h
-
-or_left : (a b : Bool) → a ≡ true → (a || b) ≡ true
-or_left true b h = refl
-or_left false b h = cc
-
-or_right : (a b : Bool) → b ≡ true → (a || b) ≡ true
-or_right true b h = refl
-or_right false b h = h
-
-both : (a b : Bool) → a ≡ true → b ≡ true → (a && b) ≡ true
-both true b h g = g
-both false b h g = cc
-
-split : (b : Bool) {A : Type 0} → (b ≡ true → A) → (b ≡ false → A) → A
-split true f g = f refl
-split false f g = g refl
-
 module _ {A : Type 0} (P : A → Type 0) where
-  all_kept : (test : A → Bool) (xs : List A) → AllByRecursion P xs → AllByRecursion P (filter test xs)
-  all_kept test [] all = tt
-  all_kept test (x ∷ xs) all = go (test x) (all_kept test xs all.1) where
-    go : (b : Bool) → AllByRecursion P (filter test xs) → AllByRecursion P (cond b (x ∷ filter test xs) (filter test xs))
-    go true rest = (all.0, rest)
-    go false rest = rest
-
   all_joined : (Q R : A → Type 0) → ((x : A) → P x → Q x → R x) → (xs : List A) → AllByRecursion P xs → AllByRecursion Q xs → AllByRecursion R xs
   all_joined Q R f [] all all' = tt
   all_joined Q R f (x ∷ xs) all all' = (f x all.0 all'.0, all_joined Q R f xs all.1 all'.1)
@@ -169,11 +136,11 @@ module _ (records : List (List ℕ)) (new key : List ℕ) where
 gap_grows : (records : List (List ℕ)) (gone key : List ℕ) (next : Option (List ℕ)) → IsInGap (without_record gone records) next gone → IsInGap records (Some gone) key → IsInGap (without_record gone records) next key
 gap_grows records gone key next follows gap = record {
   before = before_trans key gone next gap.before follows.before;
-  behind = all_joined _ _ _ (λ r f g before. g (f before)) (without_record gone records) follows.behind (all_kept _ (λ r. not (pointwise nat_eq r gone)) records gap.behind);
+  behind = all_joined _ _ _ (λ r f g before. g (f before)) (without_record gone records) follows.behind (all_filter _ (λ r. not (pointwise nat_eq r gone)) records gap.behind);
 }
 
 gap_stays : (records : List (List ℕ)) (gone key : List ℕ) (spot : Option (List ℕ)) → IsInGap records spot key → IsInGap (without_record gone records) spot key
-gap_stays records gone key spot gap = record { before = gap.before; behind = all_kept _ (λ r. not (pointwise nat_eq r gone)) records gap.behind }
+gap_stays records gone key spot gap = record { before = gap.before; behind = all_filter _ (λ r. not (pointwise nat_eq r gone)) records gap.behind }
 
 -- a lock of the transaction in the index covers the key
 record Covers (txn index : ℕ) (records : List (List ℕ)) (key : List ℕ) (w : Lock) : Type 0 where
@@ -219,18 +186,6 @@ no_intent b Rec h = refl
 no_intent b Gap h = refl
 no_intent b NextKey h = refl
 no_intent b Intent h = elim h [ inl gap ↦ cc | inr own ↦ cc ]
-
-or_false-left : (a b : Bool) → (a || b) ≡ false → a ≡ false
-or_false-left true b h = cc
-or_false-left false b h = refl
-
-or_false-right : (a b : Bool) → (a || b) ≡ false → b ≡ false
-or_false-right true b h = cc
-or_false-right false b h = h
-
-true_false : (a : Bool) → a ≡ true → a ≡ false → ⊥
-true_false true h g = cc
-true_false false h g = cc
 
 some_same : (a b : List ℕ) → Some a ≡ Some b → a ≡ b
 some_same a b h = cc

@@ -1,6 +1,6 @@
 mod Places
 mod Walk
 mod Gaps
-mod Rooms
-mod Soundness
-mod Covering
+pub mod Rooms
+pub mod Soundness
+pub mod Covering

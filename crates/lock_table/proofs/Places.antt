@@ -2,6 +2,7 @@
 use Rattle.std.proofs.Common.{◌≡◌, ℕ, ◌+◌, ◌<◌, ◌≤◌, List, [], ◌∷◌, ◌++◌, length, take, set, sym, ap, subst, ◌∙◌, add-one}
 use Rattle.std.proofs.Math.Seq.{take-suc-set, take-append_seam}
 use Rattle.std.proofs.lemmas.List.{take_all}
+use Rattle.std.specs.Prelude.{Bool, true, false, cond, filter}
 use Rattle.std.specs.List.{AllByRecursion}
 
 module _ {A : Type 0} (P : A → Type 0) where
@@ -19,6 +20,13 @@ module _ {A : Type 0} (P : A → Type 0) where
 
   pub all_push : (xs : List A) (x : A) → AllByRecursion P xs → P x → AllByRecursion P (xs ++ x ∷ [])
   all_push xs x all here = all_append xs (x ∷ []) all (here, tt)
+
+  pub all_filter : (test : A → Bool) (xs : List A) → AllByRecursion P xs → AllByRecursion P (filter test xs)
+  all_filter test [] all = tt
+  all_filter test (x ∷ xs) all = go (test x) (all_filter test xs all.1) where
+    go : (b : Bool) → AllByRecursion P (filter test xs) → AllByRecursion P (cond b (x ∷ filter test xs) (filter test xs))
+    go true rest = (all.0, rest)
+    go false rest = rest
 
   -- the next element is replaced
   pub all_front_set : (xs : List A) (i : ℕ) (y : A) → i < length xs → AllByRecursion P (take i xs) → P y → AllByRecursion P (take (i + 1) (set xs i y))

@@ -8,9 +8,9 @@ use Rattle.std.specs.declared.vec.Vec.{Vec}
 use Rattle.std.specs.declared.alloc.Global.{Global}
 use Rattle.lock_table.specs.declared.room.CycleRoom.{CycleRoom}
 use Rattle.lock_table.specs.Empty.{IsEmptyFor, HoldKeys, is_ready}
-use Rattle.lock_table.specs.Room.{HasRoom, KeepsRooms}
-use Rattle.lock_rules.proofs.Beside.{first, second}
-use Rattle.lock_table.proofs.Places.{all_push}
+use Rattle.lock_table.specs.Room.{HasRoom, HasRooms, KeepsRooms}
+use Rattle.lock_rules.proofs.Booleans.{first, second}
+use Rattle.lock_table.proofs.Places.{all_push, all_weaker}
 
 no_items : {A : Type 0} (xs : List A) → length xs ≡ 0 → xs ≡ []
 no_items [] h = refl
@@ -59,9 +59,6 @@ less_room n m room le h = record {
   keys_hold = h.keys_hold;
 }
 
-pub keeps_refl : (rooms : List CycleRoom) → KeepsRooms rooms rooms
-keeps_refl rooms = record { stays = λ n h. h }
-
 pub keeps_trans : (a b c : List CycleRoom) → KeepsRooms a b → KeepsRooms b c → KeepsRooms a c
 keeps_trans a b c p q = record { stays = λ n h. q.stays n (p.stays n h) }
 
@@ -82,3 +79,10 @@ pub keeps_whole : (old rooms back : List CycleRoom) (len : ℕ) → len ≡ leng
 keeps_whole old rooms back len is same stays =
     subst (λ rs. KeepsRooms old rs) (sym (ap (λ m. take m (rooms ++ back)) is ∙ take-append_seam rooms back))
     (record { stays = λ n h. record { enough = omega (arith, h.enough, same); each = stays n h.each } })
+
+-- memory for more requests serves fewer
+pub fewer_wait : (n m : ℕ) (rooms : List CycleRoom) → n ≤ m → HasRooms m rooms → HasRooms n rooms
+fewer_wait n m rooms le h = record {
+  enough = omega (arith, h.enough);
+  each = all_weaker (HasRoom m) (HasRoom n) (λ room has. less_room n m room le has) rooms h.each;
+}

@@ -19,24 +19,14 @@ use Rattle.lock_rules.specs.Kinds.{is_intent, same_mode, same_level}
 use Rattle.lock_rules.specs.Spots.{same_spot}
 use Rattle.lock_rules.specs.Conflicts.{conflicts, kind_of, kind_at, kinds_conflict}
 use Rattle.lock_rules.specs.Rules.{FitsItsRule, number_of}
-use Rattle.lock_rules.proofs.Beside.{conflicts-back, or_true, spot_refl, txn_sym}
+use Rattle.lock_rules.proofs.Booleans.{and_false, or_true, or_false, or_false-left, or_false-right, split}
+use Rattle.lock_rules.proofs.Beside.{conflicts-back, spot_refl, txn_sym}
 use Rattle.lock_table.specs.Queue.{serve, is_blocked, is_waiting, AreSingle, AreBlocked, AreApart, AreSound, stands_beside}
 use Rattle.lock_table.specs.Records.{moved, left_by, copies, as_gap, becomes_gap}
-use Rattle.lock_table.proofs.Places.{all_weaker, all_true, all_append, all_push}
-
-split : (b : Bool) {A : Type 0} → (b ≡ true → A) → (b ≡ false → A) → A
-split true f g = f refl
-split false f g = g refl
+use Rattle.lock_table.proofs.Places.{all_weaker, all_true, all_append, all_push, all_filter}
 
 -- a property of all locks, along each change
 module _ (R : Lock → Type 0) where
-  pub all_filter : (test : Lock → Bool) (ws : List Lock) → AllByRecursion R ws → AllByRecursion R (filter test ws)
-  all_filter test [] all = tt
-  all_filter test (w ∷ ws) all = go (test w) (all_filter test ws all.1) where
-    go : (b : Bool) → AllByRecursion R (filter test ws) → AllByRecursion R (cond b (w ∷ filter test ws) (filter test ws))
-    go true rest = (all.0, rest)
-    go false rest = rest
-
   pub all_moved : (by : Option ℕ) (gone next : Spot) → ((w : Lock) → R (as_gap (number_of RecordWent) next w)) → (ws : List Lock) → AllByRecursion R ws → AllByRecursion R (moved by gone next ws)
   all_moved by gone next gaps [] all = tt
   all_moved by gone next gaps (w ∷ ws) all = go (same_spot w.spot gone) (becomes_gap by w) (all_moved by gone next gaps ws all.1) where
@@ -69,10 +59,6 @@ module _ (R : Lock → Type 0) where
         | true ↦ all_served held (earlier ++ asked ∷ []) queue a (all_push R earlier asked b c.0) c.1
         | false ↦ all_served (held ++ asked ∷ []) earlier queue (all_push R held asked a c.0) b c.1
       ]
-
-and_false : (a : Bool) → (a && false) ≡ false
-and_false true = refl
-and_false false = refl
 
 -- a gap lock stands beside every lock
 pub gap_after : (rule : ℕ) (spot : Spot) (w held : Lock) → stands_beside held (as_gap rule spot w) ≡ true
@@ -123,18 +109,6 @@ copy_fits spot w = (
   record { rule = 13; level = w.reason.level; item = w.reason.item; index = spot.index; range = record { empty = false; low = Open; high = Open }; mode = w.mode; spot = spot; marked = false; place = New },
   four (spot.index == spot.index) (same_spot spot spot) (same_mode w.mode w.mode) _ (eq-eqb spot.index spot.index refl) (spot_refl spot) (mode_refl w.mode) (item_refl w.reason.item w.reason.level),
 )
-
-or_false-left : (a b : Bool) → (a || b) ≡ false → a ≡ false
-or_false-left true b h = cc
-or_false-left false b h = refl
-
-or_false-right : (a b : Bool) → (a || b) ≡ false → b ≡ false
-or_false-right true b h = cc
-or_false-right false b h = h
-
-or_false : (a b : Bool) → a ≡ false → b ≡ false → (a || b) ≡ false
-or_false true b p q = cc
-or_false false b p q = q
 
 -- no transaction has two requests
 waiting_less : (txn : ℕ) (xs : List Lock) (y : Lock) (zs : List Lock) → is_waiting txn (xs ++ y ∷ zs) ≡ false → is_waiting txn (xs ++ zs) ≡ false

@@ -16,14 +16,14 @@ use std::alloc::{AllocError, Global};
 use std::marker::Model;
 
 /// The longest key of an index, in bytes.
-pub const MAX_KEY: usize = 67;
+pub(crate) const MAX_KEY: usize = 67;
 
 /// A granted lock or a request, kept with room for the longest key.
 #[derive(Drop)]
 pub struct KeptLock {
     txn: u64,
     index: u32,
-    key: Option<ArrayVec<u8, 67>>,
+    key: Option<ArrayVec<u8, MAX_KEY>>,
     kind: LockKind,
     mode: Mode,
     reason: Reason,
@@ -41,7 +41,7 @@ impl Model for KeptLock {
     ghost invariant = { λ l. IsShort (option_map (λ k. k.items) l.key) };
 }
 
-fn kept_key(key: &Option<Bytes>) -> Option<ArrayVec<u8, 67>>
+fn kept_key(key: &Option<Bytes>) -> Option<ArrayVec<u8, MAX_KEY>>
     requires { IsShort key.now }
     ensures { option_map (λ k. k.items) result ≡ key.now }
 {
@@ -57,7 +57,7 @@ fn kept_key(key: &Option<Bytes>) -> Option<ArrayVec<u8, 67>>
 
 impl KeptLock {
     /// The same lock, kept.
-    pub fn new(lock: &Lock) -> Self
+    pub(crate) fn new(lock: &Lock) -> Self
         requires { IsShort lock.now.spot.key }
         ensures { result ≡ lock.now }
     {
@@ -90,7 +90,7 @@ impl KeptLock {
     }
 
     /// The same lock.
-    pub fn to_lock(&self, alloc: Global) -> Result<Lock, AllocError>
+    pub(crate) fn to_lock(&self, alloc: Global) -> Result<Lock, AllocError>
         ensures { IfOk result (λ lock. lock ≡ self.now) }
     {
         let buffer = Vec::with_capacity(alloc, MAX_KEY)?;
@@ -103,20 +103,20 @@ impl KeptLock {
         self.txn
     }
 
-    pub fn kind(&self) -> LockKind
+    pub(crate) fn kind(&self) -> LockKind
         ensures { result ≡ self.now.kind }
     {
         self.kind
     }
 
-    pub fn reason(&self) -> Reason
+    pub(crate) fn reason(&self) -> Reason
         ensures { result ≡ self.now.reason }
     {
         self.reason
     }
 
     /// Whether it is on this spot.
-    pub fn is_at(&self, spot: &Spot) -> bool
+    pub(crate) fn is_at(&self, spot: &Spot) -> bool
         ensures { result ≡ spots.same_spot self.now.spot spot.now }
     {
         self.index == spot.index
@@ -155,7 +155,7 @@ impl KeptLock {
     }
 
     /// Whether its transaction need not ask for this lock.
-    pub fn covers(&self, asked: &Lock) -> bool
+    pub(crate) fn covers(&self, asked: &Lock) -> bool
         ensures { result ≡ spec.covers self.now asked.now }
     {
         self.txn == asked.txn
@@ -168,7 +168,7 @@ impl KeptLock {
     }
 
     /// Whether it is this lock, by this reason.
-    pub fn is_same(&self, lock: &Lock) -> bool
+    pub(crate) fn is_same(&self, lock: &Lock) -> bool
         ensures { result ≡ spec.same_lock self.now lock.now }
     {
         self.txn == lock.txn
@@ -179,7 +179,7 @@ impl KeptLock {
     }
 
     /// The lock as a gap lock on another spot, by the rule of this number.
-    pub fn as_gap(&self, rule: u8, spot: &Spot) -> KeptLock
+    pub(crate) fn as_gap(&self, rule: u8, spot: &Spot) -> KeptLock
         requires { IsShort spot.now.key }
         ensures { result ≡ as_gap rule spot.now self.now }
     {
@@ -198,7 +198,7 @@ impl KeptLock {
 }
 
 /// The same key, in this buffer.
-fn key_in(key: &Option<ArrayVec<u8, 67>>, mut buffer: Vec<u8>) -> Option<Bytes>
+fn key_in(key: &Option<ArrayVec<u8, MAX_KEY>>, mut buffer: Vec<u8>) -> Option<Bytes>
     requires empty { buffer.items ≡ [] }
     requires holds { 67 ≤ vec_capacity buffer }
     requires short { IsShort (option_map (λ k. k.items) key.now) }

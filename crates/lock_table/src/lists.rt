@@ -1,7 +1,7 @@
 //! The lists of a lock table: what stands in the way of a request, and what a change makes of the requests that wait.
 //! The lock table alone calls these.
 
-ghost use Rattle.std.specs.Prelude.{◌≡◌, ◌+◌, ◌<◌, ◌≤◌, [], ◌∷◌, ◌++◌, length, map, filter, vec_capacity, IfOk, OnOk};
+ghost use Rattle.std.specs.Prelude.{◌≡◌, ◌+◌, ◌≤◌, [], ◌++◌, length, map, filter, vec_capacity, IfOk, OnOk};
 ghost use Rattle.std.specs.List.{list_any};
 ghost use Rattle.lock_rules.specs.Kinds as kinds;
 ghost use Rattle.lock_rules.specs.Conflicts.{conflicts};
@@ -59,15 +59,6 @@ fn keep_elsewhere(waiting: &mut Vec<KeptLock>, gone: &Spot)
     waiting.retain(|asked| !asked.is_at(gone));
 }
 
-/// Adds a lock, for which there is a place.
-fn add(granted: &mut Vec<KeptLock>, lock: KeptLock)
-    requires { length granted.old.items < vec_capacity granted.old }
-    ensures items { granted.new.items ≡ granted.old.items ++ lock ∷ [] }
-    ensures capacity { vec_capacity granted.old ≤ vec_capacity granted.new }
-{
-    let _ = granted.push(lock);
-}
-
 /// Grants each request in order, unless a granted lock or an earlier request that still waits blocks it.
 pub fn serve(granted: &mut Vec<KeptLock>, waiting: &mut Vec<KeptLock>)
     requires { length granted.old.items + length waiting.old.items ≤ vec_capacity granted.old }
@@ -81,7 +72,7 @@ pub fn serve(granted: &mut Vec<KeptLock>, waiting: &mut Vec<KeptLock>)
             earlier += 1;
         } else {
             let lock = waiting.remove(earlier);
-            add(granted, lock);
+            granted.push_reserved(lock);
         }
     }
 }
@@ -212,7 +203,7 @@ pub fn leave_gaps(
 {
     for asked in waiting.iter() {
         if asked.is_at(gone) && becomes_gap(by, asked) {
-            add(granted, asked.as_gap(Rule::RecordWent.number(), next));
+            granted.push_reserved(asked.as_gap(Rule::RecordWent.number(), next));
         }
     }
     keep_elsewhere(waiting, gone);

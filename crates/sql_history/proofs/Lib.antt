@@ -1,3 +1,4 @@
 pub mod Pasts
 pub mod Newest
 pub mod Saves
+pub mod Counting

@@ -1,12 +1,12 @@
 -- What stands in a whole history: stops, moments, signals, and how many rows it holds.
-use Rattle.std.specs.Prelude.{ℕ, ◌+◌, List, [], ◌∷◌, Bool, true, false, if◌then◌else◌, length, Option, Some, bytes_eq}
+use Rattle.std.specs.Prelude.{ℕ, zero, suc, min, ◌+◌, ◌-◌, ◌^◌, List, [], ◌∷◌, Bool, true, false, if◌then◌else◌, length, Option, Some, bytes_eq}
 use Rattle.std.specs.List.{sum_by}
-use Rattle.std.specs.FinMap.{entries}
 use Rattle.inno_types.specs.declared.reply.Item.{Item}
 use Rattle.inno_types.specs.declared.reply.Item.TheVariants as items
 use Rattle.inno_types.specs.declared.reply.Reply.{Reply}
 use Rattle.inno_types.specs.declared.reply.Reply.TheVariants as replies
 use Rattle.inno_db.specs.declared.change.Change.TheVariants as changes
+use Rattle.inno_db.specs.Database.{Database, rows_of}
 use Rattle.inno_model.specs.declared.event.Event.{Event}
 use Rattle.inno_model.specs.declared.event.Event.TheVariants as events
 use Rattle.inno_model.specs.Past.{under_way}
@@ -53,8 +53,17 @@ abbrev pub rows_of_reply : Reply → ℕ
 rows_of_reply (replies.Rows rows) = length rows
 rows_of_reply other = 0
 
+-- the rows of the first tables
+abbrev pub rows_below : ℕ → Database → ℕ
+rows_below zero db = 0
+rows_below (suc table) db = rows_below table db + length (rows_of table db)
+
+-- the rows of all tables
+abbrev pub rows_in : Database → ℕ
+rows_in db = rows_below (length db.schemas) db
+
 abbrev pub rows_of_entry : Event → ℕ
-rows_of_entry (events.Opened db) = length (entries db.rows)
+rows_of_entry (events.Opened db) = rows_in db
 rows_of_entry (events.Changed s (changes.Put table row)) = 1
 rows_of_entry (events.Ended s j reply) = rows_of_reply reply
 rows_of_entry other = 0
@@ -62,6 +71,10 @@ rows_of_entry other = 0
 -- how many rows the history holds: those of the opening, those that were put, and those of replies
 abbrev pub rows_kept : List Event → ℕ
 rows_kept past = sum_by rows_of_entry past
+
+-- a count that stands still at its type's end
+abbrev pub capped : ℕ → ℕ
+capped n = min n (2 ^ 64 - 1)
 
 -- how many rows a history may hold
 abbrev pub most_rows : ℕ

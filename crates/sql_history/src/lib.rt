@@ -1,12 +1,15 @@
 //! Which histories of SQL sessions are legal, and when they answer as their transactions do alone.
-//! The definitions stand in specs/. Each function here has an empty body, and its contract is a law of them; nothing
-//! calls these functions, they show that the definitions say what a user of a database expects.
+//! The definitions stand in specs/. But for the count of a history's rows each function here has an empty body, and its
+//! contract is a law of the definitions; nothing calls these functions, they show that the definitions say what a user
+//! of a database expects.
 #![tactic(auto)]
 
+mod counts;
 mod databases;
 mod readings;
 mod savepoints;
 
+pub use counts::rows_kept;
 pub use databases::{
     a_commit_adds_its_changes, a_commit_leaves_others_snapshots, a_later_view_sees_the_commit,
     all_changes_put_back_leave_the_database, without_own_changes_a_snapshot_is_committed,
