@@ -2,7 +2,6 @@
 use Rattle.std.specs.Prelude.{Some, refl}
 use Rattle.std.specs.Cmp.{IsTotalOrder, IsEquivalence, IsPartialOrder, on_total, eq_by_cmp_equiv, po}
 use Rattle.inno_db.specs.Order.{place_cmp_total}
-use Rattle.row_versions.specs.declared.place.Place.{Place}
 use Rattle.row_versions.specs.Chains.{in_model, place_order, is_same_place}
 
 pub place_total : IsTotalOrder place_order

@@ -1,7 +1,7 @@
-use Rattle.std.proofs.Common.{◌∙◌, ap, sym, subst}
+use Rattle.std.proofs.Common.{ap, sym, subst}
 use Rattle.std.specs.Prelude.{is_some}
 use Rattle.std.specs.BTreeMap.{BTreeMap}
-use Rattle.row_versions.specs.Chains.{Chains, is_same_place, Pops}
+use Rattle.row_versions.specs.Chains.{Chains, Pops}
 use Rattle.row_versions.specs.contracts.version.RowVersions.{the_view}
 use Rattle.row_versions.specs.declared.version.RowVersions.TheInside.{Inside}
 use Rattle.row_versions.proofs.Places.{popped, not_popped}
