@@ -2,7 +2,7 @@ mod Ids
 mod Opens
 mod Standing
 mod Rows
-mod Tables
+pub mod Tables
 mod Owed
 mod Agree
 mod Found

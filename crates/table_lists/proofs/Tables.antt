@@ -23,7 +23,7 @@ tabled_more m n le (Create schema) is = tt
 tabled_more m n le (Put table row) is = omega (arith, le, is)
 tabled_more m n le (Remove table key) is = omega (arith, le, is)
 
-key_stays : (schemas more : List Schema) (table : ℕ) (row : List Value) → table < length schemas → key_in (schemas ++ more) table row ≡ key_in schemas table row
+pub key_stays : (schemas more : List Schema) (table : ℕ) (row : List Value) → table < length schemas → key_in (schemas ++ more) table row ≡ key_in schemas table row
 key_stays [] more table row lt = absurd (omega (arith, lt))
 key_stays (schema ∷ schemas) more zero row lt = refl
 key_stays (schema ∷ schemas) more (suc table) row lt = key_stays schemas more table row (omega (arith, lt))

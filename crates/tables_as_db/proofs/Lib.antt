@@ -1,0 +1,2 @@
+mod Gets
+mod Walk
