@@ -1,0 +1,3 @@
+mod Gets
+mod Walk
+mod Searches
