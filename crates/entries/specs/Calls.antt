@@ -55,6 +55,12 @@ Follows actor old new End = Told (λ pairs. next_of (old.place actor) pairs ≡ 
 Follows actor old new NoMemory = IsAsBefore old new
 Follows actor old new other = Delays actor old new other
 
+-- a pair that was found is given, or there is none
+abbrev pub Gives : ℕ → Option Pair → Index → Index → Move → Type 0
+Gives actor (Some pair) old new (At key value) = (pair ≡ (key, value)) × IsGiven actor (key, value) old new
+Gives actor None old new End = IsAsBefore old new
+Gives actor found old new other = ⊥
+
 -- the value is what was read; no memory is taken
 abbrev pub Fetches : ℕ → List ℕ → List ℕ → Index → Index → Move → Type 0
 Fetches actor key read old new Done = Told (λ pairs. value_of key pairs ≡ Some read) old × IsAsBefore old new

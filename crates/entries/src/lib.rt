@@ -4,8 +4,10 @@
 
 mod answers;
 mod index;
+mod list_index;
 mod pairs;
 mod stored;
 
 pub use answers::Move;
 pub use index::Entries;
+pub use list_index::ListIndex;

@@ -35,6 +35,13 @@ impl SortedPairs {
         }
     }
 
+    /// The keys rise, and no key or value is too long. It does nothing.
+    pub(crate) fn are_sound(&self)
+        ensures { AreSound self.now }
+    {
+        let _ = &self.stored;
+    }
+
     /// Where the key stands, or else where it would stand.
     fn search(&self, key: &Bytes) -> Result<usize, usize>
         ensures place { MatchResult result (IsFoundAt key.now self.now) (IsMissedAt key.now self.now) }
