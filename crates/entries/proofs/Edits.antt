@@ -42,7 +42,7 @@ first_above key [] all = refl
 first_above key (pair ∷ pairs) all = rw all.0
 
 -- what is above a key is above all keys that compare alike
-alike : (key other : List ℕ) (pairs : List Pair) → key_cmp key other ≡ Equal → AllByRecursion (λ (later : Pair). key_cmp other later.0 ≡ Less) pairs → AllByRecursion (λ (later : Pair). key_cmp key later.0 ≡ Less) pairs
+pub alike : (key other : List ℕ) (pairs : List Pair) → key_cmp key other ≡ Equal → AllByRecursion (λ (later : Pair). key_cmp other later.0 ≡ Less) pairs → AllByRecursion (λ (later : Pair). key_cmp key later.0 ≡ Less) pairs
 alike key other [] same all = tt
 alike key other (pair ∷ pairs) same all = (key_cmp_total.congr key other pair.0 same ∙ all.0, alike key other pairs same all.1)
 
@@ -73,7 +73,7 @@ there_stands key [] at is = absurd is
 there_stands key (pair ∷ pairs) zero is = rw is
 there_stands key (pair ∷ pairs) (suc at) is = rw is.0 (there_stands key pairs at is.1)
 
-none_above : (key : List ℕ) (pairs : List Pair) → AllByRecursion (λ (later : Pair). key_cmp key later.0 ≡ Less) pairs → value_of key pairs ≡ None
+pub none_above : (key : List ℕ) (pairs : List Pair) → AllByRecursion (λ (later : Pair). key_cmp key later.0 ≡ Less) pairs → value_of key pairs ≡ None
 none_above key [] all = refl
 none_above key (pair ∷ pairs) all = rw all.0 (none_above key pairs all.1)
 

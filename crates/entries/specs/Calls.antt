@@ -21,7 +21,7 @@ pub record IsBroken (old new : Index) : Type 0 where
 -- not in the pool and finds no frame there, the disk failed, or a page breaks a rule.
 abbrev pub Delays : ℕ → Index → Index → Move → Type 0
 Delays actor old new Step = IsPutOff (λ before now. IsBelow (now.to_go actor) (before.to_go actor)) old new
-Delays actor old new (Latch by) = IsPutOff (λ before now. before.stops by actor ≡ true) old new
+Delays actor old new (Latch by) = IsPutOff (λ before now. (by ≢ actor) × (before.stops by actor ≡ true)) old new
 Delays actor old new Again = IsPutOff (λ before now. before.is_crowded ≡ true) old new
 Delays actor old new Failed = IsBroken old new
 Delays actor old new (Bad page rule) = IsPutOff (λ before now. before.breaks page rule ≡ true) old new
@@ -140,3 +140,23 @@ pub record Leaves (actor : ℕ) (old new : Index) : Type 0 where
 abbrev pub is_done : Move → Bool
 is_done Done = true
 is_done other = false
+
+-- an answer that an index without pages may give
+abbrev pub IsWithoutPages : Move → Type 0
+IsWithoutPages Step = ⊥
+IsWithoutPages Again = ⊥
+IsWithoutPages (Full need free) = ⊥
+IsWithoutPages TooDeep = ⊥
+IsWithoutPages Failed = ⊥
+IsWithoutPages (Bad page rule) = ⊥
+IsWithoutPages other = Unit {0}
+
+-- the same of a call that no awaited actor keeps off
+abbrev pub IsAtOnce : Move → Type 0
+IsAtOnce (Latch by) = ⊥
+IsAtOnce other = IsWithoutPages other
+
+-- where another actor is awaited, a call on keys is kept off
+abbrev pub IsKeptOffBy : ℕ → Move → Type 0
+IsKeptOffBy by (Latch holder) = holder ≡ by
+IsKeptOffBy by other = ⊥

@@ -1,5 +1,5 @@
 -- Pairs of a key and a value in the order of their keys, and what is found among them.
-use Rattle.std.specs.Prelude.{◌≡◌, ℕ, ◌≤◌, List, [], ◌∷◌, length, find, Option}
+use Rattle.std.specs.Prelude.{◌≡◌, ℕ, ◌≤◌, Bool, true, false, List, [], ◌∷◌, length, find, Option, Some, is_some}
 use Rattle.std.specs.declared.cmp.Ordering.{Ordering}
 use Rattle.std.specs.declared.cmp.Ordering.TheVariants.{Less}
 use Rattle.std.specs.Ordering.{nat_cmp, is_le, is_lt}
@@ -50,3 +50,13 @@ with_pair key value pairs = insert_entry key_cmp pairs key value
 -- the pairs of the other keys
 abbrev pub without_key : List ℕ → List Pair → List Pair
 without_key key pairs = remove_entry (is_at (key_cmp key)) pairs
+
+-- The pair is the first one whose key passes: it is there, and each key that is there and passes is this one or above.
+pub record IsFirstOf (test : List ℕ → Bool) (pairs : List Pair) (pair : Pair) : Type 0 where
+  pub there : value_of pair.0 pairs ≡ Some pair.1
+  pub passes : test pair.0 ≡ true
+  pub least : (other : List ℕ) → is_some (value_of other pairs) ≡ true → test other ≡ true → is_le (key_cmp pair.0 other) ≡ true
+
+-- no key that is there passes
+abbrev pub NonePasses : (List ℕ → Bool) → List Pair → Type 0
+NonePasses test pairs = (other : List ℕ) → is_some (value_of other pairs) ≡ true → test other ≡ false

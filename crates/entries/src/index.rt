@@ -74,5 +74,6 @@ pub trait Entries {
 
     /// Drops the actor's place. It is no longer awaited.
     fn leave(&mut self, actor: u32)
-        ensures { Leaves actor (index self.old) (index self.new) };
+        ensures answer { Leaves actor (index self.old) (index self.new) }
+        ensures later { GoesOn (index self.old).paged (index self.new).paged };
 }
