@@ -1,16 +1,15 @@
 -- What is found among pairs in order, and what an edit makes of them.
-use Rattle.std.proofs.Common.{◌≡◌, ℕ, zero, suc, ◌+◌, ◌<◌, ◌≤◌, Bool, true, false, cond, List, [], ◌∷◌, length, get_or, set, slice_get, Option, None, Some, refl, sym, ◌∙◌, ap, subst, arith, add-one}
-use Rattle.std.specs.Prelude.{IsSomeAnd, option_map, is_some, remove, insert, Result, Ok, Err, OnErr}
+use Rattle.std.proofs.Common.{◌≡◌, ℕ, zero, suc, ◌<◌, ◌≤◌, Bool, true, false, cond, List, [], ◌∷◌, length, get_or, set, slice_get, None, Some, refl, sym, ◌∙◌, ap, subst, arith}
+use Rattle.std.specs.Prelude.{option_map, is_some, remove, insert, Result, Ok, Err, OnErr}
 use Rattle.std.proofs.lemmas.Bool.Decides.{nat_tests}
 use Rattle.entries.specs.Calls.{is_as_long}
 use Rattle.std.specs.declared.cmp.Ordering.{Ordering}
 use Rattle.std.specs.declared.cmp.Ordering.TheVariants.{Less, Equal, Greater}
-use Rattle.std.specs.Ordering.{match_ordering, is_eq, is_le, is_lt}
+use Rattle.std.specs.Ordering.{match_ordering, is_eq}
 use Rattle.std.specs.List.{AllByRecursion}
-use Rattle.std.specs.BTreeMap.{insert_entry}
 use Rattle.entries.specs.Pairs.{Pair, key_cmp, AreRising, AreSound, IsShort, value_of, first_from, first_after, with_pair, without_key}
 use Rattle.entries.specs.Places.{StandsAt, IsGapAt, IsFoundAt, IsMissedAt}
-use Rattle.entries.proofs.Order.{key_cmp_total, same_key, lower_from, higher_from, below_all}
+use Rattle.entries.proofs.Order.{key_cmp_total, same_key, lower_from, below_all}
 
 -- ---- at the place of a key
 

@@ -1,10 +1,10 @@
 -- What is found among pairs in order after an edit, and what the first pair that passes is.
-use Rattle.std.proofs.Common.{◌≡◌, ◌≢◌, ℕ, Bool, true, false, cond, List, [], ◌∷◌, Option, None, Some, refl, sym, ◌∙◌, ap, subst}
+use Rattle.std.proofs.Common.{◌≡◌, ◌≢◌, ℕ, Bool, true, false, cond, List, [], ◌∷◌, Option, None, Some, refl, sym, ◌∙◌, ap}
 use Rattle.std.specs.Prelude.{MatchOption, is_some, find}
 use Rattle.std.proofs.lemmas.Bool.{false≢true}
 use Rattle.std.specs.declared.cmp.Ordering.{Ordering}
 use Rattle.std.specs.declared.cmp.Ordering.TheVariants.{Less, Equal, Greater}
-use Rattle.std.specs.Ordering.{match_ordering, is_eq, is_le, is_lt}
+use Rattle.std.specs.Ordering.{match_ordering, is_eq, is_le}
 use Rattle.std.specs.List.{AllByRecursion}
 use Rattle.entries.specs.Pairs.{Pair, key_cmp, AreRising, value_of, with_pair, without_key, IsFirstOf, NonePasses}
 use Rattle.entries.proofs.Order.{same_key, key_itself, higher_from}

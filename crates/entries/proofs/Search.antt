@@ -1,10 +1,9 @@
 -- What a binary search among pairs in order finds.
-use Rattle.std.proofs.Common.{◌≡◌, ℕ, zero, suc, ◌+◌, ◌<◌, ◌≤◌, List, [], ◌∷◌, length, get_or, Result, Ok, Err, IfOk, IfErr, refl, sym, ◌∙◌, ap, subst, arith}
-use Rattle.std.specs.declared.cmp.Ordering.{Ordering}
+use Rattle.std.proofs.Common.{◌≡◌, ℕ, zero, suc, ◌+◌, ◌<◌, ◌≤◌, List, [], ◌∷◌, length, get_or, Result, Ok, Err, sym, ◌∙◌, ap, arith}
 use Rattle.std.specs.declared.cmp.Ordering.TheVariants.{Less, Equal, Greater}
-use Rattle.std.specs.Ordering.{ordering_index, ordering_reverse}
+use Rattle.std.specs.Ordering.{ordering_reverse}
 use Rattle.std.specs.List.{AllByRecursion, AllWithin, HoldsAt}
-use Rattle.std.specs.List.Sorted.{IsSearchInRange, IsBinarySearchResult, IsNonDecreasingBy, IsPartitionPoint}
+use Rattle.std.specs.List.Sorted.{IsSearchInRange, IsBinarySearchResult}
 use Rattle.std.specs.Ordering.{is_lt}
 use Rattle.std.proofs.lemmas.List.Sorted.{searchable_from_sorted}
 use Rattle.std.specs.List.Sorted.{IsSortedBy}
@@ -12,7 +11,7 @@ use Rattle.entries.specs.Pairs.{Pair, key_cmp, AreRising}
 use Rattle.std.specs.Prelude.{MatchResult}
 use Rattle.entries.specs.Places.{StandsAt, IsGapAt, IsFoundAt, IsMissedAt}
 use Rattle.entries.proofs.Edits.{found_at, missed_at}
-use Rattle.entries.proofs.Order.{key_cmp_total, higher_from, lower_from, below_all}
+use Rattle.entries.proofs.Order.{key_cmp_total, higher_from, lower_from}
 
 -- a later pair of a list in order
 later_in : (key : List ℕ) (pairs : List Pair) (i : ℕ) (d : Pair) → AllByRecursion (λ (later : Pair). key_cmp key later.0 ≡ Less) pairs → i < length pairs → key_cmp key (get_or pairs i d).0 ≡ Less
@@ -34,9 +33,10 @@ pub gap : (key : List ℕ) (pairs : List Pair) (at : ℕ) → at ≤ length pair
 gap key [] zero le front back = tt
 gap key [] (suc at) le front back = omega (arith, le)
 gap key (pair ∷ pairs) zero le front back = lower_from pair.0 key (back 0 pair (omega arith) (omega arith))
-gap key (pair ∷ pairs) (suc at) le front back =
-    (higher_from pair.0 key (front 0 pair (omega arith) (omega arith)),
-    gap key pairs at (omega (arith, le)) (λ k d low high. front (suc k) d (omega arith) (omega (arith, high))) (λ k d low high. back (suc k) d (omega (arith, low)) (omega (arith, high))))
+gap key (pair ∷ pairs) (suc at) le front back = (
+  higher_from pair.0 key (front 0 pair (omega arith) (omega arith)),
+  gap key pairs at (omega (arith, le)) (λ k d low high. front (suc k) d (omega arith) (omega (arith, high))) (λ k d low high. back (suc k) d (omega (arith, low)) (omega (arith, high))),
+)
 
 -- each key is below a later one
 pub rising_at : (pairs : List Pair) (i j : ℕ) (d : Pair) → AreRising pairs → i < j → j < length pairs → key_cmp (get_or pairs i d).0 (get_or pairs j d).0 ≡ Less

@@ -1,5 +1,5 @@
 -- What each call of an index answers, and what it changes.
-use Rattle.std.specs.Prelude.{◌≡◌, ◌≢◌, ◌⊎◌, ℕ, ◌<◌, ◌==◌, Bool, true, false, if◌then◌else◌, List, length, Option, None, Some, IfSome, IsSome, IsSomeAnd}
+use Rattle.std.specs.Prelude.{◌≡◌, ◌≢◌, ◌⊎◌, ℕ, ◌<◌, ◌==◌, Bool, true, false, if◌then◌else◌, List, length, Option, None, Some, IsSome, IsSomeAnd}
 use Rattle.store_api.specs.Causes.{Rose}
 use Rattle.entries.specs.declared.answers.Move.{Move}
 use Rattle.entries.specs.declared.answers.Move.TheVariants.{At, End, Done, Step, Latch, Again, Full, TooDeep, Failed, Bad, NoMemory}

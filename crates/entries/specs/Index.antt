@@ -1,5 +1,5 @@
 -- What contracts see of an index, and what a call leaves of it as it was.
-use Rattle.std.specs.Prelude.{◌≡◌, ◌≢◌, ◌⊎◌, ℕ, ◌<◌, ◌≤◌, Bool, List, [], ◌∷◌, Option, None, Some, IfSome, IfNone}
+use Rattle.std.specs.Prelude.{◌≡◌, ◌≢◌, ◌⊎◌, ℕ, ◌<◌, ◌≤◌, Bool, List, ◌∷◌, Option, None, Some, IfSome}
 use Rattle.entries.specs.Pairs.{Pair}
 
 -- What an index shows that is kept in pages: what its answers about pages rest on.

@@ -1,9 +1,8 @@
 -- What contracts see of an index that is a sorted vector.
-use Rattle.std.specs.Prelude.{◌≡◌, ℕ, [], Option, None, Some}
+use Rattle.std.specs.Prelude.{[], None, Some}
 use Rattle.std.specs.Ordering.{nat_cmp}
 use Rattle.std.specs.BTreeMap.{get}
 use Rattle.entries.specs.declared.list_index.ListIndex.{ListIndex}
-use Rattle.entries.specs.Pairs.{Pair}
 use Rattle.entries.specs.Index.{Index}
 
 -- Its pairs are always told, and it has no pages.

@@ -13,24 +13,16 @@ pub enum Move {
     /// One more page or latch was dealt with.
     Step,
     /// This actor stands in the way.
-    Latch {
-        by: u32,
-    },
+    Latch { by: u32 },
     /// The page isn't in the pool, and no frame there is clean and unfixed.
     Again,
     /// The call needs more pages than are free.
-    Full {
-        need: u32,
-        free: u32,
-    },
+    Full { need: u32, free: u32 },
     /// A tree of eight levels would have one more.
     TooDeep,
     /// The disk failed, and counted a fault.
     Failed,
     /// The page breaks this rule of its format.
-    Bad {
-        page: u32,
-        rule: u8,
-    },
+    Bad { page: u32, rule: u8 },
     NoMemory,
 }

@@ -1,6 +1,6 @@
 //! One ordered index, whatever it is kept in. The code above is generic over this trait.
 
-ghost use Rattle.std.specs.Prelude.{◌≡◌, ◌≤◌, ℕ, false, length, IsSome, vec_capacity};
+ghost use Rattle.std.specs.Prelude.{◌≡◌, ◌≤◌, false, length, IsSome, vec_capacity};
 ghost use Rattle.entries.specs.Pairs.{AreSound};
 ghost use Rattle.entries.specs.Index.{Index, Told, GoesOn};
 ghost use Rattle.entries.specs.Calls.{is_done, Seeks, Follows, Fetches, NextKeys, Inserts, Replaces, Removes, Tidies, Leaves};

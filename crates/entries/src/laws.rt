@@ -3,7 +3,7 @@
 
 ghost use Rattle.std.specs.Prelude.{◌≡◌, ◌≢◌, ℕ, None, Some, List, MatchOption};
 ghost use Rattle.std.specs.Ordering.{is_le, is_lt};
-ghost use Rattle.entries.specs.Pairs.{Pair, key_cmp, AreSound, AreRising, IsFirstOf, NonePasses, value_of, first_from, first_after, with_pair, without_key};
+ghost use Rattle.entries.specs.Pairs.{Pair, key_cmp, AreRising, IsFirstOf, NonePasses, value_of, first_from, first_after, with_pair, without_key};
 ghost use Rattle.entries.specs.Index.{Index, IsHeld};
 ghost use Rattle.entries.specs.Calls.{Seeks, Follows, Fetches, NextKeys, Inserts, Replaces, Removes, Tidies, IsAtOnce, IsWithoutPages, IsKeptOffBy};
 ghost use Rattle.entries.specs.declared.answers.Move.{Move};

@@ -14,7 +14,7 @@ mod tests;
 pub use answers::Move;
 pub use index::Entries;
 pub use laws::{
-    a_list_has_no_pages, each_edit_is_of_one_key, edits_keep_the_order,
-    finds_are_first, without_pages_calls_end,
+    a_list_has_no_pages, each_edit_is_of_one_key, edits_keep_the_order, finds_are_first,
+    without_pages_calls_end,
 };
 pub use list_index::ListIndex;

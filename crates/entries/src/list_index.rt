@@ -1,6 +1,6 @@
 //! An index in memory: a sorted vector, the place of each actor, and who is awaited.
 
-ghost use Rattle.std.specs.Prelude.{◌≡◌, IfOk, IfSome, MatchOption, MatchResult, IsSome};
+ghost use Rattle.std.specs.Prelude.{◌≡◌, IfOk, IsOk, MatchOption, MatchResult};
 ghost use Rattle.entries.specs.Pairs.{AreSound, IsShort};
 ghost use Rattle.entries.specs.Index.{IsAsBefore, IsFree, IsHeld};
 ghost use Rattle.entries.specs.Calls.{next_of, Gives, Seeks, Follows, Inserts};
@@ -28,7 +28,8 @@ pub struct ListIndex {
 impl ListIndex {
     /// An index with no pairs. It takes no memory.
     pub fn new(alloc: Global) -> Result<ListIndex, NoMemory>
-        ensures { IfOk result (λ list. ⟦<ListIndex as Entries>⟧.index list ≡ empty_index) }
+        ensures empty { IfOk result (λ list. ⟦<ListIndex as Entries>⟧.index list ≡ empty_index) }
+        ensures ok { IsOk result }
     {
         Ok(ListIndex {
             alloc,
@@ -44,13 +45,7 @@ impl ListIndex {
     {
         match self.awaited {
             None => None,
-            Some(holder) => {
-                if holder == actor {
-                    None
-                } else {
-                    Some(holder)
-                }
-            }
+            Some(holder) => { if holder == actor { None } else { Some(holder) } }
         }
     }
 
@@ -153,8 +148,7 @@ impl Entries for ListIndex {
     }
 
     fn insert(&mut self, actor: u32, key: &Bytes, value: &Bytes) -> Move {
-        self.try_insert(actor, key, value)
-            .unwrap_or(Move::NoMemory)
+        self.try_insert(actor, key, value).unwrap_or(Move::NoMemory)
     }
 
     fn replace(&mut self, _actor: u32, key: &Bytes, value: &Bytes) -> Move {

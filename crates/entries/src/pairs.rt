@@ -1,6 +1,6 @@
 //! The sorted vector: pairs in the order of their keys. `ListIndex` alone calls these.
 
-ghost use Rattle.std.specs.Prelude.{◌≡◌, ◌≤◌, ◌<◌, ◌+◌, ◌^◌, true, false, [], length, Some, None, MatchResult, IfOk, OnOk, OnErr, IsOk, vec_capacity, slice_get, is_some, option_map, if◌then◌else◌};
+ghost use Rattle.std.specs.Prelude.{◌≡◌, ◌≤◌, ◌<◌, ◌+◌, ◌^◌, true, false, [], length, Some, None, MatchResult, IfOk, OnErr, vec_capacity, slice_get, is_some, option_map, if◌then◌else◌};
 ghost use Rattle.entries.specs.Pairs.{AreSound, IsShort, value_of, first_from, first_after, with_pair, without_key};
 ghost use Rattle.entries.specs.Places.{IsFoundAt, IsMissedAt};
 ghost use Rattle.entries.specs.Calls.{HasKey, is_as_long};
@@ -139,11 +139,7 @@ impl SortedPairs {
     }
 
     /// Adds a pair, unless the key is there: then answers its value.
-    pub(crate) fn insert(
-        &mut self,
-        key: &Bytes,
-        value: &Bytes,
-    ) -> Result<Option<Bytes>, AllocError>
+    pub(crate) fn insert(&mut self, key: &Bytes, value: &Bytes) -> Result<Option<Bytes>, AllocError>
         requires { IsShort (key.now, value.now) }
         ensures kept { IfOk result (λ kept. kept ≡ value_of key.now self.old) }
         ensures ok { IfOk result (λ kept. self.new ≡ (if is_some kept then self.old else with_pair key.now value.now self.old)) }

@@ -1,5 +1,4 @@
-use Rattle.std.proofs.Common.{◌≡◌, ◌≤◌, List, length, set, subst, sym, ap, ◌∙◌, false}
-use Rattle.std.specs.Prelude.{Some}
+use Rattle.std.proofs.Common.{◌≡◌, List, set, subst, sym, false}
 use Rattle.entries.specs.Pairs.{Pair, AreSound, with_pair, value_of}
 use Rattle.entries.specs.Places.{IsFoundAt}
 use Rattle.entries.specs.Calls.{is_as_long}
