@@ -1,9 +1,9 @@
 -- What the calls of a mini-transaction make of what it sees.
-use Rattle.std.specs.Prelude.{◌≡◌, ◌≢◌, ℕ, ◌+◌, ◌≤◌, List, [], length, replicate, IsTrue, Option, Some, None, Result, MatchResult, if◌then◌else◌}
+use Rattle.std.specs.Prelude.{◌≡◌, ◌≢◌, ◌⊎◌, ℕ, ◌+◌, ◌≤◌, List, [], length, replicate, IsTrue, Option, Some, None, Result, MatchResult, if◌then◌else◌}
 use Rattle.store_api.specs.Causes.{Rose}
 use Rattle.mtr.specs.declared.answers.Visit.{Visit}
 use Rattle.mtr.specs.declared.answers.Visit.TheVariants.{Failed, Again, Bad}
-use Rattle.mtr.specs.Seen.{MtrState, is_in, visit, IsShut, with_bytes}
+use Rattle.mtr.specs.Seen.{MtrState, is_in, visit, Visits, IsShut, with_bytes}
 
 -- What each call keeps: pages that are told were told before, the disk's faults don't fall, and a beginning has the same spare.
 pub record Goes (old new : MtrState) : Type 0 where
@@ -87,3 +87,20 @@ Explains page old new (Bad number rule) = (number ≡ page) × (IsTrue old.told 
 -- what asking for a page makes of what is seen
 abbrev pub Asks : {T : Type 0} → ℕ → MtrState → Result T Visit → MtrState → Type 0
 Asks page old result new = MatchResult result (λ _. Looks (visit page old.visited) old new) (λ why. Looks old.visited old new × Explains page old new why)
+
+-- ---- several calls
+
+-- It has looked at some of these pages, and changed nothing.
+pub record Consults (pages : List ℕ) (old new : MtrState) : Type 0 where
+  pub goes : Goes old new
+  pub same : IsTrue new.told → SamePages old new
+  pub visits : Visits pages old new
+  pub held : HoldsVisited new
+  pub spare : new.spare ≡ old.spare
+
+-- Why a call that looks at these pages alone goes no further: the disk has failed, one of them isn't at hand, or one
+-- breaks a rule, as it is read or by what it says.
+abbrev pub IsReason : List ℕ → (ℕ → ℕ → (ℕ → List ℕ) → Type 0) → MtrState → MtrState → Visit → Type 0
+IsReason pages Breaks old new Failed = Rose old.faults new.faults
+IsReason pages Breaks old new Again = (page : ℕ) × IsTrue (is_in page pages) × IsShut page new
+IsReason pages Breaks old new (Bad page rule) = IsTrue (is_in page pages) × (IsTrue new.told → (old.fault page ≡ Some rule) ⊎ Breaks page rule old.seen)

@@ -36,6 +36,27 @@ abbrev pub visit_all : List ℕ → List ℕ → List ℕ
 visit_all [] visited = visited
 visit_all (page ∷ pages) visited = visit_all pages (visit page visited)
 
+-- how many pages will have been dealt with, once these are too
+abbrev pub claim : List ℕ → List ℕ → ℕ
+claim [] visited = length visited
+claim (page ∷ pages) visited = (if is_in page visited then 0 else 1) + claim pages visited
+
+-- each of these is one of those
+abbrev pub AreAmong : List ℕ → List ℕ → Type 0
+AreAmong [] pages = Unit {0}
+AreAmong (page ∷ more) pages = IsTrue (is_in page pages) × AreAmong more pages
+
+-- none stands there twice
+abbrev pub AreDistinct : List ℕ → Type 0
+AreDistinct [] = Unit {0}
+AreDistinct (page ∷ pages) = (is_in page pages ≡ false) × AreDistinct pages
+
+-- Some of these pages, and no others, were dealt with too.
+pub record Visits (pages : List ℕ) (old new : MtrState) : Type 0 where
+  pub asked : List ℕ
+  pub known : AreAmong asked pages
+  pub visited_is : new.visited ≡ visit_all asked old.visited
+
 -- The page isn't in the pool, and no frame is clean and unfixed.
 pub record IsShut (page : ℕ) (s : MtrState) : Type 0 where
   pub absent : s.pooled page ≡ false
