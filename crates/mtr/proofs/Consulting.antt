@@ -34,7 +34,6 @@ consults_then pages a b c first next = record {
   goes = goes_then a b c first.goes next.goes;
   same = λ told. same_then a b c (first.same (next.goes.told told)) (next.same told);
   visits = visits_then pages a b c first.visits next.visits;
-  held = next.held;
   spare = next.spare ∙ first.spare;
 }
 
@@ -44,11 +43,20 @@ visits_one pages page old new known is = record { asked = page ∷ []; known = (
 pub visits_none : (pages : List ℕ) (old new : MtrState) → new.visited ≡ old.visited → Visits pages old new
 visits_none pages old new is = record { asked = []; known = tt; visited_is = is }
 
+-- without any call
+pub consults_none : (pages : List ℕ) (s : MtrState) → Consults pages s s
+consults_none pages s = record {
+  goes = record { told = λ told. told; faults = omega arith; whole = refl };
+  same = λ told. record { standing = refl; seen = refl; fault = refl };
+  visits = visits_none pages s s refl;
+  spare = refl;
+}
+
 pub consults_shown : (pages : List ℕ) (page : ℕ) (old new : MtrState) → is_in page pages ≡ true → Looks (visit page old.visited) old new → Consults pages old new
-consults_shown pages page old new known looks = record { goes = looks.goes; same = looks.pages; visits = visits_one pages page old new known looks.visited_is; held = looks.held; spare = looks.spare }
+consults_shown pages page old new known looks = record { goes = looks.goes; same = looks.pages; visits = visits_one pages page old new known looks.visited_is; spare = looks.spare }
 
 pub consults_refused : (pages : List ℕ) (old new : MtrState) → Looks old.visited old new → Consults pages old new
-consults_refused pages old new looks = record { goes = looks.goes; same = looks.pages; visits = visits_none pages old new looks.visited_is; held = looks.held; spare = looks.spare }
+consults_refused pages old new looks = record { goes = looks.goes; same = looks.pages; visits = visits_none pages old new looks.visited_is; spare = looks.spare }
 
 -- asking for one of the pages
 pub consults_asked : {T : Type 0} (pages : List ℕ) (page : ℕ) (old new : MtrState) (result : Result T Visit) → is_in page pages ≡ true → Asks page old result new → Consults pages old new

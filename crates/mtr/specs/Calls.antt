@@ -17,16 +17,11 @@ pub record SamePages (old new : MtrState) : Type 0 where
   pub seen : new.seen ≡ old.seen
   pub fault : new.fault ≡ old.fault
 
--- the pages dealt with are in the pool
-abbrev pub HoldsVisited : MtrState → Type 0
-HoldsVisited s = (page : ℕ) → IsTrue (is_in page s.visited) → IsTrue (s.pooled page)
-
 -- Nothing was changed, and these are now the pages dealt with.
 pub record Looks (visited : List ℕ) (old new : MtrState) : Type 0 where
   pub goes : Goes old new
   pub pages : IsTrue new.told → SamePages old new
   pub visited_is : new.visited ≡ visited
-  pub held : HoldsVisited new
   pub spare : new.spare ≡ old.spare
 
 -- the page is seen so, and the others as before
@@ -45,7 +40,6 @@ pub record Makes (page : ℕ) (old new : MtrState) : Type 0 where
   pub goes : Goes old new
   pub pages : IsTrue new.told → SeesAt page (replicate 4096 0) old new
   pub visited_is : new.visited ≡ visit page old.visited
-  pub held : HoldsVisited new
   pub spare : Spends 5 old new
 
 -- The page is seen with these bytes.
@@ -53,7 +47,6 @@ pub record Puts (page at : ℕ) (bytes : List ℕ) (old new : MtrState) : Type 0
   pub goes : Goes old new
   pub pages : IsTrue new.told → SeesAt page (with_bytes at bytes (old.seen page)) old new
   pub visited_is : new.visited ≡ old.visited
-  pub held : HoldsVisited new
   pub spare : Spends (length bytes + 9) old new
 
 -- a page that was dealt with can be read from now on
@@ -95,7 +88,6 @@ pub record Consults (pages : List ℕ) (old new : MtrState) : Type 0 where
   pub goes : Goes old new
   pub same : IsTrue new.told → SamePages old new
   pub visits : Visits pages old new
-  pub held : HoldsVisited new
   pub spare : new.spare ≡ old.spare
 
 -- Why a call that looks at these pages alone goes no further: the disk has failed, one of them isn't at hand, or one

@@ -18,6 +18,5 @@ returns-clause-made c =
             elsewhere = λ other ne. ap (λ (f : ℕ → List ℕ). f other) same.seen ∙ here.elsewhere other ne;
           };
       visited_is = looks.visited_is ∙ ap (visit c.args.page) written.visited_is;
-      held = looks.held;
       spare = λ enough. omega (arith, looks.spare, written.spare_is);
     }
