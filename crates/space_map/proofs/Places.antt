@@ -1,12 +1,12 @@
 -- Pages by the parts of the map: which bit of which of its pages is a page's.
-use Rattle.std.proofs.Common.{◌≡◌, ◌≢◌, ◌⊎◌, inl, inr, ℕ, zero, suc, ◌+◌, ◌-◌, ◌*◌, ◌/◌, ◌%◌, ◌<◌, ◌≤◌, min, List, drop, true, Option, Some, None, refl, sym, ap, ◌∙◌, subst, arith}
+use Rattle.std.proofs.Common.{◌≡◌, inl, inr, ℕ, zero, suc, ◌+◌, ◌-◌, ◌*◌, ◌/◌, ◌%◌, ◌<◌, ◌≤◌, min, List, drop, true, Some, None, refl, sym, ap, ◌∙◌, subst, arith}
 use Rattle.std.specs.Prelude.{slice_index}
 use Rattle.std.specs.Int.{bit_at}
 use Rattle.std.proofs.lemmas.Bool.{cases_lt}
 use Rattle.std.proofs.lemmas.Bool.Decides.{nat_tests}
 use Rattle.mtr.specs.Seen.{is_in, AreDistinct}
 use Rattle.mtr.proofs.Behind.{byte-behind}
-use Rattle.space_map.specs.Map.{map_page, byte_of, bit_in, mark_of, free_among, IsFirstFree}
+use Rattle.space_map.specs.Map.{bit_in, mark_of, free_among, IsFirstFree}
 use Rattle.space_map.specs.Places.{free_places}
 use Rattle.space_map.specs.Taking.{map_pages}
 

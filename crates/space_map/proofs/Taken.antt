@@ -1,13 +1,13 @@
 -- A page is looked for and then marked.
-use Rattle.std.proofs.Common.{◌≡◌, ◌≢◌, ℕ, ◌+◌, ◌<◌, ◌≤◌, List, [], ◌∷◌, Option, Some, None, sym, ap, ◌∙◌, subst, arith}
+use Rattle.std.proofs.Common.{◌≡◌, ℕ, ◌≤◌, List, [], ◌∷◌, Option, Some, None, ap, ◌∙◌, subst, arith}
 use Rattle.std.specs.Prelude.{IsTrue}
 use Rattle.page_format.specs.Words.{u32_at}
 use Rattle.mtr.specs.declared.answers.SpaceBad.{SpaceBad}
 use Rattle.mtr.specs.declared.answers.SpaceBad.TheVariants.{Full, Visit, NoMemory}
 use Rattle.mtr.specs.Seen.{MtrState, capacity_of, IsWithin, with_bytes}
-use Rattle.mtr.specs.Calls.{Goes, SamePages, SeesAt, Consults, IsReason}
+use Rattle.mtr.specs.Calls.{Goes, SamePages, SeesAt, Consults}
 use Rattle.mtr.proofs.Consulting.{goes_then, visits_then, consults_then, reason_later}
-use Rattle.space_map.specs.Map.{map_page, byte_of, mark_of, IsFree, IsFirstFree}
+use Rattle.space_map.specs.Map.{map_page, byte_of, mark_of, IsFirstFree}
 use Rattle.space_map.specs.Taking.{map_pages, Miscounts, MarksPage, Marks, Takes, IsTakeReason, IsGiveReason}
 use Rattle.space_map.proofs.Marked.{seen_through}
 

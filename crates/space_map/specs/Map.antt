@@ -1,5 +1,5 @@
 -- The map of used pages. It stands on pages 2 to 4, one bit for each page, 1 for a used one.
-use Rattle.std.specs.Prelude.{◌≡◌, ℕ, zero, suc, ◌+◌, ◌-◌, ◌*◌, ◌/◌, ◌%◌, ◌<◌, ◌≤◌, List, slice_index, Option, Some, None}
+use Rattle.std.specs.Prelude.{◌≡◌, ℕ, zero, suc, ◌+◌, ◌-◌, ◌/◌, ◌%◌, ◌<◌, ◌≤◌, List, slice_index, Option, Some, None}
 use Rattle.std.specs.Int.{bit_at}
 use Rattle.mtr.specs.Seen.{MtrState, capacity_of}
 

@@ -1,4 +1,4 @@
-use Rattle.std.proofs.Common.{◌≡◌, ℕ, ◌≤◌}
+use Rattle.std.proofs.Common.{◌≡◌, ◌≤◌}
 use Rattle.space_map.specs.Places.{free_places}
 use Rattle.space_map.proofs.bits.count_free.Given as goal
 

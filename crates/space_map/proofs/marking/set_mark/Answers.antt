@@ -1,4 +1,4 @@
-use Rattle.std.proofs.Common.{◌+◌, ◌/◌, ◌%◌, sym, subst, arith}
+use Rattle.std.proofs.Common.{◌+◌, ◌/◌, sym, subst, arith}
 use Rattle.mtr.specs.Calls.{Consults}
 use Rattle.mtr.proofs.Consulting.{consults_asked}
 use Rattle.space_map.specs.Taking.{map_pages}

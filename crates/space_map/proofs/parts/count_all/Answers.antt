@@ -1,4 +1,4 @@
-use Rattle.std.proofs.Common.{◌≡◌, ℕ, ◌+◌, ◌-◌, ◌*◌, min, List, ap, arith}
+use Rattle.std.proofs.Common.{ℕ, ◌+◌, ◌-◌, ◌*◌, min, List, ap, arith}
 use Rattle.mtr.proofs.Consulting.{consults_then, claim_left}
 use Rattle.space_map.specs.Map.{free_among}
 use Rattle.space_map.specs.Taking.{map_pages}

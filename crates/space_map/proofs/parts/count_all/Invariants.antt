@@ -1,4 +1,4 @@
-use Rattle.std.proofs.Common.{◌≡◌, ℕ, ◌+◌, ◌*◌, ◌≤◌, min}
+use Rattle.std.proofs.Common.{◌≡◌, ◌*◌, ◌≤◌, min}
 use Rattle.std.specs.Prelude.{IsTrue}
 use Rattle.mtr.specs.Calls.{Consults}
 use Rattle.space_map.specs.Map.{free_among}

@@ -1,4 +1,4 @@
-use Rattle.std.proofs.Common.{arith, ◌+◌, ◌-◌, ◌*◌, ◌≡◌, min, ◌∙◌, ap}
+use Rattle.std.proofs.Common.{arith, ◌+◌, ◌*◌, ◌∙◌, ap}
 use Rattle.mtr.proofs.Consulting.{consults_asked}
 use Rattle.space_map.specs.Map.{free_among}
 use Rattle.space_map.specs.Taking.{map_pages}

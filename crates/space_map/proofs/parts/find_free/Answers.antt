@@ -1,4 +1,4 @@
-use Rattle.std.proofs.Common.{◌≡◌, ℕ, ◌+◌, ◌*◌, min, List, None, subst, arith}
+use Rattle.std.proofs.Common.{ℕ, ◌+◌, ◌*◌, min, List, None, subst, arith}
 use Rattle.mtr.proofs.Consulting.{consults_then, claim_left}
 use Rattle.space_map.specs.Map.{IsFirstFree}
 use Rattle.space_map.specs.Taking.{map_pages}

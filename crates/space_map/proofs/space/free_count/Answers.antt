@@ -1,6 +1,5 @@
-use Rattle.std.proofs.Common.{◌≡◌, ℕ, List, ap, ◌∙◌, arith}
+use Rattle.std.proofs.Common.{arith}
 use Rattle.mtr.proofs.Consulting.{consults_then, claim_left}
-use Rattle.space_map.specs.Map.{free_among}
 use Rattle.space_map.specs.Taking.{map_pages}
 use Rattle.space_map.proofs.Places.{distinct_map_pages}
 use Rattle.space_map.proofs.space.free_count.Goals as goal
