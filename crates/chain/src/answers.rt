@@ -1,0 +1,10 @@
+//! What a chain answers where it shows no version.
+
+use mtr::Visit;
+
+/// Why a version isn't shown: its page isn't, or memory ran out.
+#[derive(Clone, Copy, Debug, PartialEq, Eq)]
+pub enum ChainBad {
+    Visit(Visit),
+    NoMemory,
+}
