@@ -1,18 +1,19 @@
 -- What chains have at places: after a change of one of them, and behind a place.
 use Rattle.std.proofs.Common.{◌≡◌, ◌∙◌, sym, ap, subst, refl, Bool, true, false, cond, List, [], ◌∷◌, Option, Some, None}
-use Rattle.std.specs.Prelude.{unwrap_or, filter, ◌&&◌, Result, Ok, Err, OnOk, OnErr}
+use Rattle.std.proofs.lemmas.Bool.{false≢true}
+use Rattle.std.specs.Prelude.{unwrap_or, filter, ◌&&◌, Result, Ok, Err, OnOk, OnErr, IfNone}
 use Rattle.std.specs.List.{AllByRecursion}
 use Rattle.std.specs.List.Sorted.{IsStrictlySortedBy}
 use Rattle.std.specs.Map.{lookup, keys_of}
 use Rattle.std.specs.BTreeMap.Range.{range_contains}
-use Rattle.std.specs.declared.ops.Bound.TheVariants.{Excluded, Unbounded}
-use Rattle.std.specs.Ordering.{is_eq, is_lt}
+use Rattle.std.specs.declared.ops.Bound.TheVariants.{Included, Excluded, Unbounded}
+use Rattle.std.specs.Ordering.{is_eq, is_lt, is_le}
 use Rattle.std.specs.Cmp.{alike_right}
 use Rattle.std.specs.declared.cmp.Ordering.{Ordering}
 use Rattle.std.specs.declared.cmp.Ordering.TheVariants.{Less, Equal, Greater}
 use Rattle.row_versions.specs.declared.place.Place.{Place}
 use Rattle.row_versions.specs.declared.version.Version.{Version}
-use Rattle.row_versions.specs.Chains.{Chains, place_order, is_same_place, versions_at, older, Pushes, Pops, IsNext, IsLast}
+use Rattle.row_versions.specs.Chains.{Chains, place_order, is_same_place, versions_at, older, Pushes, Pops, IsNext, IsLast, is_from, IsFirstFrom, IsNoneFrom}
 use Rattle.row_versions.specs.Laws.{place_total, same_place_equiv}
 
 -- what follows from the value of a call that succeeded, or that failed
@@ -23,6 +24,11 @@ on_ok (Err error) f p = p
 pub on_err : {T E P Q : Type 0} (result : Result T E) → (P → Q) → OnErr result P → OnErr result Q
 on_err (Ok value) f p = p
 on_err (Err error) f p = f p
+
+-- what holds anyway holds where nothing was found
+pub where_none : {X P : Type 0} (o : Option X) → P → IfNone o P
+where_none None p = p
+where_none (Some x) p = tt
 
 -- two places that are the same find the same
 lookup_same : (p q : Place) → is_same_place p q ≡ true → (chains : Chains) → lookup (is_same_place q) chains ≡ lookup (is_same_place p) chains
@@ -64,69 +70,114 @@ not_popped chains place none q = popped_none (is_same_place place q) (lookup (is
 
 -- ---- the next place
 
--- what a walk that begins behind the place gives
-abbrev pub is_behind : Place → Place → Bool
-is_behind place other = range_contains place_order (Excluded place) Unbounded other
+-- a test that takes equal places alike
+abbrev Respects : (Place → Bool) → Type 0
+Respects test = (other key : Place) → is_same_place other key ≡ true → test other ≡ test key
 
 less_apart : (r : Ordering) → r ≡ Less → is_eq r ≡ false
 less_apart r is = ap is_eq is
-
-less_test : (r : Ordering) → is_lt r && true ≡ true → r ≡ Less
-less_test Less is = refl
-less_test Equal is = cc
-less_test Greater is = cc
 
 equal_test : (r : Ordering) → is_eq r ≡ true → r ≡ Equal
 equal_test Less is = cc
 equal_test Equal is = refl
 equal_test Greater is = cc
 
-not_less : (r : Ordering) → is_lt r && true ≡ false → r ≡ Less → ⊥
-not_less Less not-less is = cc
-not_less Equal not-less is = cc
-not_less Greater not-less is = cc
-
 -- no entry behind a greater key has this place
 none_above : (other : Place) (key : Place) (chains : Chains) → place_order other key ≡ Less → AllByRecursion (λ k. place_order key k ≡ Less) (keys_of chains) → lookup (is_same_place other) chains ≡ None
 none_above other key [] below all = refl
 none_above other key (e ∷ chains) below all = rw (less_apart (place_order other e.0) (place_total.trans other key e.0 below all.0)) (none_above other key chains below all.1)
 
--- an entry that isn't behind the place is no place behind it
-apart_from : (place other key : Place) → place_order place other ≡ Less → is_behind place key ≡ false → is_same_place other key ≡ false
-apart_from place other key behind not-behind = go (is_same_place other key) refl where
+-- an entry that the test leaves out is no place that it takes
+apart_from : (test : Place → Bool) → Respects test → (other key : Place) → test other ≡ true → test key ≡ false → is_same_place other key ≡ false
+apart_from test respects other key takes leaves = go (is_same_place other key) refl where
   go : (b : Bool) → is_same_place other key ≡ b → is_same_place other key ≡ false
   go false is = is
-  go true is = absurd (not_less (place_order place key) not-behind (sym (alike_right place_total other key place (equal_test (place_order other key) is)) ∙ behind))
+  go true is = absurd (false≢true (sym leaves ∙ (sym (respects other key is) ∙ takes)))
 
-last_step : (place other : Place) (e : Place × List Version) (rest chains : Chains) (b : Bool) → is_behind place e.0 ≡ b → cond b (e ∷ rest) rest ≡ [] → place_order place other ≡ Less → (rest ≡ [] → versions_at other chains ≡ []) → versions_at other (e ∷ chains) ≡ []
-last_step place other e rest chains true test none behind later = cc
-last_step place other e rest chains false test none behind later = rw (apart_from place other e.0 behind test) (later none)
+last_step : (test : Place → Bool) → Respects test → (other : Place) (e : Place × List Version) (rest chains : Chains) (b : Bool) → test e.0 ≡ b → cond b (e ∷ rest) rest ≡ [] → test other ≡ true → (rest ≡ [] → versions_at other chains ≡ []) → versions_at other (e ∷ chains) ≡ []
+last_step test respects other e rest chains true takes none here later = cc
+last_step test respects other e rest chains false takes none here later = rw (apart_from test respects other e.0 here takes) (later none)
 
-pub is_last : (place : Place) (chains : Chains) → filter (λ e. is_behind place e.0) chains ≡ [] → IsLast place chains
-is_last place [] none other behind = refl
-is_last place (e ∷ chains) none other behind =
-    last_step place other e (filter (λ x. is_behind place x.0) chains) chains (is_behind place e.0) refl none behind (λ rest. is_last place chains rest other behind)
+none_taken : (test : Place → Bool) → Respects test → (chains : Chains) → filter (λ e. test e.0) chains ≡ [] → (other : Place) → test other ≡ true → versions_at other chains ≡ []
+none_taken test respects [] none other here = refl
+none_taken test respects (e ∷ chains) none other here =
+    last_step test respects other e (filter (λ x. test x.0) chains) chains (test e.0) refl none here (λ rest. none_taken test respects chains rest other here)
 
 first_of : (x e : Place × List Version) (xs es : Chains) → x ∷ xs ≡ e ∷ es → x ≡ e
 first_of x e xs es is = cc
 
-next_step : (place : Place) (x e : Place × List Version) (rest found chains : Chains) (b : Bool) → is_behind place x.0 ≡ b → cond b (x ∷ found) found ≡ e ∷ rest
-    → AllByRecursion (λ k. place_order x.0 k ≡ Less) (keys_of chains) → (found ≡ e ∷ rest → IsNext place chains e.0) → IsNext place (x ∷ chains) e.0
-next_step place x e rest found chains true test is above later =
-    subst (λ (y : Place × List Version). IsNext place (x ∷ chains) y.0) (first_of x e found rest is)
+-- the first entry that the test takes: none before it has versions
+record IsTaken (test : Place → Bool) (chains : Chains) (first : Place) : Type 0 where
+  taken : test first ≡ true
+  between : (other : Place) → test other ≡ true → place_order other first ≡ Less → versions_at other chains ≡ []
+
+taken_step : (test : Place → Bool) → Respects test → (x e : Place × List Version) (rest found chains : Chains) (b : Bool) → test x.0 ≡ b → cond b (x ∷ found) found ≡ e ∷ rest
+    → AllByRecursion (λ k. place_order x.0 k ≡ Less) (keys_of chains) → (found ≡ e ∷ rest → IsTaken test chains e.0) → IsTaken test (x ∷ chains) e.0
+taken_step test respects x e rest found chains true takes is above later =
+    subst (λ (y : Place × List Version). IsTaken test (x ∷ chains) y.0) (first_of x e found rest is)
     (record {
-      behind = less_test (place_order place x.0) test;
-      between = λ other after before. rw (less_apart (place_order other x.0) before) (ap (λ o. unwrap_or o []) (none_above other x.0 chains before above));
+      taken = takes;
+      between = λ other here before. rw (less_apart (place_order other x.0) before) (ap (λ o. unwrap_or o []) (none_above other x.0 chains before above));
     })
-next_step place x e rest found chains false test is above later =
+taken_step test respects x e rest found chains false takes is above later =
     let next = later is in
     record {
-      behind = next.behind;
-      between = λ other after before. rw (apart_from place other x.0 after test) (next.between other after before);
+      taken = next.taken;
+      between = λ other here before. rw (apart_from test respects other x.0 here takes) (next.between other here before);
     }
 
-pub is_next : (place : Place) (chains : Chains) → IsStrictlySortedBy place_order (keys_of chains) → (e : Place × List Version) (rest : Chains) → filter (λ x. is_behind place x.0) chains ≡ e ∷ rest → IsNext place chains e.0
+first_taken : (test : Place → Bool) → Respects test → (chains : Chains) → IsStrictlySortedBy place_order (keys_of chains) → (e : Place × List Version) (rest : Chains) → filter (λ x. test x.0) chains ≡ e ∷ rest → IsTaken test chains e.0
 unfolding IsStrictlySortedBy
-is_next place [] sorted e rest is = cc
-is_next place (x ∷ chains) sorted e rest is =
-    next_step place x e rest (filter (λ y. is_behind place y.0) chains) chains (is_behind place x.0) refl is sorted.0 (λ found. is_next place chains sorted.1 e rest found)
+first_taken test respects [] sorted e rest is = cc
+first_taken test respects (x ∷ chains) sorted e rest is =
+    taken_step test respects x e rest (filter (λ y. test y.0) chains) chains (test x.0) refl is sorted.0 (λ found. first_taken test respects chains sorted.1 e rest found)
+
+-- what a walk that begins behind the place gives, and one that begins at it
+abbrev pub is_behind : Place → Place → Bool
+is_behind place other = range_contains place_order (Excluded place) Unbounded other
+
+abbrev pub is_onward : Place → Place → Bool
+is_onward place other = range_contains place_order (Included place) Unbounded other
+
+alike : (place other key : Place) → is_same_place other key ≡ true → place_order place other ≡ place_order place key
+alike place other key same = alike_right place_total other key place (equal_test (place_order other key) same)
+
+behind_respects : (place : Place) → Respects (is_behind place)
+behind_respects place other key same = ap (λ r. is_lt r && true) (alike place other key same)
+
+onward_respects : (place : Place) → Respects (is_onward place)
+onward_respects place other key same = ap (λ r. is_le r && true) (alike place other key same)
+
+less_test : (r : Ordering) → is_lt r && true ≡ true → r ≡ Less
+less_test Less is = refl
+less_test Equal is = cc
+less_test Greater is = cc
+
+less_passes : (r : Ordering) → r ≡ Less → is_lt r && true ≡ true
+less_passes r is = ap (λ q. is_lt q && true) is
+
+from_test : (b : Bool) → b && true ≡ b
+from_test true = refl
+from_test false = refl
+
+pub is_last : (place : Place) (chains : Chains) → filter (λ e. is_behind place e.0) chains ≡ [] → IsLast place chains
+is_last place chains none other behind = none_taken (is_behind place) (behind_respects place) chains none other (less_passes (place_order place other) behind)
+
+pub is_next : (place : Place) (chains : Chains) → IsStrictlySortedBy place_order (keys_of chains) → (e : Place × List Version) (rest : Chains) → filter (λ x. is_behind place x.0) chains ≡ e ∷ rest → IsNext place chains e.0
+is_next place chains sorted e rest is =
+    let taken = first_taken (is_behind place) (behind_respects place) chains sorted e rest is in
+    record {
+      behind = less_test (place_order place e.0) taken.taken;
+      between = λ other after before. taken.between other (less_passes (place_order place other) after) before;
+    }
+
+pub is_none_from : (place : Place) (chains : Chains) → filter (λ e. is_onward place e.0) chains ≡ [] → IsNoneFrom place chains
+is_none_from place chains none other from = none_taken (is_onward place) (onward_respects place) chains none other (from_test (is_from place other) ∙ from)
+
+pub is_first_from : (place : Place) (chains : Chains) → IsStrictlySortedBy place_order (keys_of chains) → (e : Place × List Version) (rest : Chains) → filter (λ x. is_onward place x.0) chains ≡ e ∷ rest → IsFirstFrom place chains e.0
+is_first_from place chains sorted e rest is =
+    let taken = first_taken (is_onward place) (onward_respects place) chains sorted e rest is in
+    record {
+      from = sym (from_test (is_from place e.0)) ∙ taken.taken;
+      between = λ other from before. taken.between other (from_test (is_from place other) ∙ from) before;
+    }

@@ -1,6 +1,6 @@
 -- What the versions of rows are to their readers.
-use Rattle.std.specs.Prelude.{◌≡◌, ℕ, Bool, ◌==◌, ◌||◌, if◌then◌else◌, Option, None, unwrap_or, List, [], ◌∷◌}
-use Rattle.std.specs.Ordering.{is_eq}
+use Rattle.std.specs.Prelude.{◌≡◌, ℕ, Bool, true, ◌==◌, ◌||◌, if◌then◌else◌, Option, None, unwrap_or, List, [], ◌∷◌}
+use Rattle.std.specs.Ordering.{is_eq, is_le}
 use Rattle.std.specs.declared.cmp.Ordering.{Ordering}
 use Rattle.std.specs.declared.cmp.Ordering.TheVariants.{Less}
 use Rattle.std.specs.Map.{lookup}
@@ -53,6 +53,19 @@ Pushes old new place version = (other : Place) → versions_at other new ≡ (if
 -- the place has no longer its newest version, and each other place has what it had
 abbrev pub Pops : Chains → Chains → Place → Type 0
 Pops old new place = (other : Place) → versions_at other new ≡ (if is_same_place place other then older (versions_at other old) else versions_at other old)
+
+-- not before the place
+abbrev pub is_from : Place → Place → Bool
+is_from place other = is_le (place_order place other)
+
+-- the first place from this one on: none between has versions
+pub record IsFirstFrom (place : Place) (chains : Chains) (first : Place) : Type 0 where
+  pub from : is_from place first ≡ true
+  pub between : (other : Place) → is_from place other ≡ true → place_order other first ≡ Less → versions_at other chains ≡ []
+
+-- no place from this one on has versions
+abbrev pub IsNoneFrom : Place → Chains → Type 0
+IsNoneFrom place chains = (other : Place) → is_from place other ≡ true → versions_at other chains ≡ []
 
 -- the next place behind this one: none between has versions
 pub record IsNext (place : Place) (chains : Chains) (next : Place) : Type 0 where

@@ -60,6 +60,8 @@ fn walks_from_place_to_place(rt: HostRuntime) -> Result<(), Fail> {
     };
     assert!(rt; rows.next_after(&first) == Some(&number(0, -7)));
     assert!(rt; rows.next_after(&number(0, -7)) == Some(&number(0, 7)));
+    assert!(rt; rows.first_from(&number(0, -7)) == Some(&number(0, -7)));
+    assert!(rt; rows.first_from(&number(0, 8)) == rows.next_after(&number(0, 7)));
     let b = text(rt.alloc(), 1, "b")?;
     assert!(rt; rows.next_after(&number(0, 7)) == Some(&b));
     assert!(rt; rows.next_after(&b) == None);

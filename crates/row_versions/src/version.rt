@@ -1,7 +1,7 @@
 //! The versions of each place. A removed row leaves a version without a row, which stays until nobody needs it.
 
 ghost use Rattle.std.specs.Prelude.{◌≡◌, [], ◌∷◌, reverse, OnOk, OnErr, IfOk, IfNone, IfSome, option_copied};
-ghost use Rattle.row_versions.specs.Chains.{sees, versions_at, first_seen, newest, older, IsNext, IsLast, Pushes, Pops};
+ghost use Rattle.row_versions.specs.Chains.{sees, versions_at, first_seen, newest, older, IsFirstFrom, IsNoneFrom, IsNext, IsLast, Pushes, Pops};
 
 use crate::place::Place;
 use inno_types::Row;
@@ -103,6 +103,18 @@ impl RowVersions {
             alloc,
             chains: BTreeMap::new(alloc),
         }
+    }
+
+    /// The first place from this one on.
+    pub fn first_from(&self, place: &Place) -> Option<&Place>
+        ensures some { IfSome result (λ first. IsFirstFrom place.now self.now first.now) }
+        ensures none { IfNone result (IsNoneFrom place.now self.now) }
+    {
+        let mut onward = self
+            .chains
+            .range((Bound::Included(place), Bound::Unbounded));
+        let (first, _) = onward.next()?;
+        Some(first)
     }
 
     /// The next place behind this one.

@@ -23,12 +23,12 @@ use Rattle.read_view.specs.Sight.{Sight}
 use Rattle.txn_table.specs.Txns.{Txns, ids_of as active_of, with_id as with_txn_id, without, is_there, id_at}
 use Rattle.row_versions.specs.declared.place.Place.{Place}
 use Rattle.row_versions.specs.declared.version.Version.{Version}
-use Rattle.row_versions.specs.Chains.{Chains, is_same_place, versions_at, first_seen, newest, older, sees, IsNext, IsLast, Pushes, Pops}
+use Rattle.row_versions.specs.Chains.{Chains, is_same_place, versions_at, first_seen, newest, older, sees, IsFirstFrom, IsNoneFrom, IsNext, IsLast, Pushes, Pops}
 use Rattle.table_lists.specs.State.{writer_without}
 use Rattle.table_lists.specs.Slots.{Work, Slot, fresh, id_for, id_of_work, txn_of_work, places_of_work, with_view, with_id, with_place, without_place, but_first, first, GivesId}
 use Rattle.table_lists.specs.Ids.{given, id_of, is_among, opens}
 use Rattle.table_lists.specs.Order.{created, IsOfRow, IsTabled, IsUndoable, MayCome}
-use Rattle.table_lists.specs.Rows.{place_in, is_place, is_at, row_of, row_at, seen, row_seen, IsUnseen, IsNextSeen, IsLastSeen, IsNewestSeen}
+use Rattle.table_lists.specs.Rows.{place_in, is_place, is_at, row_of, row_at, seen, row_seen, IsUnseen, IsFirstSeen, IsNoneSeen, IsNextSeen, IsLastSeen, IsNewestSeen}
 use Rattle.table_lists.specs.Changes.{TakesBack}
 use Rattle.table_lists.specs.Agreement.{IsWorkOf, WorkAgrees, SlotAgrees, IsViewOf, ViewAgrees, versions_of, AreVersions, WriterAgrees, owed_by, owed_by_all, IsAgreed}
 use Rattle.table_lists.proofs.Ids.{AreIds, ids_of, given_few}
@@ -447,6 +447,12 @@ module _ (names : List (List ℕ)) (h : List Event) (room : ℕ) (schemas : List
       let above : list_any at (own s h) ≡ false =
       elim (eqb_tells s v.0) [ inl same ↦ ap (λ u. list_any at (own u h)) same.1 ∙ no_change (id_of h v.0) at (own v.0 h) empty.0 | inr differ ↦ v.1.alone s differ.1 ] in
       ap (λ (tables : List Schema). row_at (is_at tables place) (seen h s n)) (sym agreed.tables) ∙ (rows.row_at-append at (own s h) (committed n h) above ∙ below)
+
+  pub first_is : (place first : Place) → IsFirstFrom place chains first → IsFirstSeen h place first
+  first_is place first is = record { from = is.from; between = λ other from before. unseen other (is.between other from before) }
+
+  pub none_is : (place : Place) → IsNoneFrom place chains → IsNoneSeen h place
+  none_is place none other from = unseen other (none other from)
 
   pub next_is : (place next : Place) → IsNext place chains next → IsNextSeen h place next
   next_is place next is = record { behind = is.behind; between = λ other after before. unseen other (is.between other after before) }

@@ -1,5 +1,5 @@
 -- The rows that changes leave at places.
-use Rattle.std.specs.Prelude.{◌≡◌, ◌≢◌, ℕ, Bool, false, if◌then◌else◌, Option, Some, None, List, [], ◌∷◌, ◌++◌}
+use Rattle.std.specs.Prelude.{◌≡◌, ◌≢◌, ℕ, Bool, true, false, if◌then◌else◌, Option, Some, None, List, [], ◌∷◌, ◌++◌}
 use Rattle.std.specs.List.{list_any}
 use Rattle.std.specs.declared.cmp.Ordering.TheVariants.{Less}
 use Rattle.inno_types.specs.declared.value.Value.{Value}
@@ -10,7 +10,7 @@ use Rattle.inno_db.specs.Database.{key_in}
 use Rattle.inno_model.specs.declared.event.Event.{Event}
 use Rattle.inno_model.specs.Past.{own, commits, committed}
 use Rattle.row_versions.specs.declared.place.Place.{Place}
-use Rattle.row_versions.specs.Chains.{place_order, is_same_place}
+use Rattle.row_versions.specs.Chains.{place_order, is_same_place, is_from}
 use Rattle.table_lists.specs.Order.{created}
 
 -- the place that a change is made at; none where it makes a table
@@ -48,6 +48,15 @@ row_seen h s n place = row_at (is_at (created h) place) (seen h s n)
 -- no session sees a row there, under any view
 abbrev pub IsUnseen : List Event → Place → Type 0
 IsUnseen h place = (s n : ℕ) → row_seen h s n place ≡ None
+
+-- the first place from another on: no session sees a row between
+pub record IsFirstSeen (h : List Event) (place first : Place) : Type 0 where
+  pub from : is_from place first ≡ true
+  pub between : (other : Place) → is_from place other ≡ true → place_order other first ≡ Less → IsUnseen h other
+
+-- no session sees a row from the place on
+abbrev pub IsNoneSeen : List Event → Place → Type 0
+IsNoneSeen h place = (other : Place) → is_from place other ≡ true → IsUnseen h other
 
 -- the place comes next behind another: no session sees a row between
 pub record IsNextSeen (h : List Event) (place next : Place) : Type 0 where

@@ -9,7 +9,7 @@ ghost use Rattle.inno_model.specs.Legal.{IsOpen};
 ghost use Rattle.inno_model.specs.Recorded.{SameEntries};
 ghost use Rattle.table_lists.specs.State.{Adds, Closes, IsFirst, writer_without};
 ghost use Rattle.table_lists.specs.Order.{created, IsOfRow, MayCome};
-ghost use Rattle.table_lists.specs.Rows.{place_in, row_of, row_seen, IsNextSeen, IsLastSeen, IsNewestSeen};
+ghost use Rattle.table_lists.specs.Rows.{place_in, row_of, row_seen, IsFirstSeen, IsNoneSeen, IsNextSeen, IsLastSeen, IsNewestSeen};
 ghost use Rattle.table_lists.specs.Changes.{TakesBack};
 ghost use Rattle.table_lists.specs.Slots.{fresh, id_for, GivesId};
 ghost use Rattle.table_lists.specs.Agreement.{IsSound};
@@ -151,6 +151,14 @@ impl Lists {
         ensures { result ≡ length (own session self.now.past) }
     {
         self.slots.change_count(session)
+    }
+
+    /// The first place from this one on at which any session may see a row.
+    pub fn first_from(&self, place: &Place) -> Option<&Place>
+        ensures some { IfSome result (λ first. IsFirstSeen self.now.past place.now first.now) }
+        ensures none { IfNone result (IsNoneSeen self.now.past place.now) }
+    {
+        self.rows.first_from(place)
     }
 
     /// The next place behind this one at which any session may see a row.

@@ -1,3 +1,3 @@
-mod Gets
-mod Walk
+pub mod Gets
+pub mod Walk
 mod Searches

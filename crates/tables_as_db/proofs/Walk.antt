@@ -44,7 +44,7 @@ same_values (Text a) Null e = cc
 same_values (Text a) (Int b) e = cc
 same_values (Text a) (Text b) e = ap Text (slice_cmp-IsAntisymmetric nat_cmp-IsAntisymmetric a b e)
 
-same_places : IsAntisymmetric place_cmp
+pub same_places : IsAntisymmetric place_cmp
 same_places x y e =
     let table = nat_cmp-IsAntisymmetric x.0 y.0 (first_equal (nat_cmp x.0 y.0) (value_cmp x.1 y.1) e) in
     let key = same_values x.1 y.1 (then_both (nat_cmp x.0 y.0) (value_cmp x.1 y.1) e) in
