@@ -1,2 +1,3 @@
 mod Order
 pub mod Rows
+pub mod Latest

@@ -1,12 +1,13 @@
 //! What a walk has gathered, as contracts of functions with empty bodies. Statements stand on them; nothing calls them.
 
-ghost use Rattle.std.specs.Prelude.{◌≡◌, ℕ, List, [], Option, Some, None};
+ghost use Rattle.std.specs.Prelude.{◌≡◌, ◌≢◌, ℕ, List, [], Option, Some, None};
 ghost use Rattle.inno_types.specs.declared.value.Value.{Value};
 ghost use Rattle.inno_db.specs.Database.{rows_of};
 ghost use Rattle.inno_model.specs.declared.event.Event.{Event};
-ghost use Rattle.inno_model.specs.Past.{changed};
+ghost use Rattle.inno_model.specs.Past.{changed, commits, own};
+ghost use Rattle.row_versions.specs.declared.place.Place.{Place};
 ghost use Rattle.table_lists.specs.Agreement.{IsSound};
-ghost use Rattle.table_lists.specs.Rows.{IsUnseen, row_seen, seen};
+ghost use Rattle.table_lists.specs.Rows.{IsNewestSeen, IsUnseen, row_seen, seen};
 ghost use Rattle.tables_as_db.specs.Tables.{rows_in, with_all_tables};
 ghost use Rattle.gathering.specs.Walk.{Walk, at_key, with_row, ComesNext, IsOver, AreRowsSoFar};
 
@@ -22,4 +23,9 @@ pub fn a_place_more_is_gathered()
 pub fn a_walk_by_a_view_gathers_the_table()
     ensures { (h : List Event) (s n : ℕ) (walk : Walk) → IsSound h → AreRowsSoFar walk (λ k row. row ≡ row_seen h s n (at_key walk.table k)) → IsOver h walk.table walk.last
         → rows_of walk.table (record { schemas = []; rows = (changed (with_all_tables h) (seen h s n)).rows }) ≡ rows_in walk.rows }
+{}
+
+/// Who alone has changes finds at each place the latest committed row, or what its own changes left there.
+pub fn who_alone_writes_finds_the_latest_rows()
+    ensures { (h : List Event) (s : ℕ) (place : Place) (row : Option (List Value)) → ((u : ℕ) → u ≢ s → own u h ≡ []) → IsNewestSeen h place row → row ≡ row_seen h s (commits h) place }
 {}

@@ -5,5 +5,8 @@
 mod laws;
 mod walk;
 
-pub use laws::{a_place_more_is_gathered, a_walk_by_a_view_gathers_the_table};
+pub use laws::{
+    a_place_more_is_gathered, a_walk_by_a_view_gathers_the_table,
+    who_alone_writes_finds_the_latest_rows,
+};
 pub use walk::{Gathering, Sight};
