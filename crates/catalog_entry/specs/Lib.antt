@@ -1,0 +1,4 @@
+pub mod Entry
+pub mod Numbers
+pub mod Reading
+pub mod Refused

@@ -1,0 +1,33 @@
+//! Entries of the catalog as bytes, and bytes as entries.
+//! These two calls are all that crates above use.
+
+ghost use Rattle.std.specs.Prelude.{◌≡◌, ◌++◌, IfOk, IfErr, OnOk};
+ghost use Rattle.catalog_entry.specs.Entry.{entry_bytes, IsEntry};
+ghost use Rattle.catalog_entry.specs.Refused.{BeginsWith, IsRefused};
+
+use crate::held::{EntryBad, Held};
+use crate::reading::{Stop, entry_of};
+use crate::write;
+use std::alloc::Global;
+use store_api::NoMemory;
+
+/// Spells an entry at the end of a vector.
+pub fn put_entry(held: &Held, out: &mut Vec<u8>) -> Result<(), NoMemory>
+    requires { IsEntry held.now }
+    ensures { OnOk result (out.new.items ≡ out.old.items ++ entry_bytes held.now) }
+{
+    write::put_entry(held, out)?;
+    Ok(())
+}
+
+/// The table whose entry is at the front of these bytes. What stands behind it is passed over.
+pub fn get_entry(alloc: Global, bytes: &[u8]) -> Result<Held, EntryBad>
+    ensures entry { IfOk result (λ held. BeginsWith held bytes.now) }
+    ensures refused { IfErr result (IsRefused bytes.now) }
+{
+    match entry_of(alloc, bytes) {
+        Ok((held, _)) => Ok(held),
+        Err(Stop::Memory) => Err(EntryBad::NoMemory),
+        Err(Stop::Malformed) => Err(EntryBad::Shape),
+    }
+}
