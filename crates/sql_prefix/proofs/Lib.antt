@@ -1,0 +1,5 @@
+mod Cuts
+mod Ends
+mod CutConditions
+mod CutExpressions
+mod CutStatements
