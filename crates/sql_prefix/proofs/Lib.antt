@@ -3,3 +3,8 @@ mod Ends
 mod CutConditions
 mod CutExpressions
 mod CutStatements
+mod Spelled
+mod Words
+mod Tokens
+mod Finished
+mod Refusals

@@ -1,10 +1,15 @@
-//! How far bytes go on as some statement of the grammar does.
+//! How far bytes go on as some statement of the grammar does: the place of a refusal, found by trying.
+//! A text begins a statement where one of a few ends of its last token, one of a few ways to finish a statement
+//! and the closing brackets make it one. Nothing here is fast; only refused texts come here.
 #![tactic(auto)]
 
-ghost use Rattle.std.specs.Prelude.{◌≡◌};
+mod depth;
+mod ending;
+mod parser;
+mod place;
+mod prefix;
 
-pub fn nothing() -> u32
-    ensures { result ≡ 0 }
-{
-    0
-}
+pub use prefix::begins;
+
+pub use parser::parse;
+pub use place::longest_prefix;
