@@ -135,7 +135,7 @@ module _ (e : Event) (h : List Event) (t s : ℕ) (mine : is_of t e ≡ true) (d
     may_answer_on : (db : Database) → MayAnswer db s h → MayAnswer db s (e ∷ h)
     may_answer_on db may =
         record {
-          still = λ place row still. may.still place row (record { same = still.same.1 goes; left_alone = still.left_alone.1 goes });
+          still = λ place row same. may.still place row (same.1 goes);
           moved = λ place. elim (may.moved place) [ inl none ↦ inl none | inr was ↦ inr (inr (goes, was)) ];
         }
 

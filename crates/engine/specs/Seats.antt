@@ -44,6 +44,11 @@ IsIdle s state = seat_at state.seats s ≡ Idle
 abbrev pub IsWorking : {D : Type 0} → ℕ → State D → Type 0
 IsWorking s state = is_working (seat_at state.seats s) ≡ true
 
+-- the session has no item under way, and no open transaction
+pub record HasEnded {D : Type 0} (s : ℕ) (state : State D) : Type 0 where
+  pub rests : under_way s state.lists.past ≡ None
+  pub closed : IsClosed s state.lists.past
+
 -- what is kept of a session is what the past says
 abbrev pub SeatAgrees : Lists → ℕ → Seat → Type 0
 SeatAgrees lists s Idle = under_way s lists.past ≡ None

@@ -1,6 +1,6 @@
 //! The engine's calls. Each step of a session is a step of its statement; the seats say which sessions are at work.
 
-ghost use Rattle.std.specs.Prelude.{◌≡◌, ℕ, ◌<◌, ◌^◌, ◌∷◌, ◌++◌, [], length, None, Ok, IfOk, IfErr, OnOk, OnErr};
+ghost use Rattle.std.specs.Prelude.{◌≡◌, ℕ, ◌<◌, ◌^◌, ◌∷◌, ◌++◌, [], length, None, Ok, IsTrue, IfOk, IfErr, OnOk, OnErr};
 ghost use Rattle.inno_types.specs.declared.reply.Item.TheVariants.{Sql};
 ghost use Rattle.inno_model.specs.Past.{under_way};
 ghost use Rattle.engine.specs.Calls.{IsNew, IsOpened, Settled, GoesOut};
@@ -62,7 +62,7 @@ fn opened(alloc: Global) -> Result<Lists, NoMemory>
 }
 
 impl<D: Disk> Engine<D> {
-    ghost use Rattle.engine.specs.Seats.{IsJoined, IsIdle, IsWorking};
+    ghost use Rattle.engine.specs.Seats.{IsJoined, IsIdle, IsWorking, HasEnded};
     ghost use Rattle.engine.specs.Calls.{Joins, Starts, StepsBy, Leaves, SameState};
     ghost use Rattle.engine.specs.Going.{Nears};
     ghost use Rattle.engine.specs.Seats.{has_left, is_working, seat_at};
@@ -100,7 +100,8 @@ impl<D: Disk> Engine<D> {
     /// Whether the session's ending has come to its end.
     pub fn left(&self, s: u32) -> bool
         requires { IsJoined s self.now }
-        ensures { result ≡ has_left (seat_at self.now.seats s) }
+        ensures told { result ≡ has_left (seat_at self.now.seats s) }
+        ensures over { IsTrue result → HasEnded s self.now }
     {
         self.seats.has_left(s)
     }

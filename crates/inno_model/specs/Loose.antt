@@ -33,21 +33,8 @@ abbrev pub Throughout : (List Event → Type 0) → ℕ → List Event → Type 
 Throughout P s [] = Unit {0}
 Throughout P s (e ∷ past) = P (e ∷ past) × (starts s e ≡ false → Throughout P s past)
 
--- no item under way of another session has changed the place, nor has the end of another session
-abbrev pub changes_place : Database → Place → Event → Type 0
-changes_place db place (Changed t change) = place_of db.schemas change ≡ Some place
-changes_place db place (Undone t keep) = Unit {0}
-changes_place db place other = ⊥
-
-abbrev pub IsLeftAlone : Place → ℕ → List Event → Type 0
-IsLeftAlone place s past = (other : ℕ) → other ≢ s → AllByRecursion (λ e. changes_place (opening past) place e → ⊥) (of_item other past)
-
--- the row of the place is the same throughout, and nobody is at work on it
-pub record IsStill (place : Place) (row : Option (List Value)) (s : ℕ) (past : List Event) : Type 0 where
-  pub same : Throughout (IsNewest place row) s past
-  pub left_alone : Throughout (IsLeftAlone place s) s past
-
--- A database that the statement may answer by: each still place has its row, and each other place one of its rows or none.
+-- A database that the statement may answer by: a place whose newest row is the same throughout has that row, and each other
+-- place has one of its rows or none.
 pub record MayAnswer (db : Database) (s : ℕ) (past : List Event) : Type 0 where
-  pub still : (place : Place) (row : Option (List Value)) → IsStill place row s past → get db.rows place ≡ row
+  pub still : (place : Place) (row : Option (List Value)) → Throughout (IsNewest place row) s past → get db.rows place ≡ row
   pub moved : (place : Place) → (get db.rows place ≡ None) ⊎ Sometime (IsNewest place (get db.rows place)) s past

@@ -1,3 +1,4 @@
 pub mod Sent
+pub mod Answering
 pub mod Places
 pub mod Following

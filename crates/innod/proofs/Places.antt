@@ -1,6 +1,6 @@
 -- How far sessions are in a script, after each kind of move.
 use Rattle.std.proofs.Common.{◌≡◌, ◌∙◌, sym, ap, refl, ℕ, ◌+◌, ◌<◌, ◌≤◌, List, [], ◌∷◌, ◌++◌, ◌⊎◌, length, take, drop, get_or, set, Bool, true, false, cond, eqb, arith, rules, suc, inl, inr}
-use Rattle.std.specs.Prelude.{◌≢◌, All, Result, Ok, Err, OnOk}
+use Rattle.std.specs.Prelude.{◌≢◌, All, Result, Ok, Err, OnOk, None, is_ok}
 use Rattle.std.proofs.lemmas.Bool.{eq-eqb, ne_eqb}
 use Rattle.std.proofs.lemmas.Bool.Decides.{eqb_tells}
 use Rattle.std.proofs.lemmas.List.{take-append-drop, append-nil, get_or-set_same, get_or_past}
@@ -8,11 +8,13 @@ use Rattle.std.proofs.Math.Seq.{drop-cons, take-add, take-length}
 use Rattle.inno_types.specs.declared.reply.Item.{Item}
 use Rattle.inno_model.specs.declared.event.Event.{Event}
 use Rattle.inno_model.specs.declared.event.Event.TheVariants.{Started}
+use Rattle.inno_model.specs.Past.{under_way}
 use Rattle.inno_model.specs.Text.{items}
 use Rattle.script.specs.declared.script.Script.{Script}
 use Rattle.script.specs.declared.script.ScriptItem.{ScriptItem}
 use Rattle.script.specs.Script.{IsPlayable}
-use Rattle.innod.specs.Sessions.{items_of, HasStarted, FollowsScript, HasPlayed}
+use Rattle.innod.specs.Sessions.{items_of, HasStarted, FollowsScript, HasPlayed, AllRest}
+use Rattle.innod.proofs.Answering.{rests}
 
 chosen : (b : Bool) (x : Item) (xs ys : List Item) → cond b (x ∷ (xs ++ ys)) (xs ++ ys) ≡ cond b (x ∷ xs) xs ++ ys
 chosen true x xs ys = refl
@@ -107,7 +109,18 @@ to_the_end script places names past playable names_are count ends started = reco
   ];
 }
 
+-- none of the joined sessions has an item under way, and no other has one at all
+pub to_rest : (script : List ScriptItem) (places : List ℕ) (past : List Event) → HasStarted script places past → ((s : ℕ) → s < length places → under_way s past ≡ None) → AllRest past
+to_rest script places past started rest s = elim (below s (length places)) [
+  | inl here ↦ rest s here
+  | inr apart ↦ rests s past (started.items s ∙ ap (λ place. items_of s (take place script)) (get_or_past places s 0 apart))
+]
+
 -- what follows from the value of a call that succeeded
 pub on_ok : {T E P Q : Type 0} (result : Result T E) → (P → Q) → OnOk result P → OnOk result Q
 on_ok (Ok value) f p = f p
 on_ok (Err error) f p = p
+
+pub of_ok : {T E P : Type 0} (result : Result T E) → is_ok result ≡ true → OnOk result P → P
+of_ok (Ok value) is p = p
+of_ok (Err error) is p = cc

@@ -1,5 +1,6 @@
 -- What play sees of an engine.
 use Rattle.engine.specs.Seats.{State, seat_at, is_working, has_left}
+use Rattle.engine.specs.Going.{to_go}
 use Rattle.innod.specs.Sessions.{Shown}
 
 abbrev pub shown_of : {D : Type 0} → State D → Shown
@@ -8,4 +9,5 @@ shown_of state = record {
   past = state.lists.past;
   is_working = λ s. is_working (seat_at state.seats s);
   has_left = λ s. has_left (seat_at state.seats s);
+  to_go = λ s. to_go s state;
 }

@@ -7,7 +7,7 @@ use Rattle.script.specs.Script.{Spells, IsScript, IsBadAt}
 use Rattle.innod.specs.declared.outcome.Fault.{Fault}
 use Rattle.innod.specs.declared.outcome.Fault.TheVariants.{Nothing, Usage, ScriptBad, ScriptRead, OutputWrite, DiskFault, File, Limit, NoMemory}
 use Rattle.innod.specs.Streams.{AppendsFront}
-use Rattle.innod.specs.Sessions.{FollowsScript, HasPlayed}
+use Rattle.innod.specs.Sessions.{FollowsScript, HasPlayed, HasAnswered}
 
 abbrev pub status_of : Fault → ℕ
 status_of Nothing = 0
@@ -60,6 +60,6 @@ Judges other bytes = Unit {0}
 abbrev pub Follows : List ℕ → List Event → Type 0
 Follows bytes past = IsScript bytes → (script : Script) × Spells bytes script × FollowsScript script.items past
 
--- each session of the bytes has started all of its items
+-- each session of the bytes has started all of its items, and each of them was answered
 abbrev pub Plays : List ℕ → List (List ℕ) → List Event → Type 0
-Plays bytes names past = (script : Script) × Spells bytes script × HasPlayed script names past
+Plays bytes names past = (script : Script) × Spells bytes script × HasPlayed script names past × HasAnswered script past

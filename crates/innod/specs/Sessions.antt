@@ -1,19 +1,22 @@
 -- What contracts see of sessions, and what calls do to it.
-use Rattle.std.specs.Prelude.{◌≡◌, ℕ, ◌<◌, ◌≤◌, ◌==◌, if◌then◌else◌, Bool, false, List, [], ◌∷◌, ◌++◌, length, take, slice_index_or, All}
+use Rattle.std.specs.Prelude.{◌≡◌, ℕ, ◌<◌, ◌≤◌, ◌==◌, if◌then◌else◌, Bool, false, List, [], ◌∷◌, ◌++◌, length, take, slice_index_or, All, None}
 use Rattle.inno_types.specs.declared.reply.Item.{Item}
 use Rattle.inno_types.specs.declared.reply.Item.TheVariants.{Sql}
 use Rattle.inno_model.specs.declared.event.Event.{Event}
 use Rattle.inno_model.specs.declared.event.Event.TheVariants.{Started}
-use Rattle.inno_model.specs.Text.{items}
+use Rattle.inno_model.specs.Past.{under_way}
+use Rattle.inno_model.specs.Text.{items, answers}
 use Rattle.script.specs.declared.script.Script.{Script}
 use Rattle.script.specs.declared.script.ScriptItem.{ScriptItem}
 
--- the names by number, what has happened, the newest entry first, and who is at work and who has left
+-- the names by number, what has happened, the newest entry first, who is at work and who has left, and what each has before
+-- it at most
 pub record Shown : Type 0 where
   pub names : List (List ℕ)
   pub past : List Event
   pub is_working : ℕ → Bool
   pub has_left : ℕ → Bool
+  pub to_go : ℕ → List ℕ
 
 abbrev pub IsJoined : ℕ → Shown → Type 0
 IsJoined s shown = s < length shown.names
@@ -60,6 +63,14 @@ FollowsScript script past = (s : ℕ) → (left : List Item) × (items_of s scri
 pub record HasPlayed (script : Script) (names : List (List ℕ)) (past : List Event) : Type 0 where
   pub names_are : names ≡ script.names
   pub items : (s : ℕ) → items s past ≡ items_of s script.items
+
+-- each of them was answered
+abbrev pub HasAnswered : Script → List Event → Type 0
+HasAnswered script past = (s : ℕ) → length (answers s past) ≡ length (items_of s script.items)
+
+-- no item is left under way
+abbrev pub AllRest : List Event → Type 0
+AllRest past = (s : ℕ) → under_way s past ≡ None
 
 -- a step of play: nobody joins, and each session is where its place says
 pub record Plays (script : List ScriptItem) (places : List ℕ) (old new : Shown) : Type 0 where

@@ -1,11 +1,12 @@
 //! Plays a script on the calling thread: its items in order, and after each the steps of all sessions until no
 //! session can go on.
 
-ghost use Rattle.std.specs.Prelude.{◌≡◌, ◌<◌, ◌≤◌, [], ℕ, List, length, take, slice_index_or, All, IsTrue, IfSome, OnOk};
+ghost use Rattle.std.specs.Prelude.{◌≡◌, ◌<◌, ◌≤◌, [], ℕ, List, length, take, slice_index_or, All, IsTrue, IfSome, OnOk, None};
+ghost use Rattle.inno_model.specs.Past.{under_way};
 ghost use Rattle.inno_model.specs.Text.{items};
 ghost use Rattle.script.specs.declared.script.ScriptItem.{ScriptItem as ScriptItemValue};
 ghost use Rattle.script.specs.Script.{IsPlayable};
-ghost use Rattle.innod.specs.Sessions.{IsJoined, IsIdle, FollowsScript, HasPlayed, Plays, IsNew, items_of, IsStatement};
+ghost use Rattle.innod.specs.Sessions.{IsJoined, IsIdle, FollowsScript, HasPlayed, AllRest, Plays, IsNew, items_of, IsStatement};
 
 use crate::sessions::Sessions;
 use inno_types::Bytes;
@@ -22,6 +23,7 @@ pub fn play<E: Sessions>(alloc: Global, engine: &mut E, script: &Script) -> Resu
     requires playable { IsPlayable script.now }
     ensures follows { FollowsScript script.now.items (E.shown engine.new).past }
     ensures played { OnOk result (HasPlayed script.now (E.shown engine.new).names (E.shown engine.new).past) }
+    ensures rests { OnOk result (AllRest (E.shown engine.new).past) }
 {
     if script.names.len() > u32::MAX as usize {
         return Err(NoMemory);
@@ -56,6 +58,19 @@ fn all_at(end: usize, places: &[usize]) -> bool
     true
 }
 
+/// Whether all sessions have left.
+fn all_left<E: Sessions>(engine: &E, count: u32) -> bool
+    requires { count ≡ length (E.shown engine.now).names }
+    ensures { IsTrue result → (s : ℕ) → IsJoined s (E.shown engine.now) → under_way s (E.shown engine.now).past ≡ None }
+{
+    for s in 0..count {
+        if !engine.has_left(s) {
+            return false;
+        }
+    }
+    true
+}
+
 /// Plays all items, and lets the sessions leave.
 fn play_items<E: Sessions>(
     engine: &mut E,
@@ -67,12 +82,13 @@ fn play_items<E: Sessions>(
     requires statements { All IsStatement items.now }
     ensures plays { Plays items.now places.new (E.shown engine.old) (E.shown engine.new) }
     ensures ends { OnOk result (All (λ place. place ≡ length items.now) places.new) }
+    ensures rest { OnOk result ((s : ℕ) → IsJoined s (E.shown engine.new) → under_way s (E.shown engine.new).past ≡ None) }
 {
     for known in 0..items.len() {
         settle(engine, items, known + 1, places)?;
     }
     leave_all(engine, items, places)?;
-    if all_at(items.len(), places) {
+    if all_at(items.len(), places) && all_left(engine, places.len() as u32) {
         Ok(())
     } else {
         Err(NoMemory)
@@ -123,10 +139,7 @@ fn is_idle<E: Sessions>(engine: &E, s: u32) -> bool
     requires { IsJoined s (E.shown engine.now) }
     ensures { IsTrue result → IsIdle s (E.shown engine.now) }
 {
-    if engine.is_working(s) {
-        return false;
-    }
-    !engine.has_left(s)
+    !engine.is_working(s) && !engine.has_left(s)
 }
 
 /// Makes passes over the sessions until one changes nothing. So many of the items are known.

@@ -6,7 +6,7 @@ ghost use Rattle.inno_model.specs.Legal.{IsLegal};
 ghost use Rattle.inno_model.specs.Text.{text};
 ghost use Rattle.script.specs.Script.{IsScript, IsPlayable};
 ghost use Rattle.innod.specs.Words.{IsCommand};
-ghost use Rattle.innod.specs.Sessions.{FollowsScript, HasPlayed};
+ghost use Rattle.innod.specs.Sessions.{FollowsScript, HasPlayed, HasAnswered};
 ghost use Rattle.innod.specs.Run.{IsOutputFault, IsRunFault, IsPrinted, Judges, Follows, Plays};
 
 use crate::outcome::{Fault, Outcome, finish, read_input, refused};
@@ -61,6 +61,7 @@ fn serve<D: Disk, K: Sink>(alloc: Global, script: &Script, disk: D, out: &mut K)
     ensures printed { IsPrinted result.fault (K.taken out.old) (K.taken out.new) (text result.history) }
     ensures follows { FollowsScript script.now.items result.history.past }
     ensures played { result.fault ≡ Fault.Nothing → HasPlayed script.now result.history.names result.history.past }
+    ensures answered { result.fault ≡ Fault.Nothing → HasAnswered script.now result.history.past }
     ensures output_write { result.fault ≡ Fault.OutputWrite → Rose (K.faults out.old) (K.faults out.new) }
     ensures causes { IsOutputFault result.fault }
 {

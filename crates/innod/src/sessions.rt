@@ -1,7 +1,9 @@
 //! Sessions as play drives them: each makes its steps alone, and between the steps anybody's may come.
 
-ghost use Rattle.std.specs.Prelude.{◌≡◌, ◌<◌, ◌^◌, List, ℕ, length, true, OnOk, OnErr};
+ghost use Rattle.std.specs.Prelude.{◌≡◌, ◌<◌, ◌^◌, List, ℕ, length, true, None, IsTrue, OnOk, OnErr};
 ghost use Rattle.inno_types.specs.declared.reply.Item.TheVariants.{Sql};
+ghost use Rattle.inno_model.specs.Past.{under_way};
+ghost use Rattle.statement.specs.Going.{IsBelow};
 ghost use Rattle.innod.specs.Sessions.{Shown, IsJoined, IsIdle, StartsNothing, Joins, Starts};
 
 use inno_types::{Bytes, Item};
@@ -23,9 +25,11 @@ pub trait Sessions {
         requires { IsJoined s (shown self.now) }
         ensures { result ≡ (shown self.now).is_working s };
 
+    /// Whether the session is gone. Then nothing of it is under way.
     fn has_left(&self, s: u32) -> bool
         requires { IsJoined s (shown self.now) }
-        ensures { result ≡ (shown self.now).has_left s };
+        ensures told { result ≡ (shown self.now).has_left s }
+        ensures over { IsTrue result → under_way s (shown self.now).past ≡ None };
 
     fn start(&mut self, s: u32, item: &Item) -> Result<(), NoMemory>
         requires joined { IsJoined s (shown self.old) }
@@ -38,11 +42,13 @@ pub trait Sessions {
     fn step(&mut self, s: u32, now: u64) -> Progress
         requires joined { IsJoined s (shown self.old) }
         requires working { (shown self.old).is_working s ≡ true }
-        ensures { StartsNothing (shown self.old) (shown self.new) };
+        ensures starts { StartsNothing (shown self.old) (shown self.new) }
+        ensures nears { result ≡ Progress.Went → IsBelow ((shown self.new).to_go s) ((shown self.old).to_go s) };
 
     /// Sends the session on its way out.
     fn leave(&mut self, s: u32)
         requires joined { IsJoined s (shown self.old) }
         requires idle { IsIdle s (shown self.old) }
-        ensures { StartsNothing (shown self.old) (shown self.new) };
+        ensures starts { StartsNothing (shown self.old) (shown self.new) }
+        ensures leaving { (shown self.new).is_working s ≡ true };
 }

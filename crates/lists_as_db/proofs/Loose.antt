@@ -171,7 +171,7 @@ pub loose : (h : List Event) (s : ℕ) (rows : List (List Value)) → IsSound h 
 loose h s rows sound rising newest = (
   record { schemas = (opening h).schemas; rows = table_of rows },
   record {
-    still = λ place row still. still_is h s rows sound rising newest place row still.same;
+    still = λ place row same. still_is h s rows sound rising newest place row same;
     moved = λ place.
         elim (place_cases place) [
           | inl number ↦ inr (subst (λ q. Sometime (IsNewest q (get (table_of rows) q)) s h) (sym number.1) (moved_at h s rows sound rising newest number.0 number.2))

@@ -1,5 +1,5 @@
 -- What the rows say of a statement's reply and of its changes, by how it sees them.
-use Rattle.std.specs.Prelude.{◌≡◌, ◌⊎◌, ℕ, List, length, Option, Some, None, slice_get}
+use Rattle.std.specs.Prelude.{◌≡◌, ◌⊎◌, ℕ, List, ◌++◌, length, Option, Some, None, slice_get}
 use Rattle.std.specs.List.{AllByRecursion}
 use Rattle.std.specs.FinMap.{get}
 use Rattle.inno_types.specs.declared.value.Schema.{Schema}
@@ -14,7 +14,7 @@ use Rattle.inno_db.specs.Names.{table_place}
 use Rattle.inno_db.specs.Outcome.{outcome, matching}
 use Rattle.inno_model.specs.declared.event.Event.{Event}
 use Rattle.inno_model.specs.Outcome.{place_of}
-use Rattle.inno_model.specs.Past.{own, view_of, snapshot}
+use Rattle.inno_model.specs.Past.{own, view_of, opening, changed, committed}
 use Rattle.sql_history.specs.Items.{base, point, own_before, HasMade}
 use Rattle.sql_history.specs.Statements.{Sight, schemas_now}
 use Rattle.sql_history.specs.LooseReading.{IsLooseReading, IsQuiet, newest}
@@ -48,9 +48,13 @@ TakesLatest other db latest = ChangesLatest db latest (outcome other db).changes
 
 -- ---- which databases a statement may answer by
 
--- The snapshot of a view. Tables that were made since are there, and empty.
+-- the opening, with all tables that stand now
+abbrev pub with_tables : ℕ → List Event → Database
+with_tables s at = record (opening at) { schemas = schemas_now s at }
+
+-- The snapshot of a view. Tables that were made since are there, and their rows are the session's own.
 abbrev pub seen_by : ℕ → ℕ → List Event → Database
-seen_by s number at = record (snapshot s number at) { schemas = schemas_now s at }
+seen_by s number at = record (changed (with_tables s at) (own s at ++ committed number at)) { schemas = schemas_now s at }
 
 -- A statement may see this database at its point.
 abbrev pub MaySee : Sight → ℕ → Stmt → Database → List Event → Type 0

@@ -1,8 +1,8 @@
-use Rattle.std.proofs.Common.{◌≡◌, ◌∙◌, sym, subst, length, List}
+use Rattle.std.proofs.Common.{◌≡◌, ◌∙◌, sym, subst, length, List, arith}
 use Rattle.std.specs.Prelude.{All}
 use Rattle.script.specs.declared.script.ScriptItem.{ScriptItem}
 use Rattle.innod.specs.Sessions.{HasStarted, IsStatement}
-use Rattle.innod.proofs.Places.{follows, follows_nothing, on_ok, to_the_end}
+use Rattle.innod.proofs.Places.{follows, follows_nothing, on_ok, to_the_end, to_rest}
 use Rattle.innod.proofs.playing.play.Goals as goal
 
 pub returns-then-len-clause-follows : goal.returns-then-len-clause-follows
@@ -32,3 +32,12 @@ returns-clause-played g c =
     (subst (λ (list : List ScriptItem). All (λ place. place ≡ length list) places) c.as_slice-2.ensures ends)
     (subst (λ (list : List ScriptItem). HasStarted list places shown.past) c.as_slice-2.ensures plays.started))
     c.play_items.ensures.ends
+
+pub returns-clause-rests : goal.returns-clause-rests
+returns-clause-rests g c =
+    let shown = g.E.Sessions.shown c.play_items.new.engine in
+    let places = c.play_items.new.places in
+    let plays = c.play_items.ensures.plays in
+    on_ok c.play_items.result
+    (λ rest. to_rest c.args.script.now.items places shown.past (subst (λ (list : List ScriptItem). HasStarted list places shown.past) c.as_slice-2.ensures plays.started) (λ s lt. rest s (omega (arith, lt, plays.count))))
+    c.play_items.ensures.rest

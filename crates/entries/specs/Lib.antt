@@ -1,0 +1,5 @@
+pub mod Pairs
+pub mod Places
+pub mod Index
+pub mod Calls
+pub mod Lists

@@ -1,0 +1,4 @@
+pub mod Calls
+pub mod Listed
+pub mod Resting
+pub mod Seen

@@ -1,0 +1,59 @@
+//! Pages in memory, for tests of all that works over pages.
+//! They never fail, and each of them is at hand.
+
+ghost use Rattle.std.specs.Prelude.{◌≡◌, ℕ, ◌+◌, ◌<◌, ◌≤◌, length, IsTrue, IsOk, IfOk, OnOk, OnErr, Err};
+ghost use Rattle.mtr.specs.Resting.{IsResting};
+
+use crate::answers::{FreshBad, Visit};
+use crate::pages::Mtr;
+use crate::store::Store;
+use std::alloc::Global;
+use store_api::NoMemory;
+
+/// Pages in memory. They are told as long as page 0 counts no more than there are.
+#[derive(Drop)]
+pub struct ListedPages {
+    store: Store,
+}
+
+impl ListedPages {
+    /// These pages, with that spare at the beginning of each mini-transaction.
+    pub fn new(alloc: Global, pages: Vec<[u8; 4096]>, spare: u64) -> Result<ListedPages, NoMemory>
+        ensures { IfOk result (λ m. IsResting pages.items spare (⟦<ListedPages as Mtr>⟧.state m)) }
+    {
+        Ok(ListedPages {
+            store: Store::new(alloc, pages, spare)?,
+        })
+    }
+}
+
+impl Mtr for ListedPages {
+    ghost use Rattle.mtr.specs.Listed.{state_of};
+
+    ghost state = { λ m. state_of m.store };
+
+    fn bytes(&mut self, page: u32) -> Result<&[u8], Visit> {
+        self.store.visit(page);
+        Ok(self.store.page(page))
+    }
+
+    fn fresh(&mut self, page: u32) -> Result<(), FreshBad> {
+        match self.store.make(page) {
+            Ok(()) => Ok(()),
+            Err(_) => Err(FreshBad::NoMemory),
+        }
+    }
+
+    fn put(&mut self, page: u32, at: u16, bytes: &[u8]) -> Result<(), NoMemory> {
+        self.store.put(page, at, bytes)
+    }
+
+    fn commit(&mut self) -> Result<(), NoMemory> {
+        self.store.commit();
+        Ok(())
+    }
+
+    fn give_up(&mut self) {
+        self.store.give_up();
+    }
+}

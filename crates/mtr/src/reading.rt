@@ -1,0 +1,42 @@
+//! Numbers on pages, as a mini-transaction sees them.
+//! What asks for one page and reads one number of it is here.
+
+ghost use Rattle.std.specs.Prelude.{◌≡◌, ◌+◌, ◌≤◌, length, IsTrue, IfOk};
+ghost use Rattle.page_format.specs.Words.{u32_at};
+ghost use Rattle.mtr.specs.Seen.{visit, capacity_of};
+ghost use Rattle.mtr.specs.Calls.{Asks};
+
+use crate::answers::Visit;
+use crate::pages::Mtr;
+
+/// The number of 4 bytes at a place of bytes.
+#[tactic(auto, unfolding(page_format::specs::Words::u32_at))]
+pub fn read_u32(bytes: &[u8], at: usize) -> u32
+    requires { at + 4 ≤ length bytes.now }
+    ensures { result ≡ u32_at at bytes.now }
+{
+    let field = &bytes[at..at + 4];
+    u32::from_be_bytes([field[0], field[1], field[2], field[3]])
+}
+
+/// The number of 4 bytes at a place of a page.
+pub fn u32_on<M: Mtr>(m: &mut M, page: u32, at: usize) -> Result<u32, Visit>
+    requires few { length (visit page (M.state m.old).visited) ≤ 24 }
+    requires begins { 20 ≤ at }
+    requires ends { at + 4 ≤ 4096 }
+    ensures value { IfOk result (λ n. IsTrue (M.state m.old).told → n ≡ u32_at at ((M.state m.old).seen page)) }
+    ensures asks { Asks page (M.state m.old) result (M.state m.new) }
+{
+    let bytes = m.bytes(page)?;
+    Ok(read_u32(bytes, at))
+}
+
+/// How many pages there are.
+pub fn capacity<M: Mtr>(m: &mut M) -> Result<u32, Visit>
+    requires { length (visit 0 (M.state m.old).visited) ≤ 24 }
+    ensures value { IfOk result (λ n. IsTrue (M.state m.old).told → n ≡ capacity_of (M.state m.old)) }
+    ensures counted { IfOk result (λ n. IsTrue (M.state m.new).told → n ≡ capacity_of (M.state m.new)) }
+    ensures asks { Asks 0 (M.state m.old) result (M.state m.new) }
+{
+    u32_on(m, 0, 44)
+}

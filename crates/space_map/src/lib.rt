@@ -1,0 +1,13 @@
+//! The map of used pages: one is taken, given back, and the free ones are counted.
+//! Only this crate writes to pages 2 to 4 once files are made.
+#![tactic(auto)]
+
+mod bits;
+mod marking;
+mod parts;
+mod space;
+
+pub use space::{free_count, give, take};
+
+#[cfg(test)]
+mod tests;

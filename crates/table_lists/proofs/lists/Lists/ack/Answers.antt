@@ -1,0 +1,26 @@
+use Rattle.std.proofs.Common.{ap, length, ◌<◌, arith}
+use Rattle.table_lists.specs.State.{State}
+use Rattle.table_lists.proofs.Agree.{agreed_acked, acked_owed}
+use Rattle.table_lists.proofs.lists.Lists.ack.Goals as goal
+
+pub add-requires : goal.add-requires
+add-requires c =
+    let l = c.self.inside in
+    let past = ap (λ (s : State). s.past) c.self.view_is in
+    let joined : c.args.session < length l.history.names = omega (arith, c.requires.joined, ap (λ (s : State). length s.names) c.self.view_is) in
+    omega (arith, acked_owed l.history.names l.history.past l.history.room l.schemas l.rows l.txns l.slots l.owed l.writer c.self.invariant c.args.session c.args.moment (rw past c.requires.may) joined, c.self.invariant.has_room)
+
+pub overflow_sub-self : goal.overflow_sub-self
+overflow_sub-self c =
+    let l = c.self.inside in
+    let past = ap (λ (s : State). s.past) c.self.view_is in
+    let joined : c.args.session < length l.history.names = omega (arith, c.requires.joined, ap (λ (s : State). length s.names) c.self.view_is) in
+    acked_owed l.history.names l.history.past l.history.room l.schemas l.rows l.txns l.slots l.owed l.writer c.self.invariant c.args.session c.args.moment (rw past c.requires.may) joined
+
+pub invariant_of-self : goal.invariant_of-self
+invariant_of-self c =
+    let l = c.self.inside in
+    let past = ap (λ (s : State). s.past) c.self.view_is in
+    let joined : c.args.session < length l.history.names = omega (arith, c.requires.joined, ap (λ (s : State). length s.names) c.self.view_is) in
+    let few = rw c.add.ensures.past at c.add.ensures.few in
+    rw (c.add.ensures.names, c.add.ensures.past) (agreed_acked l.history.names l.history.past l.history.room l.schemas l.rows l.txns l.slots l.owed l.writer c.self.invariant c.args.session c.args.moment (rw past c.requires.may) few joined c.add.new.self.room c.add.ensures.room)
