@@ -366,9 +366,12 @@ one_there P xs n y le e p = ((λ f. (n, y, le, e, p)), (λ a. refl))
 
 -- ---- the search of the place
 
-pub begin_search : (bytes : List ℕ) → (Begins bytes → ⊥) → IsBetween bytes 0 (length bytes)
-begin_search [] h = absurd (h nothing_begins)
-begin_search (b ∷ bytes) h = record { apart = omega arith; within = omega arith; begins = nothing_begins; fails = λ g. h (subst (λ (z : List ℕ). Begins z) (take-length (b ∷ bytes)) g) }
+pub begin_search : (bytes : List ℕ) (b : Bool) → b ≡ false → Decides b (Begins bytes) → IsBetween bytes 0 (length bytes)
+begin_search [] b e d = let f : false ≡ true = sym e ∙ d.1 nothing_begins in absurd (cc)
+begin_search (x ∷ bytes) b e d = record { apart = omega arith; within = omega arith; begins = nothing_begins; fails = λ g. fail (d.1 (subst (λ (z : List ℕ). Begins z) (take-length (x ∷ bytes)) g)) }
+  where
+    fail : b ≡ true → ⊥
+    fail f = let t : false ≡ true = sym e ∙ f in absurd (cc)
 
 pub end_search : (bytes : List ℕ) (low high : ℕ) → high - low ≤ 1 → IsBetween bytes low high → IsLongestPrefix bytes low
 end_search bytes low high le b =
@@ -407,3 +410,11 @@ no_more_places bytes word n h none k le g = by_case (k == n) refl
     by_case : (t : Bool) → (k == n) ≡ t → ⊥
     by_case true e = h (subst (λ (z : ℕ). GoesOnAt bytes word (z + 1)) (eqb-true k n e) g)
     by_case false e = none k (grind (arith, le)) g
+
+-- ---- the brackets are closed
+
+pub closed_up : (text before behind all result : List ℕ) (n depth : ℕ) → all ≡ text ++ (before ++ replicate n 41) → n ≡ depth → result ≡ all ++ behind → result ≡ text ++ (before ++ (replicate depth 41 ++ behind))
+closed_up text before behind all result n depth same count last =
+    let here : text ++ (before ++ replicate n 41) ≡ text ++ (before ++ replicate depth 41) = ap (λ (k : ℕ). text ++ (before ++ replicate k 41)) count in
+    let whole : result ≡ (text ++ (before ++ replicate depth 41)) ++ behind = last ∙ ap (λ (z : List ℕ). z ++ behind) (same ∙ here) in
+    whole ∙ append_assoc text (before ++ replicate depth 41) behind ∙ ap (λ (z : List ℕ). text ++ z) (append_assoc before (replicate depth 41) behind)
