@@ -1,16 +1,15 @@
 -- Tokens that are cut off amid a statement can be finished: conditions.
-use Rattle.std.proofs.Common.{◌≡◌, ℕ, zero, suc, List, [], ◌∷◌, ◌++◌, Option, Some, None, Bool, true, false, refl, ◌∙◌, ap, sym, subst}
-use Rattle.inno_types.specs.declared.stmt.Comparison.TheVariants.{Equal, NotEqual, Less, LessOrEqual, Greater, GreaterOrEqual}
+use Rattle.std.proofs.Common.{◌≡◌, ℕ, zero, suc, List, [], ◌∷◌, ◌++◌, Option, Some, None, true, false, refl, ap, subst}
+use Rattle.inno_types.specs.declared.stmt.Comparison.TheVariants.{Equal, Less, Greater}
 use Rattle.inno_types.specs.declared.stmt.Comparison.{Comparison}
 use Rattle.inno_types.specs.declared.stmt.Literal.{Literal}
-use Rattle.inno_types.specs.declared.stmt.Literal.TheVariants as literal
 use Rattle.inno_types.specs.declared.stmt.Operand.{Operand}
 use Rattle.inno_types.specs.declared.stmt.Operand.TheVariants as operand
 use Rattle.inno_types.specs.declared.stmt.Filter.{Filter}
 use Rattle.inno_types.specs.declared.stmt.Filter.TheVariants as filter
 use Rattle.sql_grammar.specs.declared.token.Word.TheVariants as word
 use Rattle.sql_grammar.specs.declared.token.Token.{Token}
-use Rattle.sql_grammar.specs.declared.token.Token.TheVariants.{Key, Bare, Quoted, Number, Text, Compare, Open, Close, Comma, Star, Plus, Minus}
+use Rattle.sql_grammar.specs.declared.token.Token.TheVariants.{Key, Compare, Open, Close}
 use Rattle.sql_grammar.specs.Grammar.{plain_number, Name, Lit, Tuple, Oper, Atom, Condition, Strength, Loose, Tight, Single, Where}
 use Rattle.sql_grammar.specs.Grammar as grammar
 use Rattle.sql_prefix.specs.Fronts.{level}

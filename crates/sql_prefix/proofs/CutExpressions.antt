@@ -1,11 +1,11 @@
 -- Tokens that are cut off amid a statement can be finished: expressions and assignments.
-use Rattle.std.proofs.Common.{◌≡◌, ℕ, zero, suc, List, [], ◌∷◌, ◌++◌, refl, subst}
+use Rattle.std.proofs.Common.{◌≡◌, ℕ, suc, List, [], ◌∷◌, ◌++◌, refl, subst}
 use Rattle.inno_types.specs.declared.stmt.Comparison.TheVariants.{Equal}
 use Rattle.inno_types.specs.declared.stmt.Expr.{Expr}
 use Rattle.inno_types.specs.declared.stmt.Expr.TheVariants as expr
 use Rattle.inno_types.specs.declared.stmt.Set.{Set}
 use Rattle.sql_grammar.specs.declared.token.Token.{Token}
-use Rattle.sql_grammar.specs.declared.token.Token.TheVariants.{Number, Compare, Open, Close, Star, Plus, Minus}
+use Rattle.sql_grammar.specs.declared.token.Token.TheVariants.{Compare, Open, Close, Star, Plus, Minus}
 use Rattle.sql_grammar.specs.Grammar.{plain_number, negative_number, Name, Commas, BeginsNoNumber, Expression, Strength, Loose, Tight, Single, Assignment}
 use Rattle.sql_grammar.specs.Grammar as grammar
 use Rattle.sql_prefix.specs.Fronts.{level}

@@ -1,5 +1,5 @@
 -- Tokens that are cut off amid a statement can be finished: definitions and whole statements.
-use Rattle.std.proofs.Common.{◌≡◌, ℕ, zero, suc, List, [], ◌∷◌, ◌++◌, Option, Some, None, Bool, true, false, refl, ◌∙◌, subst}
+use Rattle.std.proofs.Common.{◌≡◌, ℕ, suc, List, [], ◌∷◌, ◌++◌, Option, Some, None, Bool, true, false, refl, ◌∙◌, subst}
 use Rattle.inno_types.specs.declared.lock.Mode.{Mode}
 use Rattle.inno_types.specs.declared.lock.Mode.TheVariants.{S, X as Exclusive}
 use Rattle.inno_types.specs.declared.lock.Level.{Level}
@@ -21,7 +21,7 @@ use Rattle.inno_types.specs.declared.stmt.Stmt.{Stmt}
 use Rattle.inno_types.specs.declared.stmt.Stmt.TheVariants as stmt
 use Rattle.sql_grammar.specs.declared.token.Word.TheVariants as word
 use Rattle.sql_grammar.specs.declared.token.Token.{Token}
-use Rattle.sql_grammar.specs.declared.token.Token.TheVariants.{Key, Bare, Quoted, Number, Compare, Open, Close, Comma, Star}
+use Rattle.sql_grammar.specs.declared.token.Token.TheVariants.{Key, Bare, Quoted, Compare, Open, Close}
 use Rattle.sql_grammar.specs.Grammar.{plain_number, size_of, Name, Commas, Tuple, Where, Assignment, ColumnKind, Nullable, Primary, KeyWord, Bracketed, Define, IfNotExists, Engine, Choice, Locking, Into, ColumnList, ValuesWord, Work, SavepointWord, Switch, Scope, LevelName, Statement}
 use Rattle.sql_grammar.specs.Grammar as grammar
 use Rattle.sql_prefix.specs.Fronts.{level}

@@ -1,10 +1,10 @@
 -- Ways to finish a statement that was cut off, before its brackets are closed.
-use Rattle.std.specs.Prelude.{ℕ, List, [], ◌∷◌, Some, None, codes}
+use Rattle.std.specs.Prelude.{List, [], ◌∷◌, Some}
 use Rattle.inno_types.specs.declared.stmt.Comparison.TheVariants.{Equal}
 use Rattle.sql_grammar.specs.declared.token.Word.{Word}
 use Rattle.sql_grammar.specs.declared.token.Word.TheVariants as word
 use Rattle.sql_grammar.specs.declared.token.Token.{Token}
-use Rattle.sql_grammar.specs.declared.token.Token.TheVariants.{Key, Bare, Number, Compare, Open, Close}
+use Rattle.sql_grammar.specs.declared.token.Token.TheVariants.{Key, Bare, Compare, Open, Close}
 use Rattle.sql_grammar.specs.Words.{spelling}
 use Rattle.sql_prefix.proofs.Cuts.{X, Zero}
 

@@ -1,19 +1,17 @@
 -- What finishes tokens that are cut off, in bytes; and that a text begins a statement exactly where one of these finishes it.
-use Rattle.std.proofs.Common.{◌≡◌, ◌⊎◌, inl, inr, ℕ, zero, suc, ◌+◌, ◌-◌, ◌<◌, ◌≤◌, List, [], ◌∷◌, ◌++◌, length, take, drop, Some, None, Result, Ok, Err, Bool, true, false, refl, ◌∙◌, ap, sym, subst, arith, append_assoc, length-append}
+use Rattle.std.proofs.Common.{◌≡◌, ◌⊎◌, inl, inr, ℕ, zero, suc, ◌+◌, ◌-◌, ◌<◌, ◌≤◌, List, [], ◌∷◌, ◌++◌, length, take, drop, Some, Result, Ok, Err, Bool, true, false, refl, ◌∙◌, ap, sym, subst, arith, append_assoc, length-append}
 use Rattle.std.specs.Prelude.{◌==◌, IfOk, replicate, codes, Any, Contains, slice_index_or}
 use Rattle.std.proofs.lemmas.Bool.{eqb-true}
 use Rattle.std.specs.Bool.{Decides}
-use Rattle.std.specs.Str.{bytes_eq}
 use Rattle.std.proofs.lemmas.Slice.Eq.{bytes_eq-Decides}
 use Rattle.std.proofs.lemmas.List.{append-nil, length-map, get_or_read}
 use Rattle.std.specs.Char.{to_ascii_uppercase}
 use Rattle.std.proofs.Math.Seq.{take-append_seam, drop-append_seam, take-length}
-use Rattle.inno_types.specs.declared.stmt.Stmt.{Stmt}
 use Rattle.inno_types.specs.declared.stmt.Stmt.TheVariants as stmt
 use Rattle.sql_grammar.specs.declared.token.Word.{Word}
 use Rattle.sql_grammar.specs.declared.token.Word.TheVariants as word
 use Rattle.sql_grammar.specs.declared.token.Token.{Token}
-use Rattle.sql_grammar.specs.declared.token.Token.TheVariants.{Key, Bare, Close}
+use Rattle.sql_grammar.specs.declared.token.Token.TheVariants.{Bare}
 use Rattle.sql_grammar.specs.Words.{capitals, spelling}
 use Rattle.sql_grammar.specs.Tokens.{after_blank, token_at, sign_at, word_token, AreTokens}
 use Rattle.sql_grammar.specs.Tokens as spelled
@@ -25,7 +23,7 @@ use Rattle.sql_prefix.specs.declared.prefix.TokenEnd.{TokenEnd}
 use Rattle.sql_prefix.specs.declared.prefix.TokenEnd.TheVariants as token
 use Rattle.sql_prefix.specs.Endings.{before, behind, token_end}
 use Rattle.sql_prefix.specs.Fronts.{level}
-use Rattle.sql_prefix.specs.Prefix.{IsStatement, Begins, Finishes, IsFinished, ended, IsCutOff, GoesOnByToken, ends_in, GoesOnAt, GoesOn, GoesOnByWord, IsBetween, IsLongestPrefix}
+use Rattle.sql_prefix.specs.Prefix.{IsStatement, Begins, IsFinished, ended, IsCutOff, GoesOnByToken, ends_in, GoesOnAt, GoesOn, GoesOnByWord, IsBetween, IsLongestPrefix}
 use Rattle.sql_prefix.proofs.Cuts.{closers, deeper}
 use Rattle.sql_prefix.proofs.Ends.{End, Final, Tuples}
 use Rattle.sql_prefix.proofs.Ends as ends
@@ -115,8 +113,11 @@ in_line p e tail = sym (append_assoc p (e ++ (10 ∷ [])) tail ∙ ap (λ (z : L
 
 cut_off : (p e : List ℕ) (us : List Token) → ((tail : List ℕ) (more : List Token) → AreTokens tail more → AreTokens (p ++ (e ++ (10 ∷ tail))) (us ++ more)) → Done Statement us → IsCutOff p e
 cut_off p e us reads d =
-    record { tokens = us; lexed = subst (λ (z : List Token). AreTokens (ended p e) z) (append-nil us) (reads [] [] spelled.nothing);
-             finished = is_finished (ended p e) us (λ tail more a. subst (λ (z : List ℕ). AreTokens z (us ++ more)) (in_line p e tail) (reads tail more a)) d }
+    record {
+      tokens = us;
+      lexed = subst (λ (z : List Token). AreTokens (ended p e) z) (append-nil us) (reads [] [] spelled.nothing);
+      finished = is_finished (ended p e) us (λ tail more a. subst (λ (z : List ℕ). AreTokens z (us ++ more)) (in_line p e tail) (reads tail more a)) d;
+    }
 
 fixed_end : {e : List ℕ} → Fixed e → (t : TokenEnd) × (e ≡ token_end t)
 fixed_end tokens.nothing = (token.Nothing, refl)
@@ -148,10 +149,15 @@ ends_with_it front last =
 
 word_goes_on : (front head tail : List ℕ) → 1 ≤ length head → IsCutOff (front ++ head) tail → GoesOn (front ++ head) (capitals head ++ tail)
 word_goes_on front head tail le c =
-    let n = length (capitals head) in
-    (n, omega (arith, le, length-map head to_ascii_uppercase), omega (arith, length-append (capitals head) tail),
-    (subst (λ (z : List ℕ). ends_in (front ++ head) z ≡ true) (sym (front_taken (capitals head) tail)) (ends_with_it front head),
-    subst (λ (z : List ℕ). IsCutOff (front ++ head) z) (sym (front_dropped (capitals head) tail)) c))
+    let n = length (capitals head) in (
+      n,
+      omega (arith, le, length-map head to_ascii_uppercase),
+      omega (arith, length-append (capitals head) tail),
+      (
+        subst (λ (z : List ℕ). ends_in (front ++ head) z ≡ true) (sym (front_taken (capitals head) tail)) (ends_with_it front head),
+        subst (λ (z : List ℕ). IsCutOff (front ++ head) z) (sym (front_dropped (capitals head) tail)) c,
+      ),
+    )
 
 by_end : (p e : List ℕ) → LexEnd p e → IsCutOff p e → GoesOnByToken p ⊎ GoesOnByWord p
 by_end p e (fixed f) c = let t = fixed_end f in inl (t.0, subst (λ (z : List ℕ). IsCutOff p z) t.1 c)
@@ -337,10 +343,11 @@ pub unread_cuts_nothing : (text bytes e : List ℕ) (unread : ℕ) (us : List To
 unread_cuts_nothing text bytes e unread us same only le = ((λ f. absurd (cc)), (λ c. absurd (omega (arith, (only c.tokens (subst (λ (z : List ℕ). AreTokens z c.tokens) (sym same) c.lexed)).0, le))))
 
 pub read_cuts : (text bytes e : List ℕ) (unread : ℕ) (us : List Token) (d : ℕ) (b : Bool) → text ≡ ended bytes e → ((others : List Token) → AreTokens text others → (unread ≡ 0) × (others ≡ us)) → AreTokens text us → d ≡ level 0 us → Decides b (IsFinished text d) → Decides b (IsCutOff bytes e)
-read_cuts text bytes e unread us d b same only whole depth f =
-    ((λ g. record { tokens = us; lexed = subst (λ (z : List ℕ). AreTokens z us) same whole; finished = subst (λ (z : List ℕ). IsFinished z (level 0 us)) same (subst (λ (n : ℕ). IsFinished text n) depth (f.0 g)) }),
-    (λ c. f.1 (subst (λ (n : ℕ). IsFinished text n) (sym depth) (subst (λ (z : List ℕ). IsFinished z (level 0 us)) (sym same)
-        (subst (λ (z : List Token). IsFinished (ended bytes e) (level 0 z)) (only c.tokens (subst (λ (z : List ℕ). AreTokens z c.tokens) (sym same) c.lexed)).1 c.finished)))))
+read_cuts text bytes e unread us d b same only whole depth f = (
+  (λ g. record { tokens = us; lexed = subst (λ (z : List ℕ). AreTokens z us) same whole; finished = subst (λ (z : List ℕ). IsFinished z (level 0 us)) same (subst (λ (n : ℕ). IsFinished text n) depth (f.0 g)) }),
+  (λ c. f.1 (subst (λ (n : ℕ). IsFinished text n) (sym depth) (subst (λ (z : List ℕ). IsFinished z (level 0 us)) (sym same)
+      (subst (λ (z : List Token). IsFinished (ended bytes e) (level 0 z)) (only c.tokens (subst (λ (z : List ℕ). AreTokens z c.tokens) (sym same) c.lexed)).1 c.finished)))),
+)
 
 -- ---- loops
 
@@ -397,9 +404,10 @@ read_cuts_ok text bytes e unread us d (Err x) same only whole depth f = tt
 
 -- no place of a word, or one
 pub no_place : (bytes word : List ℕ) (n : ℕ) → length word ≤ n → ((k : ℕ) → k < n → GoesOnAt bytes word (k + 1) → ⊥) → Decides false (GoesOn bytes word)
-no_place bytes word n le none =
-    ((λ f. absurd (cc)),
-    (λ g. let k = g.0 - 1 in let same : g.0 ≡ k + 1 = omega (arith, g.1) in absurd (none k (omega (arith, g.1, g.2)) (subst (λ (z : ℕ). GoesOnAt bytes word z) same g.3))))
+no_place bytes word n le none = (
+  (λ f. absurd (cc)),
+  (λ g. let k = g.0 - 1 in let same : g.0 ≡ k + 1 = omega (arith, g.1) in absurd (none k (omega (arith, g.1, g.2)) (subst (λ (z : ℕ). GoesOnAt bytes word z) same g.3))),
+)
 
 pub one_place : (bytes word : List ℕ) (n : ℕ) → n < length word → GoesOnAt bytes word (n + 1) → Decides true (GoesOn bytes word)
 one_place bytes word n le g = ((λ f. (n + 1, omega arith, omega (arith, le), g)), (λ h. refl))

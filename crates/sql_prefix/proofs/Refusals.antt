@@ -1,5 +1,5 @@
 -- From the parser's answers to those of this crate.
-use Rattle.std.proofs.Common.{◌≡◌, ℕ, List, Bool, true, false, refl, sym, subst}
+use Rattle.std.proofs.Common.{◌≡◌, ℕ, List, true, false, refl, sym, subst}
 use Rattle.std.specs.Prelude.{min}
 use Rattle.std.specs.Bool.{Decides}
 use Rattle.inno_types.specs.declared.stmt.Stmt.{Stmt}

@@ -1,13 +1,8 @@
 -- Which bytes finish a token or a blank that is cut off.
-use Rattle.std.proofs.Common.{◌≡◌, ℕ, zero, suc, ◌+◌, ◌≤◌, List, [], ◌∷◌, ◌++◌, length, take, drop, Option, Some, None, Bool, true, false, cond, ◌&&◌, ◌||◌, refl, ◌∙◌, ap, sym, subst, arith, append_assoc}
-use Rattle.std.specs.Prelude.{◌==◌, nat_le, map}
-use Rattle.std.specs.List.{prefix_len, take_while}
-use Rattle.std.proofs.lemmas.Bool.{eqb-true}
-use Rattle.std.proofs.lemmas.List.Sums.{take_while-cons}
-use Rattle.sql_grammar.specs.declared.token.Token.{Token}
-use Rattle.sql_grammar.specs.declared.token.Token.TheVariants.{Key, Bare, Quoted, Number, Text, Compare, Open, Close, Comma, Star, Plus, Minus}
-use Rattle.sql_grammar.specs.Tokens.{after_line, after_comment, after_blank, with_front, quoted, doubled, text_in, closes, escapes, escaped, front_while}
-use Rattle.sql_grammar.specs.Tokens as spelled
+use Rattle.std.proofs.Common.{◌≡◌, ℕ, suc, ◌+◌, List, [], ◌∷◌, ◌++◌, Option, Some, None, Bool, true, false, ◌&&◌, refl, ◌∙◌, ap, sym, arith, append_assoc}
+use Rattle.std.specs.Prelude.{◌==◌}
+use Rattle.std.specs.List.{prefix_len}
+use Rattle.sql_grammar.specs.Tokens.{after_line, after_comment, with_front, quoted, doubled, text_in, closes, escapes, escaped, front_while}
 
 -- ---- lines and comments
 

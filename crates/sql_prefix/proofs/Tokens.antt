@@ -1,13 +1,13 @@
 -- Bytes that are cut off amid a statement can be finished so that they spell a front of its tokens.
-use Rattle.std.proofs.Common.{◌≡◌, ℕ, zero, suc, ◌+◌, ◌<◌, ◌≤◌, List, [], ◌∷◌, ◌++◌, length, drop, Option, Some, None, Bool, true, false, cond, ◌&&◌, ◌||◌, refl, ◌∙◌, ap, sym, subst, arith, length-append, append_assoc}
-use Rattle.std.specs.Prelude.{◌==◌, nat_le, if◌then◌else◌}
+use Rattle.std.proofs.Common.{◌≡◌, ℕ, ◌≤◌, List, [], ◌∷◌, ◌++◌, length, Option, Some, None, Bool, true, false, ◌&&◌, refl, ◌∙◌, ap, sym, subst, arith, length-append, append_assoc}
+use Rattle.std.specs.Prelude.{◌==◌}
 use Rattle.std.proofs.lemmas.Bool.{eqb-true}
-use Rattle.std.proofs.lemmas.List.{append-nil, length-map}
+use Rattle.std.proofs.lemmas.List.{length-map}
 use Rattle.std.specs.Char.{to_ascii_uppercase}
 use Rattle.inno_types.specs.declared.stmt.Comparison.TheVariants.{Equal, NotEqual, Less, LessOrEqual, Greater, GreaterOrEqual}
 use Rattle.sql_grammar.specs.declared.token.Word.{Word}
 use Rattle.sql_grammar.specs.declared.token.Token.{Token}
-use Rattle.sql_grammar.specs.declared.token.Token.TheVariants.{Key, Bare, Quoted, Number, Text, Compare, Open, Close, Comma, Star, Plus, Minus}
+use Rattle.sql_grammar.specs.declared.token.Token.TheVariants.{Quoted, Number, Text, Compare, Open, Close, Comma, Star, Plus, Minus}
 use Rattle.sql_grammar.specs.Words.{spelling, capitals}
 use Rattle.sql_grammar.specs.Tokens.{is_space, is_digit, starts_word, is_in_word, begins, opens_line, after_line, after_comment, after_blank, with_front, quoted, doubled, text_in, closes, escapes, front_while, fits_name, word_token, as_token, as_token_if, sign_at, token_at, AreTokens}
 use Rattle.sql_grammar.specs.Tokens as spelled

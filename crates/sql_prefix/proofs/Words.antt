@@ -1,17 +1,16 @@
 -- How a bare word that is cut off goes on.
-use Rattle.std.proofs.Common.{◌≡◌, ℕ, zero, suc, ◌+◌, ◌-◌, ◌<◌, ◌≤◌, List, [], ◌∷◌, ◌++◌, length, Option, Some, None, Bool, true, false, cond, ◌&&◌, ◌||◌, refl, ◌∙◌, ap, sym, subst, arith, length-append}
-use Rattle.std.specs.Prelude.{◌==◌, nat_le, nat_lt, map, if◌then◌else◌}
+use Rattle.std.proofs.Common.{◌≡◌, ℕ, ◌-◌, ◌≤◌, List, [], ◌∷◌, ◌++◌, length, Option, Some, None, Bool, true, false, refl, ◌∙◌, ap, sym, subst, arith}
+use Rattle.std.specs.Prelude.{◌==◌, nat_le, nat_lt, if◌then◌else◌}
 use Rattle.std.specs.Char.{to_ascii_uppercase}
 use Rattle.std.specs.Str.{bytes_eq}
-use Rattle.std.proofs.lemmas.List.{map-append, length-map, append-nil}
+use Rattle.std.proofs.lemmas.List.{map-append}
 use Rattle.std.proofs.lemmas.Str.Ascii.{uppercase-uppercase}
 use Rattle.std.proofs.lemmas.Slice.Eq.{bytes_eq-Decides}
-use Rattle.std.specs.Prelude.{Decides}
 use Rattle.sql_grammar.specs.declared.token.Word.{Word}
 use Rattle.sql_grammar.specs.declared.token.Token.{Token}
 use Rattle.sql_grammar.specs.declared.token.Token.TheVariants as token
 use Rattle.sql_grammar.specs.declared.token.Token.TheVariants.{Key, Bare, Quoted}
-use Rattle.sql_grammar.specs.Tokens.{is_in_word, starts_word, is_digit, front_while, word_token, key_or_bare, fits_name}
+use Rattle.sql_grammar.specs.Tokens.{is_in_word, front_while, word_token}
 use Rattle.sql_grammar.specs.Words.{spelling, reserved, others, word_among, capitals}
 use Rattle.sql_prefix.proofs.Cuts.{Like}
 use Rattle.sql_prefix.proofs.Cuts as cuts
@@ -135,6 +134,7 @@ among (v ∷ ws) bs w e = step (bytes_eq bs (spelling v)) refl (λ f. among ws b
     or_else : Option Word → Word
     or_else None = v
     or_else (Some x) = x
+
     step : (t : Bool) → bytes_eq bs (spelling v) ≡ t → (word_among ws bs ≡ Some w → bs ≡ spelling w) → bs ≡ spelling w
     step true f h =
         let found : Some v ≡ Some w = subst (λ (t : Bool). (if t then Some v else word_among ws bs) ≡ Some w) f e in

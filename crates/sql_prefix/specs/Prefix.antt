@@ -1,5 +1,5 @@
 -- Which bytes begin a statement, how far the longest front that does goes, and how that is found by trying.
-use Rattle.std.specs.Prelude.{◌≡◌, ℕ, ◌+◌, ◌-◌, ◌^◌, ◌<◌, ◌≤◌, List, [], ◌∷◌, ◌++◌, length, take, drop, replicate, Bool, true}
+use Rattle.std.specs.Prelude.{◌≡◌, ℕ, ◌+◌, ◌-◌, ◌<◌, ◌≤◌, List, [], ◌∷◌, ◌++◌, length, take, drop, replicate, Bool, true}
 use Rattle.std.specs.Str.{bytes_eq}
 use Rattle.inno_types.specs.declared.stmt.Stmt.{Stmt}
 use Rattle.sql_grammar.specs.declared.token.Token.{Token}
@@ -34,7 +34,6 @@ pub record IsBetween (bytes : List ℕ) (low high : ℕ) : Type 0 where
   pub within : high ≤ length bytes
   pub begins : Begins (take low bytes)
   pub fails : Begins (take high bytes) → ⊥
-
 
 -- the ending makes the text, with so many brackets closed, a statement
 abbrev pub Finishes : List ℕ → ℕ → Ending → Type 0

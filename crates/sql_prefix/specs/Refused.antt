@@ -1,5 +1,5 @@
 -- What a refusal of bytes says.
-use Rattle.std.specs.Prelude.{◌≡◌, ℕ, ◌-◌, ◌^◌, List, min}
+use Rattle.std.specs.Prelude.{◌≡◌, ℕ, List, min}
 use Rattle.inno_types.specs.declared.stmt.Stmt.{Stmt}
 use Rattle.sql_grammar.specs.Grammar.{Spells}
 use Rattle.sql_text.specs.declared.parser.ParseBad.{ParseBad}

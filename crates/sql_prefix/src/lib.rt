@@ -9,7 +9,6 @@ mod parser;
 mod place;
 mod prefix;
 
-pub use prefix::begins;
-
 pub use parser::parse;
 pub use place::longest_prefix;
+pub use prefix::begins;
