@@ -1,6 +1,7 @@
 //! Texts of the grammar and beside it. What the trees are is proved; that memory suffices is seen here.
 
-use sql_text::{ParseBad, parse};
+use sql_prefix::parse;
+use sql_text::ParseBad;
 use std::alloc::Global;
 use std::test::Fail;
 
@@ -41,15 +42,43 @@ fn statements_are_read(rt: HostRuntime) -> Result<(), Fail> {
 fn other_texts_are_refused(rt: HostRuntime) -> Result<(), Fail> {
     let texts = [
         ("", 0),
+        ("SELEC", 5),
+        ("SELECT * FORM t", 10),
         ("SELECT * FROM t WHERE", 21),
         ("SELECT a b FROM t", 9),
+        ("SELECT select FROM t", 13),
+        ("SELECT * FROM ``", 16),
+        ("SELECT * FROM `` ", 16),
         ("SELECT * FROM t WHERE (a) = 1", 24),
+        ("SELECT * FROM t WHERE a = 'x", 28),
         ("INSERT INTO t VALUES (1 2)", 24),
+        ("SET autocommit = 00", 18),
+        ("DELETE FROM t --x", 16),
+        ("DELETE FROM t / * x */", 15),
         ("SELECT * FROM t %", 16),
         ("COMMIT; ", 6),
     ];
     for (text, at) in texts {
         assert_eq!(rt; refusal(rt.alloc(), text), Some(at), "{text}");
+    }
+    Ok(())
+}
+
+/// Where the place is the end for a text that is no statement.
+fn place(alloc: Global, bytes: &[u8]) -> Option<u32> {
+    match parse(alloc, bytes) {
+        Ok(_) => Some(bytes.len() as u32),
+        Err(ParseBad::Syntax { at }) => Some(at),
+        Err(ParseBad::NoMemory) => None,
+    }
+}
+
+#[test]
+fn prefixes_go_to_their_end(rt: HostRuntime) -> Result<(), Fail> {
+    let text = "CREATE TABLE IF NOT EXISTS `acct` (`id` bigint NOT NULL, `bal` bigint, PRIMARY KEY (`id`)) ENGINE=InnoDB";
+    for len in 0..text.len() {
+        let (front, _) = text.as_bytes().split_at(len);
+        assert_eq!(rt; place(rt.alloc(), front), Some(len as u32));
     }
     Ok(())
 }

@@ -1,0 +1,10 @@
+mod Cuts
+mod Ends
+mod CutConditions
+mod CutExpressions
+mod CutStatements
+mod Spelled
+mod Words
+mod Tokens
+mod Finished
+mod Refusals

@@ -1,0 +1,5 @@
+use Rattle.sql_prefix.proofs.Finished.{by_word_ok}
+use Rattle.sql_prefix.proofs.prefix.begins.Goals as goal
+
+pub returns : goal.returns
+returns c = by_word_ok c.args.bytes.now c.in_ok-goes_on_by_token.field-0 c.goes_on_by_word.result c.if-branch.false c.in_ok-goes_on_by_token.ensures c.goes_on_by_word.ensures

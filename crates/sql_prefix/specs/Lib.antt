@@ -1,0 +1,4 @@
+pub mod Fronts
+pub mod Endings
+pub mod Prefix
+pub mod Refused
