@@ -75,7 +75,8 @@ fn place(alloc: Global, bytes: &[u8]) -> Option<u32> {
 
 #[test]
 fn prefixes_go_to_their_end(rt: HostRuntime) -> Result<(), Fail> {
-    let text = "CREATE TABLE IF NOT EXISTS `acct` (`id` bigint NOT NULL, `bal` bigint, PRIMARY KEY (`id`)) ENGINE=InnoDB";
+    let text =
+        "CREATE TABLE IF NOT EXISTS `acct` (`id` bigint NOT NULL, `bal` bigint, PRIMARY KEY (`id`)) ENGINE=InnoDB";
     for len in 0..text.len() {
         let (front, _) = text.as_bytes().split_at(len);
         assert_eq!(rt; place(rt.alloc(), front), Some(len as u32));
