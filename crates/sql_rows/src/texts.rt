@@ -67,7 +67,7 @@ fn other_texts_are_refused(rt: HostRuntime) -> Result<(), Fail> {
 /// Where the place is the end for a text that is no statement.
 fn place(alloc: Global, bytes: &[u8]) -> Option<u32> {
     match parse(alloc, bytes) {
-        Ok(_) => Some(bytes.len() as u32),
+        Ok(_) => u32::try_from(bytes.len()).ok(),
         Err(ParseBad::Syntax { at }) => Some(at),
         Err(ParseBad::NoMemory) => None,
     }
@@ -79,7 +79,7 @@ fn prefixes_go_to_their_end(rt: HostRuntime) -> Result<(), Fail> {
         "CREATE TABLE IF NOT EXISTS `acct` (`id` bigint NOT NULL, `bal` bigint, PRIMARY KEY (`id`)) ENGINE=InnoDB";
     for len in 0..text.len() {
         let (front, _) = text.as_bytes().split_at(len);
-        assert_eq!(rt; place(rt.alloc(), front), Some(len as u32));
+        assert_eq!(rt; place(rt.alloc(), front), u32::try_from(len).ok());
     }
     Ok(())
 }
