@@ -1,6 +1,7 @@
-//! Texts that spell no statement, each with the byte from which on none goes on so.
+//! Texts that spell no statement, each with the length of its longest prefix that begins one.
 
-use sql_text::{ParseBad, parse};
+use sql_prefix::parse;
+use sql_text::ParseBad;
 use std::alloc::{AllocError, Global};
 use std::test::Fail;
 
@@ -16,21 +17,21 @@ fn refusal(alloc: Global, bytes: &[u8]) -> Result<Option<u32>, AllocError> {
 #[test]
 fn no_reserved_word_is_a_bare_name(rt: HostRuntime) -> Result<(), Fail> {
     let texts = [
-        ("SAVEPOINT AND", 10),
-        ("SAVEPOINT BETWEEN", 10),
-        ("SAVEPOINT BIGINT", 10),
-        ("SAVEPOINT CREATE", 10),
-        ("SAVEPOINT DELETE", 10),
-        ("SAVEPOINT EXISTS", 10),
-        ("SAVEPOINT FOR", 10),
-        ("SAVEPOINT FROM", 10),
-        ("SAVEPOINT IF", 10),
-        ("SAVEPOINT IN", 10),
-        ("SAVEPOINT INDEX", 10),
-        ("SAVEPOINT INSERT", 10),
-        ("SAVEPOINT INTO", 10),
-        ("SAVEPOINT IS", 10),
-        ("SAVEPOINT KEY", 10),
+        ("SAVEPOINT AND", 13),
+        ("SAVEPOINT BETWEEN", 17),
+        ("SAVEPOINT BIGINT", 16),
+        ("SAVEPOINT CREATE", 16),
+        ("SAVEPOINT DELETE", 16),
+        ("SAVEPOINT EXISTS", 16),
+        ("SAVEPOINT FOR", 13),
+        ("SAVEPOINT FROM", 14),
+        ("SAVEPOINT IF", 12),
+        ("SAVEPOINT IN", 12),
+        ("SAVEPOINT INDEX", 15),
+        ("SAVEPOINT INSERT", 16),
+        ("SAVEPOINT INTO", 14),
+        ("SAVEPOINT IS", 12),
+        ("SAVEPOINT KEY", 13),
     ];
     for (text, at) in texts {
         let place = refusal(rt.alloc(), text.as_bytes())?;
@@ -42,20 +43,20 @@ fn no_reserved_word_is_a_bare_name(rt: HostRuntime) -> Result<(), Fail> {
 #[test]
 fn no_other_reserved_word_is_a_bare_name(rt: HostRuntime) -> Result<(), Fail> {
     let texts = [
-        ("SAVEPOINT lock", 10),
-        ("SAVEPOINT not", 10),
-        ("SAVEPOINT null", 10),
-        ("SAVEPOINT or", 10),
-        ("SAVEPOINT primary", 10),
-        ("SAVEPOINT select", 10),
-        ("SAVEPOINT set", 10),
-        ("SAVEPOINT table", 10),
-        ("SAVEPOINT to", 10),
-        ("SAVEPOINT update", 10),
-        ("SAVEPOINT values", 10),
-        ("SAVEPOINT varbinary", 10),
-        ("SAVEPOINT where", 10),
-        ("SAVEPOINT with", 10),
+        ("SAVEPOINT lock", 14),
+        ("SAVEPOINT not", 13),
+        ("SAVEPOINT null", 14),
+        ("SAVEPOINT or", 12),
+        ("SAVEPOINT primary", 17),
+        ("SAVEPOINT select", 16),
+        ("SAVEPOINT set", 13),
+        ("SAVEPOINT table", 15),
+        ("SAVEPOINT to", 12),
+        ("SAVEPOINT update", 16),
+        ("SAVEPOINT values", 16),
+        ("SAVEPOINT varbinary", 19),
+        ("SAVEPOINT where", 15),
+        ("SAVEPOINT with", 14),
     ];
     for (text, at) in texts {
         let place = refusal(rt.alloc(), text.as_bytes())?;
@@ -67,17 +68,17 @@ fn no_other_reserved_word_is_a_bare_name(rt: HostRuntime) -> Result<(), Fail> {
 #[test]
 fn reserved_words_stand_in_no_place_of_a_name(rt: HostRuntime) -> Result<(), Fail> {
     let texts = [
-        ("SELECT a, key FROM t", 10),
-        ("SELECT * FROM table", 14),
-        ("INSERT INTO values VALUES (1)", 12),
-        ("INSERT INTO t (a, index) VALUES (1, 2)", 18),
-        ("UPDATE set SET a = 1", 7),
-        ("UPDATE t SET to = 1", 13),
-        ("UPDATE t SET a = in", 17),
-        ("DELETE FROM where", 12),
-        ("CREATE TABLE t (lock BIGINT)", 16),
-        ("SELECT * FROM t WHERE a = exists", 26),
-        ("ROLLBACK TO with", 12),
+        ("SELECT a, key FROM t", 13),
+        ("SELECT * FROM table", 19),
+        ("INSERT INTO values VALUES (1)", 18),
+        ("INSERT INTO t (a, index) VALUES (1, 2)", 23),
+        ("UPDATE set SET a = 1", 10),
+        ("UPDATE t SET to = 1", 15),
+        ("UPDATE t SET a = in", 19),
+        ("DELETE FROM where", 17),
+        ("CREATE TABLE t (lock BIGINT)", 20),
+        ("SELECT * FROM t WHERE a = exists", 32),
+        ("ROLLBACK TO with", 16),
     ];
     for (text, at) in texts {
         let place = refusal(rt.alloc(), text.as_bytes())?;
@@ -91,7 +92,7 @@ fn statements_that_end_too_soon(rt: HostRuntime) -> Result<(), Fail> {
     let texts = [
         ("", 0),
         (" -- x", 5),
-        ("SELEC", 0),
+        ("SELEC", 5),
         ("SELECT * FROM t WHERE", 21),
         ("SELECT * FROM t WHERE a", 23),
         ("SELECT * FROM t WHERE NOT", 25),
@@ -120,7 +121,7 @@ fn statements_that_go_on_otherwise(rt: HostRuntime) -> Result<(), Fail> {
         ("SELECT * FROM t WHERE a = 1 = 2", 28),
         ("SELECT * FROM t WHERE a + 1 = 2", 24),
         ("SELECT * FROM t WHERE a = -b", 27),
-        ("SELECT * FROM t WHERE a = --5", 27),
+        ("SELECT * FROM t WHERE a = --5", 28),
         ("SELECT * FROM t WHERE a IN ()", 28),
         ("SELECT * FROM t WHERE a BETWEEN b AND 2", 32),
         ("SELECT * FROM t WHERE 1 BETWEEN 1 AND 2", 24),
@@ -138,7 +139,7 @@ fn statements_that_go_on_otherwise(rt: HostRuntime) -> Result<(), Fail> {
 fn other_statements_that_go_on_otherwise(rt: HostRuntime) -> Result<(), Fail> {
     let texts = [
         ("INSERT INTO t () VALUES (1)", 15),
-        ("INSERT INTO t VALUES (--5)", 23),
+        ("INSERT INTO t VALUES (--5)", 24),
         ("INSERT INTO t VALUES (DEFAULT)", 22),
         ("INSERT INTO t VALUES (1 + 2)", 24),
         ("INSERT INTO t VALUES (a)", 22),
@@ -149,10 +150,10 @@ fn other_statements_that_go_on_otherwise(rt: HostRuntime) -> Result<(), Fail> {
         ("BEGIN TRANSACTION", 6),
         ("COMMIT;", 6),
         ("SAVEPOINT a b", 12),
-        ("INSERT INTO t VALUES ('a)", 22),
-        ("SELECT * FROM `t", 14),
-        ("SELECT * FROM t /* x", 16),
-        ("SELECT `` FROM t", 7),
+        ("INSERT INTO t VALUES ('a)", 25),
+        ("SELECT * FROM `t", 16),
+        ("SELECT * FROM t /* x", 20),
+        ("SELECT `` FROM t", 9),
     ];
     for (text, at) in texts {
         let place = refusal(rt.alloc(), text.as_bytes())?;

@@ -305,6 +305,11 @@ fn names_and_cases_of_letters(rt: HostRuntime) -> Result<(), Fail> {
             "UPDATE `update` SET `set` = - `not` WHERE NOT `not` = `or`",
             "update update set set = neg(not) where (not (not = or))",
         ),
+        (
+            "SELECT `Create`, `delete`, `exists`, `for` FROM `into` WHERE `insert` = `is` AND `varbinary` = `with`",
+            "select Create, delete, exists, for from into where ((insert = is) and (varbinary = with))",
+        ),
+        ("ROLLBACK TO `lock`", "rollback-to lock"),
         ("SELECT `a``b`, ```` FROM t", "select a`b, ` from t"),
         (
             "SELECT value, mode FROM share FOR SHARE",
