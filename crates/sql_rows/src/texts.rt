@@ -2,7 +2,7 @@
 
 use sql_prefix::parse;
 use sql_text::ParseBad;
-use std::alloc::Global;
+use std::alloc::{AllocError, Global};
 use std::test::Fail;
 
 /// The byte of a refusal; None for a statement. Want of memory shows as u32::MAX.
@@ -81,5 +81,23 @@ fn prefixes_go_to_their_end(rt: HostRuntime) -> Result<(), Fail> {
         let (front, _) = text.as_bytes().split_at(len);
         assert_eq!(rt; place(rt.alloc(), front), u32::try_from(len).ok());
     }
+    Ok(())
+}
+
+fn push_brackets(text: &mut Vec<u8>, bracket: u8) -> Result<(), AllocError> {
+    for _ in 0..2034 {
+        text.push(bracket)?;
+    }
+    Ok(())
+}
+
+#[test]
+fn brackets_nest_without_limit(rt: HostRuntime) -> Result<(), Fail> {
+    let mut text = Vec::from_slice(rt.alloc(), b"SELECT * FROM t WHERE ")?;
+    push_brackets(&mut text, b'(')?;
+    text.extend_from_slice(b"a = 12")?;
+    push_brackets(&mut text, b')')?;
+    assert_eq!(rt; text.len(), 4096);
+    assert!(rt; parse(rt.alloc(), text.as_slice()).is_ok());
     Ok(())
 }
