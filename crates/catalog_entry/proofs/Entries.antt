@@ -36,7 +36,15 @@ entry_again held rest is =
     rw (regrouped, schema_spells.again held.schema (flat_map u32_bytes held.roots ++ rest) is.schema, roots) refl
 
 -- bytes that begin with an entry are read
+pub begins_read : (bytes : List ℕ) (held : Held) (begins : BeginsWith held bytes) → entry_at bytes ≡ Some (held, begins.rest)
+begins_read bytes held begins = ap entry_at begins.parts ∙ entry_again held begins.rest begins.is_entry
+
+-- bytes begin with one entry at most
+pub one_entry : (bytes : List ℕ) (a b : Held) → BeginsWith a bytes → BeginsWith b bytes → a ≡ b
+one_entry bytes a b first second =
+    ap (λ (x : Held × List ℕ). x.0) (some_is (a, first.rest) (b, second.rest) (sym (begins_read bytes a first) ∙ begins_read bytes b second))
+
 pub not_refused : (bytes : List ℕ) (held : Held) → entry_at bytes ≡ None → BeginsWith held bytes → ⊥
 not_refused bytes held none begins =
-    let read : entry_at bytes ≡ Some (held, begins.rest) = ap entry_at begins.parts ∙ entry_again held begins.rest begins.is_entry in
+    let read : entry_at bytes ≡ Some (held, begins.rest) = begins_read bytes held begins in
     cc

@@ -1,13 +1,16 @@
 //! Entries of the catalog as bytes, and bytes as entries.
-//! These two calls are all that crates above use.
+//! These calls are all that crates above use.
 
 ghost use Rattle.std.specs.Prelude.{◌≡◌, ◌++◌, IfOk, IfErr, OnOk};
-ghost use Rattle.catalog_entry.specs.Entry.{entry_bytes, IsEntry};
+ghost use Rattle.std.specs.List.{flat_map};
+ghost use Rattle.catalog_entry.specs.Numbers.{u32_bytes};
+ghost use Rattle.catalog_entry.specs.Entry.{schema_bytes, IsSchema, entry_bytes, IsEntry};
 ghost use Rattle.catalog_entry.specs.Refused.{BeginsWith, IsRefused};
 
 use crate::held::{EntryBad, Held};
 use crate::reading::{Stop, entry_of};
 use crate::write;
+use inno_types::Schema;
 use std::alloc::Global;
 use store_api::NoMemory;
 
@@ -17,6 +20,16 @@ pub fn put_entry(held: &Held, out: &mut Vec<u8>) -> Result<(), NoMemory>
     ensures { OnOk result (out.new.items ≡ out.old.items ++ entry_bytes held.now) }
 {
     write::put_entry(held, out)?;
+    Ok(())
+}
+
+/// Spells the entry of a table with this schema and these root pages at the end of a vector.
+pub fn put_table(schema: &Schema, roots: &[u32], out: &mut Vec<u8>) -> Result<(), NoMemory>
+    requires { IsSchema schema.now }
+    ensures { OnOk result (out.new.items ≡ out.old.items ++ (schema_bytes schema.now ++ flat_map u32_bytes roots.now)) }
+{
+    write::put_schema(schema, out)?;
+    write::put_roots(roots, out)?;
     Ok(())
 }
 

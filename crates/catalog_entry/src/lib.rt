@@ -7,7 +7,7 @@ mod held;
 mod reading;
 mod write;
 
-pub use entry::{get_entry, put_entry};
+pub use entry::{get_entry, put_entry, put_table};
 pub use held::{EntryBad, Held, Roots, Schemas};
 
 #[cfg(test)]

@@ -106,7 +106,7 @@ fn put_keys(items: &[Key], out: &mut Vec<u8>) -> Result<(), AllocError>
 }
 
 #[tactic(auto, using(crate::proofs::Lengths::lengths))]
-fn put_schema(schema: &Schema, out: &mut Vec<u8>) -> Result<(), AllocError>
+pub fn put_schema(schema: &Schema, out: &mut Vec<u8>) -> Result<(), AllocError>
     requires { IsSchema schema.now }
     ensures ok { OnOk result (out.new.items ≡ out.old.items ++ schema_bytes schema.now) }
     ensures len { OnOk result (vec_len out.new ≡ vec_len out.old + length (schema_bytes schema.now)) }
@@ -121,7 +121,7 @@ fn put_schema(schema: &Schema, out: &mut Vec<u8>) -> Result<(), AllocError>
 }
 
 /// Each of them.
-fn put_roots(roots: &[u32], out: &mut Vec<u8>) -> Result<(), AllocError>
+pub fn put_roots(roots: &[u32], out: &mut Vec<u8>) -> Result<(), AllocError>
     ensures { OnOk result (out.new.items ≡ out.old.items ++ flat_map u32_bytes roots.now) }
 {
     for root in roots {

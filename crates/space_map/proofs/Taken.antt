@@ -8,7 +8,7 @@ use Rattle.mtr.specs.Seen.{MtrState, capacity_of, IsWithin, with_bytes}
 use Rattle.mtr.specs.Calls.{Goes, SamePages, SeesAt, Consults}
 use Rattle.mtr.proofs.Consulting.{goes_then, visits_then, consults_then, reason_later}
 use Rattle.space_map.specs.Map.{map_page, byte_of, mark_of, IsFirstFree}
-use Rattle.space_map.specs.Taking.{map_pages, Miscounts, MarksPage, Marks, Takes, IsTakeReason, IsGiveReason}
+use Rattle.space_map.specs.Taking.{map_pages, HasPageCount, Miscounts, MarksPage, Marks, Takes, IsTakeReason, IsGiveReason}
 use Rattle.space_map.proofs.Marked.{seen_through}
 
 marks_page_later : (page mark : ℕ) (old between new : MtrState) → SamePages old between → MarksPage page mark between new → MarksPage page mark old new
@@ -32,6 +32,10 @@ pub map_within : (count : ℕ) (old between : MtrState) → Consults map_pages o
 map_within count old between looked counted some = λ told.
     let same : capacity_of between ≡ capacity_of old = ap (λ (f : ℕ → List ℕ). u32_at 44 (f 0)) (looked.same told).seen in
     omega (arith, counted told, same)
+
+-- a number that a file can have is that which page 0 counts
+pub page_count_is : (count : ℕ) (s : MtrState) → count ≡ capacity_of s → (21 ≤ count) × (count ≤ 65536) → HasPageCount s.seen
+page_count_is count s is bounds = (omega (arith, is, bounds.0), omega (arith, is, bounds.1))
 
 first_as_seen : (count : ℕ) (found : Option ℕ) (old counted new : MtrState) → Consults map_pages old counted → Consults map_pages counted new → (IsTrue new.told → IsFirstFree counted.seen 0 count found) → IsTrue new.told → IsFirstFree old.seen 0 count found
 first_as_seen count found old counted new first next free told = subst (λ (f : ℕ → List ℕ). IsFirstFree f 0 count found) (first.same (next.goes.told told)).seen (free told)

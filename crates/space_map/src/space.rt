@@ -5,7 +5,7 @@ ghost use Rattle.std.specs.Prelude.{◌≡◌, ◌≤◌, IsTrue, IfOk, IfErr, O
 ghost use Rattle.mtr.specs.Seen.{claim, capacity_of, IsWithin};
 ghost use Rattle.mtr.specs.Calls.{Consults, IsReason};
 ghost use Rattle.space_map.specs.Map.{free_among};
-ghost use Rattle.space_map.specs.Taking.{map_pages, Miscounts, Marks, Takes, IsTakeReason, IsGiveReason};
+ghost use Rattle.space_map.specs.Taking.{map_pages, HasPageCount, Miscounts, Marks, Takes, IsTakeReason, IsGiveReason};
 
 use crate::marking::set_mark;
 use crate::parts::{count_all, find_free, page_count};
@@ -15,6 +15,7 @@ use mtr::{Mtr, SpaceBad, Visit};
 pub fn take<M: Mtr>(m: &mut M) -> Result<u32, SpaceBad>
     requires { claim map_pages (M.state m.old).visited ≤ 24 }
     ensures taken { IfOk result (λ page. Takes page (M.state m.old) (M.state m.new)) }
+    ensures counted { IfOk result (λ _. IsTrue (M.state m.new).told → HasPageCount (M.state m.old).seen) }
     ensures kept { OnErr result (Consults map_pages (M.state m.old) (M.state m.new)) }
     ensures reason { IfErr result (IsTakeReason (M.state m.old) (M.state m.new)) }
 {

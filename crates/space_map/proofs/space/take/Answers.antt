@@ -3,7 +3,7 @@ use Rattle.mtr.proofs.Consulting.{consults_then, claim_left}
 use Rattle.space_map.specs.Taking.{map_pages}
 use Rattle.space_map.proofs.Places.{distinct_map_pages}
 use Rattle.space_map.proofs.Marked.{on_err}
-use Rattle.space_map.proofs.Taken.{takes, none_free, map_within}
+use Rattle.space_map.proofs.Taken.{takes, none_free, map_within, page_count_is}
 use Rattle.space_map.proofs.space.take.Goals as goal
 
 pub find_free-requires-clause-few : goal.find_free-requires-clause-few
@@ -35,3 +35,8 @@ pub returns-in_err-set_mark-in-Some-clause-kept : goal.returns-in_err-set_mark-i
 returns-in_err-set_mark-in-Some-clause-kept g c =
     let both = consults_then map_pages _ _ _ c.page_count.ensures.consults c.find_free.ensures.consults in
     on_err _ _ (consults_then map_pages _ _ _ both c.in_err-set_mark-in-Some.ensures.kept)
+
+pub returns-in_ok-set_mark-in-Some-clause-counted : goal.returns-in_ok-set_mark-in-Some-clause-counted
+returns-in_ok-set_mark-in-Some-clause-counted g c = λ told.
+    let told_found = c.in_ok-set_mark-in-Some.ensures.marked.goes.told told in
+    page_count_is c.in_ok-count.count (g.M.Mtr.state c.args.m.now) (c.in_ok-count.ensures.value (c.find_free.ensures.consults.goes.told told_found)) c.in_ok-count.ensures.bounds

@@ -1,0 +1,16 @@
+pub mod Catalogs
+pub mod Claims
+pub mod Declares
+pub mod Declaring
+pub mod Entered
+pub mod Freeing
+pub mod Leaves
+pub mod Makeables
+pub mod Nearing
+pub mod Prefixes
+pub mod Reasons
+pub mod Reserving
+pub mod Resting
+pub mod Rooted
+pub mod Shown
+pub mod Told

@@ -1,0 +1,5 @@
+pub mod Creating
+pub mod Declaration
+pub mod Loading
+pub mod Makeable
+pub mod Tables

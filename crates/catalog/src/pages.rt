@@ -1,0 +1,43 @@
+//! The pages of the catalog, one at a time.
+//! What is asked here changes nothing.
+
+ghost use Rattle.std.specs.Prelude.{◌≡◌, ◌<◌, ◌≤◌, IsTrue, IfOk, IfErr};
+ghost use Rattle.mtr.specs.Seen.{claim};
+ghost use Rattle.mtr.specs.Calls.{Consults};
+ghost use Rattle.catalog.specs.Loading.{catalog_pages, Shows, IsTableReason};
+
+use crate::tables::table_in;
+use catalog_entry::{EntryBad, Held};
+use mtr::{FindBad, Mtr};
+use std::alloc::Global;
+
+/// The first page of the catalog.
+pub const FIRST: u32 = 5;
+
+/// The page behind its last.
+pub const END: u32 = 21;
+
+/// The rule on fields, of those that a page may break.
+const FIELDS: u8 = 1;
+
+/// The table that a page of the catalog holds, or None where it isn't in use.
+pub fn table_on<M: Mtr>(
+    alloc: Global,
+    m: &mut M,
+    page: u32,
+    count: u32,
+) -> Result<Option<Held>, FindBad>
+    requires from { 5 ≤ page }
+    requires to { page < 21 }
+    requires few { claim catalog_pages (M.state m.old).visited ≤ 24 }
+    ensures shown { IfOk result (λ shown. IsTrue (M.state m.new).told → Shows count ((M.state m.old).seen page) shown) }
+    ensures consults { Consults catalog_pages (M.state m.old) (M.state m.new) }
+    ensures reason { IfErr result (IsTableReason page count (M.state m.old) (M.state m.new)) }
+{
+    let bytes = m.bytes(page)?;
+    match table_in(alloc, bytes, count) {
+        Ok(shown) => Ok(shown),
+        Err(EntryBad::Shape) => Err(FindBad::Malformed { page, rule: FIELDS }),
+        Err(EntryBad::NoMemory) => Err(FindBad::NoMemory),
+    }
+}
