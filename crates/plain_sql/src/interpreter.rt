@@ -1,13 +1,14 @@
 //! The plain interpreter itself: one statement over one database, which it only reads.
 
-ghost use Rattle.std.specs.Prelude.{◌≡◌, ◌<◌, IfOk, Option, Some, None, length, slice_get};
-ghost use Rattle.inno_db.specs.Database.{rows_of};
-ghost use Rattle.std.specs.Prelude.{ℕ, List};
+ghost use Rattle.std.specs.Prelude.{◌≡◌, ◌≤◌, IfOk, ℕ, List, length, option_copied};
+ghost use Rattle.inno_db.specs.Database.{Database};
+ghost use Rattle.inno_db.specs.declared.limits.TheConstants.{MOST_TABLES};
+ghost use Rattle.inno_db.proofs.Outcomes.{table_read};
 ghost use Rattle.inno_types.specs.declared.value.Value.{Value};
 ghost use Rattle.inno_types.specs.declared.value.Schema.{Schema};
 ghost use Rattle.inno_db.specs.declared.outcome.Outcome.{Outcome};
-ghost use Rattle.plain_sql.specs.Finding.{on_found};
-ghost use Rattle.inno_db.specs.Outcome.{answered, counted, on_number, on_rows, created, creation, select_answer, insert_answer, update_answer, delete_answer, answer_to, outcome};
+ghost use Rattle.plain_sql.specs.Finding.{on_found, answer_on, IsTableOf, IsReadFrom, IsOnRows};
+ghost use Rattle.inno_db.specs.Outcome.{answered, counted, on_number, created, creation, select_answer, insert_answer, update_answer, delete_answer, answer_to, outcome};
 
 use crate::changes::{delete, insert, update};
 use crate::selection::select;
@@ -84,11 +85,25 @@ struct Found<'a> {
     rows: &'a Rows,
 }
 
-fn find<'a>(db: &'a Db, table: &Bytes) -> Option<Found<'a>>
-    ensures { (answer : ℕ → Schema → List (List Value) → Outcome) → on_found result answer ≡ on_rows db.now table.now answer }
+/// The table whose rows a statement reads.
+fn table_of(stmt: &Stmt) -> Option<&Bytes>
+    ensures { IsTableOf stmt.now (option_copied result) }
+{
+    match stmt {
+        Stmt::Select { table, .. }
+        | Stmt::Insert { table, .. }
+        | Stmt::Update { table, .. }
+        | Stmt::Delete { table, .. } => Some(table),
+        _ => None,
+    }
+}
+
+/// The table that a statement reads, in a database.
+fn find<'a>(db: &'a Db, stmt: &Stmt) -> Option<Found<'a>>
+    ensures { (answer : ℕ → Schema → List (List Value) → Outcome) → on_found result answer ≡ on_number db.now (table_read db.now.schemas stmt.now) answer }
 {
     let schemas = db.schemas();
-    let place = place_of_table(schemas, table)?;
+    let place = place_of_table(schemas, table_of(stmt)?)?;
     let schema = schemas.as_slice().get(place)?;
     Some(Found {
         number: place as u8,
@@ -97,16 +112,29 @@ fn find<'a>(db: &'a Db, table: &Bytes) -> Option<Found<'a>>
     })
 }
 
+/// The same, where the rows of that table are known.
+fn find_in<'a>(schemas: &'a Listed<Schema>, rows: &'a Rows, stmt: &Stmt) -> Option<Found<'a>>
+    requires { length schemas.now ≤ MOST_TABLES }
+    ensures { (db : Database) (answer : ℕ → Schema → List (List Value) → Outcome) → IsReadFrom schemas.now rows.now stmt.now db → on_found result answer ≡ on_number db (table_read db.schemas stmt.now) answer }
+{
+    let place = place_of_table(schemas, table_of(stmt)?)?;
+    let schema = schemas.as_slice().get(place)?;
+    Some(Found {
+        number: place as u8,
+        schema,
+        rows,
+    })
+}
+
 fn select_rows(
     alloc: Global,
-    db: &Db,
-    table: &Bytes,
+    found: Option<Found<'_>>,
     selected: &Selected,
     filter: &Option<Filter>,
 ) -> Result<Outcome, AllocError>
-    ensures { IfOk result (λ answer. answer ≡ on_rows db.now table.now (select_answer selected.now filter.now)) }
+    ensures { IfOk result (λ answer. answer ≡ on_found found.entry (select_answer selected.now filter.now)) }
 {
-    match find(db, table) {
+    match found {
         Some(found) => {
             let rows = select(alloc, &found.schema.columns, selected, filter, found.rows)?;
             Ok(answer(alloc, Reply::Rows(rows)))
@@ -117,14 +145,13 @@ fn select_rows(
 
 fn insert_rows(
     alloc: Global,
-    db: &Db,
-    table: &Bytes,
+    found: Option<Found<'_>>,
     names: &Option<Names>,
     tuples: &Tuples,
 ) -> Result<Outcome, AllocError>
-    ensures { IfOk result (λ answer. answer ≡ on_rows db.now table.now (insert_answer names.now tuples.now)) }
+    ensures { IfOk result (λ answer. answer ≡ on_found found.entry (insert_answer names.now tuples.now)) }
 {
-    match find(db, table) {
+    match found {
         Some(found) => Ok(count(insert(
             alloc,
             found.number,
@@ -139,14 +166,13 @@ fn insert_rows(
 
 fn update_rows(
     alloc: Global,
-    db: &Db,
-    table: &Bytes,
+    found: Option<Found<'_>>,
     sets: &Sets,
     filter: &Option<Filter>,
 ) -> Result<Outcome, AllocError>
-    ensures { IfOk result (λ answer. answer ≡ on_rows db.now table.now (update_answer sets.now filter.now)) }
+    ensures { IfOk result (λ answer. answer ≡ on_found found.entry (update_answer sets.now filter.now)) }
 {
-    match find(db, table) {
+    match found {
         Some(found) => Ok(count(update(
             alloc,
             found.number,
@@ -161,13 +187,12 @@ fn update_rows(
 
 fn delete_rows(
     alloc: Global,
-    db: &Db,
-    table: &Bytes,
+    found: Option<Found<'_>>,
     filter: &Option<Filter>,
 ) -> Result<Outcome, AllocError>
-    ensures { IfOk result (λ answer. answer ≡ on_rows db.now table.now (delete_answer filter.now)) }
+    ensures { IfOk result (λ answer. answer ≡ on_found found.entry (delete_answer filter.now)) }
 {
-    match find(db, table) {
+    match found {
         Some(found) => {
             let changes = delete(alloc, found.number, found.schema, filter, found.rows)?;
             Ok(count(Written {
@@ -176,6 +201,27 @@ fn delete_rows(
             }))
         }
         None => Ok(answer(alloc, Reply::Done)),
+    }
+}
+
+/// What a statement does with the rows of its table.
+fn run_on(alloc: Global, found: Option<Found<'_>>, stmt: &Stmt) -> Result<Outcome, AllocError>
+    ensures { IfOk result (λ answer. answer ≡ answer_on found.entry stmt.now) }
+{
+    match stmt {
+        Stmt::Select {
+            selected,
+            filter,
+            ..
+        } => select_rows(alloc, found, selected, filter),
+        Stmt::Insert {
+            columns,
+            tuples,
+            ..
+        } => insert_rows(alloc, found, columns, tuples),
+        Stmt::Update { sets, filter, .. } => update_rows(alloc, found, sets, filter),
+        Stmt::Delete { filter, .. } => delete_rows(alloc, found, filter),
+        _ => Ok(answer(alloc, Reply::Done)),
     }
 }
 
@@ -188,31 +234,26 @@ fn run(alloc: Global, db: &Db, stmt: &Stmt) -> Result<Outcome, AllocError>
             definitions,
             ..
         } => create(alloc, db, table, definitions),
-        Stmt::Select {
-            selected,
-            table,
-            filter,
-            ..
-        } => select_rows(alloc, db, table, selected, filter),
-        Stmt::Insert {
-            table,
-            columns,
-            tuples,
-        } => insert_rows(alloc, db, table, columns, tuples),
-        Stmt::Update {
-            table,
-            sets,
-            filter,
-        } => update_rows(alloc, db, table, sets, filter),
-        Stmt::Delete { table, filter } => delete_rows(alloc, db, table, filter),
-        Stmt::Begin { .. }
-        | Stmt::Commit
-        | Stmt::Rollback
-        | Stmt::RollbackTo { .. }
-        | Stmt::Savepoint { .. }
-        | Stmt::SetAutocommit(_)
-        | Stmt::SetLevel { .. } => Ok(answer(alloc, Reply::Done)),
+        _ => run_on(alloc, find(db, stmt), stmt),
     }
+}
+
+/// What a statement on rows answers, and what it changes, where the tables of its database are these and its own table
+/// has these rows. No more of a database is read.
+pub fn plain_on_rows(
+    alloc: Global,
+    schemas: &Listed<Schema>,
+    rows: &Rows,
+    stmt: &Stmt,
+) -> Result<Outcome, NoMemory>
+    requires few { length schemas.now ≤ MOST_TABLES }
+    requires on_rows { IsOnRows stmt.now }
+    ensures { IfOk result (λ answer. (db : Database) → IsReadFrom schemas.now rows.now stmt.now db → answer ≡ outcome stmt.now db) }
+{
+    if let Some(error) = refuse(alloc, schemas, stmt)? {
+        return Ok(answer(alloc, Reply::Fail(error)));
+    }
+    Ok(run_on(alloc, find_in(schemas, rows, stmt), stmt)?)
 }
 
 /// What a statement answers over a database, and what it changes there. The database stays as it is.

@@ -1,9 +1,9 @@
 //! The plain interpreter: what a statement makes of a database, by reading every row of its table.
-//! It is slow and knows no index. Tests compare engines with it, and no engine calls it.
+//! It is slow and knows no index. Tests compare engines with it; an engine gives it the rows that it has gathered.
 #![tactic(auto)]
 
 mod changes;
 mod interpreter;
 mod selection;
 
-pub use interpreter::plain;
+pub use interpreter::{plain, plain_on_rows};

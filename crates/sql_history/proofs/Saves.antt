@@ -2,7 +2,8 @@
 use Rattle.std.proofs.Common.{◌≡◌, ℕ, Bool, true, false, Some, List, [], ◌∷◌, refl, arith}
 use Rattle.std.proofs.lemmas.Bool.Decides.{nat_tests}
 use Rattle.std.specs.Prelude.{bytes_eq}
-use Rattle.sql_history.specs.Settings.{Save, made_at, saved, back_to}
+use Rattle.sql_history.specs.declared.settings.Save.{Save}
+use Rattle.sql_history.specs.Settings.{made_at, saved, back_to}
 
 same_bytes : (name : List ℕ) → bytes_eq name name ≡ true
 same_bytes [] = refl

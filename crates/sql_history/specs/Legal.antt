@@ -335,9 +335,24 @@ pub record LeavesIt (says : Language) (s : ℕ) (past : List Event) : Type 0 whe
   pub no_victim : did is_victim s past ≡ false
   pub begun : (did begins_txn s past ≡ false) ⊎ ((statement : Stmt) × (takes : Takes says s statement past) × MayLeaveOpen takes.setting statement)
 
--- An item that finds no memory leaves none of its changes, and commits nothing; whatever entries of its it lacks.
+-- BEGIN and CREATE TABLE commit an open transaction first
+abbrev pub BringsCommit : Stmt → Type 0
+BringsCommit (stmt.Begin snapshot) = Unit {0}
+BringsCommit (stmt.CreateTable table if_not_exists definitions) = Unit {0}
+BringsCommit other = ⊥
+
+-- Such a statement finds no memory for a transaction of its own: what was open before is committed, and nothing is changed.
+pub record CommittedFirst (says : Language) (s : ℕ) (past : List Event) : Type 0 where
+  pub statement : Stmt
+  pub takes : Takes says s statement past
+  pub brings : BringsCommit statement
+  pub nothing : own s past ≡ []
+  pub no_victim : did is_victim s past ≡ false
+
+-- An item that finds no memory leaves none of its changes, and commits nothing but what it brings the commit of; whatever
+-- entries of its it lacks.
 pub record WantsMemory (says : Language) (s : ℕ) (past : List Event) : Type 0 where
-  pub leaves : RollsBack s past ⊎ (WasCommitted says s past ⊎ LeavesIt says s past)
+  pub leaves : RollsBack s past ⊎ (WasCommitted says s past ⊎ (CommittedFirst says s past ⊎ LeavesIt says s past))
   pub made : MadeSome says s past
 
 -- a reply that breaks off an item

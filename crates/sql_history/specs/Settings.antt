@@ -12,12 +12,8 @@ use Rattle.inno_types.specs.declared.reply.Reply.TheVariants.{Done}
 use Rattle.inno_model.specs.declared.event.Event.{Event}
 use Rattle.inno_model.specs.declared.event.Event.TheVariants.{Begin, Ended, Committed, RolledBack}
 use Rattle.inno_model.specs.Past.{level, own, under_way}
+use Rattle.sql_history.specs.declared.settings.Save.{Save}
 use Rattle.sql_history.specs.Items.{Language}
-
--- a savepoint, and how many changes its transaction had made then
-pub record Save : Type 0 where
-  pub name : List ℕ
-  pub made : ℕ
 
 pub record Setting : Type 0 where
   pub autocommit : Bool

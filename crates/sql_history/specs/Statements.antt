@@ -10,8 +10,8 @@ use Rattle.inno_types.specs.declared.reply.SqlError.{SqlError}
 use Rattle.inno_types.specs.declared.reply.SqlError.TheVariants.{Syntax, NoSavepoint, InTransaction}
 use Rattle.inno_db.specs.Refusals.{refusal, refused_if}
 use Rattle.inno_model.specs.declared.event.Event.{Event}
-use Rattle.inno_model.specs.Past.{level, current}
-use Rattle.sql_history.specs.Settings.{Setting, made_at}
+use Rattle.inno_model.specs.Past.{level, level_or, current}
+use Rattle.sql_history.specs.Settings.{Setting, made_at, next_level}
 
 abbrev pub is_select : Stmt → Bool
 is_select (stmt.Select selected table condition lock) = true
@@ -57,12 +57,19 @@ sight_of level autocommit other = Sight.of_latest
 
 -- ---- what refuses a statement at once
 
--- 1568 or 1305 by what the session has open and has kept; CREATE TABLE is for the setup part alone
-abbrev pub session_refusal : ℕ → Bool → Setting → Stmt → Option SqlError
-session_refusal s is_open setting (stmt.SetLevel NextTransaction level) = refused_if is_open InTransaction None
-session_refusal s is_open setting (stmt.RollbackTo name) = if is_some (made_at name setting.saves) then None else Some NoSavepoint
-session_refusal s is_open setting (stmt.CreateTable table if_not_exists definitions) = if s == 0 then None else Some (Syntax 0)
-session_refusal s is_open setting other = None
+abbrev pub is_serializable : Level → Bool
+is_serializable Serializable = true
+is_serializable other = false
+
+-- 1568 or 1305 by what the session has open and has kept; CREATE TABLE is for the setup part alone. Until rows are locked
+-- one by one a SELECT that locks, or that SERIALIZABLE might make lock, is none.
+abbrev pub session_refusal : ℕ → Option Level → Setting → Stmt → Option SqlError
+session_refusal s current_level setting (stmt.SetLevel NextTransaction level) = refused_if (is_some current_level) InTransaction None
+session_refusal s current_level setting (stmt.RollbackTo name) = if is_some (made_at name setting.saves) then None else Some NoSavepoint
+session_refusal s current_level setting (stmt.CreateTable table if_not_exists definitions) = if s == 0 then None else Some (Syntax 0)
+session_refusal s current_level setting (stmt.Select selected table condition (Some mode)) = Some (Syntax 0)
+session_refusal s current_level setting (stmt.Select selected table condition None) = refused_if (is_serializable (level_or current_level (next_level setting))) (Syntax 0) None
+session_refusal s current_level setting other = None
 
 abbrev pub first_of : Option SqlError → Option SqlError → Option SqlError
 first_of (Some error) later = Some error
@@ -75,4 +82,4 @@ schemas_now s past = (current s past).schemas
 -- The refusal of a statement before it sees a row, in the order in which refusals come: by the session, and then by
 -- the text and the schemas. (A CREATE TABLE that is badly declared is refused as one outside the setup part is.)
 abbrev pub refused_at_once : ℕ → Setting → Stmt → List Event → Option SqlError
-refused_at_once s setting stmt past = first_of (session_refusal s (is_some (level s past)) setting stmt) (refusal (schemas_now s past) stmt)
+refused_at_once s setting stmt past = first_of (session_refusal s (level s past) setting stmt) (refusal (schemas_now s past) stmt)

@@ -3,7 +3,6 @@ use Rattle.std.specs.Prelude.{◌≡◌, ◌≢◌, ◌⊎◌, ℕ, ◌+◌, ◌
 use Rattle.std.specs.List.{AllByRecursion, list_any}
 use Rattle.inno_types.specs.declared.value.Schema.{Schema}
 use Rattle.inno_types.specs.declared.lock.Level.{Level}
-use Rattle.inno_types.specs.declared.lock.Level.TheVariants.{Serializable}
 use Rattle.inno_types.specs.declared.lock.Lock.{Lock}
 use Rattle.inno_types.specs.declared.lock.Edge.{Edge}
 use Rattle.inno_types.specs.declared.reply.Item.{Item}
@@ -20,7 +19,7 @@ use Rattle.lock_rules.specs.declared.rule.Rule.TheVariants as rules
 use Rattle.lock_rules.specs.Rules.{number_of, is_for, FitsItsRule}
 use Rattle.lock_rules.specs.Conflicts.{conflicts}
 use Rattle.sql_history.specs.Items.{Language, Asks, is_over}
-use Rattle.sql_history.specs.Statements.{is_on_rows, schemas_now}
+use Rattle.sql_history.specs.Statements.{is_on_rows, is_serializable, schemas_now}
 
 -- ---- locks
 
@@ -43,10 +42,6 @@ table_of (stmt.Insert table columns tuples) = Some table
 table_of (stmt.Update table sets condition) = Some table
 table_of (stmt.Delete table condition) = Some table
 table_of other = None
-
-abbrev pub is_serializable : Level → Bool
-is_serializable Serializable = true
-is_serializable other = false
 
 -- the rules by which a search locks
 abbrev pub is_of_search : Rule → Bool

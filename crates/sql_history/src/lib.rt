@@ -8,6 +8,7 @@ mod counts;
 mod databases;
 mod readings;
 mod savepoints;
+mod settings;
 
 pub use counts::rows_kept;
 pub use databases::{
@@ -20,3 +21,4 @@ pub use readings::{
     the_front_of_a_legal_history_is_legal,
 };
 pub use savepoints::{a_rollback_keeps_its_savepoint, a_savepoint_takes_the_place_of_its_name};
+pub use settings::Save;

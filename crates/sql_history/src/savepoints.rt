@@ -1,7 +1,8 @@
 //! Laws of savepoints.
 
 ghost use Rattle.std.specs.Prelude.{◌≡◌, ℕ, List, Some, true};
-ghost use Rattle.sql_history.specs.Settings.{Save, made_at, saved, back_to};
+ghost use Rattle.sql_history.specs.declared.settings.Save.{Save};
+ghost use Rattle.sql_history.specs.Settings.{made_at, saved, back_to};
 
 /// In a transaction SAVEPOINT keeps its name with the changes made so far, whatever stood there under the name.
 pub fn a_savepoint_takes_the_place_of_its_name()

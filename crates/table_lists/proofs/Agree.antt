@@ -2,7 +2,7 @@
 use Rattle.std.proofs.Common.{◌≡◌, ◌≢◌, ℕ, zero, suc, ◌+◌, ◌-◌, ◌<◌, ◌≤◌, ◌^◌, Bool, true, false, cond, eqb, Option, Some, None, List, [], ◌∷◌, ◌++◌, length, get_or, set, map, refl, sym, ap, subst, ◌∙◌, inl, inr, arith}
 use Rattle.std.proofs.lemmas.Bool.Decides.{nat_tests, eqb_tells}
 use Rattle.std.proofs.lemmas.Bool.{false≢true}
-use Rattle.std.specs.Prelude.{is_some, ◌==◌}
+use Rattle.std.specs.Prelude.{is_some, is_none, ◌==◌}
 use Rattle.std.specs.List.{AllByRecursion, list_any}
 use Rattle.std.specs.FinMap.{from_entries}
 use Rattle.std.proofs.lemmas.List.{get_or-set_same, get_or-set_other, length-set, length-append}
@@ -27,7 +27,7 @@ use Rattle.row_versions.specs.Chains.{Chains, is_same_place, versions_at, first_
 use Rattle.table_lists.specs.State.{writer_without}
 use Rattle.table_lists.specs.Slots.{Work, Slot, fresh, id_for, id_of_work, txn_of_work, places_of_work, with_view, with_id, with_place, without_place, but_first, first, GivesId}
 use Rattle.table_lists.specs.Ids.{given, id_of, is_among, opens}
-use Rattle.table_lists.specs.Order.{created, IsOfRow, IsTabled, IsUndoable, MayCome}
+use Rattle.table_lists.specs.Order.{created, is_creation, IsOfRow, IsTabled, IsUndoable, MayCome}
 use Rattle.table_lists.specs.Rows.{place_in, is_place, is_at, row_of, row_at, seen, row_seen, IsUnseen, IsFirstSeen, IsNoneSeen, IsNextSeen, IsLastSeen, IsNewestSeen}
 use Rattle.table_lists.specs.Changes.{TakesBack}
 use Rattle.table_lists.specs.Agreement.{IsWorkOf, WorkAgrees, SlotAgrees, IsViewOf, ViewAgrees, versions_of, AreVersions, WriterAgrees, owed_by, owed_by_all, IsAgreed}
@@ -40,6 +40,13 @@ use Rattle.table_lists.proofs.Owed as owing
 
 some≢none : {X : Type 0} {x : X} → Some x ≡ None → ⊥
 some≢none e = cc
+
+-- a change that makes a table has no place
+places_none : (schemas : List Schema) (changes : List Change) → list_any is_none (map (place_in schemas) changes) ≡ list_any is_creation changes
+places_none schemas [] = refl
+places_none schemas (Create schema ∷ changes) = refl
+places_none schemas (Put table row ∷ changes) = places_none schemas changes
+places_none schemas (Remove table key ∷ changes) = places_none schemas changes
 
 -- where one slot is written, each slot agrees
 slots_set : (schemas schemas' : List Schema) (e : Event) (h : List Event) (s : ℕ) (slots : List Slot) (new : Slot) → MayCome h e → AreIds h → ((u : ℕ) → u ≢ s → is_of u e ≡ false) → s < length slots
@@ -323,6 +330,12 @@ module _ (names : List (List ℕ)) (h : List Event) (room : ℕ) (schemas : List
 
   txn_is : (s : ℕ) → IsOpen s h → txn_of_work (get_or slots s fresh).work ≡ txn s h
   txn_is s is-open = let mine = taken schemas h s (get_or slots s fresh).work (agreed.sessions s).work_is is-open in ap txn_of_work mine.1 ∙ sym mine.2.txn_is
+
+  pub makes_is : (s : ℕ) → list_any is_none (places_of_work (get_or slots s fresh).work) ≡ list_any is_creation (own s h)
+  makes_is s = go (get_or slots s fresh).work (agreed.sessions s).work_is where
+    go : (o : Option Work) → WorkAgrees schemas h s o → list_any is_none (places_of_work o) ≡ list_any is_creation (own s h)
+    go None agrees = sym (ap (list_any is_creation) agrees.own_is)
+    go (Some w) agrees = ap (list_any is_none) (sym agrees.places_are) ∙ places_none schemas (own s h)
 
   pub count_is : (s : ℕ) → length (places_of_work (get_or slots s fresh).work) ≡ length (own s h)
   count_is s = go (get_or slots s fresh).work (agreed.sessions s).work_is where

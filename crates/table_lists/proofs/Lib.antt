@@ -1,4 +1,4 @@
-mod Ids
+pub mod Ids
 mod Opens
 mod Standing
 mod Rows

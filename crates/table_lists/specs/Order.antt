@@ -1,5 +1,5 @@
 -- When an entry may come, as far as sessions, transactions and tables order entries: whatever the statements say.
-use Rattle.std.specs.Prelude.{◌≡◌, ℕ, ◌+◌, ◌<◌, List, [], ◌∷◌, ◌++◌, length, true, None, Some}
+use Rattle.std.specs.Prelude.{◌≡◌, ℕ, ◌+◌, ◌<◌, List, [], ◌∷◌, ◌++◌, length, Bool, true, false, None, Some}
 use Rattle.inno_types.specs.declared.value.Schema.{Schema}
 use Rattle.inno_types.specs.declared.reply.Item.{Item}
 use Rattle.inno_db.specs.declared.change.Change.{Change}
@@ -20,6 +20,11 @@ created (other ∷ past) = created past
 abbrev pub IsOfRow : Change → Type 0
 IsOfRow (Create schema) = ⊥
 IsOfRow other = Unit {0}
+
+-- the change makes a table
+abbrev pub is_creation : Change → Bool
+is_creation (Create schema) = true
+is_creation other = false
 
 -- a change of a row is one of these so many tables
 abbrev pub IsTabled : ℕ → Change → Type 0

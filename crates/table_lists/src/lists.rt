@@ -2,13 +2,14 @@
 
 ghost use Rattle.std.specs.Prelude.{◌≡◌, ◌≢◌, ℕ, ◌+◌, ◌-◌, ◌<◌, ◌≤◌, ◌^◌, [], ◌∷◌, ◌++◌, length, OnOk, OnErr, IfOk, IfSome, IfNone, is_some, Some, None, option_copied, slice_index_or};
 ghost use Rattle.std.specs.FinMap.{from_entries};
+ghost use Rattle.std.specs.List.{list_any};
 ghost use Rattle.inno_db.specs.declared.change.Change.TheVariants.{Create, Put, Remove};
 ghost use Rattle.inno_model.specs.declared.event.Event.TheVariants.{Begin, Started, View, Changed, Undone, Ended, Committed, Acked, RolledBack};
 ghost use Rattle.inno_model.specs.Past.{under_way, level, own, started, begins, view_of, txn};
 ghost use Rattle.inno_model.specs.Legal.{IsOpen};
 ghost use Rattle.inno_model.specs.Recorded.{SameEntries};
 ghost use Rattle.table_lists.specs.State.{Adds, Closes, IsFirst, writer_without};
-ghost use Rattle.table_lists.specs.Order.{created, IsOfRow, MayCome};
+ghost use Rattle.table_lists.specs.Order.{created, is_creation, IsOfRow, MayCome};
 ghost use Rattle.table_lists.specs.Rows.{place_in, row_of, row_seen, IsFirstSeen, IsNoneSeen, IsNextSeen, IsLastSeen, IsNewestSeen};
 ghost use Rattle.table_lists.specs.Changes.{TakesBack};
 ghost use Rattle.table_lists.specs.Slots.{fresh, id_for, GivesId};
@@ -151,6 +152,23 @@ impl Lists {
         ensures { result ≡ length (own session self.now.past) }
     {
         self.slots.change_count(session)
+    }
+
+    /// Whether the session's open transaction makes a table.
+    pub fn makes_table(&self, session: u32) -> bool
+        requires { session < length self.now.names }
+        ensures { result ≡ list_any is_creation (own session self.now.past) }
+    {
+        self.slots.makes_table(session)
+    }
+
+    /// The session that may write.
+    pub fn writer(&self) -> Option<u32>
+        ensures told { result ≡ self.now.writer }
+        ensures nobody { IfNone result ((s : ℕ) → own s self.now.past ≡ []) }
+        ensures alone { IfSome result (λ w. (w < length self.now.names) × IsOpen w self.now.past × ((s : ℕ) → s ≢ w → own s self.now.past ≡ [])) }
+    {
+        self.writer
     }
 
     /// The first place from this one on at which any session may see a row.

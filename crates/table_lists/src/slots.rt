@@ -2,6 +2,8 @@
 //! Only the lists write here, one entry of the history at a time.
 
 ghost use Rattle.std.specs.Prelude.{◌≡◌, ◌+◌, ◌-◌, ◌^◌, ◌<◌, [], ◌∷◌, ◌++◌, length, slice_set, slice_index_or, OnOk, OnErr, IfSome, IfNone, Some, None, is_some};
+ghost use Rattle.std.specs.Prelude.{is_none};
+ghost use Rattle.std.specs.List.{list_any};
 ghost use Rattle.table_lists.specs.Slots.{fresh, first, but_first, id_of_work, txn_of_work, places_of_work, with_view, with_id, with_place, without_place};
 
 use inno_types::Level;
@@ -95,6 +97,13 @@ impl OpenWork {
         self.places.len()
     }
 
+    /// Whether one of the changes has no place.
+    pub fn makes_table(&self) -> bool
+        ensures { result ≡ list_any is_none self.now.places }
+    {
+        any_without(&self.places)
+    }
+
     pub fn push_place(&mut self, place: Option<Place>) -> Result<(), AllocError>
         ensures ok { OnOk result (self.new ≡ record self.old { places = place ∷ self.old.places }) }
         ensures err { OnErr result (self.new ≡ self.old) }
@@ -112,6 +121,12 @@ impl OpenWork {
             None => None,
         }
     }
+}
+
+fn any_without(places: &[Option<Place>]) -> bool
+    ensures { result ≡ list_any is_none places.now }
+{
+    places.iter().any(|place| place.is_none())
 }
 
 /// A session: how many items it started, and its open transaction.
@@ -283,6 +298,17 @@ impl Slots {
         match self.work(session) {
             Some(work) => work.change_count(),
             None => 0,
+        }
+    }
+
+    /// Whether a change of the session's transaction has no place.
+    pub fn makes_table(&self, session: u32) -> bool
+        requires { session < length self.now }
+        ensures { result ≡ list_any is_none (places_of_work (slice_index_or self.now session fresh).work) }
+    {
+        match self.work(session) {
+            Some(work) => work.makes_table(),
+            None => false,
         }
     }
 

@@ -1,0 +1,10 @@
+//! A savepoint, as definitions and engines speak of it.
+
+use inno_types::Bytes;
+
+/// A savepoint, and how many changes its transaction had made then.
+#[derive(Drop)]
+pub struct Save {
+    pub name: Bytes,
+    pub made: u64,
+}
