@@ -1,0 +1,104 @@
+-- What is known of the past in the midst of a CREATE TABLE.
+use Rattle.std.specs.Prelude.{◌≡◌, ◌⊎◌, ◌<◌, ℕ, true, false, List, [], ◌∷◌, Some, length}
+use Rattle.std.specs.List.{AllByRecursion}
+use Rattle.inno_types.specs.declared.lock.Level.{Level}
+use Rattle.inno_types.specs.declared.reply.Item.TheVariants.{Sql}
+use Rattle.inno_types.specs.declared.value.Schema.{Schema}
+use Rattle.inno_types.specs.declared.stmt.Stmt.{Stmt}
+use Rattle.inno_db.specs.declared.change.Change.TheVariants.{Create}
+use Rattle.inno_db.specs.declared.limits.TheConstants.{MOST_TABLES}
+use Rattle.inno_db.specs.Outcome.{outcome}
+use Rattle.inno_model.specs.declared.event.Event.{Event}
+use Rattle.inno_model.specs.Legal.{awaits_ack}
+use Rattle.inno_model.specs.Past.{under_way, of_item, did, begins_txn, rolls_back_txn, own}
+use Rattle.sql_grammar.specs.Grammar.{Spells}
+use Rattle.sql_history.specs.Items.{is_over, point, own_before, base}
+use Rattle.sql_history.specs.Settings.{next_level}
+use Rattle.sql_history.specs.Endings.{IsOpen, IsClosed}
+use Rattle.sql_history.specs.Waiting.{is_victim}
+use Rattle.sql_history.specs.Legal.{Takes, IsCreation, EndsCreate, LeavesIt, CommittedFirst}
+use Rattle.table_lists.specs.State.{State}
+use Rattle.table_lists.specs.Order.{IsOfRow, created}
+use Rattle.sql_lists.specs.Steps.{HasRowsAlone}
+use Rattle.sql_lists.proofs.Staying.{IsSteady}
+
+-- The session's item asks for the statement, before which its session changed rows alone.
+pub record IsAt (s : ℕ) (statement : Stmt) (past : List Event) : Type 0 where
+  pub takes : Takes Spells s statement past
+  pub kind : IsCreation statement
+  pub no_victim : did is_victim s past ≡ false
+  pub rows_before : AllByRecursion IsOfRow (own_before s past)
+
+-- its transaction is to be of this level
+pub record IsToBegin (s : ℕ) (statement : Stmt) (l : Level) (past : List Event) : Type 0 where
+  pub at : IsAt s statement past
+  pub level_is : l ≡ next_level at.takes.setting
+
+-- the item has changed nothing up to its point
+abbrev pub HasMadeNone : ℕ → List Event → Type 0
+HasMadeNone s past = own s (point s past) ≡ own_before s (point s past)
+
+-- what was open is committed, and nothing else has been done
+pub record IsEmptied (s : ℕ) (past : List Event) : Type 0 where
+  pub closed : IsClosed s past
+  pub new : own s past ≡ []
+  pub not_begun : did begins_txn s past ≡ false
+  pub not_rolled_back : did rolls_back_txn s past ≡ false
+  pub made : HasMadeNone s past
+
+-- the item has its own transaction, and is not at the end of its changes
+pub record HasOpened (s : ℕ) (past : List Event) : Type 0 where
+  pub is_open : IsOpen s past
+  pub begun : did begins_txn s past ≡ true
+  pub not_rolled_back : did rolls_back_txn s past ≡ false
+  pub none_before : own_before s past ≡ []
+  pub not_over : is_over s past ≡ false
+
+-- the table is to be made
+pub record IsToMake (state : State) (s : ℕ) (statement : Stmt) (schema : Schema) : Type 0 where
+  pub at : IsAt s statement state.past
+  pub opened : HasOpened s state.past
+  pub new : own s state.past ≡ []
+  pub steady : IsSteady state s
+  pub makes : (outcome statement (base s state.past)).changes ≡ Create schema ∷ []
+  pub few : length (created state.past) < MOST_TABLES
+
+-- it is made
+pub record HasMadeIt (state : State) (s : ℕ) (statement : Stmt) : Type 0 where
+  pub at : IsAt s statement state.past
+  pub opened : HasOpened s state.past
+  pub schema : Schema
+  pub own_is : own s state.past ≡ Create schema ∷ []
+  pub steady : IsSteady state s
+  pub makes : (outcome statement (base s state.past)).changes ≡ Create schema ∷ []
+
+-- what it was to do is committed
+pub record IsCommitted (s : ℕ) (statement : Stmt) (past : List Event) : Type 0 where
+  pub at : IsAt s statement past
+  pub ends : EndsCreate s (outcome statement (base s (point s past))).changes past
+  pub over : is_over s past ≡ true
+  pub closed : IsClosed s past
+  pub new : own s past ≡ []
+
+-- it may end as done
+pub record IsFinished (s : ℕ) (statement : Stmt) (past : List Event) : Type 0 where
+  pub at : IsAt s statement past
+  pub ends : EndsCreate s (outcome statement (base s (point s past))).changes past
+  pub acked : awaits_ack (of_item s past) ≡ false
+  pub rows_alone : HasRowsAlone s past
+
+-- its own transaction is to be rolled back
+pub record IsFailing (s : ℕ) (past : List Event) : Type 0 where
+  pub statement : Stmt
+  pub at : IsAt s statement past
+  pub opened : HasOpened s past
+  pub new : own s past ≡ []
+
+-- it found no memory
+pub record IsGivingUp (s : ℕ) (past : List Event) : Type 0 where
+  pub text : List ℕ
+  pub item : under_way s past ≡ Some (Sql text)
+  pub acked : awaits_ack (of_item s past) ≡ false
+  pub leaves : CommittedFirst Spells s past ⊎ LeavesIt Spells s past
+  pub made : HasMadeNone s past
+  pub rows_alone : HasRowsAlone s past

@@ -1,0 +1,4 @@
+pub mod Making
+pub mod Knowing
+pub mod Running
+pub mod Going

@@ -1,0 +1,74 @@
+//! A CREATE TABLE under way, its beginning and its steps.
+
+ghost use Rattle.std.specs.Prelude.{◌<◌, length};
+ghost use Rattle.sql_history.specs.Legal.{IsCreation};
+ghost use Rattle.sql_lists.specs.Steps.{IsTaken, Steps, StaysRunning};
+ghost use Rattle.sql_lists.specs.Going.{Nears};
+ghost use Rattle.create_statement.specs.Running.{IsRunning};
+ghost use Rattle.create_statement.specs.Going.{to_go};
+
+use crate::asking::{step_asked, step_closed, step_unacked};
+use crate::ending::{step_committed, step_ending, step_failed, step_failing};
+use crate::making::{step_begun, step_made};
+use inno_types::{Level, Schema, Stmt};
+use sql_lists::{Advance, SqlLists};
+use std::alloc::Global;
+
+/// A CREATE TABLE under way.
+#[derive(Drop)]
+pub enum CreateStatement {
+    /// Nothing is done yet. Its transaction is to be of this level.
+    Asked { stmt: Stmt, level: Level },
+    /// What was open is committed.
+    Unacked { stmt: Stmt, level: Level },
+    Closed { stmt: Stmt, level: Level },
+    /// It has its transaction, and alone may write.
+    Begun { stmt: Stmt, schema: Schema },
+    Made { stmt: Stmt },
+    /// Its table is committed, or, where that was there, what was open.
+    Committed { stmt: Stmt },
+    Ending { stmt: Stmt },
+    /// No memory was found: its transaction is rolled back first.
+    Failing,
+    Failed,
+}
+
+impl CreateStatement {
+    /// The statement of an item that has done nothing yet.
+    pub fn new(stmt: Stmt, session: u32, lists: &SqlLists) -> Self
+        requires joined { session < length lists.now.names }
+        requires kind { IsCreation stmt }
+        requires taken { IsTaken session stmt lists.now.past }
+        ensures { IsRunning lists.now session result }
+    {
+        let level = lists.setting(session).next_level();
+        CreateStatement::Asked { stmt, level }
+    }
+
+    /// One step of the session's statement.
+    pub fn step(self, alloc: Global, session: u32, lists: &mut SqlLists) -> (Self, Advance)
+        requires joined { session < length lists.old.names }
+        requires running { IsRunning lists.old session self }
+        ensures steps { Steps IsRunning session lists.old lists.new result.0 result.1 }
+        ensures nears { Nears to_go session lists.old.past self lists.new.past result.0 result.1 }
+    {
+        match self {
+            CreateStatement::Asked { stmt, level } => step_asked(stmt, level, session, lists),
+            CreateStatement::Unacked { stmt, level } => step_unacked(stmt, level, session, lists),
+            CreateStatement::Closed { stmt, level } => step_closed(
+                alloc, stmt, level, session, lists,
+            ),
+            CreateStatement::Begun { stmt, schema } => step_begun(stmt, schema, session, lists),
+            CreateStatement::Made { stmt } => step_made(stmt, session, lists),
+            CreateStatement::Committed { stmt } => step_committed(stmt, session, lists),
+            CreateStatement::Ending { stmt } => step_ending(stmt, session, lists),
+            CreateStatement::Failing => step_failing(session, lists),
+            CreateStatement::Failed => step_failed(session, lists),
+        }
+    }
+
+    /// An entry of another session leaves what a statement knows.
+    pub fn others_leave_it()
+        ensures { StaysRunning IsRunning }
+    {}
+}

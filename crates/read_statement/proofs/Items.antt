@@ -1,0 +1,125 @@
+-- What an item that has done little leaves as it was, and what entries make of an item.
+use Rattle.std.proofs.Common.{◌≡◌, ℕ, Bool, true, false, Option, Some, None, List, [], ◌∷◌, refl, sym, ap, subst, ◌∙◌, inl, inr, arith}
+use Rattle.std.proofs.lemmas.Bool.Decides.{nat_tests}
+use Rattle.std.proofs.lemmas.Bool.{false≢true}
+use Rattle.std.specs.Prelude.{is_some}
+use Rattle.std.specs.List.{list_any}
+use Rattle.inno_types.specs.declared.stmt.Stmt.{Stmt}
+use Rattle.inno_model.specs.declared.event.Event.{Event}
+use Rattle.inno_model.specs.declared.event.Event.TheVariants as events
+use Rattle.inno_model.specs.Past.{before_item, of_item, did, closes, level, own, commits_txn, rolls_back_txn}
+use Rattle.inno_model.specs.Legal.{awaits_ack}
+use Rattle.inno_model.specs.Loose.{Sometime}
+use Rattle.sql_grammar.specs.Grammar.{Spells}
+use Rattle.sql_history.specs.Items.{is_over, before_turn, undoes}
+use Rattle.sql_history.specs.Waiting.{is_victim}
+use Rattle.sql_history.specs.Endings.{IsOpen, IsClosed}
+use Rattle.sql_history.specs.Settings.{HasSet}
+use Rattle.sql_history.specs.Legal.{Takes}
+use Rattle.sql_lists.proofs.Staying.{is_within, item_within, before_within, starts_not}
+use Rattle.read_statement.specs.Running.{strays}
+
+-- ---- nothing is done yet
+
+pub quiet_own : (s : ℕ) (h : List Event) → of_item s h ≡ [] → own s h ≡ own s (before_item s h)
+quiet_own s [] nothing = refl
+quiet_own s (events.Started t j item ∷ h) nothing = grind (arith, nat_tests, quiet_own s h, nothing)
+quiet_own s (events.Begin t n l ∷ h) nothing = grind (arith, nat_tests, quiet_own s h, nothing)
+quiet_own s (events.Changed t change ∷ h) nothing = grind (arith, nat_tests, quiet_own s h, nothing)
+quiet_own s (events.Undone t keep ∷ h) nothing = grind (arith, nat_tests, quiet_own s h, nothing)
+quiet_own s (events.Committed t ∷ h) nothing = grind (arith, nat_tests, quiet_own s h, nothing)
+quiet_own s (events.RolledBack t ∷ h) nothing = grind (arith, nat_tests, quiet_own s h, nothing)
+quiet_own s (e ∷ h) nothing = grind (arith, nat_tests, quiet_own s h, nothing)
+
+pub quiet_level : (s : ℕ) (h : List Event) → of_item s h ≡ [] → level s h ≡ level s (before_item s h)
+quiet_level s [] nothing = refl
+quiet_level s (events.Started t j item ∷ h) nothing = grind (arith, nat_tests, quiet_level s h, nothing)
+quiet_level s (events.Begin t n l ∷ h) nothing = grind (arith, nat_tests, quiet_level s h, nothing)
+quiet_level s (events.Committed t ∷ h) nothing = grind (arith, nat_tests, quiet_level s h, nothing)
+quiet_level s (events.RolledBack t ∷ h) nothing = grind (arith, nat_tests, quiet_level s h, nothing)
+quiet_level s (e ∷ h) nothing = grind (arith, nat_tests, quiet_level s h, nothing)
+
+pub quiet_turn : (s : ℕ) (h : List Event) → of_item s h ≡ [] → before_turn s h ≡ before_item s h
+quiet_turn s [] nothing = refl
+quiet_turn s (events.Started t j item ∷ h) nothing = grind (arith, nat_tests, quiet_turn s h, nothing)
+quiet_turn s (events.Begin t n l ∷ h) nothing = grind (arith, nat_tests, quiet_turn s h, nothing)
+quiet_turn s (e ∷ h) nothing = grind (arith, nat_tests, quiet_turn s h, nothing)
+
+-- ---- what an item that has only begun has not done
+
+none_such : (test other : Event → Bool) → ((e : Event) → other e ≡ false → test e ≡ false) → (es : List Event) → list_any other es ≡ false → list_any test es ≡ false
+none_such test other so [] none = refl
+none_such test other so (e ∷ es) none = grind (arith, nat_tests, so e, none_such test other so es, none)
+
+module _ (s : ℕ) (h : List Event) (goes-on : did strays s h ≡ false) where
+  closes_strays : (e : Event) → strays e ≡ false → closes e ≡ false
+  closes_strays (events.Begin t n l) is = refl
+  closes_strays (events.View t) is = refl
+  closes_strays e is = cc
+
+  pub none_closed : did closes s h ≡ false
+  none_closed = none_such closes strays closes_strays (of_item s h) goes-on
+
+  commits_strays : (e : Event) → strays e ≡ false → commits_txn e ≡ false
+  commits_strays (events.Committed t) is = cc
+  commits_strays e is = refl
+
+  pub none_committed : did commits_txn s h ≡ false
+  none_committed = none_such commits_txn strays commits_strays (of_item s h) goes-on
+
+  rolls_strays : (e : Event) → strays e ≡ false → rolls_back_txn e ≡ false
+  rolls_strays (events.RolledBack t) is = cc
+  rolls_strays e is = refl
+
+  pub none_rolled : did rolls_back_txn s h ≡ false
+  none_rolled = none_such rolls_back_txn strays rolls_strays (of_item s h) goes-on
+
+  undoes_strays : (e : Event) → strays e ≡ false → undoes e ≡ false
+  undoes_strays (events.Undone t keep) is = cc
+  undoes_strays e is = refl
+
+  pub none_undone : did undoes s h ≡ false
+  none_undone = none_such undoes strays undoes_strays (of_item s h) goes-on
+
+  victim_strays : (e : Event) → strays e ≡ false → is_victim e ≡ false
+  victim_strays (events.Victim t cycle) is = cc
+  victim_strays e is = refl
+
+  pub no_victim : did is_victim s h ≡ false
+  no_victim = none_such is_victim strays victim_strays (of_item s h) goes-on
+
+acked_by : (es : List Event) → list_any closes es ≡ false → awaits_ack es ≡ false
+acked_by [] on = refl
+acked_by (events.Committed t ∷ es) on = cc
+acked_by (e ∷ es) on = refl
+
+pub acked_of_on : (s : ℕ) (h : List Event) → did closes s h ≡ false → awaits_ack (of_item s h) ≡ false
+acked_of_on s h on = acked_by (of_item s h) on
+
+-- its turn is a part of the item
+pub turn_goes_on : (s : ℕ) (h : List Event) → did closes s h ≡ false → is_over s h ≡ false
+turn_goes_on s [] on = refl
+turn_goes_on s (events.Started t j item ∷ h) on = grind (arith, nat_tests, turn_goes_on s h, on)
+turn_goes_on s (events.Begin t n l ∷ h) on = grind (arith, nat_tests, turn_goes_on s h, on)
+turn_goes_on s (e ∷ h) on = grind (arith, nat_tests, turn_goes_on s h, on)
+
+-- an entry within the item leaves what was taken, with the same settings
+abbrev pub takes_on : (e : Event) (h : List Event) (s : ℕ) → is_within s e ≡ true → (stmt : Stmt) → Takes Spells s stmt h → Takes Spells s stmt (e ∷ h)
+takes_on e h s within stmt takes =
+    record {
+      asks = (takes.asks.0, item_within e h s within ∙ takes.asks.1, takes.asks.2);
+      setting = takes.setting;
+      is_set = subst (λ past. HasSet Spells s past takes.setting) (sym (before_within e h s within)) takes.is_set;
+      not_refused = inr (starts_not e h s within, takes.not_refused);
+    }
+
+pub some_past : (P : List Event → Type 0) (s : ℕ) (h : List Event) → Sometime P s h → (Q : List Event → Type 0) → Q h → Sometime Q s h
+some_past P s [] when Q now = absurd when
+some_past P s (e ∷ h) when Q now = inl now
+
+pub not_closed : (s : ℕ) (h : List Event) → IsOpen s h → IsClosed s h → ⊥
+not_closed s h is-open closed = false≢true (sym (ap is_some closed) ∙ is-open)
+
+pub none_of : {X : Type 0} (o : Option X) → is_some o ≡ false → o ≡ None
+none_of None is = refl
+none_of (Some x) is = cc

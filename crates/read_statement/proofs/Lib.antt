@@ -1,0 +1,14 @@
+pub mod Items
+pub mod Selects
+pub mod Moving
+pub mod Ending
+pub mod Tables
+pub mod Staying
+pub mod Entries
+pub mod Gathered
+pub mod Settling
+pub mod Finishing
+pub mod Newest
+pub mod Loose
+pub mod Latest
+pub mod Unviewed

@@ -1,0 +1,177 @@
+-- An entry of another session leaves what a SELECT knows as it was.
+use Rattle.std.proofs.Common.{◌≡◌, ℕ, Bool, true, false, Option, Some, List, ◌∷◌, refl, sym, ap, subst, ◌∙◌, inl, inr}
+use Rattle.std.specs.Prelude.{is_some}
+use Rattle.inno_types.specs.declared.reply.Reply.{Reply}
+use Rattle.inno_types.specs.declared.reply.Reply.TheVariants as replies
+use Rattle.inno_types.specs.declared.stmt.Stmt.{Stmt}
+use Rattle.inno_model.specs.declared.event.Event.{Event}
+use Rattle.inno_model.specs.Past.{is_of, of_item, did, begins_txn, takes_view, commits_txn, rolls_back_txn, level, own}
+use Rattle.inno_model.specs.Legal.{awaits_ack}
+use Rattle.inno_model.specs.Loose.{starts}
+use Rattle.inno_model.proofs.Untouched.{IsUntouched, untouched}
+use Rattle.inno_model.proofs.Commits.{view_within}
+use Rattle.sql_history.specs.Items.{is_over, point, own_before, undoes}
+use Rattle.sql_history.specs.Waiting.{is_victim}
+use Rattle.sql_lists.specs.Steps.{HasRowsAlone, StaysRunning}
+use Rattle.sql_lists.proofs.Staying.{other_of, not_starting, at_work, is_within, before_within, starts_not, within_of_other, point_stays}
+use Rattle.table_lists.specs.State.{State}
+use Rattle.table_lists.specs.Order.{IsOfRow, created}
+use Rattle.std.specs.List.{AllByRecursion}
+use Rattle.inno_db.proofs.Outcomes.{table_read}
+use Rattle.gathering.specs.Walk.{Walk, at_key}
+use Rattle.read_statement.specs.declared.machine.Read.{Read}
+use Rattle.read_statement.specs.declared.machine.Asked.{Asked}
+use Rattle.read_statement.specs.declared.machine.ReadStatement.{ReadStatement}
+use Rattle.read_statement.specs.declared.machine.ReadStatement.TheVariants as machine
+use Rattle.read_statement.specs.Running.{strays, IsOpening, IsIn, IsEarly, HasView, IsOfView, IsWalking, IsSeen, IsTooMany, IsSettledBy, IsClosing, HasClosed, IsRunning, is_rows}
+use Rattle.read_statement.proofs.Items.{takes_on}
+use Rattle.read_statement.proofs.Tables.{grown, table_stays, tabled_stays, seen_stays}
+
+-- what stands behind a reply stays, and its point with it
+seen_on : (s : ℕ) (e : Event) (h before after : List Event) (stmt : Stmt) → did takes_view s (e ∷ h) ≡ did takes_view s h → after ≡ before → (reply : Reply) → IsSeen h before s stmt reply → IsSeen (e ∷ h) after s stmt reply
+seen_on s e h before after stmt same-viewed same reply seen =
+    subst (λ p. IsSeen (e ∷ h) p s stmt reply) (sym same) (record { found = seen.found; viewed = λ by-view apart. same-viewed ∙ seen.viewed by-view apart })
+
+pub settled_on : (s : ℕ) (e : Event) (h before after : List Event) (stmt : Stmt) → starts s e ≡ false → did takes_view s (e ∷ h) ≡ did takes_view s h → after ≡ before → (kept : Reply) → IsSettledBy kept h before s stmt → IsSettledBy kept (e ∷ h) after s stmt
+settled_on s e h before after stmt goes same-viewed same (replies.Rows rows) settled = seen_on s e h before after stmt same-viewed same (replies.Rows rows) settled
+settled_on s e h before after stmt goes same-viewed same (replies.Fail error) settled = seen_on s e h before after stmt same-viewed same (replies.Fail error) settled
+settled_on s e h before after stmt goes same-viewed same (replies.RunLimit rows) settled =
+    subst (λ p. IsTooMany rows (e ∷ h) p s stmt) (sym same) (record { many = settled.many; reply = settled.reply; found = settled.found; sum = inr (goes, settled.sum) })
+settled_on s e h before after stmt goes same-viewed same replies.NoMemory settled = tt
+settled_on s e h before after stmt goes same-viewed same replies.Done settled = elim settled [ ]
+settled_on s e h before after stmt goes same-viewed same (replies.Count n) settled = elim settled [ ]
+settled_on s e h before after stmt goes same-viewed same (replies.NotSignalled n) settled = elim settled [ ]
+settled_on s e h before after stmt goes same-viewed same replies.Stopped settled = elim settled [ ]
+
+pub closed_on : (b : Bool) (s : ℕ) (e : Event) (h : List Event) → did commits_txn s (e ∷ h) ≡ did commits_txn s h → did rolls_back_txn s (e ∷ h) ≡ did rolls_back_txn s h → HasClosed b s h → HasClosed b s (e ∷ h)
+closed_on true s e h same-commits same-rolls closed = (same-commits ∙ closed.0, same-rolls ∙ closed.1)
+closed_on false s e h same-commits same-rolls closed = (same-rolls ∙ closed.0, same-commits ∙ closed.1)
+
+-- a closed transaction stays closed, and its item over
+module _ (s : ℕ) (e : Event) (h : List Event) (within : is_within s e ≡ true) (still-over : is_over s h ≡ true → is_over s (e ∷ h) ≡ true) (same-level : level s (e ∷ h) ≡ level s h) (same-own : own s (e ∷ h) ≡ own s h)
+    (same-begun : did begins_txn s (e ∷ h) ≡ did begins_txn s h) (same-victim : did is_victim s (e ∷ h) ≡ did is_victim s h) (same-undone : did undoes s (e ∷ h) ≡ did undoes s h) (same-viewed : did takes_view s (e ∷ h) ≡ did takes_view s h) (same-commits : did commits_txn s (e ∷ h) ≡ did commits_txn s h) (same-rolls : did rolls_back_txn s (e ∷ h) ≡ did rolls_back_txn s h) where
+  pub closing_on : (kept given : Reply) → IsClosing h s kept given → IsClosing (e ∷ h) s kept given
+  closing_on kept given c =
+      let same-point : point s (e ∷ h) ≡ point s h = point_stays e h s c.over (still-over c.over) in
+      record {
+        same = c.same;
+        stmt = c.stmt;
+        takes = takes_on e h s within c.stmt c.takes;
+        plain = c.plain;
+        over = still-over c.over;
+        autocommit_is = c.autocommit_is;
+        closed_before = ap (level s) (before_within e h s within) ∙ c.closed_before;
+        closed = same-level ∙ c.closed;
+        begun = same-begun ∙ c.begun;
+        no_victim = same-victim ∙ c.no_victim;
+        none_undone = same-undone ∙ c.none_undone;
+        nothing = same-own ∙ c.nothing;
+        nothing_then = ap (own s) same-point ∙ c.nothing_then;
+        nothing_before = ap (own_before s) same-point ∙ c.nothing_before;
+        settled = settled_on s e h (point s h) (point s (e ∷ h)) c.stmt (starts_not e h s within) same-viewed same-point kept c.settled;
+        ended = closed_on (is_rows kept) s e h same-commits same-rolls c.ended;
+      }
+
+module _ (t s : ℕ) (e : Event) (h : List Event) (mine : is_of t e ≡ true) (other : is_of s e ≡ false) where
+  same : IsUntouched h (e ∷ h) s
+  same = untouched e h s other
+
+  goes : starts s e ≡ false
+  goes = not_starting e s other
+
+  did_same : (test : Event → Bool) → did test s (e ∷ h) ≡ did test s h
+  did_same test = rw same.entries refl
+
+  acks_same : awaits_ack (of_item s (e ∷ h)) ≡ awaits_ack (of_item s h)
+  acks_same = ap awaits_ack same.entries
+
+  rows_alone_on : HasRowsAlone s h → HasRowsAlone s (e ∷ h)
+  rows_alone_on rows = subst (AllByRecursion IsOfRow) (sym same.own_is) rows
+
+  opening_on : (asked : Asked) → IsOpening h s asked → IsOpening (e ∷ h) s asked
+  opening_on asked o =
+      record {
+        takes = takes_on e h s (within_of_other e s other) asked.stmt o.takes;
+        plain = o.plain;
+        nothing = same.entries ∙ o.nothing;
+        rows_alone = rows_alone_on o.rows_alone;
+        autocommit_is = o.autocommit_is;
+        level_is = o.level_is;
+      }
+
+  in_on : (alone autocommit : Bool) → IsIn alone autocommit s h → IsIn alone autocommit s (e ∷ h)
+  in_on true autocommit i = (i.0, ap (level s) same.before ∙ i.1, ap (own s) same.before ∙ i.2, did_same begins_txn ∙ i.3)
+  in_on false autocommit (inl i) = inl (same.level_is ∙ (i.0 ∙ ap (level s) (sym same.before)), did_same begins_txn ∙ i.1)
+  in_on false autocommit (inr i) = inr (i.0, ap (level s) same.before ∙ i.1, ap (own s) same.before ∙ i.2, did_same begins_txn ∙ i.3)
+
+  early_on : (stmt : Stmt) (alone : Bool) → IsEarly h s stmt alone → IsEarly (e ∷ h) s stmt alone
+  early_on stmt alone early =
+      record {
+        takes = takes_on e h s (within_of_other e s other) stmt early.takes;
+        plain = early.plain;
+        goes_on = did_same strays ∙ early.goes_on;
+        own_is = same.own_is ∙ (early.own_is ∙ ap (own s) (sym same.before));
+        before_is =
+            same.own_is ∙ (early.before_is ∙ sym (at_work e h s other).own_is);
+        in_txn = in_on alone early.takes.setting.autocommit early.in_txn;
+        rows_alone = rows_alone_on early.rows_alone;
+      }
+
+  abbrev view_on : HasView h s → HasView (e ∷ h) s
+  view_on view = record { l = view.l; level_is = same.level_is ∙ view.level_is; by_view = view.by_view; viewed = λ by-view apart. did_same takes_view ∙ view.viewed by-view apart; number = view.number; view_is = same.view_is ∙ view.view_is }
+
+  of_view_on : (walk : Walk) → IsOfView h s walk → IsOfView (e ∷ h) s walk
+  of_view_on walk o =
+      let n = o.view.number in
+      let within = view_within h s n o.view.view_is in
+      record {
+        view = view_on o.view;
+        tabled = tabled_stays t s n e h mine same.own_is within o.tabled;
+        rows = record { rising = o.rows.rising; reached = o.rows.reached; each = λ key before. o.rows.each key before ∙ sym (seen_stays t s n e h mine same.own_is within o.tabled (at_key walk.table key)) };
+      }
+
+  open_on : is_some (level s h) ≡ true → is_some (level s (e ∷ h)) ≡ true
+  open_on is-open = ap is_some same.level_is ∙ is-open
+
+  walking_on : (read : Read) → IsWalking h s read → IsWalking (e ∷ h) s read
+  walking_on read w =
+      let more = grown t e h mine in
+      record {
+        early = early_on read.stmt read.alone w.early;
+        is_open = open_on w.is_open;
+        table_is = subst (λ schemas. table_read schemas read.stmt ≡ Some read.gathering.table) (sym more.1) (table_stays (created h) more.0 read.gathering.table read.stmt w.early.plain w.table_is);
+        gathered = of_view_on read.gathering w.gathered;
+      }
+
+  over_on : is_over s h ≡ true → is_over s (e ∷ h) ≡ true
+  over_on over = (at_work e h s other).over ∙ over
+
+  closing_other : (kept given : Reply) → IsClosing h s kept given → IsClosing (e ∷ h) s kept given
+  closing_other = closing_on s e h (within_of_other e s other) over_on same.level_is same.own_is (did_same _) (did_same _) (did_same _) (did_same _) (did_same _) (did_same _)
+
+  pub runs_on : (names new-names : List (List ℕ)) (writer new-writer : Option ℕ) (statement : ReadStatement) → IsRunning (record { names = names; past = h; writer = writer }) s statement → IsRunning (record { names = new-names; past = e ∷ h; writer = new-writer }) s statement
+  runs_on names new-names writer new-writer (machine.Opening asked) r = opening_on asked r
+  runs_on names new-names writer new-writer (machine.Open stmt alone) r = (early_on stmt alone r.0, open_on r.1, did_same takes_view ∙ r.2)
+  runs_on names new-names writer new-writer (machine.Viewed stmt alone) r = (early_on stmt alone r.0, open_on r.1, view_on r.2)
+  runs_on names new-names writer new-writer (machine.Walking read) r = walking_on read r
+  runs_on names new-names writer new-writer (machine.Unacked kept given) r = (closing_other kept given r.0, r.1, acks_same ∙ r.2)
+  runs_on names new-names writer new-writer (machine.Ending kept given) r = (closing_other kept given r.0, acks_same ∙ r.1)
+  runs_on names new-names writer new-writer (machine.Failed alone) r = record { stmt = r.stmt; early = early_on r.stmt alone r.early; is_open = λ is. open_on (r.is_open is) }
+
+same_past : (s : ℕ) (statement : ReadStatement) (old new : State) → new.past ≡ old.past → IsRunning old s statement → IsRunning new s statement
+same_past s (machine.Opening asked) old new same r = rw same r
+same_past s (machine.Open stmt alone) old new same r = rw same r
+same_past s (machine.Viewed stmt alone) old new same r = rw same r
+same_past s (machine.Walking read) old new same r = rw same r
+same_past s (machine.Unacked kept given) old new same r = rw same r
+same_past s (machine.Ending kept given) old new same r = rw same r
+same_past s (machine.Failed alone) old new same r = rw same r
+
+pub stays_running : StaysRunning IsRunning
+stays_running old new t s statement differ adding keeps running =
+    elim adding [
+      | inl same ↦ same_past s statement old new same running
+      | inr added ↦
+          same_past s statement (record { names = new.names; past = added.0 ∷ old.past; writer = new.writer }) new added.2
+          (runs_on t s added.0 old.past added.1 (other_of added.0 t s added.1 (λ is. differ (sym is))) old.names new.names old.writer new.writer statement running)
+    ]

@@ -1,0 +1,5 @@
+use Rattle.read_statement.proofs.Newest.{newest_is}
+use Rattle.read_statement.proofs.laws.the_newest_is_what_the_writer_sees.Goals as goal
+
+pub returns : goal.returns
+returns c = λ h w sound alone. newest_is h w sound.0 alone

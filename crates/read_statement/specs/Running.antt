@@ -1,0 +1,201 @@
+-- What holds of a SELECT between its steps.
+use Rattle.std.specs.Prelude.{◌≡◌, ◌≢◌, ◌⊎◌, ℕ, ◌+◌, ◌<◌, Bool, true, false, Some, None, List, [], length}
+use Rattle.std.specs.List.{AllByRecursion}
+use Rattle.inno_types.specs.declared.lock.Level.{Level}
+use Rattle.inno_types.specs.declared.lock.Level.TheVariants.{RepeatableRead, Serializable}
+use Rattle.inno_types.specs.declared.stmt.Stmt.{Stmt}
+use Rattle.inno_types.specs.declared.reply.Reply.{Reply}
+use Rattle.inno_types.specs.declared.reply.Reply.TheVariants as replies
+use Rattle.inno_db.specs.Database.{Database}
+use Rattle.inno_db.specs.Outcome.{outcome}
+use Rattle.inno_db.proofs.Outcomes.{table_read}
+use Rattle.inno_model.specs.declared.event.Event.{Event}
+use Rattle.inno_model.specs.declared.event.Event.TheVariants as events
+use Rattle.inno_model.specs.Past.{before_item, of_item, did, begins_txn, takes_view, commits_txn, rolls_back_txn, level, own, view_of, commits}
+use Rattle.inno_model.specs.Loose.{Sometime}
+use Rattle.inno_model.specs.Legal.{awaits_ack}
+use Rattle.sql_grammar.specs.Grammar.{Spells}
+use Rattle.sql_history.specs.Items.{is_over, point, own_before, undoes}
+use Rattle.sql_history.specs.Settings.{next_level}
+use Rattle.sql_history.specs.Statements.{Sight, plain_sight}
+use Rattle.sql_history.specs.Readings.{is_plain_select}
+use Rattle.sql_history.specs.Answers.{MaySee}
+use Rattle.sql_history.specs.Counts.{rows_of_reply, rows_kept, most_rows}
+use Rattle.sql_history.specs.Endings.{IsOpen, IsClosed}
+use Rattle.sql_history.specs.Waiting.{is_victim}
+use Rattle.sql_history.specs.Legal.{Takes, TakesView}
+use Rattle.table_lists.specs.State.{State}
+use Rattle.table_lists.specs.Order.{created, IsTabled}
+use Rattle.table_lists.specs.Rows.{seen, row_seen}
+use Rattle.gathering.specs.Walk.{Walk, at_key, AreRowsSoFar}
+use Rattle.sql_lists.specs.Steps.{IsTaken, HasRowsAlone}
+use Rattle.read_statement.specs.declared.machine.Asked.{Asked}
+use Rattle.read_statement.specs.declared.machine.Read.{Read}
+use Rattle.read_statement.specs.declared.machine.ReadStatement.{ReadStatement}
+use Rattle.read_statement.specs.declared.machine.ReadStatement.TheVariants as machine
+
+-- A statement that was taken with these settings.
+pub record IsTakenWith (autocommit : Bool) (l : Level) (s : ℕ) (stmt : Stmt) (past : List Event) : Type 0 where
+  pub taken : IsTaken s stmt past
+  pub autocommit_is : taken.takes.setting.autocommit ≡ autocommit
+  pub level_is : next_level taken.takes.setting ≡ l
+
+-- A SELECT that has done nothing yet.
+pub record IsOpening (h : List Event) (s : ℕ) (asked : Asked) : Type 0 where
+  pub takes : Takes Spells s asked.stmt h
+  pub plain : is_plain_select asked.stmt ≡ true
+  pub nothing : of_item s h ≡ []
+  pub rows_alone : HasRowsAlone s h
+  pub autocommit_is : takes.setting.autocommit ≡ asked.autocommit
+  pub level_is : next_level takes.setting ≡ asked.level
+
+-- ---- before the end of its transaction
+
+-- an entry other than one by which a transaction begins or takes a view
+abbrev pub strays : Event → Bool
+strays (events.Begin s number l) = false
+strays (events.View s) = false
+strays other = true
+
+-- It is a transaction of its own; or it works in one that stays open behind it.
+abbrev pub IsIn : Bool → Bool → ℕ → List Event → Type 0
+IsIn true autocommit s h = (autocommit ≡ true) × IsClosed s (before_item s h) × (own s (before_item s h) ≡ []) × (did begins_txn s h ≡ true)
+IsIn false autocommit s h =
+    ((level s h ≡ level s (before_item s h)) × (did begins_txn s h ≡ false))
+    ⊎ ((autocommit ≡ false) × IsClosed s (before_item s h) × (own s (before_item s h) ≡ []) × (did begins_txn s h ≡ true))
+
+-- It has changed and ended nothing.
+pub record IsEarly (h : List Event) (s : ℕ) (stmt : Stmt) (alone : Bool) : Type 0 where
+  pub takes : Takes Spells s stmt h
+  pub plain : is_plain_select stmt ≡ true
+  pub goes_on : did strays s h ≡ false
+  pub own_is : own s h ≡ own s (before_item s h)
+  pub before_is : own s h ≡ own_before s h
+  pub in_txn : IsIn alone takes.setting.autocommit s h
+  pub rows_alone : HasRowsAlone s h
+
+-- a consistent read at READ COMMITTED has taken a view of its own
+abbrev pub HasViewed : Level → ℕ → List Event → Type 0
+HasViewed l s h = plain_sight l false ≡ Sight.of_view → l ≢ RepeatableRead → did takes_view s h ≡ true
+
+-- It has the view that it reads by.
+pub record HasView (h : List Event) (s : ℕ) : Type 0 where
+  pub l : Level
+  pub level_is : level s h ≡ Some l
+  pub by_view : (alone : Bool) → plain_sight l alone ≡ Sight.of_view
+  pub viewed : HasViewed l s h
+  pub number : ℕ
+  pub view_is : view_of s h ≡ Some number
+
+-- the rows so far are those that the view shows, of changes that were made in tables that are there
+pub record IsOfView (h : List Event) (s : ℕ) (walk : Walk) : Type 0 where
+  pub view : HasView h s
+  pub tabled : AllByRecursion (IsTabled (length (created h))) (seen h s view.number)
+  pub rows : AreRowsSoFar walk (λ key row. row ≡ row_seen h s view.number (at_key walk.table key))
+
+-- before the first place of a table
+abbrev pub at_start : ℕ → Walk
+at_start table = record { table = table; last = None; rows = [] }
+
+-- each place that was visited has the row that the session sees there as the latest
+pub record AreLatest (h : List Event) (s table : ℕ) (walk : Walk) : Type 0 where
+  pub table_is : walk.table ≡ table
+  pub rows : AreRowsSoFar walk (λ key row. row ≡ row_seen h s (commits h) (at_key walk.table key))
+
+pub record IsWalking (h : List Event) (s : ℕ) (read : Read) : Type 0 where
+  pub early : IsEarly h s read.stmt read.alone
+  pub is_open : IsOpen s h
+  pub table_is : table_read (created h) read.stmt ≡ Some read.gathering.table
+  pub gathered : IsOfView h s read.gathering
+
+pub record IsFailing (h : List Event) (s : ℕ) (alone : Bool) : Type 0 where
+  pub stmt : Stmt
+  pub early : IsEarly h s stmt alone
+  pub is_open : alone ≡ true → IsOpen s h
+
+-- ---- a settled reply
+
+-- the reply is that of the statement over a database that it may see at its point
+pub record IsFound (point : List Event) (s : ℕ) (stmt : Stmt) (reply : Reply) : Type 0 where
+  pub l : Level
+  pub level_is : level s point ≡ Some l
+  pub alike : plain_sight l true ≡ plain_sight l false
+  pub db : Database
+  pub sees : MaySee (plain_sight l false) s stmt db point
+  pub answer : reply ≡ (outcome stmt db).reply
+
+-- that reply, of an item that has the view which it reads by
+pub record IsSeen (h point : List Event) (s : ℕ) (stmt : Stmt) (reply : Reply) : Type 0 where
+  pub found : IsFound point s stmt reply
+  pub viewed : HasViewed found.l s h
+
+-- with so many rows more the history held too many, at some moment of the item
+pub record IsTooMany (rows : ℕ) (h point : List Event) (s : ℕ) (stmt : Stmt) : Type 0 where
+  pub many : most_rows < rows
+  pub reply : Reply
+  pub found : IsFound point s stmt reply
+  pub sum : Sometime (λ g. rows ≡ rows_kept g + rows_of_reply reply) s h
+
+-- what stands behind a reply: rows or a refusal, and where it is broken off the limit or want of memory
+abbrev pub IsSettledBy : Reply → List Event → List Event → ℕ → Stmt → Type 0
+IsSettledBy (replies.Rows rows) h point s stmt = IsSeen h point s stmt (replies.Rows rows)
+IsSettledBy (replies.Fail error) h point s stmt = IsSeen h point s stmt (replies.Fail error)
+IsSettledBy (replies.RunLimit rows) h point s stmt = IsTooMany rows h point s stmt
+IsSettledBy replies.NoMemory h point s stmt = Unit {0}
+IsSettledBy other h point s stmt = ⊥
+
+abbrev pub is_rows : Reply → Bool
+is_rows (replies.Rows rows) = true
+is_rows other = false
+
+-- rows or a refusal
+abbrev pub answers_rows : Reply → Bool
+answers_rows (replies.Rows rows) = true
+answers_rows (replies.Fail error) = true
+answers_rows other = false
+
+-- The reply is settled, and the transaction is open.
+pub record IsAnswered (h : List Event) (s : ℕ) (alone : Bool) (kept given : Reply) : Type 0 where
+  pub same : given ≡ kept
+  pub stmt : Stmt
+  pub early : IsEarly h s stmt alone
+  pub is_open : alone ≡ true → IsOpen s h
+  pub settled : IsSettledBy kept h h s stmt
+
+-- rows are answered by what has committed its transaction, and other replies by what has rolled it back
+abbrev pub HasClosed : Bool → ℕ → List Event → Type 0
+HasClosed true s h = (did commits_txn s h ≡ true) × (did rolls_back_txn s h ≡ false)
+HasClosed false s h = (did rolls_back_txn s h ≡ true) × (did commits_txn s h ≡ false)
+
+-- The reply is settled, and the statement's own transaction has ended.
+pub record IsClosing (h : List Event) (s : ℕ) (kept given : Reply) : Type 0 where
+  pub same : given ≡ kept
+  pub stmt : Stmt
+  pub takes : Takes Spells s stmt h
+  pub plain : is_plain_select stmt ≡ true
+  pub over : is_over s h ≡ true
+  pub autocommit_is : takes.setting.autocommit ≡ true
+  pub closed_before : IsClosed s (before_item s h)
+  pub closed : IsClosed s h
+  pub begun : did begins_txn s h ≡ true
+  pub no_victim : did is_victim s h ≡ false
+  pub none_undone : did undoes s h ≡ false
+  pub nothing : own s h ≡ []
+  pub nothing_then : own s (point s h) ≡ []
+  pub nothing_before : own_before s (point s h) ≡ []
+  pub settled : IsSettledBy kept h (point s h) s stmt
+  pub ended : HasClosed (is_rows kept) s h
+
+-- where a view is to be taken
+abbrev pub MayTakeView : ℕ → List Event → Type 0
+MayTakeView s h = (l : Level) × (level s h ≡ Some l) × ((alone : Bool) → plain_sight l alone ≡ Sight.of_view) × (l ≢ Serializable) × TakesView l s h
+
+-- what a SELECT knows of the past
+abbrev pub IsRunning : State → ℕ → ReadStatement → Type 0
+IsRunning state s (machine.Opening asked) = IsOpening state.past s asked
+IsRunning state s (machine.Open stmt alone) = IsEarly state.past s stmt alone × IsOpen s state.past × (did takes_view s state.past ≡ false)
+IsRunning state s (machine.Viewed stmt alone) = IsEarly state.past s stmt alone × IsOpen s state.past × HasView state.past s
+IsRunning state s (machine.Walking read) = IsWalking state.past s read
+IsRunning state s (machine.Unacked kept given) = IsClosing state.past s kept given × (is_rows kept ≡ true) × (awaits_ack (of_item s state.past) ≡ true)
+IsRunning state s (machine.Ending kept given) = IsClosing state.past s kept given × (awaits_ack (of_item s state.past) ≡ false)
+IsRunning state s (machine.Failed alone) = IsFailing state.past s alone

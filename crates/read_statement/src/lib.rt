@@ -1,0 +1,14 @@
+//! A SELECT as a machine: each step visits one place or adds one entry, and steps of other sessions may come between.
+//! It takes its view, gathers the rows of its table, and answers in the step that ends its transaction or its item.
+#![tactic(auto)]
+
+mod answering;
+mod closing;
+mod dirty;
+mod laws;
+mod machine;
+mod opening;
+mod walking;
+
+pub use laws::{rows_of_moments_are_a_loose_reading, the_newest_is_what_the_writer_sees};
+pub use machine::{ReadStatement, others_leave_it};

@@ -1,0 +1,98 @@
+//! The states of a SELECT, and its step by each.
+
+ghost use Rattle.std.specs.Prelude.{◌≡◌, ◌<◌, length, true};
+ghost use Rattle.sql_history.specs.Readings.{is_plain_select};
+ghost use Rattle.sql_history.specs.Statements.{is_select};
+ghost use Rattle.sql_lists.specs.Going.{Nears};
+ghost use Rattle.sql_lists.specs.Steps.{Steps, StaysRunning};
+ghost use Rattle.read_statement.specs.Going.{to_go};
+ghost use Rattle.read_statement.specs.Running.{IsRunning, IsTakenWith};
+
+use crate::closing::{step_ending, step_failed, step_unacked};
+use crate::opening::{step_open, step_opening, step_viewed};
+use crate::walking::step_walking;
+use gathering::Gathering;
+use inno_types::{Level, Reply, Stmt};
+use sql_lists::{Advance, SqlLists};
+use std::alloc::Global;
+
+/// A SELECT, and what its session had set: whether it commits each statement, and the level of the transaction that
+/// begins next.
+#[derive(Drop)]
+pub struct Asked {
+    pub stmt: Stmt,
+    pub autocommit: bool,
+    pub level: Level,
+}
+
+/// A SELECT that visits the places of its table.
+#[derive(Drop)]
+pub struct Read {
+    pub stmt: Stmt,
+    pub alone: bool,
+    /// How many places it may yet visit: more than any history has.
+    pub left: u64,
+    pub gathering: Gathering,
+}
+
+/// A SELECT under way. `alone` says that it is a transaction of its own. Of a reply the history is to keep one copy,
+/// and the caller is given the other.
+#[derive(Drop)]
+pub enum ReadStatement {
+    Opening(Asked),
+    /// Its transaction is open.
+    Open { stmt: Stmt, alone: bool },
+    /// It has the view that it reads by.
+    Viewed { stmt: Stmt, alone: bool },
+    Walking(Read),
+    /// Its own transaction is committed.
+    Unacked { kept: Reply, given: Reply },
+    /// Its own transaction has ended, and nothing awaits an acknowledgement.
+    Ending { kept: Reply, given: Reply },
+    /// No memory was found: what it began is to be given up.
+    Failed { alone: bool },
+}
+
+impl ReadStatement {
+    /// A SELECT that was taken with these settings of its session.
+    pub fn new(stmt: Stmt, autocommit: bool, level: Level, session: u32, lists: &SqlLists) -> Self
+        requires joined { session < length lists.now.names }
+        requires select { is_select stmt ≡ true }
+        requires taken { IsTakenWith autocommit level session stmt lists.now.past }
+        ensures { IsRunning lists.now session result }
+    {
+        let asked = Asked {
+            stmt,
+            autocommit,
+            level,
+        };
+        let _ = session;
+        let _ = lists;
+        ReadStatement::Opening(asked)
+    }
+
+    /// One step of the session's SELECT.
+    pub fn step(self, alloc: Global, session: u32, lists: &mut SqlLists) -> (Self, Advance)
+        requires joined { session < length lists.old.names }
+        requires running { IsRunning lists.old session self }
+        ensures steps { Steps IsRunning session lists.old lists.new result.0 result.1 }
+        ensures nears { Nears to_go session lists.old.past self lists.new.past result.0 result.1 }
+    {
+        match self {
+            ReadStatement::Opening(asked) => step_opening(asked, session, lists),
+            ReadStatement::Open { stmt, alone } => step_open(alloc, stmt, alone, session, lists),
+            ReadStatement::Viewed { stmt, alone } => step_viewed(
+                alloc, stmt, alone, session, lists,
+            ),
+            ReadStatement::Walking(read) => step_walking(alloc, read, session, lists),
+            ReadStatement::Unacked { kept, given } => step_unacked(kept, given, session, lists),
+            ReadStatement::Ending { kept, given } => step_ending(kept, given, session, lists),
+            ReadStatement::Failed { alone } => step_failed(alone, session, lists),
+        }
+    }
+}
+
+/// An entry of another session leaves what a SELECT knows.
+pub fn others_leave_it()
+    ensures { StaysRunning IsRunning }
+{}

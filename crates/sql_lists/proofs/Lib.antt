@@ -1,0 +1,5 @@
+pub mod Staying
+mod Settings
+mod Standing
+mod Ordered
+mod Keeping

@@ -1,0 +1,37 @@
+-- A step that went did work: it brings its statement nearer to its end, by a list of numbers that gets smaller.
+use Rattle.std.specs.Prelude.{◌≡◌, ℕ, ◌<◌, ◌⊎◌, if◌then◌else◌, is_some, List, [], ◌∷◌, length}
+use Rattle.inno_model.specs.declared.event.Event.{Event}
+use Rattle.inno_model.specs.Past.{level, own, view_of}
+use Rattle.sql_lists.specs.declared.advance.Advance.{Advance}
+use Rattle.sql_lists.specs.declared.advance.Advance.TheVariants as advance
+
+-- a list is below another where its first number that differs is the smaller one
+abbrev pub IsBelow : List ℕ → List ℕ → Type 0
+IsBelow (a ∷ later) (b ∷ others) = (a < b) ⊎ ((a ≡ b) × IsBelow later others)
+IsBelow list other = ⊥
+
+-- fifteen numbers: how many phases are left, and what is left of this one. (Who drives a statement puts one before them.)
+abbrev pub left : ℕ → ℕ → ℕ → List ℕ
+left phases first second = phases ∷ first ∷ second ∷ 0 ∷ 0 ∷ 0 ∷ 0 ∷ 0 ∷ 0 ∷ 0 ∷ 0 ∷ 0 ∷ 0 ∷ 0 ∷ 0 ∷ []
+
+-- a transaction that is yet to be opened
+abbrev pub to_open : ℕ → List Event → ℕ
+to_open s past = if is_some (level s past) then 0 else 1
+
+-- a transaction that is yet to be closed
+abbrev pub to_close : ℕ → List Event → ℕ
+to_close s past = if is_some (level s past) then 1 else 0
+
+-- a view that is yet to be taken
+abbrev pub to_view : ℕ → List Event → ℕ
+to_view s past = if is_some (view_of s past) then 0 else 1
+
+-- what a rollback has before it: the changes to be put back, and then its transaction's end
+abbrev pub to_roll_back : ℕ → List Event → List ℕ
+to_roll_back s past = left 1 (to_close s past) (length (own s past))
+
+-- A step from one past and statement to another, by its answer, where so much is left of each: one that went is nearer
+-- to the end.
+abbrev pub Nears : {M : Type 0} → (ℕ → List Event → M → List ℕ) → ℕ → List Event → M → List Event → M → Advance → Type 0
+Nears to_go s old before new after advance.Went = IsBelow (to_go s new after) (to_go s old before)
+Nears to_go s old before new after other = Unit {0}

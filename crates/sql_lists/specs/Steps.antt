@@ -1,0 +1,70 @@
+-- What a step of one session's statement does, by its answer, whatever the statement is.
+use Rattle.std.specs.Prelude.{◌≡◌, ◌≢◌, ◌⊎◌, ℕ, Bool, true, false, if◌then◌else◌, is_some, Some, None, List, [], ◌∷◌}
+use Rattle.std.specs.List.{AllByRecursion}
+use Rattle.inno_types.specs.declared.lock.Level.TheVariants.{RepeatableRead}
+use Rattle.inno_types.specs.declared.lock.Edge.{Edge}
+use Rattle.inno_types.specs.declared.lock.LockKind.TheVariants.{Rec}
+use Rattle.inno_types.specs.declared.lock.Mode.TheVariants.{X}
+use Rattle.inno_types.specs.declared.stmt.Stmt.{Stmt}
+use Rattle.inno_model.specs.declared.event.Event.{Event}
+use Rattle.inno_model.specs.declared.event.Event.TheVariants.{Changed, Ended}
+use Rattle.inno_model.specs.Past.{is_of, started, of_item, own, level, txn}
+use Rattle.sql_grammar.specs.Grammar.{Spells}
+use Rattle.sql_history.specs.Endings.{IsOpen}
+use Rattle.sql_history.specs.Legal.{Takes}
+use Rattle.table_lists.specs.State.{State}
+use Rattle.table_lists.specs.Order.{IsOfRow}
+use Rattle.sql_lists.specs.declared.advance.Advance.{Advance}
+use Rattle.sql_lists.specs.declared.advance.Advance.TheVariants as advance
+
+-- all changes of the session that stand are changes of rows
+abbrev pub HasRowsAlone : ℕ → List Event → Type 0
+HasRowsAlone s past = AllByRecursion IsOfRow (own s past)
+
+-- The session's item asks for the statement, which nothing refused before it saw a row, and has done nothing yet.
+pub record IsTaken (s : ℕ) (stmt : Stmt) (past : List Event) : Type 0 where
+  pub takes : Takes Spells s stmt past
+  pub nothing : of_item s past ≡ []
+  pub rows_alone : HasRowsAlone s past
+
+-- ---- what one session's step does to what all sessions share
+
+abbrev pub changes_rows : Event → Bool
+changes_rows (Changed t change) = true
+changes_rows other = false
+
+-- nothing is added, or one entry of the session's; changes are made by the session that may write alone
+abbrev pub Adding : ℕ → State → State → Type 0
+Adding t old new = (new.past ≡ old.past) ⊎ ((e : Event) × (is_of t e ≡ true) × (new.past ≡ e ∷ old.past) × (changes_rows e ≡ true → new.writer ≡ Some t))
+
+pub record Moves (t : ℕ) (old new : State) : Type 0 where
+  pub names_stay : new.names ≡ old.names
+  pub adding : Adding t old new
+  pub writer_stays : (s : ℕ) → s ≢ t → old.writer ≡ Some s → new.writer ≡ Some s
+
+-- the edge of a wait for the one plain lock
+abbrev pub plain_edge : ℕ → ℕ → Edge
+plain_edge waiter holder = record { waiter = waiter; holder = holder; lock = record { txn = holder; spot = record { index = 0; key = None }; kind = Rec; mode = X; reason = record { rule = 0; item = 0; level = RepeatableRead } } }
+
+-- the number of the session's open transaction, or 0
+abbrev pub open_txn : ℕ → List Event → ℕ
+open_txn s past = if is_some (level s past) then txn s past else 0
+
+-- the session waits for one other, which alone may write
+pub record WaitsFor (s by : ℕ) (blockers : List Edge) (state : State) : Type 0 where
+  pub other : by ≢ s
+  pub holds : state.writer ≡ Some by
+  pub is_open : IsOpen by state.past
+  pub edge : blockers ≡ plain_edge (open_txn s state.past) (txn by state.past) ∷ []
+
+-- What a step does, by its answer: a statement that goes on has what holds of it between its steps.
+abbrev pub Steps : {M : Type 0} → (State → ℕ → M → Type 0) → ℕ → State → State → M → Advance → Type 0
+Steps IsRunning s old new statement advance.Went = Moves s old new × IsRunning new s statement × (started s new.past ≡ started s old.past)
+Steps IsRunning s old new statement (advance.Waiting by blockers) = (new ≡ old) × IsRunning new s statement × WaitsFor s by blockers old
+Steps IsRunning s old new statement advance.NoMemory = Moves s old new × IsRunning new s statement × (new.past ≡ old.past)
+Steps IsRunning s old new statement (advance.Done reply) = Moves s old new × (new.past ≡ Ended s (started s old.past) reply ∷ old.past) × HasRowsAlone s old.past
+
+-- A step of another session, or one that joins, leaves what holds of a statement between its steps.
+abbrev pub StaysRunning : {M : Type 0} → (State → ℕ → M → Type 0) → Type 0
+StaysRunning {M} IsRunning =
+    (old new : State) (t s : ℕ) (statement : M) → t ≢ s → Adding t old new → (old.writer ≡ Some s → new.writer ≡ Some s) → IsRunning old s statement → IsRunning new s statement

@@ -1,0 +1,5 @@
+mod Staying
+mod Ending
+mod Stepping
+mod Moving
+pub mod Others

@@ -1,0 +1,170 @@
+-- An entry of another session leaves what a statement knows.
+use Rattle.std.proofs.Common.{◌≡◌, ◌≢◌, ◌⊎◌, ℕ, Bool, true, false, None, List, ◌∷◌, refl, sym, ap, subst, ◌∙◌, inl, inr}
+use Rattle.std.specs.Prelude.{is_some}
+use Rattle.std.specs.List.{AllByRecursion, list_any}
+use Rattle.inno_types.specs.declared.stmt.Stmt.{Stmt}
+use Rattle.inno_types.specs.declared.stmt.Stmt.TheVariants as stmt
+use Rattle.inno_model.specs.declared.event.Event.{Event}
+use Rattle.inno_model.specs.Legal.{awaits_ack}
+use Rattle.inno_model.specs.Past.{is_of, under_way, of_item, did, begins_txn, takes_view, commits_txn, rolls_back_txn, level, own, oldest}
+use Rattle.inno_model.proofs.Untouched.{IsUntouched, untouched}
+use Rattle.sql_grammar.specs.Grammar.{Spells}
+use Rattle.sql_history.specs.Settings.{Setting, HasSet}
+use Rattle.sql_history.specs.Waiting.{is_victim}
+use Rattle.sql_history.specs.Endings.{IsClosed, StaysIn}
+use Rattle.sql_history.specs.Legal.{Takes, CommittedFirst, LeavesIt, MayLeaveOpen}
+use Rattle.table_lists.specs.State.{State}
+use Rattle.table_lists.specs.Order.{IsOfRow}
+use Rattle.sql_lists.specs.Kept.{SetsQuietly}
+use Rattle.sql_lists.specs.Steps.{Adding, HasRowsAlone}
+use Rattle.sql_lists.proofs.Staying.{other_of, within_of_other}
+use Rattle.transaction_statements.specs.declared.statement.TransactionStatement.{TransactionStatement}
+use Rattle.transaction_statements.specs.declared.statement.TransactionStatement.TheVariants as statements
+use Rattle.transaction_statements.specs.Committing.{stmt_of, Fits, SetsAlone}
+use Rattle.transaction_statements.specs.Knowing.{IsAt, IsEmptied, HasOpened, SavesIn, IsGoingBack, IsMissing, IsGivingUp}
+use Rattle.transaction_statements.specs.Running.{RunsBy, IsRunning}
+use Rattle.transaction_statements.proofs.Staying.{takes_on, at_on, made_untouched}
+
+module _ (e : Event) (h : List Event) (s : ℕ) (other : is_of s e ≡ false) where
+  same : IsUntouched h (e ∷ h) s
+  same = untouched e h s other
+
+  did_same : (test : Event → Bool) → did test s (e ∷ h) ≡ did test s h
+  did_same test = ap (list_any test) same.entries
+
+  acks : awaits_ack (of_item s (e ∷ h)) ≡ awaits_ack (of_item s h)
+  acks = ap awaits_ack same.entries
+
+  rows_on : HasRowsAlone s h → HasRowsAlone s (e ∷ h)
+  rows_on rows = subst (AllByRecursion IsOfRow) (sym same.own_is) rows
+
+  at_other : (statement : Stmt) (Knows : Setting → Type 0) → IsAt s statement Knows h → IsAt s statement Knows (e ∷ h)
+  at_other statement Knows at = at_on s statement Knows e h (within_of_other e s other) (rows_on at.rows_alone) (did_same is_victim ∙ at.no_victim) at
+
+  takes_other : (statement : Stmt) (takes : Takes Spells s statement h) → (t : Takes Spells s statement (e ∷ h)) × (t.setting ≡ takes.setting)
+  takes_other statement takes = (takes_on s statement e h (within_of_other e s other) takes, refl)
+
+  emptied_on : IsEmptied s h → IsEmptied s (e ∷ h)
+  emptied_on empty =
+      record {
+        closed = same.level_is ∙ empty.closed;
+        new = same.own_is ∙ empty.new;
+        not_begun = did_same begins_txn ∙ empty.not_begun;
+        not_rolled_back = did_same rolls_back_txn ∙ empty.not_rolled_back;
+        made = made_untouched s e h other empty.made;
+      }
+
+  opened_on : HasOpened s h → HasOpened s (e ∷ h)
+  opened_on o =
+      record {
+        is_open = ap is_some same.level_is ∙ o.is_open;
+        begun = did_same begins_txn ∙ o.begun;
+        not_rolled_back = did_same rolls_back_txn ∙ o.not_rolled_back;
+        new = same.own_is ∙ o.new;
+        acked = acks ∙ o.acked;
+        made = made_untouched s e h other o.made;
+      }
+
+  saves_on : (opened : Bool) → SavesIn opened s h → SavesIn opened s (e ∷ h)
+  saves_on false saves = (same.entries ∙ saves.0, ap is_some same.level_is ∙ saves.1)
+  saves_on true saves = (opened_on saves.0, subst (IsClosed s) (sym same.before) saves.1, ap (own s) same.before ∙ saves.2, did_same commits_txn ∙ saves.3)
+
+  stays_on : StaysIn s h → StaysIn s (e ∷ h)
+  stays_on stays =
+      record {
+        stays = same.level_is ∙ (stays.stays ∙ ap (level s) (sym same.before));
+        not_begun = did_same begins_txn ∙ stays.not_begun;
+        not_committed = did_same commits_txn ∙ stays.not_committed;
+        not_rolled_back = did_same rolls_back_txn ∙ stays.not_rolled_back;
+      }
+
+  back_on : (made : ℕ) → IsGoingBack s made h → IsGoingBack s made (e ∷ h)
+  back_on made back =
+      record {
+        stays = stays_on back.stays;
+        keeps = ap (oldest made) same.own_is ∙ (back.keeps ∙ ap (λ g. oldest made (own s g)) (sym same.before));
+        acked = acks ∙ back.acked;
+      }
+
+  missing_on : (name : List ℕ) → IsMissing s name h → IsMissing s name (e ∷ h)
+  missing_on name m =
+      record {
+        asks = (m.asks.0, same.item ∙ m.asks.1, m.asks.2);
+        setting = m.setting;
+        is_set = subst (λ g. HasSet Spells s g m.setting) (sym same.before) m.is_set;
+        missing = m.missing;
+        nothing = same.entries ∙ m.nothing;
+        rows_alone = rows_on m.rows_alone;
+      }
+
+  leaves_on : CommittedFirst Spells s h ⊎ LeavesIt Spells s h → CommittedFirst Spells s (e ∷ h) ⊎ LeavesIt Spells s (e ∷ h)
+  leaves_on (inl c) =
+      inl (record {
+        statement = c.statement;
+        takes = (takes_other c.statement c.takes).0;
+        brings = c.brings;
+        nothing = same.own_is ∙ c.nothing;
+        no_victim = did_same is_victim ∙ c.no_victim;
+      })
+  leaves_on (inr l) =
+      inr (record {
+        own_stay = same.own_is ∙ (l.own_stay ∙ ap (own s) (sym same.before));
+        not_committed = did_same commits_txn ∙ l.not_committed;
+        not_rolled_back = did_same rolls_back_txn ∙ l.not_rolled_back;
+        no_victim = did_same is_victim ∙ l.no_victim;
+        begun = elim l.begun [
+          | inl none ↦ inl (did_same begins_txn ∙ none)
+          | inr may ↦ (let on = takes_other may.0 may.1 in inr (may.0, on.0, subst (λ setting. MayLeaveOpen setting may.0) (sym on.1) may.2))
+        ];
+      })
+
+  gives_up_on : IsGivingUp s h → IsGivingUp s (e ∷ h)
+  gives_up_on g =
+      record {
+        text = g.text;
+        item = same.item ∙ g.item;
+        acked = acks ∙ g.acked;
+        leaves = leaves_on g.leaves;
+        made = made_untouched s e h other g.made;
+        rows_alone = rows_on g.rows_alone;
+      }
+
+  quiet_on : (statement : Stmt) → SetsQuietly statement s h → SetsQuietly statement s (e ∷ h)
+  quiet_on (stmt.Savepoint name) quiet = same.level_is ∙ quiet
+  quiet_on statement quiet = tt
+
+  runs_on : (m : TransactionStatement) → RunsBy h s m → RunsBy (e ∷ h) s m
+  runs_on (statements.Quiet statement) r = (at_other statement (SetsAlone statement) r.0, same.entries ∙ r.1, quiet_on statement r.2)
+  runs_on (statements.Missing name) r = missing_on name r
+  runs_on (statements.Committing c) r = (at_other (stmt_of c) (Fits c) r.0, same.entries ∙ r.1)
+  runs_on (statements.Unacked c) r = (at_other (stmt_of c) (Fits c) r.0, emptied_on r.1, acks ∙ r.2)
+  runs_on (statements.Closed c) r = (at_other (stmt_of c) (Fits c) r.0, emptied_on r.1, acks ∙ r.2)
+  runs_on statements.Viewing r = (at_other _ _ r.0, opened_on r.1, same.level_is ∙ r.2, same.view_is ∙ r.3)
+  runs_on (statements.Begun snapshot) r = (at_other _ _ r.0, opened_on r.1, λ is level. did_same takes_view ∙ r.2 is (sym same.level_is ∙ level))
+  runs_on statements.Rollback r = (at_other _ _ r.0, did_same commits_txn ∙ r.1, acks ∙ r.2)
+  runs_on (statements.RollbackTo name made) r = (at_other _ _ r.0, back_on made r.1)
+  runs_on (statements.Opening name l) r = (at_other _ _ r.0, same.entries ∙ r.1, same.level_is ∙ r.2, same.own_is ∙ r.3)
+  runs_on (statements.Saving name opened) r = (at_other _ _ r.0, saves_on opened r.1)
+  runs_on statements.Failed r = gives_up_on r
+
+pub stays_running : (old new : State) (t s : ℕ) (m : TransactionStatement) → t ≢ s → Adding t old new → IsRunning old s m → IsRunning new s m
+stays_running old new t s m differ adding r =
+    elim adding [
+      | inl same ↦ subst (λ past. RunsBy past s m) (sym same) r
+      | inr added ↦ subst (λ past. RunsBy past s m) (sym added.2) (runs_on added.0 old.past s (other_of added.0 t s added.1 (λ is. differ (sym is))) m r)
+    ]
+
+-- a running statement has an item under way
+pub has_item : (state : State) (s : ℕ) (m : TransactionStatement) → IsRunning state s m → under_way s state.past ≢ None
+has_item state s (statements.Quiet statement) r none = (let x = r.0.takes.asks.1 in cc)
+has_item state s (statements.Missing name) r none = (let x = r.asks.1 in cc)
+has_item state s (statements.Committing c) r none = (let x = r.0.takes.asks.1 in cc)
+has_item state s (statements.Unacked c) r none = (let x = r.0.takes.asks.1 in cc)
+has_item state s (statements.Closed c) r none = (let x = r.0.takes.asks.1 in cc)
+has_item state s statements.Viewing r none = (let x = r.0.takes.asks.1 in cc)
+has_item state s (statements.Begun snapshot) r none = (let x = r.0.takes.asks.1 in cc)
+has_item state s statements.Rollback r none = (let x = r.0.takes.asks.1 in cc)
+has_item state s (statements.RollbackTo name made) r none = (let x = r.0.takes.asks.1 in cc)
+has_item state s (statements.Opening name l) r none = (let x = r.0.takes.asks.1 in cc)
+has_item state s (statements.Saving name opened) r none = (let x = r.0.takes.asks.1 in cc)
+has_item state s statements.Failed r none = (let x = r.item in cc)

@@ -1,0 +1,4 @@
+pub mod Committing
+pub mod Knowing
+pub mod Running
+pub mod Going

@@ -1,0 +1,60 @@
+//! How items of statements on transactions end.
+
+ghost use Rattle.std.specs.Prelude.{◌≡◌, ◌<◌, length};
+ghost use Rattle.inno_types.specs.declared.reply.Reply.TheVariants.{Done as DoneReply};
+ghost use Rattle.sql_lists.specs.Steps.{Steps};
+ghost use Rattle.sql_lists.specs.Going.{Nears};
+ghost use Rattle.transaction_statements.specs.Knowing.{IsFinished};
+ghost use Rattle.transaction_statements.specs.Running.{IsRunning};
+ghost use Rattle.transaction_statements.specs.Going.{to_go};
+
+use crate::statement::TransactionStatement;
+use inno_types::{Bytes, Reply, SqlError, Stmt};
+use sql_lists::{Advance, SqlLists};
+
+/// Ends the item of a statement that was done.
+pub fn finish(stmt: Stmt, session: u32, lists: &mut SqlLists) -> (TransactionStatement, Advance)
+    requires joined { session < length lists.old.names }
+    requires finished { IsFinished session stmt lists.old.past }
+    ensures steps { Steps IsRunning session lists.old lists.new result.0 result.1 }
+    ensures over { result.1 ≡ Advance.Done DoneReply }
+{
+    lists.end_done(session, &stmt);
+    (TransactionStatement::Failed, Advance::Done(Reply::Done))
+}
+
+pub fn step_quiet(stmt: Stmt, session: u32, lists: &mut SqlLists) -> (TransactionStatement, Advance)
+    requires joined { session < length lists.old.names }
+    requires running { IsRunning lists.old session (TransactionStatement.Quiet stmt) }
+    ensures steps { Steps IsRunning session lists.old lists.new result.0 result.1 }
+    ensures nears { Nears to_go session lists.old.past (TransactionStatement.Quiet stmt) lists.new.past result.0 result.1 }
+{
+    finish(stmt, session, lists)
+}
+
+/// A savepoint that is not there refuses its statement.
+pub fn step_missing(
+    savepoint: Bytes,
+    session: u32,
+    lists: &mut SqlLists,
+) -> (TransactionStatement, Advance)
+    requires joined { session < length lists.old.names }
+    requires running { IsRunning lists.old session (TransactionStatement.Missing savepoint) }
+    ensures steps { Steps IsRunning session lists.old lists.new result.0 result.1 }
+    ensures nears { Nears to_go session lists.old.past (TransactionStatement.Missing savepoint) lists.new.past result.0 result.1 }
+{
+    lists.end(session, Reply::Fail(SqlError::NoSavepoint));
+    let given = Reply::Fail(SqlError::NoSavepoint);
+    (TransactionStatement::Failed, Advance::Done(given))
+}
+
+/// A statement that found no memory ends, and leaves what it may.
+pub fn step_failed(session: u32, lists: &mut SqlLists) -> (TransactionStatement, Advance)
+    requires joined { session < length lists.old.names }
+    requires running { IsRunning lists.old session TransactionStatement.Failed }
+    ensures steps { Steps IsRunning session lists.old lists.new result.0 result.1 }
+    ensures nears { Nears to_go session lists.old.past TransactionStatement.Failed lists.new.past result.0 result.1 }
+{
+    lists.end(session, Reply::NoMemory);
+    (TransactionStatement::Failed, Advance::Done(Reply::NoMemory))
+}

@@ -1,0 +1,13 @@
+//! The statements on transactions as machines: BEGIN, COMMIT, ROLLBACK, savepoints, and what a session sets. Each step
+//! adds at most one entry to the history, and steps of other sessions may come between.
+#![tactic(auto)]
+
+mod commits;
+mod committer;
+mod endings;
+mod rollbacks;
+mod savepoints;
+mod statement;
+
+pub use committer::Committer;
+pub use statement::TransactionStatement;

@@ -1,0 +1,126 @@
+//! A statement on transactions under way, its beginning and its steps.
+
+ghost use Rattle.std.specs.Prelude.{◌<◌, length};
+ghost use Rattle.sql_lists.specs.Steps.{IsTaken, Steps, StaysRunning};
+ghost use Rattle.sql_lists.specs.Going.{Nears};
+ghost use Rattle.transaction_statements.specs.Committing.{IsOnTransactions};
+ghost use Rattle.transaction_statements.specs.Running.{IsRunning};
+ghost use Rattle.transaction_statements.specs.Going.{to_go};
+
+use crate::commits::{step_begun, step_closed, step_committing, step_unacked, step_viewing};
+use crate::committer::Committer;
+use crate::endings::{step_failed, step_missing, step_quiet};
+use crate::rollbacks::{new_rollback_to, step_rollback, step_rollback_to};
+use crate::savepoints::{new_savepoint, step_opening, step_saving};
+use inno_types::{Bytes, Level, Stmt};
+use sql_lists::{Advance, SqlLists};
+use std::alloc::Global;
+
+/// A statement under way.
+#[derive(Drop)]
+pub enum TransactionStatement {
+    /// Nothing is to be done but what it sets, if anything.
+    Quiet { stmt: Stmt },
+    /// A ROLLBACK TO whose savepoint is not there.
+    Missing { savepoint: Bytes },
+    /// Nothing is done yet.
+    Committing { committer: Committer },
+    /// What was open is committed.
+    Unacked { committer: Committer },
+    Closed { committer: Committer },
+    /// BEGIN WITH CONSISTENT SNAPSHOT has opened its transaction, and is to take the view.
+    Viewing,
+    /// BEGIN has its transaction.
+    Begun { snapshot: bool },
+    Rollback,
+    RollbackTo { savepoint: Bytes, made: u64 },
+    /// A SAVEPOINT is to open a transaction of this level first.
+    Opening { savepoint: Bytes, level: Level },
+    /// A SAVEPOINT in a transaction, and whether it opened that one.
+    Saving { savepoint: Bytes, opened: bool },
+    /// No memory was found.
+    Failed,
+}
+
+impl TransactionStatement {
+    /// The statement of an item that has done nothing yet.
+    pub fn new(stmt: Stmt, session: u32, lists: &SqlLists) -> Self
+        requires joined { session < length lists.now.names }
+        requires kind { IsOnTransactions stmt }
+        requires taken { IsTaken session stmt lists.now.past }
+        ensures { IsRunning lists.now session result }
+    {
+        let setting = lists.setting(session);
+        match stmt {
+            Stmt::Begin { snapshot } => {
+                let level = setting.next_level();
+                TransactionStatement::Committing {
+                    committer: Committer::Begin { snapshot, level },
+                }
+            }
+            Stmt::Commit => TransactionStatement::Committing {
+                committer: Committer::Commit,
+            },
+            Stmt::Rollback => TransactionStatement::Rollback,
+            Stmt::RollbackTo { savepoint } => new_rollback_to(savepoint, session, lists),
+            Stmt::Savepoint { name } => new_savepoint(name, session, lists),
+            Stmt::SetAutocommit(on) => new_autocommit(on, session, lists),
+            Stmt::SetLevel { scope, level } => TransactionStatement::Quiet {
+                stmt: Stmt::SetLevel { scope, level },
+            },
+            _ => unreachable!(),
+        }
+    }
+
+    /// One step of the session's statement.
+    pub fn step(self, _alloc: Global, session: u32, lists: &mut SqlLists) -> (Self, Advance)
+        requires joined { session < length lists.old.names }
+        requires running { IsRunning lists.old session self }
+        ensures steps { Steps IsRunning session lists.old lists.new result.0 result.1 }
+        ensures nears { Nears to_go session lists.old.past self lists.new.past result.0 result.1 }
+    {
+        match self {
+            TransactionStatement::Quiet { stmt } => step_quiet(stmt, session, lists),
+            TransactionStatement::Missing { savepoint } => step_missing(savepoint, session, lists),
+            TransactionStatement::Committing { committer } => step_committing(
+                committer, session, lists,
+            ),
+            TransactionStatement::Unacked { committer } => step_unacked(committer, session, lists),
+            TransactionStatement::Closed { committer } => step_closed(committer, session, lists),
+            TransactionStatement::Viewing => step_viewing(session, lists),
+            TransactionStatement::Begun { snapshot } => step_begun(snapshot, session, lists),
+            TransactionStatement::Rollback => step_rollback(session, lists),
+            TransactionStatement::RollbackTo { savepoint, made } => step_rollback_to(
+                savepoint, made, session, lists,
+            ),
+            TransactionStatement::Opening { savepoint, level } => step_opening(
+                savepoint, level, session, lists,
+            ),
+            TransactionStatement::Saving { savepoint, opened } => step_saving(
+                savepoint, opened, session, lists,
+            ),
+            TransactionStatement::Failed => step_failed(session, lists),
+        }
+    }
+
+    /// An entry of another session leaves what a statement knows.
+    pub fn others_leave_it()
+        ensures { StaysRunning IsRunning }
+    {}
+}
+
+/// SET autocommit commits an open transaction where it turns autocommit on.
+fn new_autocommit(on: bool, session: u32, lists: &SqlLists) -> TransactionStatement
+    requires joined { session < length lists.now.names }
+    requires taken { IsTaken session (Stmt.SetAutocommit on) lists.now.past }
+    ensures { IsRunning lists.now session result }
+{
+    if on && !lists.setting(session).autocommit() {
+        return TransactionStatement::Committing {
+            committer: Committer::TurnOn,
+        };
+    }
+    TransactionStatement::Quiet {
+        stmt: Stmt::SetAutocommit(on),
+    }
+}

@@ -1,0 +1,228 @@
+-- A statement that is answered by a count ends, or commits its own transaction first.
+use Rattle.std.proofs.Common.{◌≡◌, ℕ, true, false, eqb, Some, None, List, [], ◌∷◌, ◌++◌, length, reverse, refl, sym, ap, subst, ◌∙◌, inl, inr, arith}
+use Rattle.std.proofs.lemmas.Bool.Decides.{nat_tests}
+use Rattle.std.proofs.lemmas.Bool.{false≢true}
+use Rattle.std.proofs.lemmas.List.{append-nil, take_all}
+use Rattle.std.specs.Prelude.{is_some, ◌&&◌, is_none}
+use Rattle.std.specs.List.{AllByRecursion}
+use Rattle.inno_types.specs.declared.reply.SqlError.{SqlError}
+use Rattle.inno_types.specs.declared.reply.Reply.{Reply}
+use Rattle.inno_types.specs.declared.reply.Reply.TheVariants as replies
+use Rattle.inno_db.specs.declared.change.Change.{Change}
+use Rattle.inno_db.specs.Outcome.{outcome}
+use Rattle.inno_model.specs.declared.event.Event.{Event}
+use Rattle.inno_model.specs.declared.event.Event.TheVariants as events
+use Rattle.inno_model.specs.Past.{before_item, of_item, begins_txn, commits_txn, rolls_back_txn, level, own, started}
+use Rattle.inno_model.specs.Legal.{awaits_ack}
+use Rattle.sql_grammar.specs.Grammar.{Spells}
+use Rattle.sql_history.specs.Items.{own_before, base, point, HasMade, undoes}
+use Rattle.sql_history.specs.Settings.{Either}
+use Rattle.sql_history.specs.Answers.{MakesFor}
+use Rattle.sql_history.specs.Endings.{IsClosed, Commits, Goes, BacksOut}
+use Rattle.sql_history.specs.Legal.{IsSettled, CommitsBy, MayCommit, is_alone}
+use Rattle.sql_history.specs.Waiting.{is_victim}
+use Rattle.table_lists.specs.State.{State, Adds, Closes}
+use Rattle.table_lists.specs.Order.{IsOfRow}
+use Rattle.sql_lists.specs.Kept.{MayReply}
+use Rattle.sql_lists.specs.Steps.{Moves}
+use Rattle.sql_lists.proofs.Staying.{point_now, point_stays}
+use Rattle.write_statement.specs.declared.machine.Work.{Work}
+use Rattle.write_statement.specs.Settling.{IsPlain}
+use Rattle.write_statement.specs.Running.{InTxn, IsChanging, is_count, is_refusal, MayAnswer, HasReply, IsClosing}
+use Rattle.write_statement.proofs.Writing.{of_writing, some_of, sees_base}
+use Rattle.write_statement.proofs.Moving.{moves_adds, moves_closes}
+use Rattle.write_statement.proofs.Replies.{reply_stays}
+use Rattle.write_statement.proofs.Ends.{rolls_back_on, txn_ends_on}
+use Rattle.write_statement.proofs.Own.{acked_of, did_same, did_now, over_now, over_still, entries_are, some_on, takes_own, reply_closed}
+use Rattle.write_statement.proofs.Answering.{may_reply, not_done}
+
+count_of : (kept : Reply) → IsPlain kept → is_refusal kept ≡ false → (n : ℕ) × (kept ≡ replies.Count n)
+count_of (replies.Count n) plain is = (n, refl)
+count_of (replies.Fail error) plain is = absurd (false≢true (sym is))
+count_of other plain is = absurd plain
+
+makes_all : (s n : ℕ) (kept : Reply) (changes : List Change) (at : List Event) → kept ≡ replies.Count n → HasMade (length changes) s changes at → MakesFor kept s changes at
+makes_all s n kept changes at is made = subst (λ (reply : Reply). MakesFor reply s changes at) (sym is) made
+
+never_refused : (n : ℕ) (kept : Reply) (error : SqlError) → kept ≡ replies.Count n → kept ≡ replies.Fail error → ⊥
+never_refused n kept error is refused = cc
+
+module _ (state : State) (s : ℕ) (work : Work) (r : IsChanging state s work []) (accepted : is_refusal work.kept ≡ false) where
+  abbrev h : List Event
+  h = state.past
+
+  mine : eqb s s ≡ true
+  mine = grind (arith, nat_tests)
+
+  counted : (n : ℕ) × (work.kept ≡ replies.Count n)
+  counted = count_of work.kept r.plain accepted
+
+  now : point s h ≡ h
+  now = point_now h s r.goes_on.not_over
+
+  abbrev changes : List Change
+  changes = (outcome r.statement (base s h)).changes
+
+  all_made : r.made ≡ changes
+  all_made = sym (r.parts ∙ append-nil r.made)
+
+  made_now : HasMade (length changes) s changes h
+  made_now = r.own_is ∙ ap (λ (xs : List Change). reverse xs ++ own_before s h) (all_made ∙ sym (take_all (length changes) changes (omega arith)))
+
+  made_then : HasMade (length (outcome r.statement (base s (point s h))).changes) s (outcome r.statement (base s (point s h))).changes (point s h)
+  made_then = subst (λ p. HasMade (length (outcome r.statement (base s p)).changes) s (outcome r.statement (base s p)).changes p) (sym now) made_now
+
+  answer_then : work.kept ≡ (outcome r.statement (base s (point s h))).reply
+  answer_then = r.answer ∙ ap (λ p. (outcome r.statement (base s p)).reply) (sym now)
+
+  answers_then : MayAnswer s r.statement (length (outcome r.statement (base s (point s h))).changes) work.kept h
+  answers_then = subst (λ (kept : Reply). MayAnswer s r.statement (length (outcome r.statement (base s (point s h))).changes) kept h) (sym counted.1) (sym counted.1 ∙ answer_then, refl)
+
+  reply : HasReply s r.statement work.kept h
+  reply =
+      record {
+        was_open = ap (λ p. is_some (level s p)) now ∙ r.working.is_open;
+        count = length (outcome r.statement (base s (point s h))).changes;
+        made = made_then;
+        answers = answers_then;
+      }
+
+  is_counted : is_count work.kept ≡ true
+  is_counted = ap is_count counted.1
+
+  pub answer_not_done : work.kept ≡ replies.Done → ⊥
+  answer_not_done is = not_done s r.statement h work.kept reply is
+
+  -- ---- in a transaction that stays open
+
+  module _ (not-own : work.alone ≡ false) where
+    txn_open : InTxn false r.working.takes.setting s h
+    txn_open = subst (λ alone. InTxn alone r.working.takes.setting s h) not-own r.working.in_txn
+
+    goes_open : Goes (level s (before_item s h)) r.working.takes.setting.autocommit s h
+    goes_open = elim txn_open [
+      | inl joins ↦
+          let l = some_of (level s (before_item s h)) joins.was_open in
+          let here : Goes (Some l.0) r.working.takes.setting.autocommit s h = (record { stays = joins.stays; not_begun = joins.not_begun; not_committed = r.working.not_committed; not_rolled_back = r.working.not_rolled_back }, r.goes_on.not_undone) in
+          subst (λ o. Goes o r.working.takes.setting.autocommit s h) (sym l.1) here
+      | inr opened ↦
+          let here : Goes None false s h = (record { is_open = r.working.is_open; begun = opened.0.begun; not_rolled_back = r.working.not_rolled_back }, r.working.not_committed, r.goes_on.not_undone) in
+          subst (λ o. Goes o r.working.takes.setting.autocommit s h) (sym opened.0.was_closed) (subst (λ autocommit. Goes None autocommit s h) (sym opened.1) here)
+    ]
+
+    pub may_end : MayReply s work.kept h
+    may_end =
+        may_reply s r.statement h r.working.takes r.working.writes r.working.no_victim work.kept reply
+        (subst (λ b. Either b (Goes (level s (before_item s h)) r.working.takes.setting.autocommit s h) (BacksOut (level s (before_item s h)) r.working.takes.setting.autocommit s h)) (sym is_counted) goes_open) (λ no-count. absurd (false≢true (sym no-count ∙ is_counted))) (acked_of (of_item s h) r.working.not_committed)
+
+  -- ---- in one of its own
+
+  module _ (its-own : work.alone ≡ true) where
+    txn : InTxn true r.working.takes.setting s h
+    txn = subst (λ alone. InTxn alone r.working.takes.setting s h) its-own r.working.in_txn
+
+    alone_now : is_alone s r.working.takes.setting h ≡ true
+    alone_now = ap (λ b. b && is_none (level s (before_item s h))) txn.1 ∙ ap is_none txn.0.was_closed
+
+    settled : IsSettled s r.working.takes.setting r.statement h
+    settled =
+        let l = some_of (level s h) r.working.is_open in
+        record {
+          alone = alone_now;
+          not_over = r.goes_on.not_over;
+          l = l.0;
+          level_is = l.1;
+          reply = work.kept;
+          answers = record {
+            db = base s (point s h);
+            sees = sees_base l.0 s r.working.takes.setting h (point s h) reply.was_open r.statement r.working.writes;
+            answer = answer_then;
+            changes = makes_all s counted.0 work.kept (outcome r.statement (base s (point s h))).changes (point s h) counted.1 made_then;
+          };
+          not_refused = λ error is. never_refused counted.0 work.kept error counted.1 is;
+        }
+
+    commits_by : CommitsBy s r.working.takes.setting r.statement h
+    commits_by = of_writing (λ statement. IsSettled s r.working.takes.setting statement h → CommitsBy s r.working.takes.setting statement h) (λ table columns tuples is. (refl, is)) (λ table sets condition is. (refl, is)) (λ table condition is. (refl, is)) r.statement r.working.writes settled
+
+    pub may_commit : MayCommit Spells s h
+    may_commit = record { is_open = r.working.is_open; statement = r.statement; takes = r.working.takes; by = commits_by }
+
+    abbrev after : List Event
+    after = events.Committed s ∷ h
+
+    commits : Commits s after
+    commits =
+        record {
+          closed = rw mine refl;
+          committed = did_now (events.Committed s) h s mine refl refl commits_txn refl;
+          not_rolled_back = did_same (events.Committed s) h s mine refl refl rolls_back_txn refl ∙ r.working.not_rolled_back;
+        }
+
+    goes : Goes (level s (before_item s after)) r.working.takes.setting.autocommit s after
+    goes =
+        let here : Goes None true s after = (commits, did_same (events.Committed s) h s mine refl refl begins_txn refl ∙ txn.0.begun, did_same (events.Committed s) h s mine refl refl undoes refl ∙ r.goes_on.not_undone) in
+        subst (λ l. Goes l r.working.takes.setting.autocommit s after) (sym txn.0.was_closed) (subst (λ autocommit. Goes None autocommit s after) (sym txn.1) here)
+
+    closing_then : IsClosing s work.kept work.given after
+    closing_then =
+        record {
+          same = r.same;
+          statement = r.statement;
+          takes = takes_own (events.Committed s) h s mine refl refl r.statement r.working.takes;
+          writes = r.working.writes;
+          over = over_now (events.Committed s) h s mine refl refl refl;
+          no_victim = did_same (events.Committed s) h s mine refl refl is_victim refl ∙ r.working.no_victim;
+          rows_alone = (let none : own s after ≡ [] = rw mine refl in subst (AllByRecursion IsOfRow) (sym none) tt);
+          reply = reply_closed (events.Committed s) h s mine refl refl refl r.statement work.kept reply;
+          ends = subst (λ b. Either b (Goes (level s (before_item s after)) r.working.takes.setting.autocommit s after) (BacksOut (level s (before_item s after)) r.working.takes.setting.autocommit s after)) (sym is_counted) goes;
+          leaves = λ no-count. absurd (false≢true (sym no-count ∙ is_counted));
+        }
+
+    pub committed : (new : State) → Closes (events.Committed s) s state new → Moves s state new × (IsClosing s work.kept work.given new.past × (awaits_ack (of_item s new.past) ≡ true) × IsClosed s new.past) × (started s new.past ≡ started s h)
+    committed new closes-it = (
+      moves_closes s (events.Committed s) state new mine refl closes-it,
+      subst (λ (st : State). IsClosing s work.kept work.given st.past × (awaits_ack (of_item s st.past) ≡ true) × IsClosed s st.past) (sym closes-it) (closing_then, ap awaits_ack (entries_are (events.Committed s) h s mine refl refl), commits.closed),
+      ap (λ (st : State). started s st.past) closes-it,
+    )
+
+-- ---- a transaction of its own that has ended
+
+module _ (state : State) (s : ℕ) (kept given : Reply) (c : IsClosing s kept given state.past) where
+  abbrev past : List Event
+  past = state.past
+
+  its : eqb s s ≡ true
+  its = grind (arith, nat_tests)
+
+  abbrev acked : List Event
+  acked = events.Acked s 0 ∷ past
+
+  closing_acked : IsClosing s kept given acked
+  closing_acked =
+      let e = events.Acked s 0 in
+      record {
+        same = c.same;
+        statement = c.statement;
+        takes = takes_own e past s its refl refl c.statement c.takes;
+        writes = c.writes;
+        over = over_still e past s its refl refl c.over;
+        no_victim = did_same e past s its refl refl is_victim refl ∙ c.no_victim;
+        rows_alone = c.rows_alone;
+        reply = reply_stays s past acked (some_on e past s its refl refl) (point_stays e past s c.over (over_still e past s its refl refl c.over)) c.statement kept c.reply;
+        ends = txn_ends_on past acked s refl refl refl (did_same e past s its refl refl begins_txn refl) (did_same e past s its refl refl commits_txn refl) (did_same e past s its refl refl rolls_back_txn refl) (did_same e past s its refl refl undoes refl) kept c.takes.setting c.ends;
+        leaves = λ no-count. rolls_back_on past acked s refl refl refl (did_same e past s its refl refl begins_txn refl) (did_same e past s its refl refl commits_txn refl) (did_same e past s its refl refl rolls_back_txn refl) (did_same e past s its refl refl undoes refl) (c.leaves no-count);
+      }
+
+  pub acknowledged : (new : State) → Adds (events.Acked s 0) state new → Moves s state new × (IsClosing s kept given new.past × (awaits_ack (of_item s new.past) ≡ false)) × (started s new.past ≡ started s past)
+  acknowledged new adds = (
+    moves_adds s (events.Acked s 0) state new its (λ writes. absurd (false≢true writes)) adds,
+    subst (λ (st : State). IsClosing s kept given st.past × (awaits_ack (of_item s st.past) ≡ false)) (sym adds) (closing_acked, ap awaits_ack (entries_are (events.Acked s 0) past s its refl refl)),
+    ap (λ (st : State). started s st.past) adds,
+  )
+
+  pub closing_ends : awaits_ack (of_item s past) ≡ false → MayReply s kept past
+  closing_ends acks = may_reply s c.statement past c.takes c.writes c.no_victim kept c.reply c.ends (λ no-count. inl (c.leaves no-count)) acks
+
+  pub closing_not_done : kept ≡ replies.Done → ⊥
+  closing_not_done is = not_done s c.statement past kept c.reply is

@@ -1,0 +1,227 @@
+-- How a statement comes into a transaction.
+use Rattle.std.proofs.Common.{◌≡◌, ℕ, ◌+◌, Bool, true, false, eqb, None, List, [], ◌∷◌, refl, sym, ap, subst, ◌∙◌, inl, inr, arith}
+use Rattle.std.proofs.lemmas.Bool.Decides.{nat_tests}
+use Rattle.std.proofs.lemmas.Bool.{false≢true}
+use Rattle.std.specs.Prelude.{is_some}
+use Rattle.std.specs.List.{AllByRecursion, list_any}
+use Rattle.inno_types.specs.declared.stmt.Stmt.{Stmt}
+use Rattle.inno_types.specs.declared.lock.Level.{Level}
+use Rattle.inno_types.specs.declared.reply.Item.TheVariants.{Sql}
+use Rattle.inno_types.specs.declared.reply.Reply.TheVariants.{NoMemory}
+use Rattle.inno_model.specs.declared.event.Event.{Event}
+use Rattle.inno_model.specs.declared.event.Event.TheVariants as events
+use Rattle.inno_model.specs.Past.{is_of, before_item, of_item, did, begins_txn, commits_txn, rolls_back_txn, closes, begins, level, own, started}
+use Rattle.inno_model.specs.Legal.{awaits_ack}
+use Rattle.inno_model.specs.Loose.{starts, Sometime}
+use Rattle.inno_model.proofs.Untouched.{untouched}
+use Rattle.sql_grammar.specs.Grammar.{Spells}
+use Rattle.sql_history.specs.Items.{of_turn, before_turn, own_before, point, undoes}
+use Rattle.sql_history.specs.Settings.{Setting, HasSet, next_level}
+use Rattle.sql_history.specs.Statements.{refused_at_once}
+use Rattle.sql_history.specs.Endings.{IsOpen, IsClosed}
+use Rattle.sql_history.specs.Legal.{Takes, IsWriting, MayBegin, BeginsBy, LeavesIt, WantsMemory}
+use Rattle.sql_history.specs.Waiting.{is_victim}
+use Rattle.table_lists.specs.State.{State, Adds}
+use Rattle.table_lists.specs.Order.{IsOfRow}
+use Rattle.sql_lists.specs.Steps.{IsTaken, Moves}
+use Rattle.sql_lists.specs.Kept.{MayReply}
+use Rattle.sql_lists.proofs.Staying.{at_work, point_now}
+use Rattle.write_statement.specs.Running.{HasOpened, InTxn, IsEarly}
+use Rattle.write_statement.proofs.Writing.{of_writing}
+use Rattle.write_statement.proofs.Moving.{moves_adds}
+
+-- ---- an item that has done nothing
+
+not_mine : (e : Event) (h : List Event) (s : ℕ) → starts s e ≡ false → of_item s (e ∷ h) ≡ [] → is_of s e ≡ false
+not_mine e h s goes none = grind (arith, nat_tests, goes, none)
+
+started_cases : {X : Type 0} (e : Event) (h : List Event) (s : ℕ) (f : List Event → X) → ((t j : ℕ) (item : _) → f (events.Started t j item ∷ h) ≡ f h) → starts s e ≡ true → f (e ∷ h) ≡ f (before_item s (e ∷ h))
+started_cases (events.Started t j item) h s f same is = let here : h ≡ before_item s (events.Started t j item ∷ h) = rw is refl in same t j item ∙ ap f here
+started_cases e h s f same is = absurd (false≢true is)
+
+pub own_nothing : (s : ℕ) (h : List Event) → of_item s h ≡ [] → own s h ≡ own s (before_item s h)
+own_nothing s [] none = refl
+own_nothing s (e ∷ h) none = go (own_nothing s h) (starts s e) refl where
+  go : (of_item s h ≡ [] → own s h ≡ own s (before_item s h)) → (b : Bool) → starts s e ≡ b → own s (e ∷ h) ≡ own s (before_item s (e ∷ h))
+  go rest true is = started_cases e h s (own s) (λ t j item. refl) is
+  go rest false is =
+      let same = untouched e h s (not_mine e h s is none) in
+      same.own_is ∙ (rest (sym same.entries ∙ none) ∙ ap (own s) (sym same.before))
+
+pub level_nothing : (s : ℕ) (h : List Event) → of_item s h ≡ [] → level s h ≡ level s (before_item s h)
+level_nothing s [] none = refl
+level_nothing s (e ∷ h) none = go (level_nothing s h) (starts s e) refl where
+  go : (of_item s h ≡ [] → level s h ≡ level s (before_item s h)) → (b : Bool) → starts s e ≡ b → level s (e ∷ h) ≡ level s (before_item s (e ∷ h))
+  go rest true is = started_cases e h s (level s) (λ t j item. refl) is
+  go rest false is =
+      let same = untouched e h s (not_mine e h s is none) in
+      same.level_is ∙ (rest (sym same.entries ∙ none) ∙ ap (level s) (sym same.before))
+
+turn_started : (e : Event) (h : List Event) (s : ℕ) → starts s e ≡ true → (of_turn s (e ∷ h) ≡ []) × (before_turn s (e ∷ h) ≡ before_item s (e ∷ h))
+turn_started (events.Started t j item) h s is = (rw is refl, rw is refl)
+turn_started e h s is = absurd (false≢true is)
+
+turn_nothing : (s : ℕ) (h : List Event) → of_item s h ≡ [] → (of_turn s h ≡ []) × (before_turn s h ≡ before_item s h)
+turn_nothing s [] none = (refl, refl)
+turn_nothing s (e ∷ h) none = go (turn_nothing s h) (starts s e) refl where
+  go : (of_item s h ≡ [] → (of_turn s h ≡ []) × (before_turn s h ≡ before_item s h)) → (b : Bool) → starts s e ≡ b → (of_turn s (e ∷ h) ≡ []) × (before_turn s (e ∷ h) ≡ before_item s (e ∷ h))
+  go rest true is = turn_started e h s is
+  go rest false is =
+      let mine = not_mine e h s is none in
+      let same = untouched e h s mine in
+      let turn = at_work e h s mine in
+      let before = rest (sym same.entries ∙ none) in
+      (turn.entries ∙ before.0, turn.before ∙ (before.1 ∙ sym same.before))
+
+set_back : (e : Event) (h : List Event) (s : ℕ) (x : Setting) → is_of s e ≡ false → HasSet Spells s (e ∷ h) x → HasSet Spells s h x
+set_back (events.Begin t n l) h s x other held = rw other at held
+set_back (events.Committed t) h s x other held = rw other at held
+set_back (events.RolledBack t) h s x other held = rw other at held
+set_back (events.Ended t j reply) h s x other held = rw other at held
+set_back e h s x other held = held
+
+set_started : (e : Event) (h : List Event) (s : ℕ) (x : Setting) → starts s e ≡ true → HasSet Spells s (e ∷ h) x → HasSet Spells s (before_item s (e ∷ h)) x
+set_started (events.Started t j item) h s x is held = rw is held
+set_started e h s x is held = absurd (false≢true is)
+
+-- it began with what its session has set
+pub set_nothing : (s : ℕ) (h : List Event) (x : Setting) → of_item s h ≡ [] → HasSet Spells s h x → HasSet Spells s (before_item s h) x
+set_nothing s [] x none held = held
+set_nothing s (e ∷ h) x none held = go (set_nothing s h x) (starts s e) refl where
+  go : (of_item s h ≡ [] → HasSet Spells s h x → HasSet Spells s (before_item s h) x) → (b : Bool) → starts s e ≡ b → HasSet Spells s (before_item s (e ∷ h)) x
+  go rest true is = set_started e h s x is held
+  go rest false is =
+      let mine = not_mine e h s is none in
+      let same = untouched e h s mine in
+      subst (λ p. HasSet Spells s p x) (sym same.before) (rest (sym same.entries ∙ none) (set_back e h s x mine held))
+
+-- no setting refuses a statement that changes rows
+pub refused_alike : (s : ℕ) (x y : Setting) (h : List Event) (statement : Stmt) → IsWriting statement → Sometime (λ g. refused_at_once s x statement g ≡ None) s h → Sometime (λ g. refused_at_once s y statement g ≡ None) s h
+refused_alike s x y h = of_writing (λ statement. Sometime (λ g. refused_at_once s x statement g ≡ None) s h → Sometime (λ g. refused_at_once s y statement g ≡ None) s h) (λ table columns tuples was. was) (λ table sets condition was. was) (λ table condition was. was)
+
+-- the statement with what its session has set now
+abbrev pub retake : (s : ℕ) (statement : Stmt) (h : List Event) (x : Setting) → IsWriting statement → IsTaken s statement h → HasSet Spells s h x → Takes Spells s statement h
+retake s statement h x writes taken held = record { asks = taken.takes.asks; setting = x; is_set = set_nothing s h x taken.nothing held; not_refused = refused_alike s taken.takes.setting x h statement writes taken.takes.not_refused }
+
+did_none : (test : Event → Bool) (s : ℕ) (h : List Event) → of_item s h ≡ [] → did test s h ≡ false
+did_none test s h none = ap (list_any test) none
+
+acked_none : (s : ℕ) (h : List Event) → of_item s h ≡ [] → awaits_ack (of_item s h) ≡ false
+acked_none s h none = ap awaits_ack none
+
+-- ---- in the transaction that was open
+
+pub joined : (s : ℕ) (statement : Stmt) (h : List Event) → IsWriting statement → IsTaken s statement h → IsOpen s h → IsEarly s statement false h
+joined s statement h writes taken is-open =
+    let none = taken.nothing in
+    let turn = turn_nothing s h none in
+    let had = ap (own s) turn.1 in
+    record {
+      working = record {
+        takes = taken.takes;
+        writes = writes;
+        in_txn = inl (record { was_open = ap is_some (sym (level_nothing s h none)) ∙ is-open; stays = level_nothing s h none; not_begun = did_none begins_txn s h none });
+        is_open = is-open;
+        not_committed = did_none commits_txn s h none;
+        not_rolled_back = did_none rolls_back_txn s h none;
+        no_victim = did_none is_victim s h none;
+        had = had;
+        rows_alone = taken.rows_alone;
+      };
+      goes_on = record { not_over = ap (list_any closes) turn.0; not_undone = did_none undoes s h none };
+      unchanged = own_nothing s h none ∙ sym had;
+    }
+
+-- ---- in one that it opens
+
+begins_by : (s : ℕ) (x : Setting) (h : List Event) (statement : Stmt) → IsWriting statement → BeginsBy s x statement h
+begins_by s x h = of_writing (λ statement. BeginsBy s x statement h) (λ table columns tuples. refl) (λ table sets condition. refl) (λ table condition. refl)
+
+pub may_begin : (s : ℕ) (statement : Stmt) (h : List Event) (x : Setting) (l : Level) → IsWriting statement → IsTaken s statement h → HasSet Spells s h x → IsClosed s h → l ≡ next_level x → MayBegin Spells s (begins h + 1) l h
+may_begin s statement h x l writes taken held closed level-is =
+    record {
+      numbered = refl;
+      closed = closed;
+      first = did_none begins_txn s h taken.nothing;
+      acked = acked_none s h taken.nothing;
+      statement = statement;
+      takes = retake s statement h x writes taken held;
+      level_is = level-is;
+      by = begins_by s x h statement writes;
+    }
+
+module _ (s n : ℕ) (l : Level) (statement : Stmt) (h : List Event) (x : Setting) (writes : IsWriting statement) (taken : IsTaken s statement h) (held : HasSet Spells s h x) (closed : IsClosed s h) (none : own s h ≡ []) where
+  abbrev begun : List Event
+  begun = events.Begin s n l ∷ h
+
+  abbrev takes : Takes Spells s statement begun
+  takes =
+      let before = retake s statement h x writes taken held in
+      record { asks = before.asks; setting = x; is_set = before.is_set; not_refused = inr (refl, before.not_refused) }
+
+  mine : eqb s s ≡ true
+  mine = grind (arith, nat_tests)
+
+  entries : of_item s begun ≡ events.Begin s n l ∷ []
+  entries = rw mine (ap (λ es. events.Begin s n l ∷ es) taken.nothing)
+
+  has_opened : HasOpened s begun
+  has_opened = record { was_closed = sym (level_nothing s h taken.nothing) ∙ closed; had_none = sym (own_nothing s h taken.nothing) ∙ none; begun = ap (list_any begins_txn) entries }
+
+  in_txn : (alone : Bool) → x.autocommit ≡ alone → InTxn alone x s begun
+  in_txn true is = (has_opened, is)
+  in_txn false is = inr (has_opened, is)
+
+  nothing_own : own s begun ≡ []
+  nothing_own = rw mine refl
+
+  pub opened_early : (alone : Bool) → x.autocommit ≡ alone → IsEarly s statement alone begun
+  opened_early alone is =
+      let here : before_turn s begun ≡ begun = rw mine refl in
+      let had : own_before s begun ≡ [] = ap (own s) here ∙ nothing_own in
+      record {
+        working = record {
+          takes = takes;
+          writes = writes;
+          in_txn = in_txn alone is;
+          is_open = rw mine refl;
+          not_committed = ap (list_any commits_txn) entries;
+          not_rolled_back = ap (list_any rolls_back_txn) entries;
+          no_victim = ap (list_any is_victim) entries;
+          had = had ∙ sym has_opened.had_none;
+          rows_alone = subst (AllByRecursion IsOfRow) (sym nothing_own) tt;
+        };
+        goes_on = record { not_over = (let none_yet : of_turn s begun ≡ [] = rw mine refl in ap (list_any closes) none_yet); not_undone = ap (list_any undoes) entries };
+        unchanged = nothing_own ∙ sym had;
+      }
+
+-- ---- where none can be opened
+
+leaves_nothing : (s : ℕ) (h : List Event) → of_item s h ≡ [] → LeavesIt Spells s h
+leaves_nothing s h none =
+    record {
+      own_stay = own_nothing s h none;
+      not_committed = did_none commits_txn s h none;
+      not_rolled_back = did_none rolls_back_txn s h none;
+      no_victim = did_none is_victim s h none;
+      begun = inl (did_none begins_txn s h none);
+    }
+
+made_nothing : (s : ℕ) (h : List Event) → of_item s h ≡ [] → own s (point s h) ≡ own_before s (point s h)
+made_nothing s h none =
+    let turn = turn_nothing s h none in
+    subst (λ p. own s p ≡ own_before s p) (sym (point_now h s (ap (list_any closes) turn.0))) (own_nothing s h none ∙ sym (ap (own s) turn.1))
+
+wants_memory : (s : ℕ) (h : List Event) → of_item s h ≡ [] → WantsMemory Spells s h
+wants_memory s h none = record { leaves = inr (inr (inr (leaves_nothing s h none))); made = inl (made_nothing s h none) }
+
+pub unopened_ends : (s : ℕ) (statement : Stmt) (h : List Event) → IsTaken s statement h → MayReply s NoMemory h
+unopened_ends s statement h taken = record { item = Sql taken.takes.asks.0; asked = taken.takes.asks.1; ends = (acked_none s h taken.nothing, inl refl, inr (inr (wants_memory s h taken.nothing))) }
+
+pub opened : (s n : ℕ) (l : Level) (statement : Stmt) (alone : Bool) (x : Setting) (old new : State) → IsWriting statement → IsTaken s statement old.past → HasSet Spells s old.past x → IsClosed s old.past → own s old.past ≡ [] → x.autocommit ≡ alone → Adds (events.Begin s n l) old new
+    → Moves s old new × IsEarly s statement alone new.past × (started s new.past ≡ started s old.past)
+opened s n l statement alone x old new writes taken held closed none is adds = (
+  moves_adds s (events.Begin s n l) old new (grind (arith, nat_tests)) (λ changes. absurd (false≢true changes)) adds,
+  subst (λ (st : State). IsEarly s statement alone st.past) (sym adds) (opened_early s n l statement old.past x writes taken held closed none alone is),
+  ap (λ (st : State). started s st.past) adds,
+)

@@ -1,0 +1,15 @@
+pub mod Moving
+pub mod Writing
+pub mod Replies
+pub mod Ends
+pub mod Others
+pub mod Answering
+pub mod Tables
+pub mod Joining
+pub mod Own
+pub mod Naming
+pub mod Gathered
+pub mod Making
+pub mod Removing
+pub mod GivingUp
+pub mod Committing

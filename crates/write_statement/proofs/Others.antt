@@ -1,0 +1,272 @@
+-- An entry of another session leaves what the machine knows.
+use Rattle.std.proofs.Common.{◌≡◌, ◌≢◌, ℕ, Bool, true, false, Some, None, List, ◌∷◌, ◌++◌, length, take, reverse, refl, sym, ap, subst, ◌∙◌, ◌⊎◌, inl, inr}
+use Rattle.std.specs.Prelude.{is_some}
+use Rattle.std.specs.List.{AllByRecursion, list_any}
+use Rattle.inno_types.specs.declared.stmt.Stmt.{Stmt}
+use Rattle.inno_types.specs.declared.reply.Reply.{Reply}
+use Rattle.inno_db.specs.Database.{Database}
+use Rattle.inno_db.specs.Outcome.{outcome}
+use Rattle.inno_db.specs.declared.change.Change.{Change}
+use Rattle.inno_db.proofs.Outcomes.{table_read}
+use Rattle.inno_model.specs.declared.event.Event.{Event}
+use Rattle.inno_model.specs.declared.event.Event.TheVariants as events
+use Rattle.inno_model.specs.Past.{is_of, under_way, before_item, of_item, did, begins_txn, commits_txn, rolls_back_txn, level, own, commits, committed}
+use Rattle.inno_model.specs.Legal.{awaits_ack}
+use Rattle.inno_model.specs.Loose.{Sometime}
+use Rattle.inno_model.proofs.Untouched.{untouched}
+use Rattle.row_versions.specs.declared.place.Place.{Place}
+use Rattle.sql_grammar.specs.Grammar.{Spells}
+use Rattle.sql_history.specs.Items.{is_over, own_before, base, point, HasMade, undoes}
+use Rattle.sql_history.specs.Settings.{Setting, HasSet}
+use Rattle.sql_history.specs.Statements.{refused_at_once}
+use Rattle.sql_history.specs.Legal.{Takes}
+use Rattle.sql_history.specs.Waiting.{is_victim}
+use Rattle.table_lists.specs.State.{State}
+use Rattle.table_lists.specs.Order.{created, IsOfRow}
+use Rattle.table_lists.specs.Rows.{is_at, row_at, row_seen}
+use Rattle.gathering.specs.Walk.{at_key}
+use Rattle.sql_lists.specs.Steps.{Adding, IsTaken, StaysRunning, changes_rows}
+use Rattle.sql_lists.proofs.Staying.{other_of, not_starting, at_work, point_now, point_stays, IsSteady, committed_all, steady_on, base_on}
+use Rattle.write_statement.specs.declared.machine.Search.{Search}
+use Rattle.write_statement.specs.declared.machine.Work.{Work}
+use Rattle.write_statement.specs.declared.machine.WriteStatement.{WriteStatement}
+use Rattle.write_statement.specs.declared.machine.WriteStatement.TheVariants as machine
+use Rattle.write_statement.specs.Running.{Joins, HasOpened, InTxn, IsWorking, GoesOn, IsEarly, IsSearching, IsChanging, HasReply, MovesOn, IsBackingOut, MayAnswer, EndsTxn, IsClosing, IsRunning}
+use Rattle.write_statement.proofs.Replies.{reply_stays, reply_goes_on}
+use Rattle.write_statement.proofs.Ends.{rolls_back_on, txn_ends_on}
+
+same_session : (s t : ℕ) → Some s ≡ Some t → s ≡ t
+same_session s t is = cc
+
+not_true : (b : Bool) → (b ≡ true → ⊥) → b ≡ false
+not_true true refuted = absurd (refuted refl)
+not_true false refuted = refl
+
+no_table_more : (e : Event) (h : List Event) (t : ℕ) → is_of t e ≡ true → changes_rows e ≡ false → created (e ∷ h) ≡ created h
+no_table_more (events.Opened db) h t mine spares = cc
+no_table_more (events.Changed u change) h t mine spares = cc
+no_table_more e h t mine spares = refl
+
+module _ (old new : State) (t s : ℕ) (differ : t ≢ s) (adding : Adding t old new) (keeps : old.writer ≡ Some s → new.writer ≡ Some s) where
+  other : (e : Event) → is_of t e ≡ true → is_of s e ≡ false
+  other e mine = other_of e t s mine (λ is. differ (sym is))
+
+  -- ---- what is the session's own
+
+  item_is : under_way s new.past ≡ under_way s old.past
+  item_is = elim adding [ inl same ↦ ap (under_way s) same | inr a ↦ ap (under_way s) a.2 ∙ (untouched a.0 old.past s (other a.0 a.1)).item ]
+
+  before_is : before_item s new.past ≡ before_item s old.past
+  before_is = elim adding [ inl same ↦ ap (before_item s) same | inr a ↦ ap (before_item s) a.2 ∙ (untouched a.0 old.past s (other a.0 a.1)).before ]
+
+  entries_are : of_item s new.past ≡ of_item s old.past
+  entries_are = elim adding [ inl same ↦ ap (of_item s) same | inr a ↦ ap (of_item s) a.2 ∙ (untouched a.0 old.past s (other a.0 a.1)).entries ]
+
+  level_is : level s new.past ≡ level s old.past
+  level_is = elim adding [ inl same ↦ ap (level s) same | inr a ↦ ap (level s) a.2 ∙ (untouched a.0 old.past s (other a.0 a.1)).level_is ]
+
+  own_is : own s new.past ≡ own s old.past
+  own_is = elim adding [ inl same ↦ ap (own s) same | inr a ↦ ap (own s) a.2 ∙ (untouched a.0 old.past s (other a.0 a.1)).own_is ]
+
+  had_is : own_before s new.past ≡ own_before s old.past
+  had_is = elim adding [ inl same ↦ ap (own_before s) same | inr a ↦ ap (own_before s) a.2 ∙ (at_work a.0 old.past s (other a.0 a.1)).own_is ]
+
+  over_is : is_over s new.past ≡ is_over s old.past
+  over_is = elim adding [ inl same ↦ ap (is_over s) same | inr a ↦ ap (is_over s) a.2 ∙ (at_work a.0 old.past s (other a.0 a.1)).over ]
+
+  did_is : (test : Event → Bool) → did test s new.past ≡ did test s old.past
+  did_is test = ap (list_any test) entries_are
+
+  some_on : (P : List Event → Type 0) → Sometime P s old.past → Sometime P s new.past
+  some_on P was = elim adding [ inl same ↦ subst (Sometime P s) (sym same) was | inr a ↦ subst (Sometime P s) (sym a.2) (inr (not_starting a.0 s (other a.0 a.1), was)) ]
+
+  point_is : is_over s old.past ≡ true → point s new.past ≡ point s old.past
+  point_is over = elim adding [ inl same ↦ ap (point s) same | inr a ↦ ap (point s) a.2 ∙ point_stays a.0 old.past s over ((at_work a.0 old.past s (other a.0 a.1)).over ∙ over) ]
+
+  -- ---- what all share, while the session alone may write
+
+  module _ (steady : IsSteady old s) where
+    base_is : base s new.past ≡ base s old.past
+    base_is = base_on old new t s differ adding keeps steady
+
+    spares : (e : Event) → (changes_rows e ≡ true → new.writer ≡ Some t) → changes_rows e ≡ false
+    spares e writes = not_true (changes_rows e) (λ is. differ (same_session t s (sym (writes is) ∙ keeps steady.locked)))
+
+    tables_are : created new.past ≡ created old.past
+    tables_are = elim adding [ inl same ↦ ap created same | inr a ↦ ap created a.2 ∙ no_table_more a.0 old.past t a.1 (spares a.0 a.3) ]
+
+    committed_are : committed (commits new.past) new.past ≡ committed (commits old.past) old.past
+    committed_are = elim adding [ inl same ↦ ap (λ h. committed (commits h) h) same | inr a ↦ ap (λ h. committed (commits h) h) a.2 ∙ committed_all a.0 old.past t a.1 (steady.alone t differ) ]
+
+    row_is : (place : Place) → row_seen old.past s (commits old.past) place ≡ row_seen new.past s (commits new.past) place
+    row_is place =
+        ap (λ schemas. row_at (is_at schemas place) (own s old.past ++ committed (commits old.past) old.past)) (sym tables_are)
+        ∙ (ap (λ changes. row_at (is_at (created new.past) place) (changes ++ committed (commits old.past) old.past)) (sym own_is)
+        ∙ ap (λ changes. row_at (is_at (created new.past) place) (own s new.past ++ changes)) (sym committed_are))
+
+  -- ---- its transaction
+
+  abbrev takes_on : (statement : Stmt) → Takes Spells s statement old.past → Takes Spells s statement new.past
+  takes_on statement takes =
+      record {
+        asks = (takes.asks.0, item_is ∙ takes.asks.1, takes.asks.2);
+        setting = takes.setting;
+        is_set = subst (λ p. HasSet Spells s p takes.setting) (sym before_is) takes.is_set;
+        not_refused = some_on (λ g. refused_at_once s takes.setting statement g ≡ None) takes.not_refused;
+      }
+
+  was_level : level s (before_item s new.past) ≡ level s (before_item s old.past)
+  was_level = ap (level s) before_is
+
+  had_own : own s (before_item s new.past) ≡ own s (before_item s old.past)
+  had_own = ap (own s) before_is
+
+  opened_on : HasOpened s old.past → HasOpened s new.past
+  opened_on o = record { was_closed = was_level ∙ o.was_closed; had_none = had_own ∙ o.had_none; begun = did_is begins_txn ∙ o.begun }
+
+  joins_on : Joins s old.past → Joins s new.past
+  joins_on j = record { was_open = ap is_some was_level ∙ j.was_open; stays = level_is ∙ (j.stays ∙ sym was_level); not_begun = did_is begins_txn ∙ j.not_begun }
+
+  in_txn_on : (alone : Bool) (setting : Setting) → InTxn alone setting s old.past → InTxn alone setting s new.past
+  in_txn_on true setting txn = (opened_on txn.0, txn.1)
+  in_txn_on false setting txn = elim txn [ inl j ↦ inl (joins_on j) | inr o ↦ inr (opened_on o.0, o.1) ]
+
+  working_on : (statement : Stmt) (alone : Bool) → IsWorking s statement alone old.past → IsWorking s statement alone new.past
+  working_on statement alone w =
+      record {
+        takes = takes_on statement w.takes;
+        writes = w.writes;
+        in_txn = in_txn_on alone w.takes.setting w.in_txn;
+        is_open = ap is_some level_is ∙ w.is_open;
+        not_committed = did_is commits_txn ∙ w.not_committed;
+        not_rolled_back = did_is rolls_back_txn ∙ w.not_rolled_back;
+        no_victim = did_is is_victim ∙ w.no_victim;
+        had = had_is ∙ (w.had ∙ sym had_own);
+        rows_alone = subst (AllByRecursion IsOfRow) (sym own_is) w.rows_alone;
+      }
+
+  goes_on : GoesOn s old.past → GoesOn s new.past
+  goes_on g = record { not_over = over_is ∙ g.not_over; not_undone = did_is undoes ∙ g.not_undone }
+
+  taken_on : (statement : Stmt) → IsTaken s statement old.past → IsTaken s statement new.past
+  taken_on statement taken = record { takes = takes_on statement taken.takes; nothing = entries_are ∙ taken.nothing; rows_alone = subst (AllByRecursion IsOfRow) (sym own_is) taken.rows_alone }
+
+  early_on : (statement : Stmt) (alone : Bool) → IsEarly s statement alone old.past → IsEarly s statement alone new.past
+  early_on statement alone e = record { working = working_on statement alone e.working; goes_on = goes_on e.goes_on; unchanged = own_is ∙ (e.unchanged ∙ sym had_is) }
+
+  -- ---- its states
+
+  searching_on : (search : Search) → IsSearching old s search → IsSearching new s search
+  searching_on search r =
+      record {
+        early = early_on search.stmt search.alone r.early;
+        steady = steady_on old new t s differ adding keeps r.steady;
+        before_is = r.before_is ∙ ap length (sym own_is);
+        table_is = λ n is. r.table_is n (ap (λ schemas. table_read schemas search.stmt) (sym (tables_are r.steady)) ∙ is);
+        rows = record { rising = r.rows.rising; reached = r.rows.reached; each = λ key reached. r.rows.each key reached ∙ row_is r.steady (at_key search.gathering.table key) };
+      }
+
+  changing_on : (work : Work) (todo : List Change) → IsChanging old s work todo → IsChanging new s work todo
+  changing_on work todo r =
+      let same = base_is r.steady in
+      record {
+        statement = r.statement;
+        working = working_on r.statement work.alone r.working;
+        goes_on = goes_on r.goes_on;
+        steady = steady_on old new t s differ adding keeps r.steady;
+        before_is = r.before_is ∙ ap length (sym had_is);
+        same = r.same;
+        plain = r.plain;
+        answer = r.answer ∙ ap (λ db. (outcome r.statement db).reply) (sym same);
+        tables = tables_are r.steady ∙ (r.tables ∙ ap (λ (db : Database). db.schemas) (sym same));
+        made = r.made;
+        parts = ap (λ db. (outcome r.statement db).changes) same ∙ r.parts;
+        own_is = own_is ∙ (r.own_is ∙ ap (λ changes. reverse r.made ++ changes) (sym had_is));
+      }
+
+  module _ (work : Work) (r : IsBackingOut old s work) where
+    backing_with : (reply : HasReply s r.statement work.kept new.past) → (is_over s new.past ≡ true) ⊎ MovesOn reply.count work.kept new s → IsBackingOut new s work
+    backing_with reply moves =
+        record {
+          statement = r.statement;
+          working = working_on r.statement work.alone r.working;
+          before_is = r.before_is ∙ ap length (sym had_is);
+          same = r.same;
+          backs = r.backs;
+          reply = reply;
+          moves = moves;
+          rest = r.rest;
+          own_is = own_is ∙ (r.own_is ∙ ap (λ changes. r.rest ++ changes) (sym had_is));
+        }
+
+    -- its changes at a point that goes on with the past
+    made_on : is_over s old.past ≡ false → HasMade r.reply.count s (outcome r.statement (base s old.past)).changes new.past
+    made_on not-over =
+        let was : HasMade r.reply.count s (outcome r.statement (base s old.past)).changes old.past = subst (λ p. HasMade r.reply.count s (outcome r.statement (base s p)).changes p) (point_now old.past s not-over) r.reply.made in
+        own_is ∙ (was ∙ ap (λ changes. reverse (take r.reply.count (outcome r.statement (base s old.past)).changes) ++ changes) (sym had_is))
+
+    moves_on : MovesOn r.reply.count work.kept old s → IsBackingOut new s work
+    moves_on m =
+        let not-over = over_is ∙ m.not_over in
+        let is-open = ap is_some level_is ∙ r.working.is_open in
+        elim m.stays [
+          | inl none ↦
+              let reply : HasReply s r.statement work.kept new.past =
+              record {
+                was_open = ap (λ p. is_some (level s p)) (point_now new.past s not-over) ∙ is-open;
+                count = 0;
+                made = subst (λ p. HasMade 0 s (outcome r.statement (base s p)).changes p) (sym (point_now new.past s not-over)) (own_is ∙ (nothing_made none.1 ∙ sym had_is));
+                answers = subst (λ (kept : Reply). MayAnswer s r.statement 0 kept new.past) (sym none.0) tt;
+              } in
+              backing_with reply (inr (record { not_over = not-over; stays = inl (none.0, refl) }))
+          | inr steady ↦
+              backing_with (reply_goes_on s old.past new.past some_on (point_now old.past s m.not_over) (point_now new.past s not-over) (base_is steady) is-open r.statement work.kept r.reply (made_on m.not_over))
+              (inr (record { not_over = not-over; stays = inr (steady_on old new t s differ adding keeps steady) }))
+        ] where
+          nothing_made : r.reply.count ≡ 0 → own s old.past ≡ own_before s old.past
+          nothing_made none =
+              let was : HasMade r.reply.count s (outcome r.statement (base s old.past)).changes old.past = subst (λ p. HasMade r.reply.count s (outcome r.statement (base s p)).changes p) (point_now old.past s m.not_over) r.reply.made in
+              subst (λ n. HasMade n s (outcome r.statement (base s old.past)).changes old.past) none was
+
+    backing_on : IsBackingOut new s work
+    backing_on = elim r.moves [
+      | inl over ↦ backing_with (reply_stays s old.past new.past some_on (point_is over) r.statement work.kept r.reply) (inl (over_is ∙ over))
+      | inr m ↦ moves_on m
+    ]
+
+  -- ---- a transaction that has ended
+
+  ends_on : (kept : Reply) (setting : Setting) → EndsTxn kept setting s old.past → EndsTxn kept setting s new.past
+  ends_on kept setting ends = txn_ends_on old.past new.past s level_is own_is before_is (did_is begins_txn) (did_is commits_txn) (did_is rolls_back_txn) (did_is undoes) kept setting ends
+
+  closing_on : (kept given : Reply) → IsClosing s kept given old.past → IsClosing s kept given new.past
+  closing_on kept given c =
+      record {
+        same = c.same;
+        statement = c.statement;
+        takes = takes_on c.statement c.takes;
+        writes = c.writes;
+        over = over_is ∙ c.over;
+        no_victim = did_is is_victim ∙ c.no_victim;
+        rows_alone = subst (AllByRecursion IsOfRow) (sym own_is) c.rows_alone;
+        reply = reply_stays s old.past new.past some_on (point_is c.over) c.statement kept c.reply;
+        ends = ends_on kept c.takes.setting c.ends;
+        leaves = λ no-count. rolls_back_on old.past new.past s level_is own_is before_is (did_is begins_txn) (did_is commits_txn) (did_is rolls_back_txn) (did_is undoes) (c.leaves no-count);
+      }
+
+  acks_are : awaits_ack (of_item s new.past) ≡ awaits_ack (of_item s old.past)
+  acks_are = ap awaits_ack entries_are
+
+  -- all that the machine knows
+  running_on : (m : WriteStatement) → IsRunning old s m → IsRunning new s m
+  running_on (machine.Fresh statement) r = (taken_on statement r.0, r.1)
+  running_on machine.Unopened r = record { statement = r.statement; taken = taken_on r.statement r.taken }
+  running_on (machine.Locking statement alone) r = early_on statement alone r
+  running_on (machine.Searching search) r = searching_on search r
+  running_on (machine.Changing work todo) r = changing_on work todo.items r
+  running_on (machine.BackingOut work) r = backing_on work r
+  running_on (machine.Unacked kept given) r = (closing_on kept given r.0, acks_are ∙ r.1, level_is ∙ r.2)
+  running_on (machine.Ending kept given) r = (closing_on kept given r.0, acks_are ∙ r.1)
+
+pub stays_running : StaysRunning IsRunning
+stays_running old new t s m differ adding keeps running = running_on old new t s differ adding keeps m running

@@ -1,0 +1,8 @@
+use Rattle.write_statement.proofs.Joining.{unopened_ends}
+use Rattle.write_statement.proofs.ending.step_unopened.Goals as goal
+
+pub end-requires-clause-may : goal.end-requires-clause-may
+end-requires-clause-may c = unopened_ends c.args.session c.requires.running.statement c.args.lists.now.past c.requires.running.taken
+
+pub end-requires-clause-rows_alone : goal.end-requires-clause-rows_alone
+end-requires-clause-rows_alone c = c.requires.running.taken.rows_alone

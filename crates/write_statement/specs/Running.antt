@@ -1,0 +1,180 @@
+-- What the machine knows between its steps, of the past and of who may write.
+use Rattle.std.specs.Prelude.{◌≡◌, ℕ, ◌+◌, ◌<◌, ◌⊎◌, Bool, true, false, Some, List, [], ◌++◌, length, reverse}
+use Rattle.inno_types.specs.declared.stmt.Stmt.{Stmt}
+use Rattle.inno_types.specs.declared.stmt.Stmt.TheVariants as stmt
+use Rattle.inno_types.specs.declared.reply.Reply.{Reply}
+use Rattle.inno_types.specs.declared.reply.Reply.TheVariants as replies
+use Rattle.inno_db.specs.declared.change.Change.{Change}
+use Rattle.inno_db.specs.Outcome.{outcome}
+use Rattle.inno_db.proofs.Outcomes.{table_read}
+use Rattle.inno_model.specs.declared.event.Event.{Event}
+use Rattle.inno_model.specs.Loose.{Sometime}
+use Rattle.inno_model.specs.Legal.{awaits_ack}
+use Rattle.inno_model.specs.Past.{before_item, of_item, did, begins_txn, commits_txn, rolls_back_txn, level, own, commits}
+use Rattle.sql_grammar.specs.Grammar.{Spells}
+use Rattle.sql_history.specs.Items.{is_over, own_before, base, point, HasMade, undoes}
+use Rattle.sql_history.specs.Settings.{Setting, Either}
+use Rattle.sql_history.specs.Endings.{IsOpen, IsClosed, RollsBack, Goes, BacksOut}
+use Rattle.sql_history.specs.Legal.{Takes, IsWriting}
+use Rattle.sql_history.specs.Waiting.{is_victim}
+use Rattle.sql_history.specs.Counts.{rows_kept, most_rows}
+use Rattle.table_lists.specs.State.{State}
+use Rattle.table_lists.specs.Order.{created}
+use Rattle.table_lists.specs.Rows.{row_seen}
+use Rattle.gathering.specs.Walk.{AreRowsSoFar, at_key}
+use Rattle.sql_lists.specs.Steps.{HasRowsAlone, IsTaken}
+use Rattle.sql_lists.proofs.Staying.{IsSteady}
+use Rattle.write_statement.specs.declared.machine.Search.{Search}
+use Rattle.write_statement.specs.declared.machine.Work.{Work}
+use Rattle.write_statement.specs.declared.machine.WriteStatement.{WriteStatement}
+use Rattle.write_statement.specs.declared.machine.WriteStatement.TheVariants as machine
+use Rattle.write_statement.specs.Settling.{IsPlain}
+
+-- ---- its transaction
+
+-- The statement works in the transaction that was open before its item.
+pub record Joins (s : ℕ) (past : List Event) : Type 0 where
+  pub was_open : IsOpen s (before_item s past)
+  pub stays : level s past ≡ level s (before_item s past)
+  pub not_begun : did begins_txn s past ≡ false
+
+-- Its item opened the transaction.
+pub record HasOpened (s : ℕ) (past : List Event) : Type 0 where
+  pub was_closed : IsClosed s (before_item s past)
+  pub had_none : own s (before_item s past) ≡ []
+  pub begun : did begins_txn s past ≡ true
+
+abbrev pub InTxn : Bool → Setting → ℕ → List Event → Type 0
+InTxn true setting s past = HasOpened s past × (setting.autocommit ≡ true)
+InTxn false setting s past = Joins s past ⊎ (HasOpened s past × (setting.autocommit ≡ false))
+
+-- It has a transaction, which it has not ended.
+pub record IsWorking (s : ℕ) (statement : Stmt) (alone : Bool) (past : List Event) : Type 0 where
+  pub takes : Takes Spells s statement past
+  pub writes : IsWriting statement
+  pub in_txn : InTxn alone takes.setting s past
+  pub is_open : IsOpen s past
+  pub not_committed : did commits_txn s past ≡ false
+  pub not_rolled_back : did rolls_back_txn s past ≡ false
+  pub no_victim : did is_victim s past ≡ false
+  pub had : own_before s past ≡ own s (before_item s past)
+  pub rows_alone : HasRowsAlone s past
+
+-- It takes none of its changes back.
+pub record GoesOn (s : ℕ) (past : List Event) : Type 0 where
+  pub not_over : is_over s past ≡ false
+  pub not_undone : did undoes s past ≡ false
+
+-- It has changed nothing yet.
+pub record IsEarly (s : ℕ) (statement : Stmt) (alone : Bool) (past : List Event) : Type 0 where
+  pub working : IsWorking s statement alone past
+  pub goes_on : GoesOn s past
+  pub unchanged : own s past ≡ own_before s past
+
+-- ---- gathering
+
+pub record IsSearching (state : State) (s : ℕ) (search : Search) : Type 0 where
+  pub early : IsEarly s search.stmt search.alone state.past
+  pub steady : IsSteady state s
+  pub before_is : search.before ≡ length (own s state.past)
+  pub table_is : (n : ℕ) → table_read (created state.past) search.stmt ≡ Some n → n ≡ search.gathering.table
+  pub rows : AreRowsSoFar search.gathering (λ key row. row ≡ row_seen state.past s (commits state.past) (at_key search.gathering.table key))
+
+-- ---- changing
+
+pub record IsChanging (state : State) (s : ℕ) (work : Work) (todo : List Change) : Type 0 where
+  pub statement : Stmt
+  pub working : IsWorking s statement work.alone state.past
+  pub goes_on : GoesOn s state.past
+  pub steady : IsSteady state s
+  pub before_is : work.before ≡ length (own_before s state.past)
+  pub same : work.given ≡ work.kept
+  pub plain : IsPlain work.kept
+  pub answer : work.kept ≡ (outcome statement (base s state.past)).reply
+  pub tables : created state.past ≡ (base s state.past).schemas
+  -- the changes that are made, and those that are not
+  pub made : List Change
+  pub parts : (outcome statement (base s state.past)).changes ≡ made ++ reverse todo
+  pub own_is : own s state.past ≡ reverse made ++ own_before s state.past
+
+abbrev pub is_refusal : Reply → Bool
+is_refusal (replies.Fail error) = true
+is_refusal other = false
+
+-- ---- the end
+
+abbrev pub is_count : Reply → Bool
+is_count (replies.Count n) = true
+is_count other = false
+
+-- what becomes of its transaction
+abbrev pub EndsTxn : Reply → Setting → ℕ → List Event → Type 0
+EndsTxn kept setting s past =
+    Either (is_count kept) (Goes (level s (before_item s past)) setting.autocommit s past) (BacksOut (level s (before_item s past)) setting.autocommit s past)
+
+-- the statement puts rows
+abbrev pub PutsRows : Stmt → Type 0
+PutsRows (stmt.Insert table columns tuples) = Unit {0}
+PutsRows (stmt.Update table sets condition) = Unit {0}
+PutsRows other = ⊥
+
+-- Why a statement may reply so that has made so many of its changes.
+abbrev pub MayAnswer : ℕ → Stmt → ℕ → Reply → List Event → Type 0
+MayAnswer s statement count (replies.Count n) past =
+    (replies.Count n ≡ (outcome statement (base s (point s past))).reply) × (count ≡ length (outcome statement (base s (point s past))).changes)
+MayAnswer s statement count (replies.Fail error) past = replies.Fail error ≡ (outcome statement (base s (point s past))).reply
+MayAnswer s statement count replies.NoMemory past = Unit {0}
+MayAnswer s statement count (replies.RunLimit rows) past = (most_rows < rows) × PutsRows statement × Sometime (λ h. rows ≡ rows_kept h + 1) s past
+MayAnswer s statement count other past = ⊥
+
+-- At its point its transaction was open, and it had made so many of its changes.
+pub record HasReply (s : ℕ) (statement : Stmt) (kept : Reply) (past : List Event) : Type 0 where
+  pub was_open : IsOpen s (point s past)
+  pub count : ℕ
+  pub made : HasMade count s (outcome statement (base s (point s past))).changes (point s past)
+  pub answers : MayAnswer s statement count kept past
+
+-- the point of a statement that is not over is its past, which stays what it is
+pub record MovesOn (count : ℕ) (kept : Reply) (state : State) (s : ℕ) : Type 0 where
+  pub not_over : is_over s state.past ≡ false
+  pub stays : ((kept ≡ replies.NoMemory) × (count ≡ 0)) ⊎ IsSteady state s
+
+pub record IsBackingOut (state : State) (s : ℕ) (work : Work) : Type 0 where
+  pub statement : Stmt
+  pub working : IsWorking s statement work.alone state.past
+  pub before_is : work.before ≡ length (own_before s state.past)
+  pub same : work.given ≡ work.kept
+  pub backs : is_count work.kept ≡ false
+  pub reply : HasReply s statement work.kept state.past
+  pub moves : (is_over s state.past ≡ true) ⊎ MovesOn reply.count work.kept state s
+  -- its changes that stand
+  pub rest : List Change
+  pub own_is : own s state.past ≡ rest ++ own_before s state.past
+
+-- Its own transaction has ended.
+pub record IsClosing (s : ℕ) (kept given : Reply) (past : List Event) : Type 0 where
+  pub same : given ≡ kept
+  pub statement : Stmt
+  pub takes : Takes Spells s statement past
+  pub writes : IsWriting statement
+  pub over : is_over s past ≡ true
+  pub no_victim : did is_victim s past ≡ false
+  pub rows_alone : HasRowsAlone s past
+  pub reply : HasReply s statement kept past
+  pub ends : EndsTxn kept takes.setting s past
+  pub leaves : is_count kept ≡ false → RollsBack s past
+
+-- no transaction could be opened
+pub record IsUnopened (s : ℕ) (past : List Event) : Type 0 where
+  pub statement : Stmt
+  pub taken : IsTaken s statement past
+
+abbrev pub IsRunning : State → ℕ → WriteStatement → Type 0
+IsRunning state s (machine.Fresh stmt) = IsTaken s stmt state.past × IsWriting stmt
+IsRunning state s machine.Unopened = IsUnopened s state.past
+IsRunning state s (machine.Locking stmt alone) = IsEarly s stmt alone state.past
+IsRunning state s (machine.Searching search) = IsSearching state s search
+IsRunning state s (machine.Changing work todo) = IsChanging state s work todo.items
+IsRunning state s (machine.BackingOut work) = IsBackingOut state s work
+IsRunning state s (machine.Unacked kept given) = IsClosing s kept given state.past × (awaits_ack (of_item s state.past) ≡ true) × IsClosed s state.past
+IsRunning state s (machine.Ending kept given) = IsClosing s kept given state.past × (awaits_ack (of_item s state.past) ≡ false)

@@ -1,0 +1,113 @@
+//! The states of the machine, and its step.
+
+ghost use Rattle.std.specs.Prelude.{◌≡◌, ◌<◌, length};
+ghost use Rattle.sql_history.specs.Legal.{IsWriting};
+ghost use Rattle.sql_lists.specs.Steps.{Steps, IsTaken, StaysRunning};
+ghost use Rattle.sql_lists.specs.Going.{Nears};
+ghost use Rattle.write_statement.specs.Going.{to_go};
+ghost use Rattle.write_statement.specs.Running.{IsRunning};
+
+use crate::backing::step_backing;
+use crate::changing::step_changing;
+use crate::ending::{step_ending, step_unacked, step_unopened};
+use crate::opening::{step_fresh, step_locking};
+use crate::searching::step_searching;
+use gathering::Gathering;
+use inno_db::Change;
+use inno_types::{Reply, Stmt};
+use sql_lists::{Advance, SqlLists};
+use std::alloc::Global;
+
+/// A statement that changes rows. Of a reply the history is to keep one copy, and the caller is given the other.
+#[derive(Drop)]
+pub enum WriteStatement {
+    /// It has made no step.
+    Fresh { stmt: Stmt },
+    /// No transaction could be opened for it.
+    Unopened,
+    /// It has a transaction, and is yet to take the right to write. `alone` says that the transaction is its own.
+    Locking { stmt: Stmt, alone: bool },
+    Searching(Search),
+    /// It knows its reply and makes its changes, of which the next one stands last.
+    Changing { work: Work, todo: Vec<Change> },
+    /// It takes its changes back.
+    BackingOut(Work),
+    /// Its own transaction is committed.
+    Unacked { kept: Reply, given: Reply },
+    Ending { kept: Reply, given: Reply },
+}
+
+/// A statement that gathers the rows of its table. Its transaction had made so many changes before.
+#[derive(Drop)]
+pub struct Search {
+    pub stmt: Stmt,
+    pub alone: bool,
+    pub before: usize,
+    pub visited: u64,
+    pub gathering: Gathering,
+}
+
+/// A statement whose reply is known. Its transaction had made so many changes before.
+#[derive(Drop)]
+pub struct Work {
+    pub alone: bool,
+    pub before: usize,
+    pub kept: Reply,
+    pub given: Reply,
+}
+
+impl Work {
+    /// A statement that is given up for want of memory.
+    pub fn given_up(alone: bool, before: usize) -> Self
+        ensures { result ≡ record { alone = alone; before = before; kept = Reply.NoMemory; given = Reply.NoMemory } }
+    {
+        Work {
+            alone,
+            before,
+            kept: Reply::NoMemory,
+            given: Reply::NoMemory,
+        }
+    }
+}
+
+impl WriteStatement {
+    /// A statement that nothing refused at once.
+    pub fn new(stmt: Stmt, session: u32, lists: &SqlLists) -> Self
+        requires taken { IsTaken session stmt lists.now.past }
+        requires writes { IsWriting stmt }
+        ensures { IsRunning lists.now session result }
+    {
+        WriteStatement::Fresh { stmt }
+    }
+
+    /// One step of the session's statement.
+    pub fn step(
+        self,
+        alloc: Global,
+        session: u32,
+        lists: &mut SqlLists,
+    ) -> (WriteStatement, Advance)
+        requires joined { session < length lists.old.names }
+        requires running { IsRunning lists.old session self }
+        ensures steps { Steps IsRunning session lists.old lists.new result.0 result.1 }
+        ensures nears { Nears to_go session lists.old.past self lists.new.past result.0 result.1 }
+    {
+        match self {
+            WriteStatement::Fresh { stmt } => step_fresh(stmt, session, lists),
+            WriteStatement::Unopened => step_unopened(session, lists),
+            WriteStatement::Locking { stmt, alone } => step_locking(
+                alloc, stmt, alone, session, lists,
+            ),
+            WriteStatement::Searching(search) => step_searching(alloc, search, session, lists),
+            WriteStatement::Changing { work, todo } => step_changing(work, todo, session, lists),
+            WriteStatement::BackingOut(work) => step_backing(work, session, lists),
+            WriteStatement::Unacked { kept, given } => step_unacked(kept, given, session, lists),
+            WriteStatement::Ending { kept, given } => step_ending(kept, given, session, lists),
+        }
+    }
+}
+
+/// An entry of another session leaves what the machine knows.
+pub fn others_leave_it()
+    ensures { StaysRunning IsRunning }
+{}
