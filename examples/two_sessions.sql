@@ -1,3 +1,4 @@
+CREATE TABLE t (id BIGINT, a BIGINT, PRIMARY KEY (id), KEY ka (a));
 @session a
 BEGIN;
 INSERT INTO t VALUES (1,10);

@@ -3,36 +3,30 @@ use Rattle.std.proofs.Common.{◌≡◌, ◌≢◌, ℕ, zero, suc, ◌+◌, ◌
 use Rattle.std.proofs.lemmas.Bool.Decides.{nat_tests, eqb_tells}
 use Rattle.std.proofs.lemmas.Bool.{false≢true}
 use Rattle.std.proofs.lemmas.List.{get_or-set_same, get_or-set_other, length-set, length-append}
-use Rattle.std.specs.Prelude.{Result, Ok, Err, IfOk, OnOk, OnErr}
-use Rattle.std.specs.List.{list_any}
+use Rattle.std.specs.Prelude.{Result, Ok, Err, OnOk, OnErr}
 use Rattle.inno_types.specs.declared.reply.Item.{Item}
 use Rattle.inno_types.specs.declared.reply.Item.TheVariants.{Sql}
 use Rattle.inno_types.specs.declared.reply.Reply.{Reply}
-use Rattle.inno_db.specs.Database.{Database}
-use Rattle.inno_model.specs.declared.command.Command.{Command}
-use Rattle.inno_model.specs.declared.command.Command.TheVariants as commands
 use Rattle.inno_model.specs.declared.event.Event.{Event}
 use Rattle.inno_model.specs.declared.event.Event.TheVariants as events
-use Rattle.inno_model.specs.Past.{is_of, started, under_way, before_item, of_item, did, begins_txn, takes_view, closes, rolls_back_txn, commits_txn, level, own}
-use Rattle.inno_model.specs.Legal.{IsClosed, awaits_ack}
-use Rattle.inno_model.proofs.Untouched.{IsUntouched, untouched}
-use Rattle.command_text.specs.Texts.{Reads}
+use Rattle.inno_model.specs.Past.{is_of, started, under_way, own}
+use Rattle.inno_model.specs.Legal.{IsClosed}
 use Rattle.store_api.specs.declared.answers.Progress.{Progress}
 use Rattle.store_api.specs.declared.answers.Progress.TheVariants as progress
-use Rattle.store_lists.specs.Agreement.{IsFirst}
-use Rattle.store_lists.specs.State.{State as Lists}
-use Rattle.statement.specs.declared.Statement.{Statement}
-use Rattle.statement.specs.declared.Statement.TheVariants as statements
-use Rattle.statement.specs.declared.Advance.{Advance}
-use Rattle.statement.specs.declared.Advance.TheVariants as advance
-use Rattle.statement.specs.Running.{IsRunning, IsEarly, IsStarted, StaysSettled, Moves, Adding, Steps, changes_rows}
-use Rattle.statement.specs.Going.{IsBelow, to_go as statement_to_go, Nears as StatementNears}
+use Rattle.sql_history.specs.Legal.{is_leaving}
+use Rattle.table_lists.specs.State.{State as Lists}
+use Rattle.sql_lists.specs.declared.advance.Advance.{Advance}
+use Rattle.sql_lists.specs.declared.advance.Advance.TheVariants as advance
+use Rattle.sql_lists.specs.Steps.{Moves, Adding, Steps, HasRowsAlone}
+use Rattle.sql_lists.specs.Going.{IsBelow, Nears as StatementNears}
+use Rattle.engine.specs.declared.statement.Statement.{Statement}
 use Rattle.engine.specs.declared.seats.Seat.{Seat}
 use Rattle.engine.specs.declared.seats.Seat.TheVariants.{Idle, Busy, Leaving, Left}
-use Rattle.engine.specs.Seats.{seat_at, is_working, SeatAgrees, AreSeats}
-use Rattle.engine.specs.Calls.{IsNew, Joins, SameState, OthersStay, KeepsItems, GoesOn, StepsOn, Settled, GoesOut, StepsBy}
-use Rattle.engine.specs.Going.{Nears, NearsEnding}
-use Rattle.engine.proofs.Others.{state_of, runs_on}
+use Rattle.engine.specs.Running.{IsRunning, IsReadFrom}
+use Rattle.engine.specs.Seats.{seat_at, is_working, MayGoOut, SeatAgrees, AreSeats}
+use Rattle.engine.specs.Calls.{Joins, SameState, OthersStay, KeepsItems, GoesOn, StepsOn, Settled, GoesOut, StepsBy}
+use Rattle.engine.specs.Going.{statement_to_go, Nears, NearsEnding}
+use Rattle.engine.proofs.Others.{seat_stays, has_item, read_runs}
 
 -- ---- seats
 
@@ -56,58 +50,10 @@ leaving_is (Busy statement) works other = absurd (other statement refl)
 leaving_is Leaving works other = refl
 leaving_is Left works other = absurd (false≢true works)
 
--- ---- the same past
-
-stays_same : (names new-names : List (List ℕ)) (h : List Event) (writer new-writer : Option ℕ) (s : ℕ) (command : Command) → (writer ≡ Some s → new-writer ≡ Some s)
-    → StaysSettled command (state_of names h writer) s → StaysSettled command (state_of new-names h new-writer) s
-stays_same names new-names h writer new-writer s (commands.Insert key value) keeps steady = record { locked = keeps steady.locked; alone = steady.alone }
-stays_same names new-names h writer new-writer s commands.Select keeps steady = tt
-stays_same names new-names h writer new-writer s (commands.Begin snapshot) keeps steady = tt
-stays_same names new-names h writer new-writer s commands.Commit keeps steady = tt
-stays_same names new-names h writer new-writer s commands.Rollback keeps steady = tt
-stays_same names new-names h writer new-writer s (commands.SetLevel l) keeps steady = tt
-
-runs_same : (names new-names : List (List ℕ)) (h : List Event) (writer new-writer : Option ℕ) (s : ℕ) (statement : Statement) → (writer ≡ Some s → new-writer ≡ Some s)
-    → IsRunning (state_of names h writer) s statement → IsRunning (state_of new-names h new-writer) s statement
-runs_same names new-names h writer new-writer s statements.Refused keeps runs = runs
-runs_same names new-names h writer new-writer s (statements.SetLevel l) keeps runs = runs
-runs_same names new-names h writer new-writer s (statements.Begin snapshot stage) keeps runs = runs
-runs_same names new-names h writer new-writer s (statements.Commit stage) keeps runs = runs
-runs_same names new-names h writer new-writer s statements.Rollback keeps runs = runs
-runs_same names new-names h writer new-writer s (statements.Insert key value auto) keeps runs = runs
-runs_same names new-names h writer new-writer s (statements.Select auto) keeps runs = runs
-runs_same names new-names h writer new-writer s (statements.Read read) keeps runs = runs
-runs_same names new-names h writer new-writer s (statements.Answered auto kept given) keeps a =
-    record { same = a.same; working = a.working; is_open = a.is_open; command = a.command; asks = a.asks; settled = a.settled; stays = stays_same names new-names h writer new-writer s a.command keeps a.stays }
-runs_same names new-names h writer new-writer s (statements.Unacked kept given) keeps runs = runs
-runs_same names new-names h writer new-writer s (statements.Ending kept given) keeps runs = runs
-runs_same names new-names h writer new-writer s (statements.Failed auto) keeps runs = runs
-
-seat_same : (names new-names : List (List ℕ)) (h : List Event) (writer new-writer : Option ℕ) (s : ℕ) (seat : Seat) → (writer ≡ Some s → new-writer ≡ Some s)
-    → SeatAgrees (state_of names h writer) s seat → SeatAgrees (state_of new-names h new-writer) s seat
-seat_same names new-names h writer new-writer s Idle keeps agrees = agrees
-seat_same names new-names h writer new-writer s (Busy statement) keeps agrees = runs_same names new-names h writer new-writer s statement keeps agrees
-seat_same names new-names h writer new-writer s Leaving keeps agrees = agrees
-seat_same names new-names h writer new-writer s Left keeps agrees = agrees
-
--- ---- an entry of another session
-
-seat_on : (e : Event) (h : List Event) (t s : ℕ) → is_of t e ≡ true → s ≢ t → IsUntouched h (e ∷ h) s → (names new-names : List (List ℕ)) (writer new-writer : Option ℕ)
-    → (changes_rows e ≡ true → new-writer ≡ Some t) → (writer ≡ Some s → new-writer ≡ Some s) → (seat : Seat)
-    → SeatAgrees (state_of names h writer) s seat → SeatAgrees (state_of new-names (e ∷ h) new-writer) s seat
-seat_on e h t s mine differ same names new-names writer new-writer changes keeps Idle agrees = same.item ∙ agrees
-seat_on e h t s mine differ same names new-names writer new-writer changes keeps (Busy statement) agrees = runs_on e h t s mine differ names new-names writer new-writer changes keeps statement agrees
-seat_on e h t s mine differ same names new-names writer new-writer changes keeps Leaving agrees = same.item ∙ agrees
-seat_on e h t s mine differ same names new-names writer new-writer changes keeps Left agrees = (same.item ∙ agrees.0, same.level_is ∙ agrees.1)
-
-other_of : (e : Event) (t u : ℕ) → is_of t e ≡ true → u ≢ t → is_of u e ≡ false
-other_of e t u mine differ = grind (arith, nat_tests, mine, differ)
+-- ---- one session moves
 
 moved : (old new : Lists) (t s : ℕ) → Adding t old new → s ≢ t → (old.writer ≡ Some s → new.writer ≡ Some s) → (seat : Seat) → SeatAgrees old s seat → SeatAgrees new s seat
-moved old new t s (inl same) differ keeps seat agrees = subst (λ g. SeatAgrees (state_of new.names g new.writer) s seat) (sym same) (seat_same old.names new.names old.past old.writer new.writer s seat keeps agrees)
-moved old new t s (inr added) differ keeps seat agrees =
-    let untouched-is = untouched added.0 old.past s (other_of added.0 t s added.1 differ) in
-    subst (λ g. SeatAgrees (state_of new.names g new.writer) s seat) (sym added.2) (seat_on added.0 old.past t s added.1 differ untouched-is old.names new.names old.writer new.writer added.3 keeps seat agrees)
+moved old new t s adding differ keeps seat agrees = seat_stays old new t s (λ is. differ (sym is)) adding keeps seat agrees
 
 -- one session moves, and takes another seat
 pub seats_kept : (old new : Lists) (seats : List Seat) (s : ℕ) (seat : Seat) → AreSeats old seats → s < length old.names → Moves s old new → SeatAgrees new s seat → AreSeats new (set seats s seat)
@@ -127,7 +73,7 @@ pub seats_joined : (old : Lists) (name : List ℕ) (seats : List Seat) → AreSe
 seats_joined old name seats are =
     record {
       enough = rw (length-append old.names (name ∷ []), length-append seats (Idle ∷ [])) (omega (arith, are.enough));
-      each = λ u. subst (SeatAgrees (record old { names = old.names ++ name ∷ [] }) u) (sym (joined_seat seats u)) (seat_same old.names (old.names ++ name ∷ []) old.past old.writer old.writer u (get_or seats u Idle) (λ w. w) (are.each u));
+      each = λ u. subst (SeatAgrees (record old { names = old.names ++ name ∷ [] }) u) (sym (joined_seat seats u)) (seat_stays old (record old { names = old.names ++ name ∷ [] }) (u + 1) u (λ is. absurd (omega (arith, is))) (inl refl) (λ w. w) (get_or seats u Idle) (are.each u));
     }
 
 -- a seat too many waits for its session
@@ -143,72 +89,30 @@ joined_seats seats u = joined_seat seats u
 
 -- ---- an item that starts
 
-module _ (names : List (List ℕ)) (writer : Option ℕ) (s j : ℕ) (text : List ℕ) (h : List Event) where
-  abbrev pub g : List Event
-  g = events.Started s j (Sql text) ∷ h
-
-  item_is : under_way s g ≡ Some (Sql text)
-  item_is = grind (arith, nat_tests)
-
-  empty : of_item s g ≡ []
-  empty = grind (arith, nat_tests)
-
-  before : before_item s g ≡ h
-  before = grind (arith, nat_tests)
-
-  did_not : (test : Event → Bool) → did test s g ≡ false
-  did_not test = ap (list_any test) empty
-
-  acked : awaits_ack (of_item s g) ≡ false
-  acked = ap awaits_ack empty
-
-  early : IsEarly g s false
-  early = record { working = record { goes_on = did_not closes; in_txn = (sym (ap (level s) before), did_not begins_txn) }; own_is = sym (ap (own s) before) }
-
-  pub started_runs : (command : Option Command) (statement : Statement) → Reads text command → IsStarted command statement → IsRunning (state_of names (events.Started s j (Sql text) ∷ h) writer) s statement
-  started_runs None statement reads is = subst (IsRunning (state_of names g writer) s) (sym is) (record { text = text; item = item_is; no_command = reads; nothing = empty })
-  started_runs (Some (commands.Insert key value)) statement reads is = subst (IsRunning (state_of names g writer) s) (sym is) ((text, item_is, reads), early)
-  started_runs (Some commands.Select) statement reads is = subst (IsRunning (state_of names g writer) s) (sym is) ((text, item_is, reads), early, did_not takes_view)
-  started_runs (Some (commands.Begin snapshot)) statement reads is = subst (IsRunning (state_of names g writer) s) (sym is) ((text, item_is, reads), (did_not begins_txn, acked), did_not rolls_back_txn)
-  started_runs (Some commands.Commit) statement reads is = subst (IsRunning (state_of names g writer) s) (sym is) ((text, item_is, reads), acked, did_not rolls_back_txn)
-  started_runs (Some commands.Rollback) statement reads is = subst (IsRunning (state_of names g writer) s) (sym is) ((text, item_is, reads), did_not commits_txn, acked)
-  started_runs (Some (commands.SetLevel l)) statement reads is = subst (IsRunning (state_of names g writer) s) (sym is) ((text, item_is, reads), empty)
-
 starts_of : (s j : ℕ) (item : Item) → is_of s (events.Started s j item) ≡ true
 starts_of s j item = grind (arith, nat_tests)
 
-pub seats_started : (old new : Lists) (seats : List Seat) (s : ℕ) (text : List ℕ) (item : Item) (command : Option Command) (statement : Statement) → AreSeats old seats → s < length old.names → item ≡ Sql text
-    → new ≡ record old { past = events.Started s (started s old.past + 1) item ∷ old.past } → Reads text command → IsStarted command statement → AreSeats new (set seats s (Busy statement))
-seats_started old new seats s text item command statement are joined item-is is reads made =
+pub seats_started : (old new : Lists) (seats : List Seat) (s : ℕ) (text : List ℕ) (item : Item) (statement : Statement) → AreSeats old seats → s < length old.names → seat_at seats s ≡ Idle → item ≡ Sql text
+    → new ≡ record old { past = events.Started s (started s old.past + 1) item ∷ old.past } → IsReadFrom text statement → AreSeats new (set seats s (Busy statement))
+seats_started old new seats s text item statement are joined idle item-is is reads =
     let e : Event = events.Started s (started s old.past + 1) (Sql text) in
     let to : Lists = record old { past = e ∷ old.past } in
     let new-is : new ≡ to = is ∙ ap (λ i. record old { past = events.Started s (started s old.past + 1) i ∷ old.past }) item-is in
     let moves : Moves s old to = record { names_stay = refl; adding = inr (e, starts_of s (started s old.past + 1) (Sql text), refl, λ x. absurd (false≢true x)); writer_stays = λ u apart w. w } in
+    let rests : SeatAgrees old s Idle = subst (SeatAgrees old s) idle (are.each s) in
     subst (λ l. AreSeats l (set seats s (Busy statement))) (sym new-is)
-    (seats_kept old to seats s (Busy statement) are joined moves (started_runs old.names old.writer s (started s old.past + 1) text old.past command statement reads made))
+    (seats_kept old to seats s (Busy statement) are joined moves (read_runs old s (started s old.past + 1) text statement rests.0.rows_alone reads))
 
 -- ---- a step
 
 moves_none : (old new : Lists) (s : ℕ) → new ≡ old → Moves s old new
 moves_none old new s is = record { names_stay = ap (λ l. l.names) is; adding = inl (ap (λ l. l.past) is); writer_stays = λ u apart w. ap (λ l. l.writer) is ∙ w }
 
-ended_item : (new : Lists) (s j : ℕ) (reply : Reply) (h : List Event) → new.past ≡ events.Ended s j reply ∷ h → under_way s new.past ≡ None
-ended_item new s j reply h is = rw is (grind (arith, nat_tests))
+ended_at : (s j : ℕ) (reply : Reply) (h : List Event) → HasRowsAlone s h → MayGoOut s (events.Ended s j reply ∷ h) × (is_leaving s (events.Ended s j reply ∷ h) ≡ false)
+ended_at s j reply h rows = (record { rests = grind (arith, nat_tests); rows_alone = rows }, grind (arith, nat_tests))
 
--- a running statement has an item under way
-has_item : (state : Lists) (s : ℕ) (statement : Statement) → IsRunning state s statement → under_way s state.past ≢ None
-has_item state s statements.Refused r none = (let x = r.item in cc)
-has_item state s (statements.SetLevel l) r none = (let x = r.0.1 in cc)
-has_item state s (statements.Begin snapshot stage) r none = (let x = r.0.1 in cc)
-has_item state s (statements.Commit stage) r none = (let x = r.0.1 in cc)
-has_item state s statements.Rollback r none = (let x = r.0.1 in cc)
-has_item state s (statements.Insert key value auto) r none = (let x = r.0.1 in cc)
-has_item state s (statements.Select auto) r none = (let x = r.0.1 in cc)
-has_item state s (statements.Read read) r none = (let x = r.0.1 in cc)
-has_item state s (statements.Answered auto kept given) r none = (let x = r.asks.1 in cc)
-has_item state s (statements.Unacked kept given) r none = (let x = r.0.asks.1 in cc)
-has_item state s (statements.Ending kept given) r none = (let x = r.0.asks.1 in cc)
-has_item state s (statements.Failed auto) r none = (let x = r.item in cc)
+ended_item : (new : Lists) (s j : ℕ) (reply : Reply) (h : List Event) → new.past ≡ events.Ended s j reply ∷ h → HasRowsAlone s h → SeatAgrees new s Idle
+ended_item new s j reply h is rows = subst (λ g. MayGoOut s g × (is_leaving s g ≡ false)) (sym is) (ended_at s j reply h rows)
 
 keeps_items : (e : Event) (h : List Event) (s : ℕ) → is_of s e ≡ true → started s (e ∷ h) ≡ started s h → under_way s (e ∷ h) ≢ None → KeepsItems e
 keeps_items (events.Started t j item) h s mine count item-is = grind (arith, nat_tests, mine, count)
@@ -248,18 +152,18 @@ module _ (old new : Lists) (seats : List Seat) (s : ℕ) (are : AreSeats old sea
   steps_on : {D : Type 0} (disk : D) (seat : Seat) → Moves s old new → StepsOn s (record { disk = disk; lists = old; seats = seats }) (record { disk = disk; lists = new; seats = set (set seats s Idle) s seat })
   steps_on disk seat moves = record { disk_stays = refl; names_stay = moves.names_stay; others_stay = λ u apart. ap (λ xs. get_or xs u Idle) (twice seat) ∙ others_set seats s seat u apart }
 
-  pub step_keeps : (statement : Statement) (adv : Advance) (seat : Seat) (answer : Progress) → Steps s old new statement adv → Settled statement adv seat answer → AreSeats new (set (set seats s Idle) s seat)
+  pub step_keeps : (statement : Statement) (adv : Advance) (seat : Seat) (answer : Progress) → Steps IsRunning s old new statement adv → Settled statement adv seat answer → AreSeats new (set (set seats s Idle) s seat)
   step_keeps statement advance.Went seat answer steps settled = kept seat steps.0 (subst (SeatAgrees new s) (sym settled.0) steps.1)
   step_keeps statement (advance.Waiting by blockers) seat answer steps settled = kept seat (moves_none old new s steps.0) (subst (SeatAgrees new s) (sym settled.0) steps.1)
   step_keeps statement advance.NoMemory seat answer steps settled = kept seat steps.0 (subst (SeatAgrees new s) (sym settled.0) steps.1)
-  step_keeps statement (advance.Done reply) seat answer steps settled = kept seat steps.0 (subst (SeatAgrees new s) (sym settled.0) (ended_item new s (started s old.past) reply old.past steps.1))
+  step_keeps statement (advance.Done reply) seat answer steps settled = kept seat steps.0 (subst (SeatAgrees new s) (sym settled.0) (ended_item new s (started s old.past) reply old.past steps.1 steps.2))
 
-  pub step_does : {D : Type 0} (disk : D) (statement : Statement) (adv : Advance) (seat : Seat) (answer : Progress) → Steps s old new statement adv → Settled statement adv seat answer
+  pub step_does : {D : Type 0} (disk : D) (statement : Statement) (adv : Advance) (seat : Seat) (answer : Progress) → Steps IsRunning s old new statement adv → Settled statement adv seat answer
       → StepsBy s answer (record { disk = disk; lists = old; seats = seats }) (record { disk = disk; lists = new; seats = set (set seats s Idle) s seat })
   step_does disk statement advance.Went seat answer steps settled =
       rw settled.1 (steps_on disk seat steps.0, goes_on old new s steps.0.adding steps.2 (has_item new s statement steps.1), ap is_working (is_at seat ∙ settled.0))
   step_does disk statement (advance.Waiting by blockers) seat answer steps settled =
-      rw settled.1 (steps_on disk seat (moves_none old new s steps.0), steps.0, ap is_working (is_at seat ∙ settled.0), record { by = by; other = steps.3; holds = steps.2; is_open = steps.4; edge = steps.6 })
+      rw settled.1 (steps_on disk seat (moves_none old new s steps.0), steps.0, ap is_working (is_at seat ∙ settled.0), (by, steps.2))
   step_does disk statement advance.NoMemory seat answer steps settled =
       rw settled.1 (steps_on disk seat steps.0, steps.2, ap is_working (is_at seat ∙ settled.0))
   step_does disk statement (advance.Done reply) seat answer steps settled =
@@ -269,7 +173,7 @@ module _ (old new : Lists) (seats : List Seat) (s : ℕ) (are : AreSeats old sea
       → Nears s progress.Went (record { disk = disk; lists = old; seats = seats }) (record { disk = disk; lists = new; seats = set (set seats s Idle) s seat })
   step_nears_by disk before after seat was now below = rw (is_at seat, now, was) below
 
-  pub step_nears : {D : Type 0} (disk : D) (before after : Statement) (adv : Advance) (seat : Seat) (answer : Progress) → seat_at seats s ≡ Busy before → StatementNears s old.past before new.past after adv → Settled after adv seat answer
+  pub step_nears : {D : Type 0} (disk : D) (before after : Statement) (adv : Advance) (seat : Seat) (answer : Progress) → seat_at seats s ≡ Busy before → StatementNears statement_to_go s old.past before new.past after adv → Settled after adv seat answer
       → Nears s answer (record { disk = disk; lists = old; seats = seats }) (record { disk = disk; lists = new; seats = set (set seats s Idle) s seat })
   step_nears disk before after advance.Went seat answer was nears settled = rw settled.1 (step_nears_by disk before after seat was settled.0 nears)
   step_nears disk before after (advance.Waiting by blockers) seat answer was nears settled = rw settled.1 tt
@@ -279,12 +183,12 @@ module _ (old new : Lists) (seats : List Seat) (s : ℕ) (are : AreSeats old sea
   -- ---- a step of the ending
 
   module _ (leaving : seat_at seats s ≡ Leaving) where
-    idle : under_way s old.past ≡ None
-    idle = subst (SeatAgrees old s) leaving (are.each s)
+    pub may_go : MayGoOut s old.past
+    may_go = subst (SeatAgrees old s) leaving (are.each s)
 
     pub out_keeps : (seat : Seat) (answer : Progress) → GoesOut s old new seat answer → AreSeats new (set (set seats s Idle) s seat)
     out_keeps seat progress.Went goes = kept seat goes.0 (subst (SeatAgrees new s) (sym goes.3) goes.2)
-    out_keeps seat (progress.Done reply) goes = kept seat (moves_none old new s goes.1) (subst (SeatAgrees new s) (sym goes.3) (subst (λ l. (under_way s l.past ≡ None) × IsClosed s l.past) (sym goes.1) (idle, goes.2)))
+    out_keeps seat (progress.Done reply) goes = kept seat (moves_none old new s goes.1) (subst (SeatAgrees new s) (sym goes.3) (subst (λ l. (under_way s l.past ≡ None) × IsClosed s l.past) (sym goes.1) (may_go.rests, goes.2)))
     out_keeps seat other goes = elim goes [ ]
 
     pub out_does : {D : Type 0} (disk : D) (seat : Seat) (answer : Progress) → GoesOut s old new seat answer
@@ -295,15 +199,11 @@ module _ (old new : Lists) (seats : List Seat) (s : ℕ) (are : AreSeats old sea
 
     pub out_nears : {D : Type 0} (disk : D) (seat : Seat) (answer : Progress) → GoesOut s old new seat answer → NearsEnding s old.past new.past answer
         → Nears s answer (record { disk = disk; lists = old; seats = seats }) (record { disk = disk; lists = new; seats = set (set seats s Idle) s seat })
-    out_nears disk seat progress.Went goes nears = rw (is_at seat, goes.3, leaving) nears
+    out_nears disk seat progress.Went goes nears = rw (is_at seat, goes.3, leaving) (inr (refl, nears))
     out_nears disk seat (progress.Done reply) goes nears = tt
     out_nears disk seat other goes nears = elim goes [ ]
 
 -- ---- what the calls do
-
-pub opened_new : {X : Type 0} (result : Result Lists X) (db : Database) → IsFirst db → IfOk result (λ l. l ≡ record { names = []; past = events.Opened db ∷ []; writer = None }) → IfOk result IsNew
-opened_new (Ok l) db first-db is = (db, first-db, is)
-opened_new (Err e) db first-db is = tt
 
 pub joined_either : {X Y : Type 0} (result : Result X Y) (old new : Lists) (name : List ℕ) (seats : List Seat) → AreSeats old seats → OnOk result (new ≡ record old { names = old.names ++ name ∷ [] }) → OnErr result (new ≡ old) → AreSeats new (seats ++ Idle ∷ [])
 joined_either (Ok x) old new name seats are ok err = subst (λ l. AreSeats l (seats ++ Idle ∷ [])) (sym ok) (seats_joined old name seats are)

@@ -4,28 +4,23 @@ use Rattle.inno_types.specs.declared.reply.Item.{Item}
 use Rattle.inno_types.specs.declared.reply.Reply.{Reply}
 use Rattle.inno_types.specs.declared.reply.Reply.TheVariants.{Done}
 use Rattle.inno_model.specs.declared.event.Event.{Event}
-use Rattle.inno_model.specs.declared.event.Event.TheVariants.{Opened, Started, Ended}
-use Rattle.inno_model.specs.Past.{is_of, started, under_way, txn}
-use Rattle.inno_model.specs.Legal.{IsOpen, IsClosed}
+use Rattle.inno_model.specs.declared.event.Event.TheVariants.{Started, Ended}
+use Rattle.inno_model.specs.Past.{is_of, started}
+use Rattle.inno_model.specs.Legal.{IsClosed}
 use Rattle.store_api.specs.declared.answers.Progress.{Progress}
 use Rattle.store_api.specs.declared.answers.Progress.TheVariants as progress
-use Rattle.store_lists.specs.Agreement.{IsFirst}
-use Rattle.store_lists.specs.State.{State as Lists}
-use Rattle.statement.specs.declared.Statement.{Statement}
-use Rattle.statement.specs.declared.Advance.{Advance}
-use Rattle.statement.specs.declared.Advance.TheVariants as advance
-use Rattle.statement.specs.Running.{Moves, plain_edge}
+use Rattle.table_lists.specs.State.{State as Lists, IsFirst}
+use Rattle.sql_lists.specs.declared.advance.Advance.{Advance}
+use Rattle.sql_lists.specs.declared.advance.Advance.TheVariants as advance
+use Rattle.sql_lists.specs.Steps.{Moves, WaitsFor}
+use Rattle.engine.specs.declared.statement.Statement.{Statement}
 use Rattle.engine.specs.declared.seats.Seat.{Seat}
 use Rattle.engine.specs.declared.seats.Seat.TheVariants as seats
-use Rattle.engine.specs.Seats.{State, seat_at, is_working}
-
--- lists that have just been opened
-abbrev pub IsNew : Lists → Type 0
-IsNew lists = (db : _) × IsFirst db × (lists ≡ record { names = []; past = Opened db ∷ []; writer = None })
+use Rattle.engine.specs.Seats.{State, seat_at, is_working, MayGoOut}
 
 pub record IsOpened {D : Type 0} (disk : D) (state : State D) : Type 0 where
   pub disk_is : state.disk ≡ disk
-  pub lists_are : IsNew state.lists
+  pub lists_are : IsFirst state.lists
   pub nobody : state.seats ≡ []
 
 -- the state is the same to all sessions
@@ -71,14 +66,6 @@ pub record StepsOn {D : Type 0} (s : ℕ) (old new : State D) : Type 0 where
   pub names_stay : new.lists.names ≡ old.lists.names
   pub others_stay : OthersStay s old.seats new.seats
 
--- the session waits for one other, which alone may write
-pub record WaitsFor {D : Type 0} (s : ℕ) (blockers : List _) (state : State D) : Type 0 where
-  pub by : ℕ
-  pub other : by ≢ s
-  pub holds : state.lists.writer ≡ Some by
-  pub is_open : IsOpen by state.lists.past
-  pub edge : blockers ≡ plain_edge (txn s state.lists.past) (txn by state.lists.past) ∷ []
-
 -- the step ends the session's item with the reply, or its ending
 abbrev pub EndsBy : {D : Type 0} → ℕ → Reply → State D → State D → Type 0
 EndsBy s reply old new =
@@ -94,14 +81,14 @@ Settled statement (advance.Done reply) seat answer = (seat ≡ seats.Idle) × (a
 
 -- what a step of a session's ending does
 abbrev pub GoesOut : ℕ → Lists → Lists → Seat → Progress → Type 0
-GoesOut s old new seat progress.Went = Moves s old new × GoesOn s old.past new.past × (under_way s new.past ≡ None) × (seat ≡ seats.Leaving)
+GoesOut s old new seat progress.Went = Moves s old new × GoesOn s old.past new.past × MayGoOut s new.past × (seat ≡ seats.Leaving)
 GoesOut s old new seat (progress.Done reply) = (reply ≡ Done) × (new ≡ old) × IsClosed s old.past × (seat ≡ seats.Left)
 GoesOut s old new seat other = ⊥
 
 -- what a step does, by its answer
 abbrev pub StepsBy : {D : Type 0} → ℕ → Progress → State D → State D → Type 0
 StepsBy s progress.Went old new = StepsOn s old new × GoesOn s old.lists.past new.lists.past × (is_working (seat_at new.seats s) ≡ true)
-StepsBy s (progress.Waiting blockers) old new = StepsOn s old new × (new.lists ≡ old.lists) × (is_working (seat_at new.seats s) ≡ true) × WaitsFor s blockers old
+StepsBy s (progress.Waiting blockers) old new = StepsOn s old new × (new.lists ≡ old.lists) × (is_working (seat_at new.seats s) ≡ true) × ((by : ℕ) × WaitsFor s by blockers old.lists)
 StepsBy s progress.NoMemory old new = StepsOn s old new × (new.lists.past ≡ old.lists.past) × (is_working (seat_at new.seats s) ≡ true)
 StepsBy s (progress.Done reply) old new = StepsOn s old new × EndsBy s reply old new
 StepsBy s other old new = ⊥

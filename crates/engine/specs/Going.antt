@@ -1,19 +1,35 @@
 -- A step that went did work: what its session has before it at most, a list of sixteen numbers, gets smaller.
-use Rattle.std.specs.Prelude.{ℕ, List}
+use Rattle.std.specs.Prelude.{ℕ, List, ◌∷◌}
 use Rattle.inno_model.specs.declared.event.Event.{Event}
 use Rattle.store_api.specs.declared.answers.Progress.{Progress}
 use Rattle.store_api.specs.declared.answers.Progress.TheVariants as progress
-use Rattle.statement.specs.Going.{IsBelow, left, to_roll_back, to_go as statement_to_go}
+use Rattle.sql_lists.specs.Going.{IsBelow, left, to_roll_back}
+use Rattle.transaction_statements.specs.Going.{to_go as of_transaction}
+use Rattle.create_statement.specs.Going.{to_go as of_create}
+use Rattle.read_statement.specs.Going.{to_go as of_read}
+use Rattle.write_statement.specs.Going.{to_go as of_write}
+use Rattle.engine.specs.declared.statement.Statement.{Statement}
+use Rattle.engine.specs.declared.statement.Statement.TheVariants as statements
 use Rattle.engine.specs.declared.seats.Seat.{Seat}
 use Rattle.engine.specs.declared.seats.Seat.TheVariants as seats
 use Rattle.engine.specs.Seats.{State, seat_at}
 
+-- what a statement has before it at most: it is yet to begin, and then what its kind has
+abbrev pub statement_to_go : ℕ → List Event → Statement → List ℕ
+statement_to_go s past (statements.Unread at) = 1 ∷ left 0 0 0
+statement_to_go s past (statements.Asked stmt) = 1 ∷ left 0 0 0
+statement_to_go s past (statements.Transaction statement) = 0 ∷ of_transaction s past statement
+statement_to_go s past (statements.Create statement) = 0 ∷ of_create s past statement
+statement_to_go s past (statements.Read statement) = 0 ∷ of_read s past statement
+statement_to_go s past (statements.Write statement) = 0 ∷ of_write s past statement
+statement_to_go s past statements.Failed = 0 ∷ left 0 0 0
+
 -- what a seat has before it at most
 abbrev pub seat_to_go : ℕ → List Event → Seat → List ℕ
-seat_to_go s past seats.Idle = left 0 0 0
+seat_to_go s past seats.Idle = 0 ∷ left 0 0 0
 seat_to_go s past (seats.Busy statement) = statement_to_go s past statement
-seat_to_go s past seats.Leaving = to_roll_back s past
-seat_to_go s past seats.Left = left 0 0 0
+seat_to_go s past seats.Leaving = 0 ∷ to_roll_back s past
+seat_to_go s past seats.Left = 0 ∷ left 0 0 0
 
 -- what the session has before it at most
 abbrev pub to_go : {D : Type 0} → ℕ → State D → List ℕ

@@ -1,3 +1,4 @@
+pub mod Running
 pub mod Seats
 pub mod Calls
 pub mod Going

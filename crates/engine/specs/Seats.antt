@@ -1,10 +1,13 @@
 -- What the engine is to its callers, and what holds of each session's seat.
 use Rattle.std.specs.Prelude.{◌≡◌, ℕ, ◌<◌, ◌≤◌, Bool, true, false, None, List, length, slice_index_or, refl}
 use Rattle.std.specs.Coded.{Coded, code_by, coded×, coded_list}
+use Rattle.inno_model.specs.declared.event.Event.{Event}
 use Rattle.inno_model.specs.Past.{under_way}
 use Rattle.inno_model.specs.Legal.{IsClosed}
-use Rattle.store_lists.specs.State.{State as Lists, state_code as lists_code}
-use Rattle.statement.specs.Running.{IsRunning}
+use Rattle.sql_history.specs.Legal.{is_leaving}
+use Rattle.table_lists.specs.State.{State as Lists, state_code as lists_code}
+use Rattle.sql_lists.specs.Steps.{HasRowsAlone}
+use Rattle.engine.specs.Running.{IsRunning}
 use Rattle.engine.specs.declared.seats.Seat.{Seat}
 use Rattle.engine.specs.declared.seats.Seat.TheVariants.{Idle, Busy, Leaving, Left}
 use Rattle.engine.specs.contracts.seats.Seat as of_seat
@@ -49,11 +52,16 @@ pub record HasEnded {D : Type 0} (s : ℕ) (state : State D) : Type 0 where
   pub rests : under_way s state.lists.past ≡ None
   pub closed : IsClosed s state.lists.past
 
+-- a session without an item, whose open transaction has changes of rows alone
+pub record MayGoOut (s : ℕ) (past : List Event) : Type 0 where
+  pub rests : under_way s past ≡ None
+  pub rows_alone : HasRowsAlone s past
+
 -- what is kept of a session is what the past says
 abbrev pub SeatAgrees : Lists → ℕ → Seat → Type 0
-SeatAgrees lists s Idle = under_way s lists.past ≡ None
+SeatAgrees lists s Idle = MayGoOut s lists.past × (is_leaving s lists.past ≡ false)
 SeatAgrees lists s (Busy statement) = IsRunning lists s statement
-SeatAgrees lists s Leaving = under_way s lists.past ≡ None
+SeatAgrees lists s Leaving = MayGoOut s lists.past
 SeatAgrees lists s Left = (under_way s lists.past ≡ None) × IsClosed s lists.past
 
 pub record AreSeats (lists : Lists) (seats : List Seat) : Type 0 where

@@ -3,8 +3,9 @@
 #![tactic(auto)]
 
 mod machine;
-mod opening;
 mod seats;
+mod statement;
 
 pub use machine::{Engine, mount};
 pub use seats::Seat;
+pub use statement::Statement;

@@ -3,26 +3,28 @@
 ghost use Rattle.std.specs.Prelude.{◌≡◌, ℕ, ◌<◌, ◌^◌, ◌∷◌, ◌++◌, [], length, None, Ok, IsTrue, IfOk, IfErr, OnOk, OnErr};
 ghost use Rattle.inno_types.specs.declared.reply.Item.TheVariants.{Sql};
 ghost use Rattle.inno_model.specs.Past.{under_way};
-ghost use Rattle.engine.specs.Calls.{IsNew, IsOpened, Settled, GoesOut};
+ghost use Rattle.engine.specs.Calls.{IsOpened, Settled, GoesOut};
+ghost use Rattle.engine.specs.Running.{IsReadFrom, ReadsItem};
+ghost use Rattle.engine.specs.Seats.{MayGoOut};
 ghost use Rattle.engine.specs.Going.{NearsEnding};
 
-use crate::opening::first_database;
 use crate::seats::{Seat, Seats};
-use command_text::parse;
+use crate::statement::Statement;
 use inno_model::History;
 use inno_types::{Bytes, Cause, Item, Reply};
-use statement::{Advance, Statement};
+use sql_lists::{Advance, SqlLists};
+use sql_prefix::parse;
+use sql_text::ParseBad;
 use std::alloc::Global;
 use std::marker::Model;
 use store_api::{Disk, MountBad, NoMemory, Progress};
-use store_lists::Lists;
 
 /// An engine over a disk, on which the files of a database will lie. So far it leaves the disk untouched.
 #[derive(Drop)]
 pub struct Engine<D> {
     alloc: Global,
     disk: D,
-    lists: Lists,
+    lists: SqlLists,
     seats: Seats,
 }
 
@@ -38,12 +40,12 @@ impl<D> Model for Engine<D> {
     ghost invariant = { λ e. AreSeats e.lists e.seats };
 }
 
-/// Opens an engine over a disk, with the empty table `t`. A refusal hands the disk back.
+/// Opens an engine over a disk, with a database without tables. A refusal hands the disk back.
 pub fn mount<D: Disk>(alloc: Global, disk: D) -> Result<Engine<D>, (D, MountBad)>
     ensures ok { IfOk result (IsOpened disk) }
     ensures err { IfErr result (λ e. (e.0 ≡ disk) × (e.1 ≡ MountBad.NoMemory)) }
 {
-    match opened(alloc) {
+    match SqlLists::new(alloc) {
         Ok(lists) => Ok(Engine {
             alloc,
             disk,
@@ -54,25 +56,19 @@ pub fn mount<D: Disk>(alloc: Global, disk: D) -> Result<Engine<D>, (D, MountBad)
     }
 }
 
-fn opened(alloc: Global) -> Result<Lists, NoMemory>
-    ensures { IfOk result IsNew }
-{
-    let db = first_database(alloc)?;
-    Lists::new(alloc, db)
-}
-
 impl<D: Disk> Engine<D> {
     ghost use Rattle.engine.specs.Seats.{IsJoined, IsIdle, IsWorking, HasEnded};
     ghost use Rattle.engine.specs.Calls.{Joins, Starts, StepsBy, Leaves, SameState};
     ghost use Rattle.engine.specs.Going.{Nears};
     ghost use Rattle.engine.specs.Seats.{has_left, is_working, seat_at};
-    ghost use Rattle.inno_model.specs.Legal.{IsLegal};
+    ghost use Rattle.sql_grammar.specs.Grammar.{Spells};
+    ghost use Rattle.sql_history.specs.Legal.{IsLegal};
 
     /// What has happened, which is legal.
     pub fn history(&self) -> &History
         ensures names { result.now.names ≡ self.now.lists.names }
         ensures past { result.now.past ≡ self.now.lists.past }
-        ensures legal { IsLegal self.now.lists.past }
+        ensures legal { IsLegal Spells self.now.lists.past }
     {
         self.lists.history()
     }
@@ -114,11 +110,19 @@ impl<D: Disk> Engine<D> {
         ensures ok { OnOk result (Starts s item.now self.old self.new) }
         ensures err { OnErr result (SameState self.old self.new) }
     {
-        let Item::Sql(text) = item else {
-            unreachable!()
-        };
-        let statement = Statement::new(parse(text.as_slice()));
-        self.lists.start(s, item.copied()?)?;
+        let statement = read_item(self.alloc, item)?;
+        self.seat(s, item.copied()?, statement)
+    }
+
+    /// Seats a statement that was read from the item.
+    fn seat(&mut self, s: u32, item: Item, statement: Statement) -> Result<(), NoMemory>
+        requires joined { IsJoined s self.old }
+        requires idle { IsIdle s self.old }
+        requires reads { ReadsItem item statement }
+        ensures ok { OnOk result (Starts s item self.old self.new) }
+        ensures err { OnErr result (SameState self.old self.new) }
+    {
+        self.lists.start(s, item)?;
         let _ = self.seats.replace(s, Seat::Busy(statement));
         Ok(())
     }
@@ -159,7 +163,7 @@ impl<D: Disk> Engine<D> {
         ensures disk { result.0 ≡ self.disk }
         ensures names { result.1.names ≡ self.lists.names }
         ensures past { result.1.past ≡ self.lists.past }
-        ensures legal { IsLegal self.lists.past }
+        ensures legal { IsLegal Spells self.lists.past }
         ensures ok { result.2 ≡ Ok tt }
     {
         let Engine {
@@ -169,6 +173,28 @@ impl<D: Disk> Engine<D> {
             seats: _,
         } = self;
         (disk, lists.into_history(), Ok(()))
+    }
+}
+
+/// The statement of an item, before its first step.
+fn read_item(alloc: Global, item: &Item) -> Result<Statement, NoMemory>
+    requires { (text : _) × (item.now ≡ Sql text) }
+    ensures { IfOk result (ReadsItem item.now) }
+{
+    let Item::Sql(text) = item else {
+        unreachable!()
+    };
+    read(alloc, text.as_slice())
+}
+
+/// The statement that a text spells, before its first step.
+fn read(alloc: Global, text: &[u8]) -> Result<Statement, NoMemory>
+    ensures { IfOk result (IsReadFrom text.now) }
+{
+    match parse(alloc, text) {
+        Ok(stmt) => Ok(Statement::Asked(stmt)),
+        Err(ParseBad::Syntax { at }) => Ok(Statement::Unread { at }),
+        Err(ParseBad::NoMemory) => Err(NoMemory),
     }
 }
 
@@ -188,16 +214,16 @@ fn settled(statement: Statement, advance: Advance) -> (Seat, Progress)
 }
 
 /// A step of a session's ending: its open transaction is rolled back, one change at a step.
-fn go_out(s: u32, lists: &mut Lists) -> (Seat, Progress)
+fn go_out(s: u32, lists: &mut SqlLists) -> (Seat, Progress)
     requires joined { s < length lists.old.names }
-    requires idle { under_way s lists.old.past ≡ None }
+    requires may { MayGoOut s lists.old.past }
     ensures goes { GoesOut s lists.old lists.new result.0 result.1 }
     ensures nears { NearsEnding s lists.old.past lists.new.past result.1 }
 {
-    if lists.level(s).is_none() {
+    if lists.lists().level(s).is_none() {
         return (Seat::Left, Progress::Done(Reply::Done));
     }
-    if lists.change_count(s) > 0 {
+    if lists.lists().change_count(s) > 0 {
         lists.undo(s);
     } else {
         lists.roll_back(s);

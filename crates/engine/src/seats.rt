@@ -3,7 +3,7 @@
 ghost use Rattle.std.specs.Prelude.{◌≡◌, ◌<◌, [], ◌∷◌, ◌++◌, length, OnOk, OnErr, slice_set};
 ghost use Rattle.engine.specs.Seats.{seat_at, is_working, has_left};
 
-use statement::Statement;
+use crate::statement::Statement;
 use std::alloc::{AllocError, Global};
 use std::marker::Model;
 
@@ -25,9 +25,13 @@ pub struct Seats {
 
 impl Model for Seats {
     ghost use Rattle.std.specs.Prelude.{List};
+    ghost use Rattle.std.specs.Coded.{coded_list};
     ghost use Rattle.engine.specs.declared.seats.Seat.{Seat};
+    ghost use Rattle.engine.specs.contracts.seats.Seat as of_seat;
 
     ghost Value = { List Seat };
+
+    ghost coded = { coded_list of_seat.the_row.coded };
 
     ghost view = { λ s. s.seats.items };
 }

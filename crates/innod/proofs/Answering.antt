@@ -9,7 +9,8 @@ use Rattle.inno_model.specs.declared.event.Event.{Event}
 use Rattle.inno_model.specs.declared.event.Event.TheVariants.{Started, Ended}
 use Rattle.inno_model.specs.Past.{under_way}
 use Rattle.inno_model.specs.Text.{items, answers}
-use Rattle.inno_model.specs.Legal.{IsLegal}
+use Rattle.sql_grammar.specs.Grammar.{Spells}
+use Rattle.sql_history.specs.Legal.{IsLegal}
 
 -- the items that wait for an answer
 abbrev waiting : Option Item → ℕ
@@ -35,22 +36,22 @@ rests s (Ended t j reply ∷ past) none =
     ]
 rests s (e ∷ past) none = rests s past none
 
-counted : (s : ℕ) (past : List Event) → IsLegal past → length (items s past) ≡ length (answers s past) + waiting (under_way s past)
+counted : (s : ℕ) (past : List Event) → IsLegal Spells past → length (items s past) ≡ length (answers s past) + waiting (under_way s past)
 counted s [] legal = refl
 counted s (Started t j item ∷ past) legal =
-    let before = counted s past legal.2 in
+    let before = counted s past legal.1 in
     elim (eqb_tells t s) [
-      | inl same ↦ rw same.0 (length-append (items s past) (item ∷ []) ∙ ap (λ n. n + 1) (before ∙ ap (λ u. length (answers s past) + waiting (under_way u past)) (sym same.1) ∙ ap (λ u. length (answers s past) + waiting u) legal.0.0 ∙ omega arith))
+      | inl same ↦ rw same.0 (length-append (items s past) (item ∷ []) ∙ ap (λ n. n + 1) (before ∙ ap (λ u. length (answers s past) + waiting (under_way u past)) (sym same.1) ∙ ap (λ u. length (answers s past) + waiting u) legal.0.1.idle ∙ omega arith))
       | inr other ↦ rw other.0 before
     ]
 counted s (Ended t j reply ∷ past) legal =
-    let before = counted s past legal.2 in
+    let before = counted s past legal.1 in
     elim (eqb_tells t s) [
-      | inl same ↦ rw same.0 (before ∙ ap (λ u. length (answers s past) + waiting (under_way u past)) (sym same.1) ∙ ap (λ u. length (answers s past) + waiting u) legal.0.item ∙ sym (length-append (answers s past) ((j, reply) ∷ []) ∙ omega arith) ∙ omega arith)
+      | inl same ↦ rw same.0 (before ∙ ap (λ u. length (answers s past) + waiting (under_way u past)) (sym same.1) ∙ ap (λ u. length (answers s past) + waiting u) legal.0.1.asked ∙ sym (length-append (answers s past) ((j, reply) ∷ []) ∙ omega arith) ∙ omega arith)
       | inr other ↦ rw other.0 before
     ]
-counted s (e ∷ past) legal = counted s past legal.2
+counted s (e ∷ past) legal = counted s past legal.1
 
 -- an answer for each item
-pub all_answered : (s : ℕ) (past : List Event) → IsLegal past → under_way s past ≡ None → length (answers s past) ≡ length (items s past)
+pub all_answered : (s : ℕ) (past : List Event) → IsLegal Spells past → under_way s past ≡ None → length (answers s past) ≡ length (items s past)
 all_answered s past legal none = omega (arith, counted s past legal, ap waiting none)

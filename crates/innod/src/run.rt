@@ -2,7 +2,8 @@
 
 ghost use Rattle.std.specs.Prelude.{◌≡◌, ◌⊎◌, ◌↔◌, Some, IfSome, List, ℕ};
 ghost use Rattle.store_api.specs.Causes.{Rose};
-ghost use Rattle.inno_model.specs.Legal.{IsLegal};
+ghost use Rattle.sql_grammar.specs.Grammar.{Spells};
+ghost use Rattle.sql_history.specs.Legal.{IsLegal};
 ghost use Rattle.inno_model.specs.Text.{text};
 ghost use Rattle.script.specs.Script.{IsScript, IsPlayable};
 ghost use Rattle.innod.specs.Words.{IsCommand};
@@ -29,7 +30,7 @@ pub fn run<D: Disk, S: Source, K: Sink, C: Clock, G: Gate>(
     _gate: &G,
 ) -> Outcome<D>
     // What was printed is the text of a legal history.
-    ensures legal { IsLegal result.history.past }
+    ensures legal { IsLegal Spells result.history.past }
     ensures printed { IsPrinted result.fault (K.taken out.old) (K.taken out.new) (text result.history) }
 
     // The sessions of the history do what the script says.
@@ -57,7 +58,7 @@ pub fn run<D: Disk, S: Source, K: Sink, C: Clock, G: Gate>(
 /// Plays a script on an engine over the disk, and prints the history.
 fn serve<D: Disk, K: Sink>(alloc: Global, script: &Script, disk: D, out: &mut K) -> Outcome<D>
     requires { IsPlayable script.now }
-    ensures legal { IsLegal result.history.past }
+    ensures legal { IsLegal Spells result.history.past }
     ensures printed { IsPrinted result.fault (K.taken out.old) (K.taken out.new) (text result.history) }
     ensures follows { FollowsScript script.now.items result.history.past }
     ensures played { result.fault ≡ Fault.Nothing → HasPlayed script.now result.history.names result.history.past }

@@ -85,7 +85,7 @@ fn result_of(alloc: Global, case: &Case) -> Result<(Fault, u8, MemSink), NoMemor
 }
 
 const ONE_SESSION: &str =
-    "@session a\nINSERT INTO t VALUES (1,10);\nSELECT * FROM t;\nINSERT INTO t VALUES (1,11);\nCOMMIT;\n";
+    "CREATE TABLE t (id BIGINT, a BIGINT, PRIMARY KEY (id), KEY ka (a));\n@session a\nINSERT INTO t VALUES (1,10);\nSELECT * FROM t;\nINSERT INTO t VALUES (1,11);\nCOMMIT;\n";
 
 #[test]
 fn prints_what_sessions_were_answered(rt: HostRuntime) -> Result<(), Fail> {
@@ -94,37 +94,72 @@ fn prints_what_sessions_were_answered(rt: HostRuntime) -> Result<(), Fail> {
         ran(
             "run",
             ONE_SESSION,
-            "@session a\n1> OK 1\n2> ROWS 1\n1\t10\n3> ERROR 1062 (23000)\n4> OK\n",
+            "@session setup\n1> OK\n@session a\n1> OK 1\n2> ROWS 1\n1\t10\n3> ERROR 1062 (23000)\n4> OK\n",
         ),
         ran(
             "play",
-            "@session a\nCOMMIT now;\n",
-            "@session a\n1> ERROR 1064 (42000)\n",
+            "@session a\nCOMMIT now;\nCREATE TABLE w (id BIGINT, PRIMARY KEY (id));\n",
+            "@session a\n1> ERROR 1064 (42000)\n2> ERROR 1064 (42000)\n",
         ),
         ran(
             "play",
-            "@session a\nBEGIN;\nINSERT INTO t VALUES (1,10);\n@session b\nINSERT INTO t VALUES (1,11);\n@session f\nSELECT * FROM t;\n@session a\nCOMMIT;\n@session f\nSELECT * FROM t;\n",
-            "@session a\n1> OK\n2> OK 1\n3> OK\n@session b\n1> ERROR 1062 (23000)\n@session f\n1> ROWS 0\n2> ROWS 1\n1\t10\n",
+            "CREATE TABLE t (id BIGINT, a BIGINT, PRIMARY KEY (id), KEY ka (a));\n@session a\nBEGIN;\nINSERT INTO t VALUES (1,10);\n@session b\nINSERT INTO t VALUES (1,11);\n@session f\nSELECT * FROM t;\n@session a\nCOMMIT;\n@session f\nSELECT * FROM t;\n",
+            "@session setup\n1> OK\n@session a\n1> OK\n2> OK 1\n3> OK\n@session b\n1> ERROR 1062 (23000)\n@session f\n1> ROWS 0\n2> ROWS 1\n1\t10\n",
         ),
         ran(
             "play",
-            "INSERT INTO t VALUES (1,10);\n@session a\nBEGIN;\n@session b\nINSERT INTO t VALUES (2,20);\n@session a\nSELECT * FROM t;\n@session b\nINSERT INTO t VALUES (3,30);\n@session a\nSELECT * FROM t;\nCOMMIT;\nSELECT * FROM t;\n",
-            "@session setup\n1> OK 1\n@session a\n1> OK\n2> ROWS 2\n1\t10\n2\t20\n3> ROWS 2\n1\t10\n2\t20\n4> OK\n5> ROWS 3\n1\t10\n2\t20\n3\t30\n@session b\n1> OK 1\n2> OK 1\n",
+            "CREATE TABLE t (id BIGINT, a BIGINT, PRIMARY KEY (id), KEY ka (a));\nINSERT INTO t VALUES (1,10);\n@session a\nBEGIN;\n@session b\nINSERT INTO t VALUES (2,20);\n@session a\nSELECT * FROM t;\n@session b\nINSERT INTO t VALUES (3,30);\n@session a\nSELECT * FROM t;\nCOMMIT;\nSELECT * FROM t;\n",
+            "@session setup\n1> OK\n2> OK 1\n@session a\n1> OK\n2> ROWS 2\n1\t10\n2\t20\n3> ROWS 2\n1\t10\n2\t20\n4> OK\n5> ROWS 3\n1\t10\n2\t20\n3\t30\n@session b\n1> OK 1\n2> OK 1\n",
         ),
         ran(
             "play",
-            "INSERT INTO t VALUES (1,10);\n@session a\nSET SESSION TRANSACTION ISOLATION LEVEL READ COMMITTED;\nBEGIN;\n@session b\nINSERT INTO t VALUES (2,20);\n@session a\nSELECT * FROM t;\n@session b\nINSERT INTO t VALUES (3,30);\n@session a\nSELECT * FROM t;\nCOMMIT;\nSELECT * FROM t;\n",
-            "@session setup\n1> OK 1\n@session a\n1> OK\n2> OK\n3> ROWS 2\n1\t10\n2\t20\n4> ROWS 3\n1\t10\n2\t20\n3\t30\n5> OK\n6> ROWS 3\n1\t10\n2\t20\n3\t30\n@session b\n1> OK 1\n2> OK 1\n",
+            "CREATE TABLE t (id BIGINT, a BIGINT, PRIMARY KEY (id), KEY ka (a));\nINSERT INTO t VALUES (1,10);\n@session a\nSET SESSION TRANSACTION ISOLATION LEVEL READ COMMITTED;\nBEGIN;\n@session b\nINSERT INTO t VALUES (2,20);\n@session a\nSELECT * FROM t;\n@session b\nINSERT INTO t VALUES (3,30);\n@session a\nSELECT * FROM t;\nCOMMIT;\nSELECT * FROM t;\n",
+            "@session setup\n1> OK\n2> OK 1\n@session a\n1> OK\n2> OK\n3> ROWS 2\n1\t10\n2\t20\n4> ROWS 3\n1\t10\n2\t20\n3\t30\n5> OK\n6> ROWS 3\n1\t10\n2\t20\n3\t30\n@session b\n1> OK 1\n2> OK 1\n",
         ),
         ran(
             "play",
-            "INSERT INTO t VALUES (1,10);\n@session a\nSTART TRANSACTION WITH CONSISTENT SNAPSHOT;\n@session b\nINSERT INTO t VALUES (2,20);\n@session a\nSELECT * FROM t;\n",
-            "@session setup\n1> OK 1\n@session a\n1> OK\n2> ROWS 1\n1\t10\n@session b\n1> OK 1\n",
+            "CREATE TABLE t (id BIGINT, a BIGINT, PRIMARY KEY (id), KEY ka (a));\nINSERT INTO t VALUES (1,10);\n@session a\nSTART TRANSACTION WITH CONSISTENT SNAPSHOT;\n@session b\nINSERT INTO t VALUES (2,20);\n@session a\nSELECT * FROM t;\n",
+            "@session setup\n1> OK\n2> OK 1\n@session a\n1> OK\n2> ROWS 1\n1\t10\n@session b\n1> OK 1\n",
         ),
         ran(
             "play",
-            "INSERT INTO t VALUES (1,10);\n@session a\nSET SESSION TRANSACTION ISOLATION LEVEL READ COMMITTED;\nSTART TRANSACTION WITH CONSISTENT SNAPSHOT;\n@session b\nINSERT INTO t VALUES (2,20);\n@session a\nSELECT * FROM t;\n",
-            "@session setup\n1> OK 1\n@session a\n1> OK\n2> OK\n3> ROWS 2\n1\t10\n2\t20\n@session b\n1> OK 1\n",
+            "CREATE TABLE t (id BIGINT, a BIGINT, PRIMARY KEY (id), KEY ka (a));\nINSERT INTO t VALUES (1,10);\n@session a\nSET SESSION TRANSACTION ISOLATION LEVEL READ COMMITTED;\nSTART TRANSACTION WITH CONSISTENT SNAPSHOT;\n@session b\nINSERT INTO t VALUES (2,20);\n@session a\nSELECT * FROM t;\n",
+            "@session setup\n1> OK\n2> OK 1\n@session a\n1> OK\n2> OK\n3> ROWS 2\n1\t10\n2\t20\n@session b\n1> OK 1\n",
+        ),
+        ran(
+            "play",
+            "CREATE TABLE u (id BIGINT, a BIGINT, b BIGINT, PRIMARY KEY (id));\nINSERT INTO u VALUES (1,1,1);\n@session a\nBEGIN;\nSELECT * FROM u;\n@session b\nUPDATE u SET a = 5 WHERE id = 1;\n@session a\nUPDATE u SET a = 5 WHERE id = 1;\nSELECT * FROM u;\nUPDATE u SET b = 7 WHERE id = 1;\nSELECT * FROM u;\n",
+            "@session setup\n1> OK\n2> OK 1\n@session a\n1> OK\n2> ROWS 1\n1\t1\t1\n3> OK 0\n4> ROWS 1\n1\t1\t1\n5> OK 1\n6> ROWS 1\n1\t5\t7\n@session b\n1> OK 1\n",
+        ),
+        ran(
+            "play",
+            "CREATE TABLE t (id BIGINT, a BIGINT, PRIMARY KEY (id), KEY ka (a));\n@session a\nBEGIN;\nINSERT INTO t VALUES (5,1),(5,2);\nSELECT * FROM t;\nCOMMIT;\n",
+            "@session setup\n1> OK\n@session a\n1> OK\n2> ERROR 1062 (23000)\n3> ROWS 0\n4> OK\n",
+        ),
+        ran(
+            "play",
+            "CREATE TABLE t (id BIGINT, a BIGINT, PRIMARY KEY (id), KEY ka (a));\n@session a\nBEGIN;\nSAVEPOINT s;\nINSERT INTO t VALUES (1,1);\nSAVEPOINT s;\nINSERT INTO t VALUES (2,2);\nROLLBACK TO s;\nSELECT * FROM t;\n",
+            "@session setup\n1> OK\n@session a\n1> OK\n2> OK\n3> OK 1\n4> OK\n5> OK 1\n6> OK\n7> ROWS 1\n1\t1\n",
+        ),
+        ran(
+            "play",
+            "CREATE TABLE t (id BIGINT, a BIGINT, PRIMARY KEY (id), KEY ka (a));\nINSERT INTO t VALUES (1,1),(2,6),(3,7);\n@session a\nUPDATE t SET a = a + 10 WHERE a > 5;\nSELECT * FROM t;\nINSERT INTO t VALUES (4,9223372036854775807);\nUPDATE t SET a = a + 10 WHERE a > 5;\nSELECT * FROM t;\n",
+            "@session setup\n1> OK\n2> OK 3\n@session a\n1> OK 2\n2> ROWS 3\n1\t1\n2\t16\n3\t17\n3> OK 1\n4> ERROR 1690 (22003)\n5> ROWS 4\n1\t1\n2\t16\n3\t17\n4\t9223372036854775807\n",
+        ),
+        ran(
+            "play",
+            "CREATE TABLE t (id BIGINT, a BIGINT, PRIMARY KEY (id), KEY ka (a));\nINSERT INTO t VALUES (1,10);\nCREATE TABLE v (k VARBINARY(2), PRIMARY KEY (k));\nCREATE TABLE t (id BIGINT, a BIGINT, PRIMARY KEY (id), KEY ka (a));\n@session a\nSELECT * FROM nope;\nSELECT z FROM t;\nINSERT INTO t VALUES (1);\nINSERT INTO t VALUES (NULL,1);\nINSERT INTO t VALUES (9223372036854775808,1);\nINSERT INTO t (a) VALUES (1);\nINSERT INTO t (id,id) VALUES (1,1);\nINSERT INTO v VALUES ('abc');\nSELEC;\nCREATE TABLE w (id BIGINT PRIMARY KEY);\nBEGIN;\nSET TRANSACTION ISOLATION LEVEL SERIALIZABLE;\nINSERT INTO t VALUES (1,5);\nINSERT INTO v VALUES ('ab');\n",
+            "@session setup\n1> OK\n2> OK 1\n3> OK\n4> ERROR 1050 (42S01)\n@session a\n1> ERROR 1146 (42S02)\n2> ERROR 1054 (42S22)\n3> ERROR 1136 (21S01)\n4> ERROR 1048 (23000)\n5> ERROR 1264 (22003)\n6> ERROR 1364 (HY000)\n7> ERROR 1110 (42000)\n8> ERROR 1406 (22001)\n9> ERROR 1064 (42000)\n10> ERROR 1064 (42000)\n11> OK\n12> ERROR 1568 (25001)\n13> ERROR 1062 (23000)\n14> OK 1\n",
+        ),
+        ran(
+            "play",
+            "CREATE TABLE `select` (id BIGINT, n BIGINT, s VARBINARY(20), PRIMARY KEY (id));\nINSERT INTO `select` VALUES (1,10,'a'),(2,NULL,'it''s'),(3,30,NULL),(4,-40,'x');\n@session a\nSELECT id FROM `select` WHERE n > 5;\nSELECT id FROM `select` WHERE NOT n > 5;\nSELECT id FROM `select` WHERE n IS NULL;\nSELECT id FROM `select` WHERE n BETWEEN 10 AND 30;\nSELECT id FROM `select` WHERE n NOT BETWEEN 10 AND 30;\nSELECT id FROM `select` WHERE n IN (30, NULL);\nSELECT id FROM `select` WHERE n NOT IN (30, NULL);\nSELECT id FROM `select` WHERE n = NULL OR id = 4;\nSELECT s FROM `select` WHERE s = 'it\\'s';\nUPDATE `select` SET n = n * -2 + 1, s = 'z' WHERE id < 3;\nSELECT * FROM `select`;\nDELETE FROM `select` WHERE n < 0;\nSELECT * FROM `select`;\nSELECT * FROM `select` FOR UPDATE;\n",
+            "@session setup\n1> OK\n2> OK 4\n@session a\n1> ROWS 2\n1\n3\n2> ROWS 1\n4\n3> ROWS 1\n2\n4> ROWS 2\n1\n3\n5> ROWS 1\n4\n6> ROWS 1\n3\n7> ROWS 0\n8> ROWS 1\n4\n9> ROWS 1\nit's\n10> OK 2\n11> ROWS 4\n1\t-19\tz\n2\tNULL\tz\n3\t30\tNULL\n4\t-40\tx\n12> OK 2\n13> ROWS 2\n2\tNULL\tz\n3\t30\tNULL\n14> ERROR 1064 (42000)\n",
+        ),
+        ran(
+            "play",
+            "CREATE TABLE t (id BIGINT, a BIGINT, PRIMARY KEY (id), KEY ka (a));\nINSERT INTO t VALUES (1,10);\n@session a\nBEGIN;\nINSERT INTO t VALUES (2,20);\n@session b\nSET SESSION TRANSACTION ISOLATION LEVEL READ UNCOMMITTED;\nSELECT * FROM t;\n@session a\nROLLBACK;\n@session b\nSELECT * FROM t;\n",
+            "@session setup\n1> OK\n2> OK 1\n@session a\n1> OK\n2> OK 1\n3> OK\n@session b\n1> OK\n2> ROWS 2\n1\t10\n2\t20\n3> ROWS 1\n1\t10\n",
         ),
         failed("@sesion a\n", 0, 0, Fault::ScriptBad { line: 1 }, 2),
         failed(

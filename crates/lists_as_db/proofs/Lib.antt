@@ -1,5 +1,0 @@
-pub mod Puts
-pub mod Places
-pub mod Gets
-pub mod Tables
-pub mod Loose

@@ -1,3 +1,0 @@
-pub mod Stepping
-mod Gather
-mod Closing

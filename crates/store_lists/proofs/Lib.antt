@@ -1,6 +1,0 @@
-mod Ids
-mod Opens
-mod Standing
-mod Rows
-mod Owed
-mod Agree
