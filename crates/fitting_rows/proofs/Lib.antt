@@ -1,0 +1,10 @@
+pub mod Applying
+pub mod Coding
+pub mod Declared
+pub mod Example
+pub mod Numbers
+pub mod Outcomes
+pub mod Rows
+pub mod Spelled
+pub mod Stored
+pub mod Values

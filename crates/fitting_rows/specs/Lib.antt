@@ -1,0 +1,5 @@
+pub mod Example
+pub mod Fitting
+pub mod Numbers
+pub mod Records
+pub mod Storable

@@ -1,0 +1,23 @@
+-- What an index keeps of a row besides its clustered record.
+use Rattle.std.specs.Prelude.{◌≡◌, ℕ, List, Some, slice_get, slice_index_or}
+use Rattle.inno_types.specs.declared.value.Value.{Value}
+use Rattle.inno_types.specs.declared.value.Value.TheVariants.{Null}
+use Rattle.inno_types.specs.declared.value.Column.{Column}
+use Rattle.inno_types.specs.declared.value.Key.{Key}
+use Rattle.inno_types.specs.declared.value.Schema.{Schema}
+use Rattle.key_codec.specs.Keys.{IsOfKindOrNull, entry_code}
+use Rattle.row_codec.specs.Rows.{IsKeyOf}
+
+-- the value of a row at a place
+abbrev pub value_in : ℕ → List Value → Value
+value_in place row = slice_index_or row place Null
+
+-- These bytes are the row's entry in a secondary key: its value in the key's column is one of that column or NULL, and
+-- stands before the primary key.
+pub record IsEntryOf (schema : Schema) (key : Key) (row : List Value) (bytes : List ℕ) : Type 0 where
+  pub column : Column
+  pub there : slice_get schema.columns key.column ≡ Some column
+  pub of_kind : IsOfKindOrNull column.kind (value_in key.column row)
+  pub primary : List ℕ
+  pub primary_is : IsKeyOf schema row primary
+  pub spelled : bytes ≡ entry_code column.kind (value_in key.column row) primary
