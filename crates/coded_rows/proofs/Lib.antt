@@ -1,0 +1,11 @@
+pub mod Values
+pub mod Pairs
+pub mod RowRecords
+pub mod Entries
+pub mod Tables
+pub mod Keys
+pub mod FirstPlaces
+pub mod Found
+pub mod Steps
+pub mod Made
+pub mod FromTables
