@@ -23,7 +23,7 @@ use Rattle.row_versions.specs.declared.version.Version.{Version}
 use Rattle.row_versions.specs.Chains.{Chains, versions_at, place_order, is_from, IsFirstFrom, IsNext}
 use Rattle.coded_rows.specs.Records.{IsRecordWith, IsClustered}
 use Rattle.coded_rows.specs.Tables.{in_table}
-use Rattle.coded_rows.specs.Walks.{IsRecordOfA, IsNoneFromIn, IsLastIn}
+use Rattle.coded_rows.specs.Walks.{IsRecordOfA, IsNoneFromIn, IsLastIn, is_from_bytes, IsFirstFromBytes, IsNoneFromBytes}
 use Rattle.coded_rows.proofs.Values.{value_total}
 use Rattle.coded_rows.proofs.Tables.{at}
 
@@ -191,3 +191,10 @@ module _ (table : ℕ) (schema : Schema) (column : Column) (kept : ℕ → Optio
       matched (first_from [] pairs) (IsNoneFromIn table chains Null) (IsNoneFromIn table chains Null) (IsRecordOfFirst From schema is.primary.kind kept (in_table table chains)) (IsRecordOfA (IsFirstFrom (at table Null) chains) table schema column.kind kept chains)
       (λ none. none) (λ pair. placed (IsFirstFrom (at table Null) chains) From table schema is.primary column kept chains pair one_column (λ first. first_from_is table chains Null first))
       (walked schema kept pairs (in_table table chains) is (λ key. is_le (key_cmp [] key)) From (λ other has_too. least_key (key_code is.primary.kind other) ∙ sym (null_first other)))
+
+  pub from_bytes : (low : List ℕ) → MatchOption (first_from low pairs) (IsNoneFromBytes column.kind low table chains) (IsRecordOfA (IsFirstFromBytes column.kind low chains) table schema column.kind kept chains)
+  from_bytes low =
+      let From : Value → Bool = λ other. is_from_bytes column.kind low other in
+      matched (first_from low pairs) (IsNoneFromBytes column.kind low table chains) (IsNoneFromBytes column.kind low table chains) (IsRecordOfFirst From schema is.primary.kind kept (in_table table chains)) (IsRecordOfA (IsFirstFromBytes column.kind low chains) table schema column.kind kept chains)
+      (λ none. none) (λ pair. placed (IsFirstFromBytes column.kind low chains) From table schema is.primary column kept chains pair one_column (λ first is_first. record { from = is_first.passes_too; between = is_first.between }))
+      (walked schema kept pairs (in_table table chains) is (λ key. is_le (key_cmp low key)) From (λ other has_too. ap (λ (k : List ℕ). is_le (key_cmp low k)) (sym (same_code other))))

@@ -14,7 +14,7 @@ use Rattle.chain.specs.declared.kept.Kept.{Kept}
 use Rattle.row_versions.specs.declared.place.Place.{Place}
 use Rattle.row_versions.specs.declared.version.Version.{Version}
 use Rattle.row_versions.specs.Chains.{Chains, versions_at, is_same_place}
-use Rattle.coded_rows.specs.Edits.{with_value, rows_of, key_of_table, Puts}
+use Rattle.coded_rows.specs.Edits.{with_value, clustered_index, key_index, Puts}
 use Rattle.coded_rows.specs.Entries.{is_same_value, value_in, entry_of, HasEntries, TellAlike, TellAlikeBut}
 use Rattle.coded_rows.specs.Records.{IsCodeOf}
 use Rattle.coded_rows.specs.Tables.{place_in, in_table, AreClustered, AreKeyed, AreCoded, said_but, AreCodedBut, SaysNow}
@@ -25,12 +25,12 @@ use Rattle.coded_rows.proofs.Tables.{at, clustered_alike, few_of, entries_same}
 
 -- ---- clustered indexes stay as they were
 
-pub rows_stay : (schemas : List Schema) (old new : ℕ → List Pair) (kept : ℕ → Option Kept) (chains : Chains) (table which : ℕ) (key : List ℕ) (found : Option (List ℕ)) → which < 4 → Puts old new (key_of_table table which) key found
+pub rows_stay : (schemas : List Schema) (old new : ℕ → List Pair) (kept : ℕ → Option Kept) (chains : Chains) (table which : ℕ) (key : List ℕ) (found : Option (List ℕ)) → which < 4 → Puts old new (key_index table which) key found
     → AreClustered schemas old kept chains → AreClustered schemas new kept chains
 rows_stay schemas old new kept chains table which key found few puts is = record {
   tables = λ other schema there.
-      clustered_alike schema kept (old (rows_of other)) (new (rows_of other)) (in_table other chains) (in_table other chains)
-      (at_others old new (key_of_table table which) key found (rows_of other) puts (λ same. no_key other table which few (sym same))) (λ value. refl) (is.tables other schema there);
+      clustered_alike schema kept (old (clustered_index other)) (new (clustered_index other)) (in_table other chains) (in_table other chains)
+      (at_others old new (key_index table which) key found (clustered_index other) puts (λ same. no_key other table which few (sym same))) (λ value. refl) (is.tables other schema there);
   nowhere_else = is.nowhere_else;
 }
 
@@ -59,7 +59,7 @@ others_say was now which other versions says differ = says other ∙ cond-false 
 module _ (schemas : List Schema) (old new : ℕ → List Pair) (kept : ℕ → Option Kept) (chains : Chains) (table : ℕ) (schema : Schema) (which : ℕ) (k : Key) (indexed : Column) (key bytes : List ℕ) (coded : Coded) (was now : ℕ → List Version) (versions : List Version)
     (is : AreCodedBut schemas old kept chains (place_in table schema coded.row) was) (there : slice_get schemas table ≡ Some schema) (also : slice_get schema.keys which ≡ Some k) (indexed_is : slice_get schema.columns k.column ≡ Some indexed)
     (code : IsCodeOf schema key bytes coded) (alike : TellAlikeBut (value_in k.column coded.row) k.column (was which) versions)
-    (puts : Puts old new (key_of_table table which) (entry_code indexed.kind (value_in k.column coded.row) key) (entry_of k.column (value_in k.column coded.row) versions))
+    (puts : Puts old new (key_index table which) (entry_code indexed.kind (value_in k.column coded.row) key) (entry_of k.column (value_in k.column coded.row) versions))
     (says : SaysNow was now which versions) where
   abbrev here : Value
   here = key_of schema coded.row
@@ -82,9 +82,9 @@ module _ (schemas : List Schema) (old new : ℕ → List Pair) (kept : ℕ → O
   says_versions : said_now table which here ≡ versions
   says_versions = says_at chains table here now which ∙ now_says was now which versions says
 
-  key_now : HasEntries schema k.column (new (key_of_table table which)) (said_now table which)
+  key_now : HasEntries schema k.column (new (key_index table which)) (said_now table which)
   key_now =
-      let pairs = old (key_of_table table which) in
+      let pairs = old (key_index table which) in
       let e = is.keyed.keys table which schema k there also in
       let both = key_there schema key bytes coded e.primary e.primary_is code in
       let one : e.indexed ≡ indexed = cc (e.indexed_is, indexed_is) in
@@ -96,26 +96,26 @@ module _ (schemas : List Schema) (old new : ℕ → List Pair) (kept : ℕ → O
       let after = entries_after schema k.column pairs (said_was table which) (said_now table which) e here value both.0 has_entry told stays in
       let same_entry : entry_code e.indexed.kind value (key_code e.primary.kind here) ≡ entry = λ i. entry_code (one i).kind value (sym both.1 i) in
       let same_mark : entry_of k.column value (said_now table which here) ≡ entry_of k.column value versions = ap (entry_of k.column value) says_versions in
-      let same_pairs : with_value (entry_code e.indexed.kind value (key_code e.primary.kind here)) (entry_of k.column value (said_now table which here)) pairs ≡ new (key_of_table table which)
-      = (λ i. with_value (same_entry i) (same_mark i) pairs) ∙ sym (at_index old new (key_of_table table which) entry (entry_of k.column value versions) puts) in
+      let same_pairs : with_value (entry_code e.indexed.kind value (key_code e.primary.kind here)) (entry_of k.column value (said_now table which here)) pairs ≡ new (key_index table which)
+      = (λ i. with_value (same_entry i) (same_mark i) pairs) ∙ sym (at_index old new (key_index table which) entry (entry_of k.column value versions) puts) in
       subst (λ (p : List Pair). HasEntries schema k.column p (said_now table which)) same_pairs after
 
   others_now : (other at_key : ℕ) (s : Schema) (c : Key) → slice_get schemas other ≡ Some s → slice_get s.keys at_key ≡ Some c → ((other ≡ table) → (at_key ≡ which) → ⊥)
-      → ((v : Value) → said_now other at_key v ≡ said_was other at_key v) → HasEntries s c.column (new (key_of_table other at_key)) (said_now other at_key)
+      → ((v : Value) → said_now other at_key v ≡ said_was other at_key v) → HasEntries s c.column (new (key_index other at_key)) (said_now other at_key)
   others_now other at_key s c is_there is_key differ same =
-      entries_same s c.column (old (key_of_table other at_key)) (new (key_of_table other at_key)) (said_was other at_key) (said_now other at_key)
-      (at_others old new (key_of_table table which) entry (entry_of k.column value versions) (key_of_table other at_key) puts
+      entries_same s c.column (old (key_index other at_key)) (new (key_index other at_key)) (said_was other at_key) (said_now other at_key)
+      (at_others old new (key_index table which) entry (entry_of k.column value versions) (key_index other at_key) puts
       (λ e. let parts = other_key table other at_key which (few_of s at_key c (is.keyed.few other s is_there) is_key) few e in differ parts.0 parts.1))
       same (is.keyed.keys other at_key s c is_there is_key)
 
   each_now : (other at_key : ℕ) (s : Schema) (c : Key) → slice_get schemas other ≡ Some s → slice_get s.keys at_key ≡ Some c → (other ≡ table) ⊎ (other ≢ table) → (at_key ≡ which) ⊎ (at_key ≢ which)
-      → HasEntries s c.column (new (key_of_table other at_key)) (said_now other at_key)
+      → HasEntries s c.column (new (key_index other at_key)) (said_now other at_key)
   each_now other at_key s c is_there is_key (inl same) (inl same_key) =
       let is_table : slice_get schemas table ≡ Some s = subst (λ (t : ℕ). slice_get schemas t ≡ Some s) same is_there in
       let one : schema ≡ s = cc (there, is_table) in
       let is_which : slice_get schema.keys which ≡ Some c = subst (λ (w : ℕ). slice_get schema.keys w ≡ Some c) same_key (subst (λ (x : Schema). slice_get x.keys at_key ≡ Some c) (sym one) is_key) in
       let one_key : k ≡ c = cc (also, is_which) in
-      let At : Schema → Key → ℕ → ℕ → Type 0 = λ x y t w. HasEntries x y.column (new (key_of_table t w)) (said_now t w) in
+      let At : Schema → Key → ℕ → ℕ → Type 0 = λ x y t w. HasEntries x y.column (new (key_index t w)) (said_now t w) in
       subst (λ (x : Schema). At x c other at_key) one
       (subst (λ (y : Key). At schema y other at_key) one_key
       (subst (λ (t : ℕ). At schema k t at_key) (sym same)
@@ -146,7 +146,7 @@ keyed_same : (schemas : List Schema) (indexes : ℕ → List Pair) (was now : �
 keyed_same schemas indexes was now same is = record {
   few = is.few;
   keys = λ table which schema k there also.
-      entries_same schema k.column (indexes (key_of_table table which)) (indexes (key_of_table table which)) (was table which) (now table which) refl (same table which) (is.keys table which schema k there also);
+      entries_same schema k.column (indexes (key_index table which)) (indexes (key_index table which)) (was table which) (now table which) refl (same table which) (is.keys table which schema k there also);
 }
 
 pub change_begins : (schemas : List Schema) (indexes : ℕ → List Pair) (kept : ℕ → Option Kept) (chains : Chains) (place : Place) → AreCoded schemas indexes kept chains → AreCodedBut schemas indexes kept chains place (λ which. versions_at place chains)
@@ -170,7 +170,7 @@ said_alike schemas indexes kept chains place was now is alike = record {
   keyed = record {
     few = is.keyed.few;
     keys = λ table which schema k there also.
-        entries_alike schema k.column (indexes (key_of_table table which)) (said_but chains place was table which) (said_but chains place now table which)
+        entries_alike schema k.column (indexes (key_index table which)) (said_but chains place was table which) (said_but chains place now table which)
         (λ v. tells table which schema k there also v (is_same_place place (at table v)) refl) (is.keyed.keys table which schema k there also);
   };
 } where

@@ -10,7 +10,7 @@ use Rattle.chain.specs.declared.kept.Kept.{Kept}
 use Rattle.row_versions.specs.declared.place.Place.{Place}
 use Rattle.row_versions.specs.declared.version.Version.{Version}
 use Rattle.row_versions.specs.Chains.{Chains, versions_at}
-use Rattle.coded_rows.specs.Edits.{rows_of, key_of_table}
+use Rattle.coded_rows.specs.Edits.{clustered_index, key_index}
 use Rattle.coded_rows.specs.Entries.{entry_of, HasEntries}
 use Rattle.coded_rows.specs.Records.{IsRecordWith, IsClustered}
 use Rattle.coded_rows.specs.Tables.{in_table, HasItsColumns, HasNoPairs, AreCoded}
@@ -67,10 +67,10 @@ module _ (schemas : List Schema) (schema : Schema) (indexes : ℕ → List Pair)
   none_there : (value : Value) → in_table (length schemas) chains value ≡ []
   none_there value = is.clustered.nowhere_else (length schemas) value (behind_all schemas)
 
-  rows_too : (table : ℕ) (s : Schema) → (slice_get schemas table ≡ Some s) ⊎ ((table ≡ length schemas) × (schema ≡ s)) → IsClustered s kept (indexes (rows_of table)) (in_table table chains)
+  rows_too : (table : ℕ) (s : Schema) → (slice_get schemas table ≡ Some s) ⊎ ((table ≡ length schemas) × (schema ≡ s)) → IsClustered s kept (indexes (clustered_index table)) (in_table table chains)
   rows_too table s (inl before) = is.clustered.tables table s before
   rows_too table s (inr last) =
-      let At : ℕ → Schema → Type 0 = λ t x. IsClustered x kept (indexes (rows_of t)) (in_table t chains) in
+      let At : ℕ → Schema → Type 0 = λ t x. IsClustered x kept (indexes (clustered_index t)) (in_table t chains) in
       let here : At (length schemas) schema = subst (λ (p : List Pair). IsClustered schema kept p (in_table (length schemas) chains)) (sym empty.rows) (no_rows_yet schema kept (in_table (length schemas) chains) columns none_there) in
       subst (λ (x : Schema). At table x) last.1 (subst (λ (t : ℕ). At t schema) (sym last.0) here)
 
@@ -78,11 +78,11 @@ module _ (schemas : List Schema) (schema : Schema) (indexes : ℕ → List Pair)
   few_too table s (inl before) = is.keyed.few table s before
   few_too table s (inr last) = subst (λ (x : Schema). length x.keys ≤ 4) last.1 columns.few
 
-  entries_too : (table which : ℕ) (s : Schema) (key : Key) → slice_get s.keys which ≡ Some key → (slice_get schemas table ≡ Some s) ⊎ ((table ≡ length schemas) × (schema ≡ s)) → HasEntries s key.column (indexes (key_of_table table which)) (in_table table chains)
+  entries_too : (table which : ℕ) (s : Schema) (key : Key) → slice_get s.keys which ≡ Some key → (slice_get schemas table ≡ Some s) ⊎ ((table ≡ length schemas) × (schema ≡ s)) → HasEntries s key.column (indexes (key_index table which)) (in_table table chains)
   entries_too table which s key also (inl before) = is.keyed.keys table which s key before also
   entries_too table which s key also (inr last) =
       let key_is : slice_get schema.keys which ≡ Some key = subst (λ (x : Schema). slice_get x.keys which ≡ Some key) (sym last.1) also in
-      let At : ℕ → Schema → Type 0 = λ t x. HasEntries x key.column (indexes (key_of_table t which)) (in_table t chains) in
+      let At : ℕ → Schema → Type 0 = λ t x. HasEntries x key.column (indexes (key_index t which)) (in_table t chains) in
       let here : At (length schemas) schema
       = subst (λ (p : List Pair). HasEntries schema key.column p (in_table (length schemas) chains)) (sym (empty.entries which (few_of schema which key columns.few key_is)))
       (no_entries_yet schema which key (in_table (length schemas) chains) columns key_is none_there) in

@@ -8,7 +8,7 @@ use Rattle.entries.specs.Pairs.{Pair, key_cmp, AreRising, value_of}
 use Rattle.entries.proofs.Order.{same_key, key_itself}
 use Rattle.entries.proofs.Edits.{rising_with, rising_without}
 use Rattle.entries.proofs.Found.{value_put, others_stay, value_gone, others_stay_without}
-use Rattle.coded_rows.specs.Edits.{with_value, rows_of, key_of_table, Puts}
+use Rattle.coded_rows.specs.Edits.{with_value, clustered_index, key_index, Puts}
 
 pub same_or_not : (a b : List ℕ) → (a ≡ b) ⊎ (a ≢ b)
 same_or_not a b = go (key_cmp a b) refl where
@@ -37,11 +37,11 @@ at_index old new index key value puts = puts index ∙ cond-true (index == index
 pub at_others : (old new : ℕ → List Pair) (index : ℕ) (key : List ℕ) (value : Option (List ℕ)) (other : ℕ) → Puts old new index key value → other ≢ index → new other ≡ old other
 at_others old new index key value other puts differ = puts other ∙ cond-false (other == index) (with_value key value (old index)) (old other) (ne_eqb other index differ)
 
-pub other_rows : (table other : ℕ) → other ≢ table → rows_of other ≢ rows_of table
+pub other_rows : (table other : ℕ) → other ≢ table → clustered_index other ≢ clustered_index table
 other_rows table other differ same = differ (omega (arith, same))
 
-pub no_key : (table other which : ℕ) → which < 4 → key_of_table other which ≢ rows_of table
+pub no_key : (table other which : ℕ) → which < 4 → key_index other which ≢ clustered_index table
 no_key table other which few same = absurd (omega (arith, same, few))
 
-pub other_key : (table other which at : ℕ) → which < 4 → at < 4 → key_of_table other which ≡ key_of_table table at → (other ≡ table) × (which ≡ at)
+pub other_key : (table other which at : ℕ) → which < 4 → at < 4 → key_index other which ≡ key_index table at → (other ≡ table) × (which ≡ at)
 other_key table other which at few also same = (omega (arith, same, few, also), omega (arith, same, few, also))

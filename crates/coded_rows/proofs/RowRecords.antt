@@ -1,5 +1,5 @@
 -- What a record says of its row, and what a change of it makes of the rows of its table.
-use Rattle.std.proofs.Common.{◌≡◌, ◌≢◌, ◌∙◌, sym, ap, subst, refl, ℕ, Bool, true, false, List, [], ◌∷◌, Option, None, Some, ◌⊎◌, inl, inr}
+use Rattle.std.proofs.Common.{slice_get, ◌≡◌, ◌≢◌, ◌∙◌, sym, ap, subst, refl, ℕ, Bool, true, false, List, [], ◌∷◌, Option, None, Some, ◌⊎◌, inl, inr, zero, suc, ◌++◌}
 use Rattle.std.specs.Prelude.{is_some}
 use Rattle.inno_types.specs.declared.value.Value.{Value}
 use Rattle.inno_types.specs.declared.value.Schema.{Schema}
@@ -8,6 +8,7 @@ use Rattle.key_codec.specs.Keys.{HasKey, key_code}
 use Rattle.row_codec.proofs.Once.{same_version}
 use Rattle.entries.specs.Pairs.{Pair, value_of}
 use Rattle.chain.specs.declared.kept.Kept.{Kept}
+use Rattle.chain.specs.Versions.{kept_in}
 use Rattle.row_versions.specs.declared.version.Version.{Version}
 use Rattle.row_versions.specs.Chains.{older}
 use Rattle.coded_rows.specs.Edits.{with_value}
@@ -42,6 +43,15 @@ clustered_still schema old new pairs versions_at more is = record {
   nowhere_else = is.nowhere_else;
 }
 
+kept_before : (all : List Kept) (last : Kept) (place : ℕ) (found : Kept) → slice_get all place ≡ Some found → slice_get (all ++ last ∷ []) place ≡ Some found
+kept_before [] last place found is = cc
+kept_before (first ∷ all) last zero found is = is
+kept_before (first ∷ all) last (suc place) found is = kept_before all last place found is
+
+pub push_keeps : (all : List Kept) (last : Kept) → KeepsMore (kept_in all) (kept_in (all ++ last ∷ []))
+push_keeps all last zero found is = cc
+push_keeps all last (suc place) found is = kept_before all last place found is
+
 -- ---- what is read
 
 pub no_record : (schema : Schema) (key : List ℕ) (kept : ℕ → Option Kept) (versions : List Version) → IsRecordWith schema key kept None versions → versions ≡ []
@@ -59,6 +69,28 @@ record_read schema key bytes kept (version ∷ rest) coded is code =
 pub leads_nowhere : (schema : Schema) (key : List ℕ) (kept : ℕ → Option Kept) (pointer : ℕ) (versions : List Version) → LeadTo schema key kept pointer versions → pointer ≡ 0 → versions ≡ []
 leads_nowhere schema key kept pointer [] is zero_is = refl
 leads_nowhere schema key kept pointer (version ∷ rest) is zero_is = absurd (is.1.leads zero_is)
+
+-- A pointer leads to one list of versions.
+pub one_lead : (schema : Schema) (key : List ℕ) (kept : ℕ → Option Kept) (pointer : ℕ) (versions others : List Version) → LeadTo schema key kept pointer versions → LeadTo schema key kept pointer others → versions ≡ others
+one_lead schema key kept pointer [] [] is also = refl
+one_lead schema key kept pointer [] (other ∷ others) is also = absurd (also.1.leads is)
+one_lead schema key kept pointer (version ∷ versions) [] is also = absurd (is.1.leads also)
+one_lead schema key kept pointer (version ∷ versions) (other ∷ others) is also =
+    let one : also.0 ≡ is.0 = cc (is.1.there, also.1.there) in
+    let led : LeadTo schema key kept is.0.version.pointer others = subst (λ (k : Kept). LeadTo schema key kept k.version.pointer others) one also.2 in
+    let first : version ≡ other = sym is.1.shown_is ∙ (ap (λ (k : Kept). shown k.version) (sym one) ∙ also.1.shown_is) in
+    let rest : versions ≡ others = one_lead schema key kept is.0.version.pointer versions others is.2 led in
+    λ i. first i ∷ rest i
+
+pub one_record : (schema : Schema) (key : List ℕ) (kept : ℕ → Option Kept) (found : Option (List ℕ)) (versions others : List Version) → IsRecordWith schema key kept found versions → IsRecordWith schema key kept found others → versions ≡ others
+one_record schema key kept None versions others is also = no_record schema key kept versions is ∙ sym (no_record schema key kept others also)
+one_record schema key kept (Some bytes) [] others is also = absurd is
+one_record schema key kept (Some bytes) (version ∷ versions) [] is also = absurd also
+one_record schema key kept (Some bytes) (version ∷ versions) (other ∷ others) is also =
+    let read = record_read schema key bytes kept (other ∷ others) is.0 also is.1 in
+    let first : version ≡ other = cc (is.2, read.0) in
+    let rest : versions ≡ others = one_lead schema key kept is.0.pointer versions others is.3 read.1 in
+    λ i. first i ∷ rest i
 
 -- What is kept for a pointer is the newest of the versions that it leads to.
 pub pointer_followed : (schema : Schema) (key : List ℕ) (kept : ℕ → Option Kept) (pointer : ℕ) (versions : List Version) (found : Kept) → LeadTo schema key kept pointer versions → pointer ≢ 0 → kept pointer ≡ Some found

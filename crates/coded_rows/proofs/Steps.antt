@@ -11,7 +11,7 @@ use Rattle.chain.specs.declared.kept.Kept.{Kept}
 use Rattle.row_versions.specs.declared.place.Place.{Place}
 use Rattle.row_versions.specs.declared.version.Version.{Version}
 use Rattle.row_versions.specs.Chains.{Chains, versions_at, newest, older, Pushes, Pops}
-use Rattle.coded_rows.specs.Edits.{rows_of, key_of_table, Puts}
+use Rattle.coded_rows.specs.Edits.{clustered_index, key_index, Puts}
 use Rattle.coded_rows.specs.Entries.{value_in, has_value, entry_of, TellAlike, TellAlikeBut}
 use Rattle.coded_rows.specs.Records.{row_shown, shown, IsCodeOf, IsRecordWith, LeadTo}
 use Rattle.coded_rows.specs.Steps.{PutsRecord, PutsEntry}
@@ -29,14 +29,14 @@ module _ (schemas : List Schema) (old new : ℕ → List Pair) (kept : ℕ → O
   abbrev With : Option (List ℕ) → List Version → Type 0
   With found versions = IsRecordWith schema key kept found versions
 
-  pub new_record : PutsRecord schemas old new table schema key bytes coded (Some bytes) → value_of key (old (rows_of table)) ≡ None → coded.pointer ≡ 0 → Pushes before after (place_in table schema coded.row) (shown coded)
+  pub new_record : PutsRecord schemas old new table schema key bytes coded (Some bytes) → value_of key (old (clustered_index table)) ≡ None → coded.pointer ≡ 0 → Pushes before after (place_in table schema coded.row) (shown coded)
       → AreCodedBut schemas new kept after (place_in table schema coded.row) said
   new_record step none nowhere pushes =
       record_changed schemas old new kept before after table schema key bytes coded (Some bytes) said is step.there step.code_is step.puts (pushed_elsewhere before after (place_in table schema coded.row) (shown coded) pushes)
       (λ was. subst (λ (versions : List Version). With (Some bytes) versions) (sym (pushed_here before after (place_in table schema coded.row) (shown coded) pushes))
       (first_record schema key bytes kept coded (versions_at (place_in table schema coded.row) before) (subst (λ (o : Option (List ℕ)). With o (versions_at (place_in table schema coded.row) before)) none was) step.code_is nowhere))
 
-  pub replaced_record : (former : Kept) → PutsRecord schemas old new table schema key bytes coded (Some bytes) → value_of key (old (rows_of table)) ≡ Some former.bytes → IsCodeOf schema key former.bytes former.version
+  pub replaced_record : (former : Kept) → PutsRecord schemas old new table schema key bytes coded (Some bytes) → value_of key (old (clustered_index table)) ≡ Some former.bytes → IsCodeOf schema key former.bytes former.version
       → coded.pointer ≢ 0 → kept coded.pointer ≡ Some former → Pushes before after (place_in table schema coded.row) (shown coded) → AreCodedBut schemas new kept after (place_in table schema coded.row) said
   replaced_record former step some former_is leads keeps pushes =
       record_changed schemas old new kept before after table schema key bytes coded (Some bytes) said is step.there step.code_is step.puts (pushed_elsewhere before after (place_in table schema coded.row) (shown coded) pushes)
@@ -44,20 +44,20 @@ module _ (schemas : List Schema) (old new : ℕ → List Pair) (kept : ℕ → O
       (next_record schema key bytes kept coded former (versions_at (place_in table schema coded.row) before) (subst (λ (o : Option (List ℕ)). With o (versions_at (place_in table schema coded.row) before)) some was) former_is step.code_is leads keeps))
 
   -- what the pointer of the record that was there leads to
-  led : IsCodeOf schema key bytes coded → value_of key (old (rows_of table)) ≡ Some bytes → With (value_of key (old (rows_of table))) (versions_at (place_in table schema coded.row) before)
+  led : IsCodeOf schema key bytes coded → value_of key (old (clustered_index table)) ≡ Some bytes → With (value_of key (old (clustered_index table))) (versions_at (place_in table schema coded.row) before)
       → LeadTo schema key kept coded.pointer (older (versions_at (place_in table schema coded.row) before))
   led code some was =
       let read = record_read schema key bytes kept (versions_at (place_in table schema coded.row) before) coded (subst (λ (o : Option (List ℕ)). With o (versions_at (place_in table schema coded.row) before)) some was) code in
       read.1
 
-  pub record_taken_back : (found : Kept) → PutsRecord schemas old new table schema key bytes coded (Some found.bytes) → value_of key (old (rows_of table)) ≡ Some bytes → coded.pointer ≢ 0 → kept coded.pointer ≡ Some found
+  pub record_taken_back : (found : Kept) → PutsRecord schemas old new table schema key bytes coded (Some found.bytes) → value_of key (old (clustered_index table)) ≡ Some bytes → coded.pointer ≢ 0 → kept coded.pointer ≡ Some found
       → Pops before after (place_in table schema coded.row) → AreCodedBut schemas new kept after (place_in table schema coded.row) said
   record_taken_back found step some leads keeps pops =
       record_changed schemas old new kept before after table schema key bytes coded (Some found.bytes) said is step.there step.code_is step.puts (popped_elsewhere before after (place_in table schema coded.row) pops)
       (λ was. subst (λ (versions : List Version). With (Some found.bytes) versions) (sym (popped_here before after (place_in table schema coded.row) pops))
       (record_back schema key kept coded.pointer found (older (versions_at (place_in table schema coded.row) before)) (led step.code_is some was) leads keeps))
 
-  pub record_removed : PutsRecord schemas old new table schema key bytes coded None → value_of key (old (rows_of table)) ≡ Some bytes → coded.pointer ≡ 0
+  pub record_removed : PutsRecord schemas old new table schema key bytes coded None → value_of key (old (clustered_index table)) ≡ Some bytes → coded.pointer ≡ 0
       → Pops before after (place_in table schema coded.row) → AreCodedBut schemas new kept after (place_in table schema coded.row) said
   record_removed step some nowhere pops =
       record_changed schemas old new kept before after table schema key bytes coded None said is step.there step.code_is step.puts (popped_elsewhere before after (place_in table schema coded.row) pops)
@@ -83,10 +83,10 @@ module _ (schemas : List Schema) (old new : ℕ → List Pair) (kept : ℕ → O
   entry_step now_is versions step alike told says =
       let Alike : ℕ → Type 0 = λ c. TellAlikeBut (value_in c coded.row) c (was which) versions in
       let Indexed : ℕ → Type 0 = λ c. slice_get schema.columns c ≡ Some step.indexed in
-      let Change : ℕ → Type 0 = λ c. Puts old new (key_of_table table which) (entry_code step.indexed.kind (value_in c coded.row) step.primary) (entry_of c (value_in c coded.row) versions) in
+      let Change : ℕ → Type 0 = λ c. Puts old new (key_index table which) (entry_code step.indexed.kind (value_in c coded.row) step.primary) (entry_of c (value_in c coded.row) versions) in
       let same : column ≡ step.key.column = sym step.column_is in
       let change : Change column
-      = subst (λ (o : Option (List ℕ)). Puts old new (key_of_table table which) (entry_code step.indexed.kind value step.primary) o) (sym told) step.puts in
+      = subst (λ (o : Option (List ℕ)). Puts old new (key_index table which) (entry_code step.indexed.kind value step.primary) o) (sym told) step.puts in
       entry_changed schemas old new kept chains table schema which step.key step.indexed step.primary step.bytes coded was now versions is step.there step.key_is
       (subst Indexed same step.indexed_is) step.code_is (subst Alike same alike) (subst Change same change) says
 

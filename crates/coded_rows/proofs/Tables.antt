@@ -12,7 +12,7 @@ use Rattle.chain.specs.declared.kept.Kept.{Kept}
 use Rattle.row_versions.specs.declared.place.Place.{Place}
 use Rattle.row_versions.specs.declared.version.Version.{Version}
 use Rattle.row_versions.specs.Chains.{Chains, versions_at, is_same_place, older, Pushes, Pops}
-use Rattle.coded_rows.specs.Edits.{with_value, rows_of, key_of_table, Puts}
+use Rattle.coded_rows.specs.Edits.{with_value, clustered_index, key_index, Puts}
 use Rattle.coded_rows.specs.Entries.{is_same_value, entry_of, HasEntries}
 use Rattle.coded_rows.specs.Records.{IsCodeOf, IsRecordWith, IsClustered, KeepsMore}
 use Rattle.coded_rows.specs.Tables.{place_in, in_table, AreClustered, AreKeyed, said_but, AreCodedBut}
@@ -50,21 +50,21 @@ clustered_alike schema kept pairs others was now same alike is =
     subst (λ (f : Value → List Version). IsClustered schema kept others f) same_rows (subst (λ (p : List Pair). IsClustered schema kept p was) (sym same) is)
 
 module _ (schemas : List Schema) (old new : ℕ → List Pair) (kept : ℕ → Option Kept) (before after : Chains) (table : ℕ) (schema : Schema) (here : Value) (key : List ℕ) (found : Option (List ℕ))
-    (is : AreClustered schemas old kept before) (there : slice_get schemas table ≡ Some schema) (puts : Puts old new (rows_of table) key found) (elsewhere : StaysElsewhere before after (at table here))
-    (now : IsClustered schema kept (with_value key found (old (rows_of table))) (in_table table after)) where
+    (is : AreClustered schemas old kept before) (there : slice_get schemas table ≡ Some schema) (puts : Puts old new (clustered_index table) key found) (elsewhere : StaysElsewhere before after (at table here))
+    (now : IsClustered schema kept (with_value key found (old (clustered_index table))) (in_table table after)) where
   stays_in : (other : ℕ) (value : Value) → other ≢ table → in_table other after value ≡ in_table other before value
   stays_in other value differ = elsewhere (at other value) (in_other_table (at table here) (at other value) (λ same. differ (sym same)))
 
-  table_after : (other : ℕ) (s : Schema) → slice_get schemas other ≡ Some s → (other ≡ table) ⊎ (other ≢ table) → IsClustered s kept (new (rows_of other)) (in_table other after)
+  table_after : (other : ℕ) (s : Schema) → slice_get schemas other ≡ Some s → (other ≡ table) ⊎ (other ≢ table) → IsClustered s kept (new (clustered_index other)) (in_table other after)
   table_after other s is_there (inl same) =
       let also : slice_get schemas table ≡ Some s = subst (λ (t : ℕ). slice_get schemas t ≡ Some s) same is_there in
       let one : schema ≡ s = cc (there, also) in
-      subst (λ (t : ℕ). IsClustered s kept (new (rows_of t)) (in_table t after)) (sym same)
-      (subst (λ (c : Schema). IsClustered c kept (new (rows_of table)) (in_table table after)) one
-      (subst (λ (p : List Pair). IsClustered schema kept p (in_table table after)) (sym (at_index old new (rows_of table) key found puts)) now))
+      subst (λ (t : ℕ). IsClustered s kept (new (clustered_index t)) (in_table t after)) (sym same)
+      (subst (λ (c : Schema). IsClustered c kept (new (clustered_index table)) (in_table table after)) one
+      (subst (λ (p : List Pair). IsClustered schema kept p (in_table table after)) (sym (at_index old new (clustered_index table) key found puts)) now))
   table_after other s is_there (inr differ) =
-      clustered_alike s kept (old (rows_of other)) (new (rows_of other)) (in_table other before) (in_table other after)
-      (at_others old new (rows_of table) key found (rows_of other) puts (other_rows table other differ)) (λ value. stays_in other value differ) (is.tables other s is_there)
+      clustered_alike s kept (old (clustered_index other)) (new (clustered_index other)) (in_table other before) (in_table other after)
+      (at_others old new (clustered_index table) key found (clustered_index other) puts (other_rows table other differ)) (λ value. stays_in other value differ) (is.tables other s is_there)
 
   nowhere_after : (other : ℕ) (value : Value) → slice_get schemas other ≡ None → (other ≡ table) ⊎ (other ≢ table) → in_table other after value ≡ []
   nowhere_after other value none (inl same) =
@@ -87,13 +87,13 @@ pub entries_same : (schema : Schema) (column : ℕ) (pairs others : List Pair) (
 entries_same schema column pairs others was now same alike is =
     subst (λ (p : List Pair). HasEntries schema column p now) (sym same) (entries_alike schema column pairs was now (λ key value. ap (entry_of column value) (sym (alike key))) is)
 
-pub keyed_after : (schemas : List Schema) (old new : ℕ → List Pair) (was now : ℕ → ℕ → Value → List Version) (table : ℕ) (key : List ℕ) (found : Option (List ℕ)) → Puts old new (rows_of table) key found
+pub keyed_after : (schemas : List Schema) (old new : ℕ → List Pair) (was now : ℕ → ℕ → Value → List Version) (table : ℕ) (key : List ℕ) (found : Option (List ℕ)) → Puts old new (clustered_index table) key found
     → ((other which : ℕ) (value : Value) → now other which value ≡ was other which value) → AreKeyed schemas old was → AreKeyed schemas new now
 keyed_after schemas old new was now table key found puts alike is = record {
   few = is.few;
   keys = λ other which schema k there also.
-      entries_same schema k.column (old (key_of_table other which)) (new (key_of_table other which)) (was other which) (now other which)
-      (at_others old new (rows_of table) key found (key_of_table other which) puts (no_key table other which (few_of schema which k (is.few other schema there) also)))
+      entries_same schema k.column (old (key_index other which)) (new (key_index other which)) (was other which) (now other which)
+      (at_others old new (clustered_index table) key found (key_index other which) puts (no_key table other which (few_of schema which k (is.few other schema there) also)))
       (alike other which) (is.keys other which schema k there also);
 }
 
@@ -106,12 +106,12 @@ said_stays before after place said elsewhere table which value = go (is_same_pla
 -- ---- the record at one key is changed
 
 pub record_changed : (schemas : List Schema) (old new : ℕ → List Pair) (kept : ℕ → Option Kept) (before after : Chains) (table : ℕ) (schema : Schema) (key bytes : List ℕ) (coded : Coded) (found : Option (List ℕ)) (said : ℕ → List Version)
-    → AreCodedBut schemas old kept before (place_in table schema coded.row) said → slice_get schemas table ≡ Some schema → IsCodeOf schema key bytes coded → Puts old new (rows_of table) key found → StaysElsewhere before after (place_in table schema coded.row)
-    → (IsRecordWith schema key kept (value_of key (old (rows_of table))) (in_table table before (key_of schema coded.row)) → IsRecordWith schema key kept found (in_table table after (key_of schema coded.row)))
+    → AreCodedBut schemas old kept before (place_in table schema coded.row) said → slice_get schemas table ≡ Some schema → IsCodeOf schema key bytes coded → Puts old new (clustered_index table) key found → StaysElsewhere before after (place_in table schema coded.row)
+    → (IsRecordWith schema key kept (value_of key (old (clustered_index table))) (in_table table before (key_of schema coded.row)) → IsRecordWith schema key kept found (in_table table after (key_of schema coded.row)))
     → AreCodedBut schemas new kept after (place_in table schema coded.row) said
 record_changed schemas old new kept before after table schema key bytes coded found said is there code puts elsewhere changed =
     let here = key_of schema coded.row in
-    let pairs = old (rows_of table) in
+    let pairs = old (clustered_index table) in
     let was = is.clustered.tables table schema there in
     let both = key_there schema key bytes coded was.primary was.primary_is code in
     let At : List ℕ → Type 0 = λ k. IsRecordWith schema k kept (value_of k pairs) (in_table table before here) in
@@ -130,7 +130,7 @@ record_changed schemas old new kept before after table schema key bytes coded fo
 pub coded_still : (schemas : List Schema) (indexes : ℕ → List Pair) (old new : ℕ → Option Kept) (chains : Chains) (place : Place) (said : ℕ → List Version) → KeepsMore old new → AreCodedBut schemas indexes old chains place said → AreCodedBut schemas indexes new chains place said
 coded_still schemas indexes old new chains place said more is = record {
   clustered = record {
-    tables = λ table schema there. clustered_still schema old new (indexes (rows_of table)) (in_table table chains) more (is.clustered.tables table schema there);
+    tables = λ table schema there. clustered_still schema old new (indexes (clustered_index table)) (in_table table chains) more (is.clustered.tables table schema there);
     nowhere_else = is.clustered.nowhere_else;
   };
   keyed = is.keyed;

@@ -8,12 +8,12 @@ with_value key None pairs = without_key key pairs
 with_value key (Some value) pairs = with_pair key value pairs
 
 -- the number of a table's clustered index
-abbrev pub rows_of : ℕ → ℕ
-rows_of table = 8 * table
+abbrev pub clustered_index : ℕ → ℕ
+clustered_index table = 8 * table
 
 -- the number of the index of the table's key at this place among its keys
-abbrev pub key_of_table : ℕ → ℕ → ℕ
-key_of_table table which = 8 * table + (1 + which)
+abbrev pub key_index : ℕ → ℕ → ℕ
+key_index table which = 8 * table + (1 + which)
 
 -- At one index the key has this value now, or none; each other index has what it had.
 abbrev pub Puts : (ℕ → List Pair) → (ℕ → List Pair) → ℕ → List ℕ → Option (List ℕ) → Type 0

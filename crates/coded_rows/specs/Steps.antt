@@ -6,7 +6,7 @@ use Rattle.inno_types.specs.declared.value.Schema.{Schema}
 use Rattle.store_api.specs.declared.answers.Version.{Version as Coded}
 use Rattle.key_codec.specs.Keys.{entry_code}
 use Rattle.entries.specs.Pairs.{Pair}
-use Rattle.coded_rows.specs.Edits.{rows_of, key_of_table, Puts}
+use Rattle.coded_rows.specs.Edits.{clustered_index, key_index, Puts}
 use Rattle.coded_rows.specs.Entries.{value_in}
 use Rattle.coded_rows.specs.Records.{IsCodeOf}
 
@@ -14,7 +14,7 @@ use Rattle.coded_rows.specs.Records.{IsCodeOf}
 pub record PutsRecord (schemas : List Schema) (old new : ℕ → List Pair) (table : ℕ) (schema : Schema) (key bytes : List ℕ) (coded : Coded) (now : Option (List ℕ)) : Type 0 where
   pub there : slice_get schemas table ≡ Some schema
   pub code_is : IsCodeOf schema key bytes coded
-  pub puts : Puts old new (rows_of table) key now
+  pub puts : Puts old new (clustered_index table) key now
 
 -- The table's key of this number is on this column, and the entry there of the version's row has this now.
 pub record PutsEntry (schemas : List Schema) (old new : ℕ → List Pair) (table : ℕ) (schema : Schema) (which column : ℕ) (coded : Coded) (now : Option (List ℕ)) : Type 0 where
@@ -27,4 +27,4 @@ pub record PutsEntry (schemas : List Schema) (old new : ℕ → List Pair) (tabl
   pub primary : List ℕ
   pub bytes : List ℕ
   pub code_is : IsCodeOf schema primary bytes coded
-  pub puts : Puts old new (key_of_table table which) (entry_code indexed.kind (value_in column coded.row) primary) now
+  pub puts : Puts old new (key_index table which) (entry_code indexed.kind (value_in column coded.row) primary) now

@@ -10,7 +10,7 @@ use Rattle.chain.specs.declared.kept.Kept.{Kept}
 use Rattle.row_versions.specs.declared.place.Place.{Place}
 use Rattle.row_versions.specs.declared.version.Version.{Version}
 use Rattle.row_versions.specs.Chains.{Chains, versions_at, is_same_place}
-use Rattle.coded_rows.specs.Edits.{rows_of, key_of_table}
+use Rattle.coded_rows.specs.Edits.{clustered_index, key_index}
 use Rattle.coded_rows.specs.Entries.{HasEntries}
 use Rattle.coded_rows.specs.Records.{IsClustered}
 
@@ -31,19 +31,19 @@ pub record HasItsColumns (schema : Schema) : Type 0 where
 
 -- The clustered indexes hold the rows of all tables, and there are no other rows.
 pub record AreClustered (schemas : List Schema) (indexes : ℕ → List Pair) (kept : ℕ → Option Kept) (chains : Chains) : Type 0 where
-  pub tables : (table : ℕ) (schema : Schema) → slice_get schemas table ≡ Some schema → IsClustered schema kept (indexes (rows_of table)) (in_table table chains)
+  pub tables : (table : ℕ) (schema : Schema) → slice_get schemas table ≡ Some schema → IsClustered schema kept (indexes (clustered_index table)) (in_table table chains)
   pub nowhere_else : (table : ℕ) (value : Value) → slice_get schemas table ≡ None → in_table table chains value ≡ []
 
 -- Each key of each table has the entries of what it says: versions at each value of the primary key.
 pub record AreKeyed (schemas : List Schema) (indexes : ℕ → List Pair) (said : ℕ → ℕ → Value → List Version) : Type 0 where
   pub few : (table : ℕ) (schema : Schema) → slice_get schemas table ≡ Some schema → length schema.keys ≤ 4
   pub keys : (table which : ℕ) (schema : Schema) (key : Key) → slice_get schemas table ≡ Some schema → slice_get schema.keys which ≡ Some key
-      → HasEntries schema key.column (indexes (key_of_table table which)) (said table which)
+      → HasEntries schema key.column (indexes (key_index table which)) (said table which)
 
 -- no pairs in the indexes of this table
 pub record HasNoPairs (indexes : ℕ → List Pair) (table : ℕ) : Type 0 where
-  pub rows : indexes (rows_of table) ≡ []
-  pub entries : (which : ℕ) → which < 4 → indexes (key_of_table table which) ≡ []
+  pub rows : indexes (clustered_index table) ≡ []
+  pub entries : (which : ℕ) → which < 4 → indexes (key_index table which) ≡ []
 
 -- The indexes of all tables, with what is kept for roll pointers, are these rows.
 pub record AreCoded (schemas : List Schema) (indexes : ℕ → List Pair) (kept : ℕ → Option Kept) (chains : Chains) : Type 0 where

@@ -1,5 +1,5 @@
 -- Walks through a clustered index, and the places that they come to.
-use Rattle.std.specs.Prelude.{◌≡◌, ℕ, true, [], Option, Some}
+use Rattle.std.specs.Prelude.{List, ◌≡◌, ℕ, Bool, true, [], Option, Some}
 use Rattle.std.specs.Ordering.{is_le}
 use Rattle.std.specs.declared.cmp.Ordering.TheVariants.{Less}
 use Rattle.inno_types.specs.declared.value.Kind.{Kind}
@@ -7,7 +7,7 @@ use Rattle.inno_types.specs.declared.value.Value.{Value}
 use Rattle.inno_types.specs.declared.value.Schema.{Schema}
 use Rattle.inno_db.specs.Database.{value_cmp}
 use Rattle.key_codec.specs.Keys.{HasKey, key_code}
-use Rattle.entries.specs.Pairs.{Pair}
+use Rattle.entries.specs.Pairs.{Pair, key_cmp}
 use Rattle.chain.specs.declared.kept.Kept.{Kept}
 use Rattle.row_versions.specs.declared.place.Place.{Place}
 use Rattle.row_versions.specs.Chains.{Chains}
@@ -29,3 +29,16 @@ IsNoneFromIn table chains value = (other : Value) → is_le (value_cmp value oth
 -- no row of the table has versions behind this value
 abbrev pub IsLastIn : ℕ → Chains → Value → Type 0
 IsLastIn table chains value = (other : Value) → value_cmp value other ≡ Less → in_table table chains other ≡ []
+
+-- whether the value's key is not below these bytes
+abbrev pub is_from_bytes : Kind → List ℕ → Value → Bool
+is_from_bytes kind low value = is_le (key_cmp low (key_code kind value))
+
+-- Its key is not below these bytes, and no row before it has versions of which that is true.
+pub record IsFirstFromBytes (kind : Kind) (low : List ℕ) (chains : Chains) (first : Place) : Type 0 where
+  pub from : is_from_bytes kind low first.key ≡ true
+  pub between : (other : Value) → is_from_bytes kind low other ≡ true → value_cmp other first.key ≡ Less → in_table first.table chains other ≡ []
+
+-- no row of the table whose key is not below these bytes has versions
+abbrev pub IsNoneFromBytes : Kind → List ℕ → ℕ → Chains → Type 0
+IsNoneFromBytes kind low table chains = (other : Value) → is_from_bytes kind low other ≡ true → in_table table chains other ≡ []

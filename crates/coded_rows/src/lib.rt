@@ -19,10 +19,13 @@ pub use entries_of_keys::{
 };
 pub use reading::{
     a_pointer_is_followed, a_record_is_the_newest_version, a_search_through_a_key_misses_no_row,
-    entries_are_of_rows, rows_stand_at_their_places,
+    coded_rows_are_these_alone, entries_are_of_rows, rows_stand_at_their_places,
 };
 pub use records::{
     a_new_record_is_a_first_version, a_record_that_replaces_one_is_a_newer_version,
     a_version_is_taken_back, more_may_be_kept,
 };
-pub use walks::{a_walk_begins_at_the_first_place, a_walk_goes_on_at_the_next_place};
+pub use walks::{
+    a_walk_begins_at_the_first_place, a_walk_goes_on_at_the_next_place,
+    a_walk_may_begin_at_any_bytes,
+};

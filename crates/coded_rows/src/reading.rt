@@ -13,10 +13,10 @@ ghost use Rattle.entries.specs.Pairs.{Pair, value_of};
 ghost use Rattle.chain.specs.declared.kept.Kept.{Kept};
 ghost use Rattle.row_versions.specs.declared.place.Place.{Place};
 ghost use Rattle.row_versions.specs.declared.version.Version.{Version};
-ghost use Rattle.row_versions.specs.Chains.{Chains, newest, older};
-ghost use Rattle.coded_rows.specs.Edits.{rows_of, key_of_table};
+ghost use Rattle.row_versions.specs.Chains.{Chains, versions_at, newest, older};
+ghost use Rattle.coded_rows.specs.Edits.{clustered_index, key_index};
 ghost use Rattle.coded_rows.specs.Entries.{value_in, has_value, entry_at, IsOfNewest, IsOfSome};
-ghost use Rattle.coded_rows.specs.Records.{shown, IsCodeOf, LeadTo, IsRowAt};
+ghost use Rattle.coded_rows.specs.Records.{shown, IsCodeOf, LeadTo, IsRecordWith, IsRowAt};
 ghost use Rattle.coded_rows.specs.Tables.{in_table, said_but, AreClustered, AreCoded, AreCodedBut};
 
 /// What is decoded from a record is the newest version of its row, and its pointer leads to the others. A value whose key
@@ -26,17 +26,29 @@ pub fn a_record_is_the_newest_version()
         (schema : Schema) (key bytes : List ℕ) (coded : Coded)
         → AreClustered schemas indexes kept chains
         → slice_get schemas table ≡ Some schema
-        → value_of key (indexes (rows_of table)) ≡ Some bytes
+        → value_of key (indexes (clustered_index table)) ≡ Some bytes
         → IsCodeOf schema key bytes coded
         → let versions = in_table table chains (key_of schema coded.row) in
         (versions ≡ shown coded ∷ older versions) × LeadTo schema key kept coded.pointer (older versions) }
+    ensures of_record { (schema : Schema) (key bytes : List ℕ) (kept : ℕ → Option Kept) (versions : List Version) (coded : Coded)
+        → IsRecordWith schema key kept (Some bytes) versions
+        → IsCodeOf schema key bytes coded
+        → (versions ≡ shown coded ∷ older versions) × LeadTo schema key kept coded.pointer (older versions) }
     ensures absent { (schemas : List Schema) (indexes : ℕ → List Pair) (kept : ℕ → Option Kept) (chains : Chains) (table : ℕ)
         (schema : Schema) (primary : Column) (value : Value)
         → AreClustered schemas indexes kept chains
         → slice_get schemas table ≡ Some schema
         → slice_get schema.columns schema.primary ≡ Some primary
-        → (HasKey primary.kind value → value_of (key_code primary.kind value) (indexes (rows_of table)) ≡ None)
+        → (HasKey primary.kind value → value_of (key_code primary.kind value) (indexes (clustered_index table)) ≡ None)
         → in_table table chains value ≡ [] }
+{}
+
+/// The same indexes, with the same kept beside, are no other rows.
+pub fn coded_rows_are_these_alone()
+    ensures { (schemas : List Schema) (indexes : ℕ → List Pair) (kept : ℕ → Option Kept) (chains others : Chains) (place : Place)
+        → AreClustered schemas indexes kept chains
+        → AreClustered schemas indexes kept others
+        → versions_at place chains ≡ versions_at place others }
 {}
 
 /// What is kept for a pointer is the newest of the versions that it leads to.
@@ -77,7 +89,7 @@ pub fn a_search_through_a_key_misses_no_row()
         → slice_get schema.columns key.column ≡ Some indexed
         → HasKey primary.kind value
         → All (λ version. IfSome version.row (λ row.
-        is_some (value_of (entry_at primary.kind indexed.kind key.column value row) (indexes (key_of_table table which))) ≡ true))
+        is_some (value_of (entry_at primary.kind indexed.kind key.column value row) (indexes (key_index table which))) ≡ true))
         (in_table table chains value) }
     ensures newest { (schemas : List Schema) (indexes : ℕ → List Pair) (kept : ℕ → Option Kept) (chains : Chains) (table which : ℕ)
         (schema : Schema) (key : Key) (primary indexed : Column) (value : Value) (row : List Value)
@@ -88,7 +100,7 @@ pub fn a_search_through_a_key_misses_no_row()
         → slice_get schema.columns key.column ≡ Some indexed
         → HasKey primary.kind value
         → newest (in_table table chains value) ≡ Some row
-        → value_of (entry_at primary.kind indexed.kind key.column value row) (indexes (key_of_table table which)) ≡ Some (0 ∷ []) }
+        → value_of (entry_at primary.kind indexed.kind key.column value row) (indexes (key_index table which)) ≡ Some (0 ∷ []) }
     ensures under_way { (schemas : List Schema) (indexes : ℕ → List Pair) (kept : ℕ → Option Kept) (chains : Chains) (place : Place)
         (said : ℕ → List Version) (table which : ℕ) (schema : Schema) (key : Key) (primary indexed : Column) (value : Value)
         → AreCodedBut schemas indexes kept chains place said
@@ -99,7 +111,7 @@ pub fn a_search_through_a_key_misses_no_row()
         → HasKey primary.kind value
         → All (λ version. IfSome version.row (λ row.
         list_any (λ told. has_value key.column (value_in key.column row) told.row) (said_but chains place said table which value) ≡ true
-        → is_some (value_of (entry_at primary.kind indexed.kind key.column value row) (indexes (key_of_table table which))) ≡ true))
+        → is_some (value_of (entry_at primary.kind indexed.kind key.column value row) (indexes (key_index table which))) ≡ true))
         (in_table table chains value) }
 {}
 
@@ -112,7 +124,7 @@ pub fn entries_are_of_rows()
         → slice_get schema.keys which ≡ Some key
         → slice_get schema.columns schema.primary ≡ Some primary
         → slice_get schema.columns key.column ≡ Some indexed
-        → is_some (value_of entry (indexes (key_of_table table which))) ≡ true
+        → is_some (value_of entry (indexes (key_index table which))) ≡ true
         → IsOfSome primary.kind indexed.kind key.column (in_table table chains) entry }
     ensures unmarked { (schemas : List Schema) (indexes : ℕ → List Pair) (kept : ℕ → Option Kept) (chains : Chains) (table which : ℕ)
         (schema : Schema) (key : Key) (primary indexed : Column) (entry : List ℕ)
@@ -121,6 +133,6 @@ pub fn entries_are_of_rows()
         → slice_get schema.keys which ≡ Some key
         → slice_get schema.columns schema.primary ≡ Some primary
         → slice_get schema.columns key.column ≡ Some indexed
-        → value_of entry (indexes (key_of_table table which)) ≡ Some (0 ∷ [])
+        → value_of entry (indexes (key_index table which)) ≡ Some (0 ∷ [])
         → IsOfNewest primary.kind indexed.kind key.column (in_table table chains) entry }
 {}

@@ -1,14 +1,15 @@
 //! A clustered record is put, replaced or taken back. What the keys say of the place stays, and so does every other place.
 
-ghost use Rattle.std.specs.Prelude.{◌≡◌, ◌≢◌, ℕ, List, Option, None, Some};
+ghost use Rattle.std.specs.Prelude.{◌≡◌, ◌≢◌, ℕ, List, [], ◌∷◌, ◌++◌, Option, None, Some};
 ghost use Rattle.inno_types.specs.declared.value.Schema.{Schema};
 ghost use Rattle.store_api.specs.declared.answers.Version.{Version as Coded};
 ghost use Rattle.entries.specs.Pairs.{Pair, value_of};
 ghost use Rattle.chain.specs.declared.kept.Kept.{Kept};
+ghost use Rattle.chain.specs.Versions.{kept_in};
 ghost use Rattle.row_versions.specs.declared.place.Place.{Place};
 ghost use Rattle.row_versions.specs.declared.version.Version.{Version};
 ghost use Rattle.row_versions.specs.Chains.{Chains, Pushes, Pops};
-ghost use Rattle.coded_rows.specs.Edits.{rows_of};
+ghost use Rattle.coded_rows.specs.Edits.{clustered_index};
 ghost use Rattle.coded_rows.specs.Records.{shown, IsCodeOf, KeepsMore};
 ghost use Rattle.coded_rows.specs.Steps.{PutsRecord};
 ghost use Rattle.coded_rows.specs.Tables.{place_in, AreCodedBut};
@@ -19,7 +20,7 @@ pub fn a_new_record_is_a_first_version()
         (said : ℕ → List Version) (table : ℕ) (schema : Schema) (key bytes : List ℕ) (coded : Coded)
         → AreCodedBut schemas old kept before (place_in table schema coded.row) said
         → PutsRecord schemas old new table schema key bytes coded (Some bytes)
-        → value_of key (old (rows_of table)) ≡ None
+        → value_of key (old (clustered_index table)) ≡ None
         → coded.pointer ≡ 0
         → Pushes before after (place_in table schema coded.row) (shown coded)
         → AreCodedBut schemas new kept after (place_in table schema coded.row) said }
@@ -32,7 +33,7 @@ pub fn a_record_that_replaces_one_is_a_newer_version()
         → AreCodedBut schemas old kept before (place_in table schema coded.row) said
         → (former : Kept)
         → PutsRecord schemas old new table schema key bytes coded (Some bytes)
-        → value_of key (old (rows_of table)) ≡ Some former.bytes
+        → value_of key (old (clustered_index table)) ≡ Some former.bytes
         → IsCodeOf schema key former.bytes former.version
         → coded.pointer ≢ 0
         → kept coded.pointer ≡ Some former
@@ -48,7 +49,7 @@ pub fn a_version_is_taken_back()
         → AreCodedBut schemas old kept before (place_in table schema coded.row) said
         → (former : Kept)
         → PutsRecord schemas old new table schema key bytes coded (Some former.bytes)
-        → value_of key (old (rows_of table)) ≡ Some bytes
+        → value_of key (old (clustered_index table)) ≡ Some bytes
         → coded.pointer ≢ 0
         → kept coded.pointer ≡ Some former
         → Pops before after (place_in table schema coded.row)
@@ -57,15 +58,16 @@ pub fn a_version_is_taken_back()
         (said : ℕ → List Version) (table : ℕ) (schema : Schema) (key bytes : List ℕ) (coded : Coded)
         → AreCodedBut schemas old kept before (place_in table schema coded.row) said
         → PutsRecord schemas old new table schema key bytes coded None
-        → value_of key (old (rows_of table)) ≡ Some bytes
+        → value_of key (old (clustered_index table)) ≡ Some bytes
         → coded.pointer ≡ 0
         → Pops before after (place_in table schema coded.row)
         → AreCodedBut schemas new kept after (place_in table schema coded.row) said }
 {}
 
-/// What is kept beside changes no row.
+/// What is kept beside changes no row; a push keeps what was kept.
 pub fn more_may_be_kept()
-    ensures { (schemas : List Schema) (indexes : ℕ → List Pair) (old new : ℕ → Option Kept) (chains : Chains) (place : Place)
+    ensures pushed { (all : List Kept) (found : Kept) → KeepsMore (kept_in all) (kept_in (all ++ found ∷ [])) }
+    ensures stays { (schemas : List Schema) (indexes : ℕ → List Pair) (old new : ℕ → Option Kept) (chains : Chains) (place : Place)
         (said : ℕ → List Version)
         → KeepsMore old new
         → AreCodedBut schemas indexes old chains place said
