@@ -17,7 +17,7 @@ use Rattle.row_versions.specs.Chains.{Chains, versions_at, newest, older}
 use Rattle.coded_rows.specs.Edits.{clustered_index, key_index}
 use Rattle.coded_rows.specs.Entries.{value_in, has_value, entry_at, IsOfNewest, IsOfSome}
 use Rattle.coded_rows.specs.Records.{shown, IsCodeOf, LeadTo, IsRecordWith, IsClustered, IsRowAt}
-use Rattle.coded_rows.specs.Tables.{in_table, said_but, AreClustered, AreCoded, AreCodedBut}
+use Rattle.coded_rows.specs.Tables.{in_table, Said, AreClustered, AreCodedAs, AreCoded}
 use Rattle.coded_rows.proofs.Values.{key_there}
 use Rattle.coded_rows.proofs.RowRecords.{record_read, no_record, one_record}
 use Rattle.coded_rows.proofs.Found.{rows_at_home, each_found, newest_found, found_where_told, unmarked_is_newest, each_is_of_some}
@@ -83,13 +83,13 @@ module _ (schemas : List Schema) (indexes : ℕ → List Pair) (kept : ℕ → O
   unmarked_entry entry is there also primary_is indexed_is some =
       unmarked_is_newest schema key.column (indexes (key_index table which)) (in_table table chains) (is.keyed.keys table which schema key there also) primary indexed primary_is indexed_is entry some
 
-pub under_way : (schemas : List Schema) (indexes : ℕ → List Pair) (kept : ℕ → Option Kept) (chains : Chains) (place : Place) (said : ℕ → List Version) (table which : ℕ) (schema : Schema) (key : Key) (primary indexed : Column) (value : Value)
-    → AreCodedBut schemas indexes kept chains place said → slice_get schemas table ≡ Some schema → slice_get schema.keys which ≡ Some key → slice_get schema.columns schema.primary ≡ Some primary → slice_get schema.columns key.column ≡ Some indexed
+pub under_way : (schemas : List Schema) (indexes : ℕ → List Pair) (kept : ℕ → Option Kept) (chains : Chains) (said : Said) (table which : ℕ) (schema : Schema) (key : Key) (primary indexed : Column) (value : Value)
+    → AreCodedAs schemas indexes kept chains said → slice_get schemas table ≡ Some schema → slice_get schema.keys which ≡ Some key → slice_get schema.columns schema.primary ≡ Some primary → slice_get schema.columns key.column ≡ Some indexed
     → HasKey primary.kind value
-    → All (λ version. IfSome version.row (λ row. list_any (λ told. has_value key.column (value_in key.column row) told.row) (said_but chains place said table which value) ≡ true
+    → All (λ version. IfSome version.row (λ row. list_any (λ told. has_value key.column (value_in key.column row) told.row) (said table which value) ≡ true
     → is_some (value_of (entry_at primary.kind indexed.kind key.column value row) (indexes (key_index table which))) ≡ true)) (in_table table chains value)
-under_way schemas indexes kept chains place said table which schema key primary indexed value is there also primary_is indexed_is has =
-    found_where_told schema kept (indexes (clustered_index table)) (in_table table chains) (said_but chains place said table which) (is.clustered.tables table schema there) key.column (indexes (key_index table which))
+under_way schemas indexes kept chains said table which schema key primary indexed value is there also primary_is indexed_is has =
+    found_where_told schema kept (indexes (clustered_index table)) (in_table table chains) (said table which) (is.clustered.tables table schema there) key.column (indexes (key_index table which))
     (is.keyed.keys table which schema key there also) primary indexed primary_is indexed_is value has
 
 -- ---- no other rows

@@ -1,7 +1,7 @@
 -- What a change of one entry makes of the keys of all tables, and how a change of a place begins and ends.
-use Rattle.std.proofs.Common.{◌≡◌, ◌≢◌, ◌∙◌, sym, ap, subst, refl, ℕ, ◌<◌, Bool, true, false, cond, List, Option, Some, slice_get, ◌⊎◌, inl, inr}
-use Rattle.std.specs.Prelude.{◌==◌}
-use Rattle.std.proofs.lemmas.Bool.{cases_eq, cond-true, cond-false, eq-eqb, ne_eqb}
+use Rattle.std.proofs.Common.{◌≡◌, ◌≢◌, ◌∙◌, sym, ap, subst, refl, ℕ, ◌<◌, Bool, true, false, List, Option, Some, slice_get, ◌⊎◌, inl, inr}
+use Rattle.std.specs.Prelude.{◌==◌, ◌&&◌}
+use Rattle.std.proofs.lemmas.Bool.{cases_eq, cond-true, cond-false, eq-eqb, ne_eqb, and_from, and_left, and_right}
 use Rattle.inno_types.specs.declared.value.Value.{Value}
 use Rattle.inno_types.specs.declared.value.Key.{Key}
 use Rattle.inno_types.specs.declared.value.Column.{Column}
@@ -17,7 +17,7 @@ use Rattle.row_versions.specs.Chains.{Chains, versions_at, is_same_place}
 use Rattle.coded_rows.specs.Edits.{with_value, clustered_index, key_index, Puts}
 use Rattle.coded_rows.specs.Entries.{is_same_value, value_in, entry_of, HasEntries, TellAlike, TellAlikeBut}
 use Rattle.coded_rows.specs.Records.{IsCodeOf}
-use Rattle.coded_rows.specs.Tables.{place_in, in_table, AreClustered, AreKeyed, AreCoded, said_but, AreCodedBut, SaysNow}
+use Rattle.coded_rows.specs.Tables.{place_in, in_table, Said, AreClustered, AreCodedAs, AreCoded, what_is_there, LagAt, SaysNow}
 use Rattle.coded_rows.proofs.Values.{in_one_table, in_other_table, place_itself, same_place, key_there, entry_there}
 use Rattle.coded_rows.proofs.Pairs.{at_index, at_others, no_key, other_key}
 use Rattle.coded_rows.proofs.Entries.{entries_after, entries_alike}
@@ -34,33 +34,32 @@ rows_stay schemas old new kept chains table which key found few puts is = record
   nowhere_else = is.nowhere_else;
 }
 
--- ---- what keys say of the place
+-- ---- what keys say of a place
 
-says_at : (chains : Chains) (table : ℕ) (here : Value) (said : ℕ → List Version) (which : ℕ) → said_but chains (at table here) said table which here ≡ said which
-says_at chains table here said which = cond-true (is_same_place (at table here) (at table here)) (said which) (in_table table chains here) (place_itself (at table here))
+module _ (was now : Said) (place : Place) (which : ℕ) (versions : List Version) (says : SaysNow was now place which versions) where
+  pub now_says : now place.table which place.key ≡ versions
+  now_says =
+      says place.table which place.key
+      ∙ cond-true (which == which && is_same_place place place) versions (was place.table which place.key) (and_from (which == which) (is_same_place place place) (eq-eqb which which refl) (place_itself place))
 
-says_apart : (chains : Chains) (place : Place) (was now : ℕ → List Version) (table which : ℕ) (value : Value) → is_same_place place (at table value) ≡ false → said_but chains place now table which value ≡ said_but chains place was table which value
-says_apart chains place was now table which value apart = go (is_same_place place (at table value)) apart where
-  go : (t : Bool) → t ≡ false → cond t (now which) (in_table table chains value) ≡ cond t (was which) (in_table table chains value)
-  go true is = cc
-  go false is = refl
+  pub says_apart : (table key : ℕ) (value : Value) → is_same_place place (at table value) ≡ false → now table key value ≡ was table key value
+  says_apart table key value apart =
+      says table key value ∙ cond-false (key == which && is_same_place place (at table value)) versions (was table key value) (and_right (key == which) (is_same_place place (at table value)) apart)
 
-says_same : (chains : Chains) (place : Place) (was now : ℕ → List Version) (table which : ℕ) (value : Value) → now which ≡ was which → said_but chains place now table which value ≡ said_but chains place was table which value
-says_same chains place was now table which value same = ap (λ (versions : List Version). cond (is_same_place place (at table value)) versions (in_table table chains value)) same
+  pub others_say : (table key : ℕ) (value : Value) → key ≢ which → now table key value ≡ was table key value
+  others_say table key value differ =
+      says table key value ∙ cond-false (key == which && is_same_place place (at table value)) versions (was table key value) (and_left (key == which) (is_same_place place (at table value)) (ne_eqb key which differ))
 
-pub now_says : (was now : ℕ → List Version) (which : ℕ) (versions : List Version) → SaysNow was now which versions → now which ≡ versions
-now_says was now which versions says = says which ∙ cond-true (which == which) versions (was which) (eq-eqb which which refl)
-
-others_say : (was now : ℕ → List Version) (which other : ℕ) (versions : List Version) → SaysNow was now which versions → other ≢ which → now other ≡ was other
-others_say was now which other versions says differ = says other ∙ cond-false (other == which) versions (was other) (ne_eqb other which differ)
+  pub lag_says : (chains : Chains) → LagAt place chains was → LagAt place chains now
+  lag_says chains lag table key value apart = says_apart table key value apart ∙ lag table key value apart
 
 -- ---- one entry of a key is changed
 
-module _ (schemas : List Schema) (old new : ℕ → List Pair) (kept : ℕ → Option Kept) (chains : Chains) (table : ℕ) (schema : Schema) (which : ℕ) (k : Key) (indexed : Column) (key bytes : List ℕ) (coded : Coded) (was now : ℕ → List Version) (versions : List Version)
-    (is : AreCodedBut schemas old kept chains (place_in table schema coded.row) was) (there : slice_get schemas table ≡ Some schema) (also : slice_get schema.keys which ≡ Some k) (indexed_is : slice_get schema.columns k.column ≡ Some indexed)
-    (code : IsCodeOf schema key bytes coded) (alike : TellAlikeBut (value_in k.column coded.row) k.column (was which) versions)
+module _ (schemas : List Schema) (old new : ℕ → List Pair) (kept : ℕ → Option Kept) (chains : Chains) (table : ℕ) (schema : Schema) (which : ℕ) (k : Key) (indexed : Column) (key bytes : List ℕ) (coded : Coded) (was now : Said) (versions : List Version)
+    (is : AreCodedAs schemas old kept chains was) (there : slice_get schemas table ≡ Some schema) (also : slice_get schema.keys which ≡ Some k) (indexed_is : slice_get schema.columns k.column ≡ Some indexed)
+    (code : IsCodeOf schema key bytes coded) (alike : TellAlikeBut (value_in k.column coded.row) k.column (was table which (key_of schema coded.row)) versions)
     (puts : Puts old new (key_index table which) (entry_code indexed.kind (value_in k.column coded.row) key) (entry_of k.column (value_in k.column coded.row) versions))
-    (says : SaysNow was now which versions) where
+    (says : SaysNow was now (place_in table schema coded.row) which versions) where
   abbrev here : Value
   here = key_of schema coded.row
 
@@ -70,62 +69,56 @@ module _ (schemas : List Schema) (old new : ℕ → List Pair) (kept : ℕ → O
   abbrev entry : List ℕ
   entry = entry_code indexed.kind value key
 
-  abbrev said_was : ℕ → ℕ → Value → List Version
-  said_was = said_but chains (at table here) was
-
-  abbrev said_now : ℕ → ℕ → Value → List Version
-  said_now = said_but chains (at table here) now
-
   few : which < 4
   few = few_of schema which k (is.keyed.few table schema there) also
 
-  says_versions : said_now table which here ≡ versions
-  says_versions = says_at chains table here now which ∙ now_says was now which versions says
+  says_versions : now table which here ≡ versions
+  says_versions = now_says was now (at table here) which versions says
 
-  key_now : HasEntries schema k.column (new (key_index table which)) (said_now table which)
+  key_now : HasEntries schema k.column (new (key_index table which)) (now table which)
   key_now =
       let pairs = old (key_index table which) in
       let e = is.keyed.keys table which schema k there also in
       let both = key_there schema key bytes coded e.primary e.primary_is code in
       let one : e.indexed ≡ indexed = cc (e.indexed_is, indexed_is) in
       let has_entry = entry_there schema key bytes coded k.column e.indexed code e.indexed_is in
-      let told : TellAlikeBut value k.column (said_was table which here) (said_now table which here)
-      = λ other apart. ap (entry_of k.column other) (says_at chains table here was which) ∙ (alike other apart ∙ ap (entry_of k.column other) (sym says_versions)) in
-      let stays : (other : Value) → is_same_value here other ≡ false → said_now table which other ≡ said_was table which other
-      = λ other apart. says_apart chains (at table here) was now table which other (in_one_table table here other ∙ apart) in
-      let after = entries_after schema k.column pairs (said_was table which) (said_now table which) e here value both.0 has_entry told stays in
+      let told : TellAlikeBut value k.column (was table which here) (now table which here)
+      = λ other apart. alike other apart ∙ ap (entry_of k.column other) (sym says_versions) in
+      let stays : (other : Value) → is_same_value here other ≡ false → now table which other ≡ was table which other
+      = λ other apart. says_apart was now (at table here) which versions says table which other (in_one_table table here other ∙ apart) in
+      let after = entries_after schema k.column pairs (was table which) (now table which) e here value both.0 has_entry told stays in
       let same_entry : entry_code e.indexed.kind value (key_code e.primary.kind here) ≡ entry = λ i. entry_code (one i).kind value (sym both.1 i) in
-      let same_mark : entry_of k.column value (said_now table which here) ≡ entry_of k.column value versions = ap (entry_of k.column value) says_versions in
-      let same_pairs : with_value (entry_code e.indexed.kind value (key_code e.primary.kind here)) (entry_of k.column value (said_now table which here)) pairs ≡ new (key_index table which)
+      let same_mark : entry_of k.column value (now table which here) ≡ entry_of k.column value versions = ap (entry_of k.column value) says_versions in
+      let same_pairs : with_value (entry_code e.indexed.kind value (key_code e.primary.kind here)) (entry_of k.column value (now table which here)) pairs ≡ new (key_index table which)
       = (λ i. with_value (same_entry i) (same_mark i) pairs) ∙ sym (at_index old new (key_index table which) entry (entry_of k.column value versions) puts) in
-      subst (λ (p : List Pair). HasEntries schema k.column p (said_now table which)) same_pairs after
+      subst (λ (p : List Pair). HasEntries schema k.column p (now table which)) same_pairs after
 
   others_now : (other at_key : ℕ) (s : Schema) (c : Key) → slice_get schemas other ≡ Some s → slice_get s.keys at_key ≡ Some c → ((other ≡ table) → (at_key ≡ which) → ⊥)
-      → ((v : Value) → said_now other at_key v ≡ said_was other at_key v) → HasEntries s c.column (new (key_index other at_key)) (said_now other at_key)
+      → ((v : Value) → now other at_key v ≡ was other at_key v) → HasEntries s c.column (new (key_index other at_key)) (now other at_key)
   others_now other at_key s c is_there is_key differ same =
-      entries_same s c.column (old (key_index other at_key)) (new (key_index other at_key)) (said_was other at_key) (said_now other at_key)
+      entries_same s c.column (old (key_index other at_key)) (new (key_index other at_key)) (was other at_key) (now other at_key)
       (at_others old new (key_index table which) entry (entry_of k.column value versions) (key_index other at_key) puts
       (λ e. let parts = other_key table other at_key which (few_of s at_key c (is.keyed.few other s is_there) is_key) few e in differ parts.0 parts.1))
       same (is.keyed.keys other at_key s c is_there is_key)
 
   each_now : (other at_key : ℕ) (s : Schema) (c : Key) → slice_get schemas other ≡ Some s → slice_get s.keys at_key ≡ Some c → (other ≡ table) ⊎ (other ≢ table) → (at_key ≡ which) ⊎ (at_key ≢ which)
-      → HasEntries s c.column (new (key_index other at_key)) (said_now other at_key)
+      → HasEntries s c.column (new (key_index other at_key)) (now other at_key)
   each_now other at_key s c is_there is_key (inl same) (inl same_key) =
       let is_table : slice_get schemas table ≡ Some s = subst (λ (t : ℕ). slice_get schemas t ≡ Some s) same is_there in
       let one : schema ≡ s = cc (there, is_table) in
       let is_which : slice_get schema.keys which ≡ Some c = subst (λ (w : ℕ). slice_get schema.keys w ≡ Some c) same_key (subst (λ (x : Schema). slice_get x.keys at_key ≡ Some c) (sym one) is_key) in
       let one_key : k ≡ c = cc (also, is_which) in
-      let At : Schema → Key → ℕ → ℕ → Type 0 = λ x y t w. HasEntries x y.column (new (key_index t w)) (said_now t w) in
+      let At : Schema → Key → ℕ → ℕ → Type 0 = λ x y t w. HasEntries x y.column (new (key_index t w)) (now t w) in
       subst (λ (x : Schema). At x c other at_key) one
       (subst (λ (y : Key). At schema y other at_key) one_key
       (subst (λ (t : ℕ). At schema k t at_key) (sym same)
       (subst (λ (w : ℕ). At schema k table w) (sym same_key) key_now)))
   each_now other at_key s c is_there is_key (inl same) (inr differ) =
-      others_now other at_key s c is_there is_key (λ a b. differ b) (λ v. says_same chains (at table here) was now other at_key v (others_say was now which at_key versions says differ))
+      others_now other at_key s c is_there is_key (λ a b. differ b) (λ v. others_say was now (at table here) which versions says other at_key v differ)
   each_now other at_key s c is_there is_key (inr differ) which_is =
-      others_now other at_key s c is_there is_key (λ a b. differ a) (λ v. says_apart chains (at table here) was now other at_key v (in_other_table (at table here) (at other v) (λ e. differ (sym e))))
+      others_now other at_key s c is_there is_key (λ a b. differ a) (λ v. says_apart was now (at table here) which versions says other at_key v (in_other_table (at table here) (at other v) (λ e. differ (sym e))))
 
-  pub entry_changed : AreCodedBut schemas new kept chains (place_in table schema coded.row) now
+  pub entry_changed : AreCodedAs schemas new kept chains now
   entry_changed = record {
     clustered = rows_stay schemas old new kept chains table which entry (entry_of k.column value versions) few puts is.clustered;
     keyed = record {
@@ -134,49 +127,30 @@ module _ (schemas : List Schema) (old new : ℕ → List Pair) (kept : ℕ → O
     };
   }
 
--- ---- how a change of a place begins and ends
-
-begins_at : (chains : Chains) (place : Place) (table which : ℕ) (value : Value) → said_but chains place (λ w. versions_at place chains) table which value ≡ in_table table chains value
-begins_at chains place table which value = go (is_same_place place (at table value)) refl where
-  go : (t : Bool) → is_same_place place (at table value) ≡ t → cond t (versions_at place chains) (in_table table chains value) ≡ in_table table chains value
-  go true is = ap (λ (p : Place). versions_at p chains) (same_place place (at table value) is)
-  go false is = refl
-
-keyed_same : (schemas : List Schema) (indexes : ℕ → List Pair) (was now : ℕ → ℕ → Value → List Version) → ((table which : ℕ) (value : Value) → now table which value ≡ was table which value) → AreKeyed schemas indexes was → AreKeyed schemas indexes now
-keyed_same schemas indexes was now same is = record {
-  few = is.few;
-  keys = λ table which schema k there also.
-      entries_same schema k.column (indexes (key_index table which)) (indexes (key_index table which)) (was table which) (now table which) refl (same table which) (is.keys table which schema k there also);
-}
-
-pub change_begins : (schemas : List Schema) (indexes : ℕ → List Pair) (kept : ℕ → Option Kept) (chains : Chains) (place : Place) → AreCoded schemas indexes kept chains → AreCodedBut schemas indexes kept chains place (λ which. versions_at place chains)
-change_begins schemas indexes kept chains place is = record {
-  clustered = is.clustered;
-  keyed = keyed_same schemas indexes (λ table which. in_table table chains) (said_but chains place (λ which. versions_at place chains)) (begins_at chains place) is.keyed;
-}
-
-pub change_over : (schemas : List Schema) (indexes : ℕ → List Pair) (kept : ℕ → Option Kept) (chains : Chains) (place : Place) → AreCodedBut schemas indexes kept chains place (λ which. versions_at place chains) → AreCoded schemas indexes kept chains
-change_over schemas indexes kept chains place is = record {
-  clustered = is.clustered;
-  keyed = keyed_same schemas indexes (said_but chains place (λ which. versions_at place chains)) (λ table which. in_table table chains) (λ table which value. sym (begins_at chains place table which value)) is.keyed;
-}
+-- ---- how a change ends
 
 -- Each key may be said to say what tells alike.
-pub said_alike : (schemas : List Schema) (indexes : ℕ → List Pair) (kept : ℕ → Option Kept) (chains : Chains) (place : Place) (was now : ℕ → List Version) → AreCodedBut schemas indexes kept chains place was
-    → ((schema : Schema) (which : ℕ) (k : Key) → slice_get schemas place.table ≡ Some schema → slice_get schema.keys which ≡ Some k → TellAlike k.column (was which) (now which))
-    → AreCodedBut schemas indexes kept chains place now
-said_alike schemas indexes kept chains place was now is alike = record {
+pub said_alike : (schemas : List Schema) (indexes : ℕ → List Pair) (kept : ℕ → Option Kept) (chains : Chains) (was now : Said) → AreCodedAs schemas indexes kept chains was
+    → ((table which : ℕ) (schema : Schema) (key : Key) → slice_get schemas table ≡ Some schema → slice_get schema.keys which ≡ Some key → (value : Value) → TellAlike key.column (was table which value) (now table which value))
+    → AreCodedAs schemas indexes kept chains now
+said_alike schemas indexes kept chains was now is alike = record {
   clustered = is.clustered;
   keyed = record {
     few = is.keyed.few;
     keys = λ table which schema k there also.
-        entries_alike schema k.column (indexes (key_index table which)) (said_but chains place was table which) (said_but chains place now table which)
-        (λ v. tells table which schema k there also v (is_same_place place (at table v)) refl) (is.keyed.keys table which schema k there also);
+        entries_alike schema k.column (indexes (key_index table which)) (was table which) (now table which) (alike table which schema k there also) (is.keyed.keys table which schema k there also);
   };
-} where
-  tells : (table which : ℕ) (schema : Schema) (k : Key) → slice_get schemas table ≡ Some schema → slice_get schema.keys which ≡ Some k → (v : Value) (t : Bool) → is_same_place place (at table v) ≡ t
-      → TellAlike k.column (cond t (was which) (in_table table chains v)) (cond t (now which) (in_table table chains v))
-  tells table which schema k there also v true same =
-      let one : place.table ≡ table = ap (λ (p : Place). p.table) (same_place place (at table v) same) in
-      alike schema which k (subst (λ (t : ℕ). slice_get schemas t ≡ Some schema) (sym one) there) also
-  tells table which schema k there also v false apart = λ other. refl
+}
+
+-- Where keys lag at one place alone, and tell alike there, they say what is there.
+pub change_over : (schemas : List Schema) (indexes : ℕ → List Pair) (kept : ℕ → Option Kept) (chains : Chains) (place : Place) (said : Said) → AreCodedAs schemas indexes kept chains said → LagAt place chains said
+    → ((which : ℕ) (schema : Schema) (key : Key) → slice_get schemas place.table ≡ Some schema → slice_get schema.keys which ≡ Some key → TellAlike key.column (said place.table which place.key) (versions_at place chains))
+    → AreCoded schemas indexes kept chains
+change_over schemas indexes kept chains place said is lag alike =
+    said_alike schemas indexes kept chains said (what_is_there chains) is (λ table which schema k there also value. tells table which schema k there also value (is_same_place place (at table value)) refl) where
+      tells : (table which : ℕ) (schema : Schema) (k : Key) → slice_get schemas table ≡ Some schema → slice_get schema.keys which ≡ Some k → (v : Value) (t : Bool) → is_same_place place (at table v) ≡ t
+          → TellAlike k.column (said table which v) (in_table table chains v)
+      tells table which schema k there also v true same =
+          let Alike : Place → Type 0 = λ p. slice_get schemas p.table ≡ Some schema → TellAlike k.column (said p.table which p.key) (versions_at p chains) in
+          subst Alike (same_place place (at table v) same) (λ is_there. alike which schema k is_there also) there
+      tells table which schema k there also v false apart = λ value. ap (entry_of k.column value) (lag table which v apart)

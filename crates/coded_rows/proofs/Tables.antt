@@ -1,5 +1,5 @@
 -- What a change of one index makes of the rows of all tables.
-use Rattle.std.proofs.Common.{◌≡◌, ◌≢◌, ◌∙◌, sym, ap, subst, refl, ℕ, ◌<◌, ◌≤◌, Bool, true, false, cond, List, [], ◌∷◌, length, Option, None, Some, slice_get, ◌⊎◌, inl, inr, arith}
+use Rattle.std.proofs.Common.{◌≡◌, ◌≢◌, ◌∙◌, sym, ap, subst, refl, ℕ, ◌<◌, ◌≤◌, false, List, [], ◌∷◌, length, Option, None, Some, slice_get, ◌⊎◌, inl, inr, arith}
 use Rattle.std.proofs.lemmas.Bool.{cases_eq, cond-true, cond-false}
 use Rattle.std.proofs.lemmas.Option.{slice_get_within}
 use Rattle.inno_types.specs.declared.value.Value.{Value}
@@ -15,7 +15,7 @@ use Rattle.row_versions.specs.Chains.{Chains, versions_at, is_same_place, older,
 use Rattle.coded_rows.specs.Edits.{with_value, clustered_index, key_index, Puts}
 use Rattle.coded_rows.specs.Entries.{is_same_value, entry_of, HasEntries}
 use Rattle.coded_rows.specs.Records.{IsCodeOf, IsRecordWith, IsClustered, KeepsMore}
-use Rattle.coded_rows.specs.Tables.{place_in, in_table, AreClustered, AreKeyed, said_but, AreCodedBut}
+use Rattle.coded_rows.specs.Tables.{place_in, in_table, Said, AreClustered, AreKeyed, AreCodedAs, LagAt}
 use Rattle.coded_rows.proofs.Values.{in_one_table, in_other_table, place_itself, key_there}
 use Rattle.coded_rows.proofs.Pairs.{at_index, at_others, other_rows, no_key}
 use Rattle.coded_rows.proofs.RowRecords.{clustered_after, clustered_still}
@@ -87,28 +87,25 @@ pub entries_same : (schema : Schema) (column : ℕ) (pairs others : List Pair) (
 entries_same schema column pairs others was now same alike is =
     subst (λ (p : List Pair). HasEntries schema column p now) (sym same) (entries_alike schema column pairs was now (λ key value. ap (entry_of column value) (sym (alike key))) is)
 
-pub keyed_after : (schemas : List Schema) (old new : ℕ → List Pair) (was now : ℕ → ℕ → Value → List Version) (table : ℕ) (key : List ℕ) (found : Option (List ℕ)) → Puts old new (clustered_index table) key found
-    → ((other which : ℕ) (value : Value) → now other which value ≡ was other which value) → AreKeyed schemas old was → AreKeyed schemas new now
-keyed_after schemas old new was now table key found puts alike is = record {
+pub keyed_after : (schemas : List Schema) (old new : ℕ → List Pair) (table : ℕ) (key : List ℕ) (found : Option (List ℕ)) (said : Said) → Puts old new (clustered_index table) key found → AreKeyed schemas old said → AreKeyed schemas new said
+keyed_after schemas old new table key found said puts is = record {
   few = is.few;
   keys = λ other which schema k there also.
-      entries_same schema k.column (old (key_index other which)) (new (key_index other which)) (was other which) (now other which)
+      entries_same schema k.column (old (key_index other which)) (new (key_index other which)) (said other which) (said other which)
       (at_others old new (clustered_index table) key found (key_index other which) puts (no_key table other which (few_of schema which k (is.few other schema there) also)))
-      (alike other which) (is.keys other which schema k there also);
+      (λ value. refl) (is.keys other which schema k there also);
 }
 
-said_stays : (before after : Chains) (place : Place) (said : ℕ → List Version) → StaysElsewhere before after place → (table which : ℕ) (value : Value) → said_but after place said table which value ≡ said_but before place said table which value
-said_stays before after place said elsewhere table which value = go (is_same_place place (at table value)) refl where
-  go : (t : Bool) → is_same_place place (at table value) ≡ t → cond t (said which) (in_table table after value) ≡ cond t (said which) (in_table table before value)
-  go true is = refl
-  go false is = elsewhere (at table value) is
+-- the keys go on saying of all other places what is there
+pub lag_stays : (before after : Chains) (place : Place) (said : Said) → StaysElsewhere before after place → LagAt place before said → LagAt place after said
+lag_stays before after place said elsewhere lag table which value apart = lag table which value apart ∙ sym (elsewhere (at table value) apart)
 
 -- ---- the record at one key is changed
 
-pub record_changed : (schemas : List Schema) (old new : ℕ → List Pair) (kept : ℕ → Option Kept) (before after : Chains) (table : ℕ) (schema : Schema) (key bytes : List ℕ) (coded : Coded) (found : Option (List ℕ)) (said : ℕ → List Version)
-    → AreCodedBut schemas old kept before (place_in table schema coded.row) said → slice_get schemas table ≡ Some schema → IsCodeOf schema key bytes coded → Puts old new (clustered_index table) key found → StaysElsewhere before after (place_in table schema coded.row)
+pub record_changed : (schemas : List Schema) (old new : ℕ → List Pair) (kept : ℕ → Option Kept) (before after : Chains) (table : ℕ) (schema : Schema) (key bytes : List ℕ) (coded : Coded) (found : Option (List ℕ)) (said : Said)
+    → AreCodedAs schemas old kept before said → slice_get schemas table ≡ Some schema → IsCodeOf schema key bytes coded → Puts old new (clustered_index table) key found → StaysElsewhere before after (place_in table schema coded.row)
     → (IsRecordWith schema key kept (value_of key (old (clustered_index table))) (in_table table before (key_of schema coded.row)) → IsRecordWith schema key kept found (in_table table after (key_of schema coded.row)))
-    → AreCodedBut schemas new kept after (place_in table schema coded.row) said
+    → AreCodedAs schemas new kept after said
 record_changed schemas old new kept before after table schema key bytes coded found said is there code puts elsewhere changed =
     let here = key_of schema coded.row in
     let pairs = old (clustered_index table) in
@@ -122,13 +119,13 @@ record_changed schemas old new kept before after table schema key bytes coded fo
     let now : IsClustered schema kept (with_value key found pairs) (in_table table after) = subst (λ (k : List ℕ). IsClustered schema kept (with_value k found pairs) (in_table table after)) (sym both.1) clustered in
     record {
       clustered = all_clustered_after schemas old new kept before after table schema here key found is.clustered there puts elsewhere now;
-      keyed = keyed_after schemas old new (said_but before (at table here) said) (said_but after (at table here) said) table key found puts (said_stays before after (at table here) said elsewhere) is.keyed;
+      keyed = keyed_after schemas old new table key found said puts is.keyed;
     }
 
 -- ---- more is kept
 
-pub coded_still : (schemas : List Schema) (indexes : ℕ → List Pair) (old new : ℕ → Option Kept) (chains : Chains) (place : Place) (said : ℕ → List Version) → KeepsMore old new → AreCodedBut schemas indexes old chains place said → AreCodedBut schemas indexes new chains place said
-coded_still schemas indexes old new chains place said more is = record {
+pub coded_still : (schemas : List Schema) (indexes : ℕ → List Pair) (old new : ℕ → Option Kept) (chains : Chains) (said : Said) → KeepsMore old new → AreCodedAs schemas indexes old chains said → AreCodedAs schemas indexes new chains said
+coded_still schemas indexes old new chains said more is = record {
   clustered = record {
     tables = λ table schema there. clustered_still schema old new (indexes (clustered_index table)) (in_table table chains) more (is.clustered.tables table schema there);
     nowhere_else = is.clustered.nowhere_else;

@@ -1,5 +1,5 @@
--- When indexes and kept versions are the rows of all tables, and while a change of one place is under way.
-use Rattle.std.specs.Prelude.{◌≡◌, ℕ, ◌<◌, ◌≤◌, ◌==◌, if◌then◌else◌, List, [], length, Option, None, Some, slice_get}
+-- When indexes and kept versions are the rows of all tables, and what keys say of rows while changes are under way.
+use Rattle.std.specs.Prelude.{◌≡◌, ℕ, ◌<◌, ◌≤◌, ◌==◌, ◌&&◌, false, if◌then◌else◌, List, [], length, Option, None, Some, slice_get}
 use Rattle.inno_types.specs.declared.value.Value.{Value}
 use Rattle.inno_types.specs.declared.value.Column.{Column}
 use Rattle.inno_types.specs.declared.value.Key.{Key}
@@ -34,8 +34,12 @@ pub record AreClustered (schemas : List Schema) (indexes : ℕ → List Pair) (k
   pub tables : (table : ℕ) (schema : Schema) → slice_get schemas table ≡ Some schema → IsClustered schema kept (indexes (clustered_index table)) (in_table table chains)
   pub nowhere_else : (table : ℕ) (value : Value) → slice_get schemas table ≡ None → in_table table chains value ≡ []
 
--- Each key of each table has the entries of what it says: versions at each value of the primary key.
-pub record AreKeyed (schemas : List Schema) (indexes : ℕ → List Pair) (said : ℕ → ℕ → Value → List Version) : Type 0 where
+-- what keys say of the versions at each value of the primary key: of which table, and which of its keys
+abbrev pub Said : Type 0
+Said = ℕ → ℕ → Value → List Version
+
+-- Each key of each table has the entries of what it says.
+pub record AreKeyed (schemas : List Schema) (indexes : ℕ → List Pair) (said : Said) : Type 0 where
   pub few : (table : ℕ) (schema : Schema) → slice_get schemas table ≡ Some schema → length schema.keys ≤ 4
   pub keys : (table which : ℕ) (schema : Schema) (key : Key) → slice_get schemas table ≡ Some schema → slice_get schema.keys which ≡ Some key
       → HasEntries schema key.column (indexes (key_index table which)) (said table which)
@@ -45,21 +49,26 @@ pub record HasNoPairs (indexes : ℕ → List Pair) (table : ℕ) : Type 0 where
   pub rows : indexes (clustered_index table) ≡ []
   pub entries : (which : ℕ) → which < 4 → indexes (key_index table which) ≡ []
 
+-- The records are these rows, and the entries of keys are of what they say of them. While a change of a place is under way
+-- a key may say of it what was there before.
+pub record AreCodedAs (schemas : List Schema) (indexes : ℕ → List Pair) (kept : ℕ → Option Kept) (chains : Chains) (said : Said) : Type 0 where
+  pub clustered : AreClustered schemas indexes kept chains
+  pub keyed : AreKeyed schemas indexes said
+
+-- Each key says what is there.
+abbrev pub what_is_there : Chains → Said
+what_is_there chains table which value = in_table table chains value
+
 -- The indexes of all tables, with what is kept for roll pointers, are these rows.
-pub record AreCoded (schemas : List Schema) (indexes : ℕ → List Pair) (kept : ℕ → Option Kept) (chains : Chains) : Type 0 where
-  pub clustered : AreClustered schemas indexes kept chains
-  pub keyed : AreKeyed schemas indexes (λ table which. in_table table chains)
+abbrev pub AreCoded : List Schema → (ℕ → List Pair) → (ℕ → Option Kept) → Chains → Type 0
+AreCoded schemas indexes kept chains = AreCodedAs schemas indexes kept chains (what_is_there chains)
 
--- at one place what the key of this number says, and elsewhere what is there
-abbrev pub said_but : Chains → Place → (ℕ → List Version) → ℕ → ℕ → Value → List Version
-said_but chains place said table which value =
-    if is_same_place place (record { table = table; key = value }) then said which else in_table table chains value
+-- Of all places but this one the keys say what is there.
+abbrev pub LagAt : Place → Chains → Said → Type 0
+LagAt place chains said =
+    (table which : ℕ) (value : Value) → is_same_place place (record { table = table; key = value }) ≡ false → said table which value ≡ in_table table chains value
 
--- While a change of one place is under way: each key says of that place what `said` has for it, and of all others what is there.
-pub record AreCodedBut (schemas : List Schema) (indexes : ℕ → List Pair) (kept : ℕ → Option Kept) (chains : Chains) (place : Place) (said : ℕ → List Version) : Type 0 where
-  pub clustered : AreClustered schemas indexes kept chains
-  pub keyed : AreKeyed schemas indexes (said_but chains place said)
-
--- one key says something else now
-abbrev pub SaysNow : (ℕ → List Version) → (ℕ → List Version) → ℕ → List Version → Type 0
-SaysNow old new which versions = (other : ℕ) → new other ≡ (if other == which then versions else old other)
+-- One key says something else of one place now.
+abbrev pub SaysNow : Said → Said → Place → ℕ → List Version → Type 0
+SaysNow old new place which versions =
+    (table key : ℕ) (value : Value) → new table key value ≡ (if key == which && is_same_place place (record { table = table; key = value }) then versions else old table key value)

@@ -1,41 +1,54 @@
-//! How a change of one place begins and ends, and how a table begins. Between, each key says of that place what was there,
-//! or what is there now, and all other places are as they were (`AreCodedBut`).
+//! How a change of a place begins and ends, and how a table begins. Between, each key says of that place what was there, or
+//! what is there now, and of all other places what is there.
 
 ghost use Rattle.std.specs.Prelude.{◌≡◌, ℕ, List, [], ◌∷◌, ◌++◌, length, Option, Some, slice_get};
 ghost use Rattle.inno_types.specs.declared.value.Key.{Key};
 ghost use Rattle.inno_types.specs.declared.value.Schema.{Schema};
+ghost use Rattle.inno_types.specs.declared.value.Value.{Value};
 ghost use Rattle.entries.specs.Pairs.{Pair};
 ghost use Rattle.chain.specs.declared.kept.Kept.{Kept};
 ghost use Rattle.row_versions.specs.declared.place.Place.{Place};
 ghost use Rattle.row_versions.specs.declared.version.Version.{Version};
-ghost use Rattle.row_versions.specs.Chains.{Chains, versions_at};
+ghost use Rattle.row_versions.specs.Chains.{Chains, versions_at, Pushes, Pops};
 ghost use Rattle.coded_rows.specs.Entries.{TellAlike};
-ghost use Rattle.coded_rows.specs.Tables.{AreCoded, AreCodedBut, HasItsColumns, HasNoPairs};
+ghost use Rattle.coded_rows.specs.Tables.{Said, AreCodedAs, AreCoded, what_is_there, LagAt, SaysNow, HasItsColumns, HasNoPairs};
 
-/// At first each key says what is there.
-pub fn a_change_begins()
-    ensures { (schemas : List Schema) (indexes : ℕ → List Pair) (kept : ℕ → Option Kept) (chains : Chains) (place : Place)
-        → AreCoded schemas indexes kept chains
-        → AreCodedBut schemas indexes kept chains place (λ which. versions_at place chains) }
+/// While a place changes, keys lag there alone: a change of its versions, or of what one key says of it, leaves what keys
+/// say of other places. At first they lag nowhere.
+pub fn keys_lag_at_the_place_alone()
+    ensures nowhere { (chains : Chains) (place : Place) → LagAt place chains (what_is_there chains) }
+    ensures pushed { (before after : Chains) (place : Place) (version : Version) (said : Said)
+        → LagAt place before said
+        → Pushes before after place version
+        → LagAt place after said }
+    ensures popped { (before after : Chains) (place : Place) (said : Said)
+        → LagAt place before said
+        → Pops before after place
+        → LagAt place after said }
+    ensures says { (chains : Chains) (place : Place) (was now : Said) (which : ℕ) (versions : List Version)
+        → LagAt place chains was
+        → SaysNow was now place which versions
+        → LagAt place chains now }
 {}
 
-/// Where what a key says tells its entries the same as other versions would, it says these.
-pub fn a_key_says_what_tells_alike()
-    ensures { (schemas : List Schema) (indexes : ℕ → List Pair) (kept : ℕ → Option Kept) (chains : Chains) (place : Place)
-        (was now : ℕ → List Version)
-        → AreCodedBut schemas indexes kept chains place was
-        → ((schema : Schema) (which : ℕ) (key : Key) → slice_get schemas place.table ≡ Some schema
-        → slice_get schema.keys which ≡ Some key → TellAlike key.column (was which) (now which))
-        → AreCodedBut schemas indexes kept chains place now }
+/// Where what keys say tells their entries the same as other versions would, they say these.
+pub fn keys_say_what_tells_alike()
+    ensures { (schemas : List Schema) (indexes : ℕ → List Pair) (kept : ℕ → Option Kept) (chains : Chains) (was now : Said)
+        → AreCodedAs schemas indexes kept chains was
+        → ((table which : ℕ) (schema : Schema) (key : Key) → slice_get schemas table ≡ Some schema
+        → slice_get schema.keys which ≡ Some key
+        → (value : Value) → TellAlike key.column (was table which value) (now table which value))
+        → AreCodedAs schemas indexes kept chains now }
 {}
 
-/// Once each key of the table says what is there, or what tells alike, all is coded again.
+/// Once the keys lag at one place at most, and what each says of it tells alike with what is there, all is coded again.
 pub fn a_change_is_over()
-    ensures { (schemas : List Schema) (indexes : ℕ → List Pair) (kept : ℕ → Option Kept) (chains : Chains) (place : Place)
-        (said : ℕ → List Version)
-        → AreCodedBut schemas indexes kept chains place said
-        → ((schema : Schema) (which : ℕ) (key : Key) → slice_get schemas place.table ≡ Some schema
-        → slice_get schema.keys which ≡ Some key → TellAlike key.column (said which) (versions_at place chains))
+    ensures { (schemas : List Schema) (indexes : ℕ → List Pair) (kept : ℕ → Option Kept) (chains : Chains) (place : Place) (said : Said)
+        → AreCodedAs schemas indexes kept chains said
+        → LagAt place chains said
+        → ((which : ℕ) (schema : Schema) (key : Key) → slice_get schemas place.table ≡ Some schema
+        → slice_get schema.keys which ≡ Some key
+        → TellAlike key.column (said place.table which place.key) (versions_at place chains))
         → AreCoded schemas indexes kept chains }
 {}
 

@@ -17,7 +17,7 @@ ghost use Rattle.row_versions.specs.Chains.{Chains, versions_at, newest, older};
 ghost use Rattle.coded_rows.specs.Edits.{clustered_index, key_index};
 ghost use Rattle.coded_rows.specs.Entries.{value_in, has_value, entry_at, IsOfNewest, IsOfSome};
 ghost use Rattle.coded_rows.specs.Records.{shown, IsCodeOf, LeadTo, IsRecordWith, IsRowAt};
-ghost use Rattle.coded_rows.specs.Tables.{in_table, said_but, AreClustered, AreCoded, AreCodedBut};
+ghost use Rattle.coded_rows.specs.Tables.{Said, in_table, AreClustered, AreCodedAs, AreCoded};
 
 /// What is decoded from a record is the newest version of its row, and its pointer leads to the others. A value whose key
 /// has no record has no versions, and neither has a value without a key.
@@ -78,7 +78,8 @@ pub fn rows_stand_at_their_places()
 {}
 
 /// The entry of each version's row is in each key, so a search through a key misses no row; that of the newest row has no
-/// mark. While a change is under way the entries of its place are those that the key tells of.
+/// mark. Of a place where the key lags, the entries
+/// of what it says are there.
 pub fn a_search_through_a_key_misses_no_row()
     ensures found { (schemas : List Schema) (indexes : ℕ → List Pair) (kept : ℕ → Option Kept) (chains : Chains) (table which : ℕ)
         (schema : Schema) (key : Key) (primary indexed : Column) (value : Value)
@@ -101,16 +102,16 @@ pub fn a_search_through_a_key_misses_no_row()
         → HasKey primary.kind value
         → newest (in_table table chains value) ≡ Some row
         → value_of (entry_at primary.kind indexed.kind key.column value row) (indexes (key_index table which)) ≡ Some (0 ∷ []) }
-    ensures under_way { (schemas : List Schema) (indexes : ℕ → List Pair) (kept : ℕ → Option Kept) (chains : Chains) (place : Place)
-        (said : ℕ → List Version) (table which : ℕ) (schema : Schema) (key : Key) (primary indexed : Column) (value : Value)
-        → AreCodedBut schemas indexes kept chains place said
+    ensures under_way { (schemas : List Schema) (indexes : ℕ → List Pair) (kept : ℕ → Option Kept) (chains : Chains)
+        (said : Said) (table which : ℕ) (schema : Schema) (key : Key) (primary indexed : Column) (value : Value)
+        → AreCodedAs schemas indexes kept chains said
         → slice_get schemas table ≡ Some schema
         → slice_get schema.keys which ≡ Some key
         → slice_get schema.columns schema.primary ≡ Some primary
         → slice_get schema.columns key.column ≡ Some indexed
         → HasKey primary.kind value
         → All (λ version. IfSome version.row (λ row.
-        list_any (λ told. has_value key.column (value_in key.column row) told.row) (said_but chains place said table which value) ≡ true
+        list_any (λ told. has_value key.column (value_in key.column row) told.row) (said table which value) ≡ true
         → is_some (value_of (entry_at primary.kind indexed.kind key.column value row) (indexes (key_index table which))) ≡ true))
         (in_table table chains value) }
 {}

@@ -1,5 +1,5 @@
-use Rattle.coded_rows.proofs.Steps.{change_ends}
+use Rattle.coded_rows.proofs.Keys.{change_over}
 use Rattle.coded_rows.proofs.changes.a_change_is_over.Goals as goal
 
 pub returns : goal.returns
-returns c = change_ends
+returns c = change_over

@@ -1,5 +1,5 @@
 use Rattle.coded_rows.proofs.Keys.{said_alike}
-use Rattle.coded_rows.proofs.changes.a_key_says_what_tells_alike.Goals as goal
+use Rattle.coded_rows.proofs.changes.keys_say_what_tells_alike.Goals as goal
 
 pub returns : goal.returns
 returns c = said_alike
