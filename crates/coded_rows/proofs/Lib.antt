@@ -9,3 +9,4 @@ pub mod Found
 pub mod Steps
 pub mod Made
 pub mod FromTables
+pub mod Together

@@ -131,3 +131,11 @@ pub key_there : (schema : Schema) (key bytes : List ℕ) (coded : Coded) (primar
 key_there schema key bytes coded primary is code =
     let one : code.record_is.key_is.column ≡ primary = cc (code.record_is.key_is.primary, is) in
     ((rw one at code.record_is.key_is.present, bits_in coded.row schema.primary code.numbers.row), rw one at code.record_is.key_is.spelled)
+
+-- Versions whose records have one key are of one place.
+pub one_place : (schema : Schema) (key bytes others : List ℕ) (coded other : Coded) → IsCodeOf schema key bytes coded → IsCodeOf schema key others other → key_of schema coded.row ≡ key_of schema other.row
+one_place schema key bytes others coded other code also =
+    let primary = code.record_is.key_is.column in
+    let a = key_there schema key bytes coded primary code.record_is.key_is.primary code in
+    let b = key_there schema key others other primary code.record_is.key_is.primary also in
+    one_key primary.kind (key_of schema coded.row) (key_of schema other.row) a.0 b.0 (sym a.1 ∙ b.1)

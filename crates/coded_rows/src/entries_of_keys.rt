@@ -1,6 +1,6 @@
-//! One entry of a key is put, marked, unmarked or removed: what the key says of that place changes, and nothing else. A change marks the old
-//! row's entry and then puts the new row's; taking it back goes the other way. `gone` is any version without a row: between
-//! the two steps the key says that there is no row.
+//! One entry of a key is put, marked, unmarked or removed: what the key says of that place changes, and nothing else.
+//! A change marks the old row's entry and then puts the new row's; taking it back goes the other way. `gone` is any version
+//! without a row: between the two steps the key says that there is no row.
 
 ghost use Rattle.std.specs.Prelude.{◌≡◌, ℕ, false, if◌then◌else◌, List, [], ◌∷◌, Option, None, Some};
 ghost use Rattle.std.specs.List.{list_any};

@@ -68,9 +68,14 @@ pub fn a_pointer_is_followed()
         → versions ≡ [] }
 {}
 
-/// Each version's row is one of its table, and stands at the place of its own primary value.
+/// Each version's row is one of its table, and stands at the place of its own primary value. Versions whose records have one
+/// key are of one place.
 pub fn rows_stand_at_their_places()
-    ensures { (schemas : List Schema) (indexes : ℕ → List Pair) (kept : ℕ → Option Kept) (chains : Chains) (table : ℕ)
+    ensures by_key { (schema : Schema) (key bytes others : List ℕ) (coded other : Coded)
+        → IsCodeOf schema key bytes coded
+        → IsCodeOf schema key others other
+        → key_of schema coded.row ≡ key_of schema other.row }
+    ensures rows { (schemas : List Schema) (indexes : ℕ → List Pair) (kept : ℕ → Option Kept) (chains : Chains) (table : ℕ)
         (schema : Schema) (value : Value)
         → AreClustered schemas indexes kept chains
         → slice_get schemas table ≡ Some schema
