@@ -4,15 +4,16 @@ use Rattle.store_api.specs.Causes.{Rose}
 use Rattle.entries.specs.declared.answers.Move.{Move}
 use Rattle.entries.specs.declared.answers.Move.TheVariants.{At, End, Done, Step, Latch, Again, Full, TooDeep, Failed, Bad, NoMemory}
 use Rattle.entries.specs.Pairs.{Pair, value_of, first_from, first_after, with_pair, without_key}
-use Rattle.entries.specs.Index.{Paged, Index, Told, IsAsBefore, IsGiven, HasGone, InPages, IsBelow, IsFree, IsHeld}
+use Rattle.entries.specs.Index.{Paged, Index, Told, AreKept, IsAsBefore, IsGiven, HasGone, InPages, IsBelow, IsFree, IsHeld}
 
 -- The call has not ended, by a cause that only an index in pages has. All is as it was.
 pub record IsPutOff (why : Paged → Paged → Type 0) (old new : Index) : Type 0 where
   pub all : IsAsBefore old new
   pub cause : InPages why old.paged new.paged
 
--- After a fault of the disk nobody knows what its pages hold.
+-- After a fault of the disk nobody may know what its pages hold. No pair has changed that is still told.
 pub record IsBroken (old new : Index) : Type 0 where
+  pub pairs : AreKept old.pairs new.pairs
   pub place : new.place ≡ old.place
   pub awaited : new.awaited ≡ old.awaited
   pub cause : InPages (λ before now. Rose before.faults now.faults) old.paged new.paged

@@ -1,0 +1,36 @@
+//! Room for one undo record that is read without taking memory. Rollback keeps one for each log.
+
+ghost use Rattle.std.specs.Prelude.{IfOk};
+ghost use Rattle.world.specs.Undoing.{HoldsRecord};
+
+use std::alloc::Global;
+use store_api::NoMemory;
+
+/// The longest key and the longest value of a record.
+const MOST_BYTES_OF_KEY: usize = 67;
+
+const MOST_BYTES_OF_VALUE: usize = 1024;
+
+/// An undo record as it is read: of which kind (1 tells of a new row, 2 keeps the version that was replaced), of which
+/// table, and the clustered key and value.
+#[derive(Drop)]
+pub struct UndoRoom {
+    pub kind: u8,
+    pub table: u8,
+    pub key: Vec<u8>,
+    pub value: Vec<u8>,
+}
+
+impl UndoRoom {
+    /// Takes the memory for the longest record.
+    pub fn new(alloc: Global) -> Result<UndoRoom, NoMemory>
+        ensures { IfOk result HoldsRecord }
+    {
+        Ok(UndoRoom {
+            kind: 0,
+            table: 0,
+            key: Vec::with_capacity(alloc, MOST_BYTES_OF_KEY)?,
+            value: Vec::with_capacity(alloc, MOST_BYTES_OF_VALUE)?,
+        })
+    }
+}
