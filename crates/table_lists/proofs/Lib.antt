@@ -1,8 +1,8 @@
 pub mod Ids
-mod Opens
-mod Standing
-mod Rows
+pub mod Opens
+pub mod Standing
+pub mod Rows
 pub mod Tables
 mod Owed
-mod Agree
+pub mod Agree
 mod Found
