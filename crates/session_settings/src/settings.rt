@@ -98,6 +98,13 @@ impl SessionSettings {
         Ok(())
     }
 
+    /// The savepoints that were made after the one of this name go. It takes no memory.
+    pub fn back_to(&mut self, name: &Bytes)
+        ensures { self.new ≡ record self.old { saves = back_to name.now self.old.saves } }
+    {
+        drop_later(&mut self.saves, name);
+    }
+
     /// What a statement that was done sets, other than a savepoint of an open transaction. It takes no memory.
     pub fn set_by(&mut self, stmt: &Stmt)
         ensures { (made : ℕ) → self.new ≡ set_by stmt.now made false self.old }

@@ -7,7 +7,7 @@ use Rattle.entries.specs.declared.answers.Move.{Move}
 use Rattle.entries.specs.declared.answers.Move.TheVariants.{NoMemory}
 use Rattle.entries.specs.Pairs.{AreSound}
 use Rattle.entries.specs.Index.{Index, Told, IsAsBefore, GoesOn}
-use Rattle.entries.specs.Calls.{is_done, Replaces}
+use Rattle.entries.specs.Calls.{is_done, Inserts, Replaces}
 use Rattle.chain.specs.Versions.{Versions, Stays}
 use Rattle.row_codec.specs.Rows.{IsRecordOf, IsVersion}
 use Rattle.world.specs.State.{WorldState, Session, Work, HasWork, with_work}
@@ -97,7 +97,11 @@ pub record Calls (index : ℕ) (call : Index → Index → Type 0) (old new : Wo
   pub index_is : InIndex index call old new
   pub beside : StaysBeside old new
 
--- Room for an undo record may be lacking, where one comes beside the change.
+-- Memory for an undo record may be lacking, where one comes beside the change.
+abbrev pub InsertsWith : Option Undo → ℕ → List ℕ → List ℕ → Index → Index → Move → Type 0
+InsertsWith (Some undo) actor key value old new NoMemory = IsAsBefore old new
+InsertsWith undo actor key value old new answer = Inserts actor key value old new answer
+
 abbrev pub ReplacesWith : Option Undo → ℕ → List ℕ → List ℕ → Index → Index → Move → Type 0
 ReplacesWith (Some undo) actor key value old new NoMemory = IsAsBefore old new
 ReplacesWith undo actor key value old new answer = Replaces actor key value old new answer

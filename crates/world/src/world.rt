@@ -2,13 +2,13 @@
 
 ghost use Rattle.std.specs.Prelude.{◌≡◌, ◌≢◌, ℕ, ◌+◌, ◌-◌, ◌≤◌, ◌<◌, ◌^◌, [], false, true, length, slice_get, option_copied, OnOk, OnErr, IfOk, IfSome, IfNone, IsOk, IsSome, Some, None, vec_capacity};
 ghost use Rattle.inno_db.specs.declared.change.Change.TheVariants.{Put, Remove};
-ghost use Rattle.entries.specs.Calls.{is_done, Seeks, Follows, Fetches, NextKeys, Inserts, Removes, Tidies, Leaves};
+ghost use Rattle.entries.specs.Calls.{is_done, Seeks, Follows, Fetches, NextKeys, Removes, Tidies, Leaves};
 ghost use Rattle.chain.specs.Versions.{IsPointer};
 ghost use Rattle.chain.specs.Calls.{ShowsVersion, ShowsBytes, has_read};
 ghost use Rattle.txn_table.specs.Txns.{ids_of, id_at, is_there};
 ghost use Rattle.sql_history.specs.Settings.{made_at};
 ghost use Rattle.world.specs.State.{WorldState, Session, Work, IsIndex, IsSession, HasWork, standing_of};
-ghost use Rattle.world.specs.Indexes.{Calls, Changes, MayBring, ReplacesWith};
+ghost use Rattle.world.specs.Indexes.{Calls, Changes, MayBring, InsertsWith, ReplacesWith};
 ghost use Rattle.world.specs.Undoing.{IsUnchanged, MakesRoom, HoldsRecord, read_into, ReadsLast, CutsBack};
 ghost use Rattle.world.specs.Sessions.{IsShown, begun, identified, ended, with_save, back_at_save, with_room, begin_added, view_added, change_added, undone_added, committed_added, rolled_back_added};
 
@@ -67,7 +67,7 @@ pub trait World {
         requires key { length key.now ≤ 67 }
         requires value { length value.now ≤ 1024 }
         requires undo { MayBring actor (option_copied undo) (state self.old) }
-        ensures { Changes index actor (option_copied undo.entry) (λ before after answer. Inserts actor key.now value.now before after answer) (state self.old) (state self.new) result };
+        ensures { Changes index actor (option_copied undo.entry) (λ before after answer. InsertsWith (option_copied undo.entry) actor key.now value.now before after answer) (state self.old) (state self.new) result };
 
     /// Gives the key another value, or answers `End`. The undo record comes with the value.
     fn replace(

@@ -1,19 +1,15 @@
 -- That a world agrees with its past.
-use Rattle.std.specs.Prelude.{◌≡◌, ℕ, ◌+◌, IsTrue, IsSome, List, [], ◌∷◌, map, length, Option, Some, None, option_map}
+use Rattle.std.specs.Prelude.{◌≡◌, ℕ, ◌+◌, List, [], ◌∷◌, map, length, Option, Some, None, option_map}
 use Rattle.inno_types.specs.declared.value.Schema.{Schema}
-use Rattle.inno_types.specs.declared.value.Value.{Value}
 use Rattle.inno_model.specs.declared.event.Event.{Event}
 use Rattle.inno_model.specs.Past.{own, started}
 use Rattle.read_view.specs.Sight.{Sight}
-use Rattle.entries.specs.Pairs.{Pair}
 use Rattle.row_versions.specs.declared.place.Place.{Place}
-use Rattle.row_versions.specs.declared.version.Version.{Version}
 use Rattle.row_versions.specs.Chains.{Chains}
 use Rattle.table_lists.specs.Slots.{Slot}
 use Rattle.table_lists.specs.Slots as slots
 use Rattle.table_lists.specs.Rows.{place_in}
 use Rattle.table_lists.specs.Agreement.{IsAgreed, owed_by_all}
-use Rattle.coded_rows.specs.Tables.{AreCoded, AreCodedAs}
 use Rattle.world.specs.State.{WorldState, Session, Work, Seen, HasWork}
 
 -- ---- sessions and transactions
