@@ -1,0 +1,9 @@
+pub mod Worlds
+pub mod Sessions
+pub mod Changing
+pub mod Ids
+pub mod Recorded
+pub mod KeySteps
+pub mod Telling
+pub mod KeyLists
+pub mod Keying

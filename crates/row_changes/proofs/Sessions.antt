@@ -1,0 +1,65 @@
+-- Lists of sessions in which one is another now.
+use Rattle.std.proofs.Common.{◌≡◌, ◌≢◌, ℕ, zero, suc, List, [], ◌∷◌, length, Option, Some, None, refl, sym, ap, ◌∙◌}
+use Rattle.std.specs.Prelude.{slice_get, slice_set}
+use Rattle.std.proofs.lemmas.List.{length-set}
+use Rattle.entries.specs.Index.{AreKept}
+use Rattle.chain.specs.Versions.{Versions, Stays}
+use Rattle.world.specs.State.{WorldState, Session, IsSession, with_session}
+use Rattle.row_changes.specs.Asides.{IsReadied, StepsAside}
+use Rattle.row_changes.specs.Pairs.{RowsStay}
+
+pub set_here : {X : Type 0} (xs : List X) (i : ℕ) (x a : X) → slice_get xs i ≡ Some x → slice_get (slice_set xs i a) i ≡ Some a
+set_here [] i x a there = absurd (cc)
+set_here (y ∷ xs) zero x a there = refl
+set_here (y ∷ xs) (suc i) x a there = set_here xs i x a there
+
+pub set_other : {X : Type 0} (xs : List X) (i j : ℕ) (a : X) → j ≢ i → slice_get (slice_set xs i a) j ≡ slice_get xs j
+set_other [] i j a differs = refl
+set_other (y ∷ xs) zero zero a differs = absurd (differs refl)
+set_other (y ∷ xs) zero (suc j) a differs = refl
+set_other (y ∷ xs) (suc i) zero a differs = refl
+set_other (y ∷ xs) (suc i) (suc j) a differs = set_other xs i j a (λ e. differs (ap suc e))
+
+-- a session is there once
+pub one_session : (state : WorldState) (s : ℕ) (a b : Session) → IsSession s a state → IsSession s b state → a ≡ b
+one_session state s a b first second = cc
+
+-- what was told stays
+pub same_pairs : (pairs : Option (List (List ℕ × List ℕ))) → AreKept pairs pairs
+same_pairs None = record {}
+same_pairs (Some pairs) = refl
+
+pub same_versions : (versions : Versions) → Stays versions versions
+same_versions versions = record { told = λ h. h; kept = λ h. refl }
+
+-- the session alone has other rooms
+abbrev pub readied_alone : (s : ℕ) (before after : Session) (old : WorldState) → IsSession s before old → IsReadied before after → StepsAside s old (with_session s after old)
+readied_alone s before after old there readied =
+    record {
+      pairs = λ index. same_pairs (old.indexes index).pairs;
+      versions = same_versions old.versions;
+      before = before;
+      after = after;
+      was = there;
+      is = set_here old.sessions s before after there;
+      readied = readied;
+      others = λ t differs. set_other old.sessions s t after differs;
+      count = length-set old.sessions s after;
+      rest = refl;
+    }
+
+-- nothing has changed but pairs that are told no longer
+abbrev pub aside_of_stay : {s : ℕ} {session : Session} {old new : WorldState} → IsSession s session old → RowsStay old new → StepsAside s old new
+aside_of_stay {s} {session} {old} {new} there stay =
+    record {
+      pairs = stay.pairs;
+      versions = stay.versions;
+      before = session;
+      after = session;
+      was = there;
+      is = ap (λ (state : WorldState). slice_get state.sessions s) stay.rest ∙ there;
+      readied = record { setting = refl; work = refl; can_reply = refl; can_ack = refl };
+      others = λ t differs. ap (λ (state : WorldState). slice_get state.sessions t) stay.rest;
+      count = ap (λ (state : WorldState). length state.sessions) stay.rest;
+      rest = stay.rest ∙ ap (λ (sessions : List Session). record old { indexes = new.indexes; versions = new.versions; paged = new.paged; sessions = sessions }) (sym (ap (λ (state : WorldState). state.sessions) stay.rest));
+    }

@@ -1,0 +1,40 @@
+use Rattle.row_changes.proofs.record_change.RecordChange.insert.Goals as goal
+use Rattle.std.proofs.Common.{refl, subst, sym}
+use Rattle.row_changes.specs.declared.record_change.RecordStage.TheVariants.{Insert}
+use Rattle.row_codec.specs.Rows.{IsRowOf}
+use Rattle.row_changes.proofs.Changing.{stage_at}
+use Rattle.row_changes.proofs.Recorded.{key_short, value_short, first_fits, version_first, may_log_new, may_enter, inserted_logs, inserted, insert_hindered, value_of_row, found_first}
+
+abbrev pub coded-requires : goal.coded-requires
+coded-requires g c =
+    let p = c.requires.changing in
+    (p.schema, p.table.there, (version_first _ _ _ p c.requires.stage _ _ _ c.in-Ok.ensures).0)
+
+abbrev pub insert-requires-clause-key : goal.insert-requires-clause-key
+insert-requires-clause-key g c = key_short _ _ _ c.requires.changing
+
+abbrev pub insert-requires-clause-value : goal.insert-requires-clause-value
+insert-requires-clause-value g c =
+    let p = c.requires.changing in
+    value_short p.schema _ _ _ p.table.storable (version_first _ _ _ p c.requires.stage _ _ _ c.in-Ok.ensures) (c.in-Ok-coded.ensures p.schema p.table.there)
+
+abbrev pub insert-requires-clause-undo : goal.insert-requires-clause-undo
+insert-requires-clause-undo g c =
+    let p = c.requires.changing in
+    may_log_new _ _ _ p _ (stage_at _ _ _ Insert p c.requires.stage).0 c.in-Ok-undo_of_new.ensures
+
+abbrev pub enter-requires : goal.enter-requires
+enter-requires g c =
+    let p = c.requires.changing in
+    may_enter _ _ _ _ _ p (stage_at _ _ _ Insert p c.requires.stage).0 (inserted_logs _ _ _ _ _ _ _ (rw c.in-Done.is at c.insert.ensures))
+
+abbrev pub returns-in-Done : goal.returns-in-Done
+returns-in-Done g c =
+    let p = c.requires.changing in
+    let value = value_of_row p.schema _ _ _ _ _ _ _ _ _ (c.in-Ok-coded.ensures p.schema p.table.there) c.in-Ok.ensures (found_first _ c.requires.stage) (c.writer_of-writer.ensures p.session p.work p.has_work) refl in
+    inserted _ _ _ _ _ p _ _ c.requires.stage value c.in-Ok-undo_of_new.ensures (rw c.index.ensures at (rw c.in-Done.is at c.insert.ensures)) c.enter.ensures
+
+abbrev pub returns-in_default-insert : goal.returns-in_default-insert
+returns-in_default-insert g c =
+    let p = c.requires.changing in
+    insert_hindered _ _ _ _ p _ _ _ c.requires.stage (rw c.index.ensures at c.insert.ensures) c.in_default-insert.not-Done

@@ -1,0 +1,36 @@
+use Rattle.row_changes.proofs.record_change.RecordChange.replace.Goals as goal
+use Rattle.row_changes.proofs.Recorded.{rows_index, value_of_row, found_at, value_short, version_next, may_log_former, may_enter_over, replaced_logs, replaced, replace_hindered}
+
+abbrev pub coded-requires : goal.coded-requires
+coded-requires g c =
+    let p = c.requires.changing in
+    (p.schema, p.table.there, (version_next _ _ _ p _ _ c.requires.stage.2 _ _ _ c.in-Ok-version.ensures).0)
+
+abbrev pub replace-requires-clause-index : goal.replace-requires-clause-index
+replace-requires-clause-index g c = rows_index _ _ _ c.requires.changing _ c.index.ensures
+
+abbrev pub replace-requires-clause-value : goal.replace-requires-clause-value
+replace-requires-clause-value g c =
+    let p = c.requires.changing in
+    value_short p.schema _ _ _ p.table.storable (version_next _ _ _ p _ _ c.requires.stage.2 _ _ _ c.in-Ok-version.ensures) (c.in-Ok-coded.ensures p.schema p.table.there)
+
+abbrev pub replace-requires-clause-undo : goal.replace-requires-clause-undo
+replace-requires-clause-undo g c =
+    let at = c.requires.stage.2 in
+    may_log_former _ _ _ c.requires.changing _ _ _ at (c.in-Ok.ensures _ _ at).1
+
+abbrev pub enter-requires : goal.enter-requires
+enter-requires g c =
+    may_enter_over _ _ _ _ _ c.requires.changing _ _ c.requires.stage.2 (replaced_logs _ _ _ _ _ _ _ (rw c.in-Done.is at c.replace.ensures))
+
+abbrev pub returns-in-Done : goal.returns-in-Done
+returns-in-Done g c =
+    let p = c.requires.changing in
+    let at = c.requires.stage.2 in
+    let told = c.in-Ok.ensures _ _ at in
+    let value = value_of_row p.schema _ _ _ _ _ _ _ _ _ (c.in-Ok-coded.ensures p.schema p.table.there) c.in-Ok-version.ensures (found_at _ _ _ at) (c.writer_of-writer.ensures p.session p.work p.has_work) (c.next_pointer-pointer.ensures p.session p.has_work.session_is) in
+    replaced _ _ _ _ _ p _ _ _ _ _ at value told.1 told.0 (rw c.index.ensures at (rw c.in-Done.is at c.replace.ensures)) c.enter.ensures
+
+abbrev pub returns-in_default-replace : goal.returns-in_default-replace
+returns-in_default-replace g c =
+    replace_hindered _ _ _ _ c.requires.changing _ _ _ _ _ c.requires.stage.2 (rw c.index.ensures at c.replace.ensures) c.in_default-replace.not-Done

@@ -1,0 +1,96 @@
+-- What is known of a change of one entry between its steps, and what each step does.
+use Rattle.std.specs.Prelude.{◌≡◌, ℕ, ◌<◌, ◌≤◌, Bool, true, false, List, [], ◌∷◌, length, None, Some, is_some}
+use Rattle.entries.specs.declared.answers.Move.{Move}
+use Rattle.entries.specs.declared.answers.Move.TheVariants.{End}
+use Rattle.entries.specs.Pairs.{value_of}
+use Rattle.entries.specs.Index.{Index, Told}
+use Rattle.world.specs.State.{WorldState, IsIndex}
+use Rattle.row_changes.specs.declared.reached.Reached.{Reached}
+use Rattle.row_changes.specs.declared.reached.Reached.TheVariants.{Went, Done, Hindered}
+use Rattle.row_changes.specs.declared.entry_put.EntryPut.{EntryPut}
+use Rattle.row_changes.specs.declared.entry_put.PutPhase.{PutPhase}
+use Rattle.row_changes.specs.declared.entry_put.PutPhase.TheVariants.{Look, Unmark, Next, Insert}
+use Rattle.row_changes.specs.declared.entry_mark.EntryMark.{EntryMark}
+use Rattle.row_changes.specs.declared.entry_drop.EntryDrop.{EntryDrop}
+use Rattle.row_changes.specs.declared.entry_drop.DropPhase.{DropPhase}
+use Rattle.row_changes.specs.declared.entry_drop.DropPhase.TheVariants as drops
+use Rattle.row_changes.specs.Pairs.{RowsStay, PutsPair, Hinders}
+
+-- the value of an entry is its mark
+abbrev pub unmarked : List ℕ
+unmarked = 0 ∷ []
+
+abbrev pub marked : List ℕ
+marked = 1 ∷ []
+
+-- the entry is there, or isn't
+abbrev pub IsThere : Bool → List ℕ → Index → Type 0
+IsThere there entry index = Told (λ pairs. is_some (value_of entry pairs) ≡ there) index
+
+abbrev pub PutPhaseHolds : PutPhase → List ℕ → Index → Type 0
+PutPhaseHolds Look entry index = Unit {0}
+PutPhaseHolds Unmark entry index = IsThere true entry index
+PutPhaseHolds Next entry index = IsThere false entry index
+PutPhaseHolds Insert entry index = IsThere false entry index
+
+pub record IsPutting (state : WorldState) (put : EntryPut) : Type 0 where
+  pub index_is : IsIndex state.schemas put.index
+  pub short : length put.entry ≤ 67
+  pub phase : PutPhaseHolds put.phase put.entry (state.indexes put.index)
+
+-- how many steps are left at most
+abbrev pub put_steps : PutPhase → ℕ
+put_steps Look = 3
+put_steps Unmark = 1
+put_steps Next = 2
+put_steps Insert = 1
+
+-- the same entry, some steps nearer
+pub record GoesOnPutting (old new : WorldState) (put next : EntryPut) : Type 0 where
+  pub stays : RowsStay old new
+  pub index_is : next.index ≡ put.index
+  pub entry_is : next.entry ≡ put.entry
+  pub holds : IsPutting new next
+  pub nears : put_steps next.phase < put_steps put.phase
+
+abbrev pub PutsEntry : ℕ → WorldState → WorldState → EntryPut → Reached EntryPut → Type 0
+PutsEntry actor old new put (Went next) = GoesOnPutting old new put next
+PutsEntry actor old new put Done = PutsPair put.index put.entry (Some unmarked) old new
+PutsEntry actor old new put (Hindered same why) = (same ≡ put) × RowsStay old new × IsPutting new put × Hinders actor (old.indexes put.index) (new.indexes put.index) why
+
+-- ---- marking
+
+-- Why an entry was not marked or removed: it isn't there, or the call of its index was hindered.
+abbrev pub HindersEntry : ℕ → List ℕ → Index → Index → Move → Type 0
+HindersEntry actor entry old new End = Told (λ pairs. value_of entry pairs ≡ None) old
+HindersEntry actor entry old new other = Hinders actor old new other
+
+pub record IsMarking (state : WorldState) (mark : EntryMark) : Type 0 where
+  pub index_is : IsIndex state.schemas mark.index
+
+abbrev pub MarksEntry : ℕ → WorldState → WorldState → EntryMark → Reached EntryMark → Type 0
+MarksEntry actor old new mark (Went next) = ⊥
+MarksEntry actor old new mark Done = PutsPair mark.index mark.entry (Some marked) old new
+MarksEntry actor old new mark (Hindered same why) = (same ≡ mark) × RowsStay old new × IsMarking new mark × HindersEntry actor mark.entry (old.indexes mark.index) (new.indexes mark.index) why
+
+-- ---- removing
+
+pub record IsDropping (state : WorldState) (drop : EntryDrop) : Type 0 where
+  pub index_is : IsIndex state.schemas drop.index
+
+abbrev pub drop_steps : DropPhase → ℕ
+drop_steps drops.Next = 2
+drop_steps drops.Remove = 1
+
+-- the same entry, a step nearer
+pub record GoesOnDropping (old new : WorldState) (drop next : EntryDrop) : Type 0 where
+  pub stays : RowsStay old new
+  pub index_is : next.index ≡ drop.index
+  pub entry_is : next.entry ≡ drop.entry
+  pub holds : IsDropping new next
+  pub nears : drop_steps next.phase < drop_steps drop.phase
+
+abbrev pub DropsEntry : ℕ → WorldState → WorldState → EntryDrop → Reached EntryDrop → Type 0
+DropsEntry actor old new drop (Went next) = GoesOnDropping old new drop next
+DropsEntry actor old new drop Done = PutsPair drop.index drop.entry None old new
+DropsEntry actor old new drop (Hindered same why) = (same ≡ drop) × RowsStay old new × IsDropping new drop × HindersEntry actor drop.entry (old.indexes drop.index) (new.indexes drop.index) why

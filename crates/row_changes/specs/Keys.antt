@@ -1,0 +1,122 @@
+-- What is known while the keys of a table take over a change of a row, and what each step does.
+use Rattle.std.specs.Prelude.{◌≡◌, ℕ, ◌+◌, ◌-◌, ◌*◌, ◌^◌, ◌<◌, ◌≤◌, Bool, true, false, List, ◌∷◌, length, slice_get, Option, None, Some, IfSome}
+use Rattle.inno_types.specs.declared.value.Value.{Value}
+use Rattle.inno_types.specs.declared.value.Column.{Column}
+use Rattle.inno_types.specs.declared.value.Key.{Key}
+use Rattle.inno_types.specs.declared.value.Schema.{Schema}
+use Rattle.entries.specs.declared.answers.Move.{Move}
+use Rattle.entries.specs.declared.answers.Move.TheVariants.{NoMemory}
+use Rattle.chain.specs.Versions.{Stays}
+use Rattle.key_codec.specs.Keys.{entry_code}
+use Rattle.row_versions.specs.declared.place.Place.{Place}
+use Rattle.row_versions.specs.declared.version.Version.{Version}
+use Rattle.row_versions.specs.Chains.{Chains, versions_at, newest}
+use Rattle.coded_rows.specs.Edits.{key_index}
+use Rattle.coded_rows.specs.Entries.{value_in, is_same_value}
+use Rattle.coded_rows.specs.Tables.{Said, LagAt}
+use Rattle.world.specs.State.{WorldState}
+use Rattle.row_changes.specs.declared.entry_put.EntryPut.{EntryPut}
+use Rattle.row_changes.specs.declared.entry_put.PutPhase.TheVariants.{Look}
+use Rattle.row_changes.specs.declared.keys_change.KeysChange.{KeysChange}
+use Rattle.row_changes.specs.declared.reached.Reached.{Reached}
+use Rattle.row_changes.specs.declared.reached.Reached.TheVariants.{Went, Done, Hindered}
+use Rattle.row_changes.specs.Pairs.{RowsStay}
+use Rattle.row_changes.specs.Entries.{IsPutting, put_steps, HindersEntry}
+use Rattle.row_changes.specs.Edits.{IsRowFor, IsKeyAt}
+use Rattle.row_changes.specs.Records.{IsTable}
+use Rattle.row_changes.specs.KeyEntries.{IsEntryFor}
+use Rattle.row_changes.specs.Told.{IsTold, AreRowsAs, HasRows}
+
+-- ---- what keys say meanwhile
+
+-- a version without a row
+abbrev pub gone : Version
+gone = record { writer = 0; row = None }
+
+-- what a key says whose old entry is marked: the row that was there has gone
+abbrev pub without_row : Option (List Value) → List Version → List Version
+without_row None older = older
+without_row (Some row) older = gone ∷ older
+
+-- what the next key says: as long as its new entry isn't being put, what was there before
+abbrev pub said_next : Option EntryPut → Option (List Value) → List Version → List Version
+said_next None before older = older
+said_next (Some put) before older = without_row before older
+
+-- Of all places but this one the keys say what is there. Of this one the first keys say what is there, the next one says
+-- this, and the later ones what was there before.
+pub record SaySoFar (chains : Chains) (place : Place) (done : ℕ) (next older : List Version) (said : Said) : Type 0 where
+  pub lag : LagAt place chains said
+  pub first : (which : ℕ) → which < done → said place.table which place.key ≡ versions_at place chains
+  pub here : said place.table done place.key ≡ next
+  pub later : (which : ℕ) → done < which → said place.table which place.key ≡ older
+
+-- where told, the rows are these, and the keys say so much of the place
+abbrev pub HasRowsSoFar : Chains → Place → ℕ → List Version → List Version → WorldState → Type 0
+HasRowsSoFar chains place done next older state = IsTold state → (said : Said) × AreRowsAs chains said state × SaySoFar chains place done next older said
+
+-- a version came to the place, over these older ones: the row was the one before, and is the one after
+pub record IsPushed (chains : Chains) (place : Place) (older : List Version) (before after : Option (List Value)) : Type 0 where
+  pub version : Version
+  pub versions : versions_at place chains ≡ version ∷ older
+  pub was : newest older ≡ before
+  pub is : version.row ≡ after
+  pub small : version.writer < 2 ^ 64
+
+-- the row's new entry in a key is being put
+pub record IsEntering (schema : Schema) (table which : ℕ) (row : Option (List Value)) (primary : List ℕ) (state : WorldState) (put : EntryPut) : Type 0 where
+  pub index_is : put.index ≡ key_index table which
+  pub entry_is : IsEntryFor schema which row primary (Some put.entry)
+  pub within : which < length schema.keys
+  pub putting : IsPutting state put
+
+pub record IsChangingKeys (chains : Chains) (state : WorldState) (change : KeysChange) : Type 0 where
+  pub schema : Schema
+  pub table : IsTable change.table schema state
+  pub value : Value
+  pub at : IsKeyAt schema value change.key
+  pub before : IfSome change.before (λ row. IsRowFor schema row change.key)
+  pub after : IfSome change.after (λ row. IsRowFor schema row change.key)
+  pub within : change.which ≤ length schema.keys
+  pub put : IfSome change.put (IsEntering schema change.table change.which change.after change.key state)
+  pub older : List Version
+  pub pushed : IsPushed chains (record { table = change.table; key = value }) older change.before change.after
+  pub rows : HasRowsSoFar chains (record { table = change.table; key = value }) change.which (said_next change.put change.before older) older state
+
+-- the new row's entry comes next, or the next key where there is none
+abbrev pub keys_next : KeysChange → ℕ → ℕ → Option (List ℕ) → KeysChange
+keys_next change index which None = record change { which = which + 1; put = None }
+keys_next change index which (Some entry) = record change { which = which; put = Some (record { index = index; entry = entry; phase = Look }) }
+
+-- how many steps are left at most, where so many keys are
+abbrev pub keys_steps : ℕ → Option EntryPut → ℕ
+keys_steps keys None = 4 * keys
+keys_steps keys (Some put) = 4 * (keys - 1) + put_steps put.phase
+
+-- entries alone have changed
+pub record StaysBesideKeys (old new : WorldState) : Type 0 where
+  pub versions : Stays old.versions new.versions
+  pub rest : new ≡ record old { indexes = new.indexes; versions = new.versions; paged = new.paged }
+
+-- the same change, some steps nearer
+pub record GoesOnWithKeys (chains : Chains) (old new : WorldState) (change next : KeysChange) : Type 0 where
+  pub stays : StaysBesideKeys old new
+  pub table_is : next.table ≡ change.table
+  pub key_is : next.key ≡ change.key
+  pub before_is : next.before ≡ change.before
+  pub after_is : next.after ≡ change.after
+  pub holds : IsChangingKeys chains new next
+  pub nears : (schema : Schema) → slice_get old.schemas change.table ≡ Some schema
+      → keys_steps (length schema.keys - next.which) next.put < keys_steps (length schema.keys - change.which) change.put
+
+-- Why the change has not gone on: memory was lacking, or the call of an entry was hindered, in the index of a key.
+pub record HindersKeys (actor : ℕ) (old new : WorldState) (change : KeysChange) (why : Move) : Type 0 where
+  pub which : ℕ
+  pub from : change.which ≤ which
+  pub entry : List ℕ
+  pub cause : HindersEntry actor entry (old.indexes (key_index change.table which)) (new.indexes (key_index change.table which)) why
+
+abbrev pub ChangesKeys : ℕ → Chains → WorldState → WorldState → KeysChange → Reached KeysChange → Type 0
+ChangesKeys actor chains old new change (Went next) = GoesOnWithKeys chains old new change next
+ChangesKeys actor chains old new change Done = RowsStay old new × HasRows chains new
+ChangesKeys actor chains old new change (Hindered same why) = (same ≡ change) × RowsStay old new × IsChangingKeys chains new change × HindersKeys actor old new change why

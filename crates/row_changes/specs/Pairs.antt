@@ -1,0 +1,34 @@
+-- What a short step of a change does to the pairs of a world's indexes, and what may keep it from going on.
+use Rattle.std.specs.Prelude.{◌≡◌, ◌≢◌, ◌⊎◌, ℕ, List, Option, None}
+use Rattle.entries.specs.declared.answers.Move.{Move}
+use Rattle.entries.specs.declared.answers.Move.TheVariants.{At, End, Done, Latch, Full, TooDeep, NoMemory}
+use Rattle.entries.specs.Index.{Index, Goes, AreKept}
+use Rattle.entries.specs.Calls.{Delays, LacksPages, IsKeptOff}
+use Rattle.chain.specs.Versions.{Stays}
+use Rattle.coded_rows.specs.Edits.{with_value}
+use Rattle.world.specs.State.{WorldState}
+
+-- no pair has changed anywhere
+pub record RowsStay (old new : WorldState) : Type 0 where
+  pub pairs : (index : ℕ) → AreKept (old.indexes index).pairs (new.indexes index).pairs
+  pub versions : Stays old.versions new.versions
+  pub rest : new ≡ record old { indexes = new.indexes; versions = new.versions; paged = new.paged }
+
+-- At one index the key has this value now, or none; no other pair has changed.
+pub record PutsPair (index : ℕ) (key : List ℕ) (value : Option (List ℕ)) (old new : WorldState) : Type 0 where
+  pub here : Goes (λ before after. after ≡ with_value key value before) (old.indexes index).pairs (new.indexes index).pairs
+  pub elsewhere : (other : ℕ) → other ≢ index → AreKept (old.indexes other).pairs (new.indexes other).pairs
+  pub versions : Stays old.versions new.versions
+  pub rest : new ≡ record old { indexes = new.indexes; versions = new.versions; paged = new.paged }
+
+-- Why a call of an index has not done what it was asked, and is to be made again. A pair that is there against what is
+-- known, or missing, comes only where pairs aren't told.
+abbrev pub Hinders : ℕ → Index → Index → Move → Type 0
+Hinders actor old new Done = ⊥
+Hinders actor old new End = old.pairs ≡ None
+Hinders actor old new (At key value) = old.pairs ≡ None
+Hinders actor old new (Latch by) = IsKeptOff actor by old new ⊎ Delays actor old new (Latch by)
+Hinders actor old new (Full need free) = LacksPages old new (Full need free)
+Hinders actor old new TooDeep = LacksPages old new TooDeep
+Hinders actor old new NoMemory = Unit {0}
+Hinders actor old new other = Delays actor old new other

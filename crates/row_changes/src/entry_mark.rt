@@ -1,0 +1,42 @@
+//! Marks an entry of a secondary key whose value has gone. Who reads by an older view still comes to its row by it.
+
+ghost use Rattle.std.specs.Prelude.{◌≡◌};
+ghost use Rattle.row_changes.specs.Entries.{IsMarking, MarksEntry};
+
+use crate::reached::Reached;
+use entries::Move;
+use inno_types::Bytes;
+use std::alloc::Global;
+use world::World;
+
+/// The value of an entry that is its newest row's no longer.
+const MARKED: u8 = 1;
+
+/// An entry that is being marked.
+#[derive(Drop)]
+pub struct EntryMark {
+    pub index: u32,
+    pub entry: Bytes,
+}
+
+impl EntryMark {
+    /// The one step.
+    pub fn step<W: World>(self, alloc: Global, world: &mut W, actor: u32) -> Reached<EntryMark>
+        requires { IsMarking (W.state world.old) self }
+        ensures { MarksEntry actor (W.state world.old) (W.state world.new) self result }
+    {
+        let Ok(value) = vec![in alloc; MARKED] else {
+            return Reached::Hindered(self, Move::NoMemory);
+        };
+        match world.replace(
+            self.index,
+            actor,
+            &self.entry,
+            &Bytes::from_vec(value),
+            None,
+        ) {
+            Move::Done => Reached::Done,
+            hindrance => Reached::Hindered(self, hindrance),
+        }
+    }
+}

@@ -1,0 +1,21 @@
+//! Changes of rows as small machines over any world: one call of the world a step. Statements and rollback drive them.
+#![tactic(auto)]
+
+mod coding;
+mod entering;
+mod entry_drop;
+mod entry_mark;
+mod entry_put;
+mod key_entries;
+mod keys_change;
+mod reached;
+mod record_change;
+mod row_edit;
+
+pub use entry_drop::{DropPhase, EntryDrop};
+pub use entry_mark::EntryMark;
+pub use entry_put::{EntryPut, PutPhase};
+pub use keys_change::KeysChange;
+pub use reached::Reached;
+pub use record_change::{RecordChange, RecordReached, RecordStage};
+pub use row_edit::RowEdit;

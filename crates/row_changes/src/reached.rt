@@ -1,0 +1,14 @@
+//! How far a step of a change came.
+
+use entries::Move;
+
+/// How far a step came.
+#[derive(Drop)]
+pub enum Reached<T> {
+    /// Some steps are left.
+    Went(T),
+    Done,
+    /// The call of the world that came next was not done, and all is as it was: the same step is to be made again, or
+    /// the change is given up.
+    Hindered(T, Move),
+}

@@ -1,0 +1,12 @@
+//! What becomes of a row.
+
+use inno_types::{Row, Value};
+
+/// What becomes of the row of a place.
+#[derive(Drop)]
+pub enum RowEdit {
+    /// This row is put there: a new one, or in place of what is there.
+    Put(Row),
+    /// The row with this value of the primary key is removed.
+    Remove(Value),
+}
