@@ -1,0 +1,16 @@
+pub mod KeyOrder
+pub mod Lists
+pub mod Rows
+pub mod Worlds
+pub mod Keys
+pub mod Coming
+pub mod Ways
+pub mod Counts
+pub mod Given
+pub mod Exits
+pub mod Visited
+pub mod AtPair
+pub mod InOrder
+pub mod Fetched
+pub mod Others
+pub mod Matching

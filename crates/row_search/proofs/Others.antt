@@ -1,0 +1,164 @@
+-- What was found stays found as others step; and where the keys of rows are.
+use Rattle.std.proofs.Common.{◌≡◌, ◌∙◌, sym, ap, subst, refl, ℕ, zero, suc, ◌+◌, Bool, true, false, cond, List, [], ◌∷◌, Option, None, Some, slice_get, arith}
+use Rattle.std.specs.Prelude.{IsTrue, is_some, All}
+use Rattle.std.specs.List.{list_any}
+use Rattle.std.proofs.lemmas.Bool.{or_left, or_right}
+use Rattle.std.proofs.lemmas.List.Elements.{All-head, All-tail}
+use Rattle.inno_types.specs.declared.value.Value.{Value}
+use Rattle.inno_types.specs.declared.value.Kind.{Kind}
+use Rattle.inno_types.specs.declared.value.Key.{Key}
+use Rattle.inno_types.specs.declared.value.Schema.{Schema}
+use Rattle.key_codec.specs.Keys.{HasKey, HasEntry, Has64Bits, key_code, entry_code}
+use Rattle.entries.specs.Pairs.{Pair, value_of}
+use Rattle.chain.specs.declared.kept.Kept.{Kept}
+use Rattle.row_versions.specs.declared.version.Version.{Version}
+use Rattle.row_versions.specs.Chains.{first_seen, newest}
+use Rattle.coded_rows.specs.Entries.{value_in, has_value, HasEntries}
+use Rattle.coded_rows.specs.Records.{IsRecordWith, IsClustered, KeepsMore}
+use Rattle.coded_rows.proofs.Values.{value_itself}
+use Rattle.coded_rows.proofs.RowRecords.{leads_still, no_record}
+use Rattle.sql_plan.specs.Visits.{kind_at, index_key}
+use Rattle.world.specs.State.{WorldState}
+use Rattle.row_search.specs.declared.sight.Sight.{Sight}
+use Rattle.row_search.specs.declared.scan.Scan.{Scan}
+use Rattle.row_search.specs.declared.phase.Phase.{Phase}
+use Rattle.row_search.specs.declared.phase.Phase.TheVariants.{Seek, Follow, Fetch, Look, Walk, Keep, Sort, Leave}
+use Rattle.row_search.specs.declared.search.RowSearch.{RowSearch}
+use Rattle.row_search.specs.Sights.{sees_by, rows_seen}
+use Rattle.row_search.specs.Ranges.{primary_part}
+use Rattle.row_search.specs.Tables.{HaveKeys}
+use Rattle.row_search.specs.Searches.{IsSearching, PhaseHolds, PhaseFinds, Finds, place_in}
+use Rattle.row_search.specs.Others.{KeepsWay}
+use Rattle.row_search.proofs.Keys.{home, kind_is, key_is_value, keyed_is, fits_in}
+use Rattle.entries.specs.Calls.{HasKey as IsAtKey}
+
+-- ---- what was found
+
+way_on : (schema : Schema) (scan : Scan) (row_at : Value → Option (List Value)) (old new : ℕ → Option Kept) (place : Option Pair) (phase : Phase) → KeepsWay schema scan.sight old new phase → PhaseFinds schema scan row_at old place phase → PhaseFinds schema scan row_at new place phase
+way_on schema scan row_at old new place Seek keeps f = f
+way_on schema scan row_at old new place Follow keeps f = f
+way_on schema scan row_at old new place (Fetch entry) keeps f = f
+way_on schema scan row_at old new place (Look entry bytes) keeps f =
+    let k = keeps f.1 f.2 in
+    (f.0, k.0, k.1, record { value = f.3.value; has_key = f.3.has_key; key_is = f.3.key_is; seen = f.3.seen ∙ sym k.2 })
+way_on schema scan row_at old new place (Walk entry pointer) keeps f =
+    let k = keeps f.1 f.2 in
+    (f.0, k.0, k.1, record { value = f.3.value; has_key = f.3.has_key; key_is = f.3.key_is; seen = f.3.seen ∙ sym k.2 })
+way_on schema scan row_at old new place (Keep entry row) keeps f = f
+way_on schema scan row_at old new place Sort keeps f = f
+way_on schema scan row_at old new place Leave keeps f = f
+
+pub found_still : (schema : Schema) (old new : ℕ → Option Kept) (place : Option Pair) (was now : Value → List Version) (search : RowSearch) → ((value : Value) → rows_seen search.scan.sight now value ≡ rows_seen search.scan.sight was value)
+    → KeepsWay schema search.scan.sight old new search.phase → Finds schema old place was search → Finds schema new place now search
+found_still schema old new place was now search same keeps found =
+    let seen : rows_seen search.scan.sight was ≡ rows_seen search.scan.sight now = λ i value. sym (same value) i in
+    subst (λ (row_at : Value → Option (List Value)). PhaseFinds schema search.scan row_at new place search.phase) seen (way_on schema search.scan (rows_seen search.scan.sight was) old new place search.phase keeps found)
+
+record_still : (schema : Schema) (key : List ℕ) (old new : ℕ → Option Kept) (found : Option (List ℕ)) (versions : List Version) → KeepsMore old new → IsRecordWith schema key old found versions → IsRecordWith schema key new found versions
+record_still schema key old new None [] more is = is
+record_still schema key old new None (version ∷ versions) more is = is
+record_still schema key old new (Some bytes) [] more is = is
+record_still schema key old new (Some bytes) (version ∷ versions) more is = (is.0, is.1, is.2, leads_still schema key old new is.0.pointer versions more is.3)
+
+pub way_still : (schema : Schema) (sight : Sight) (old new : ℕ → Option Kept) (phase : Phase) → KeepsMore old new → KeepsWay schema sight old new phase
+way_still schema sight old new Seek more = tt
+way_still schema sight old new Follow more = tt
+way_still schema sight old new (Fetch entry) more = tt
+way_still schema sight old new (Look entry bytes) more = λ versions is. (versions, record_still schema (primary_part schema entry) old new (Some bytes) versions more is, refl)
+way_still schema sight old new (Walk entry pointer) more = λ versions is. (versions, leads_still schema (primary_part schema entry) old new pointer versions more is, refl)
+way_still schema sight old new (Keep entry row) more = tt
+way_still schema sight old new Sort more = tt
+way_still schema sight old new Leave more = tt
+
+holds_still : (actor : ℕ) (schema : Schema) (scan : Scan) (old new : WorldState) → place_in actor scan new ≡ place_in actor scan old → (IsTrue new.versions.told → IsTrue old.versions.told) → (phase : Phase)
+    → (IsTrue new.versions.told → KeepsWay schema scan.sight old.versions.kept_at new.versions.kept_at phase) → PhaseHolds actor schema scan old phase → PhaseHolds actor schema scan new phase
+holds_still actor schema scan old new place told Seek keeps h = tt
+holds_still actor schema scan old new place told Follow keeps h = ap is_some place ∙ h
+holds_still actor schema scan old new place told (Fetch entry) keeps h = subst (λ (o : Option Pair). IsAtKey entry o) (sym place) h
+holds_still actor schema scan old new place told (Look entry bytes) keeps h = (
+  subst (λ (o : Option Pair). IsAtKey entry o) (sym place) h.0,
+  λ t. let was = h.1 (told t) in let k = keeps t was.0 was.1 in (k.0, k.1),
+)
+holds_still actor schema scan old new place told (Walk entry pointer) keeps h = (
+  subst (λ (o : Option Pair). IsAtKey entry o) (sym place) h.0,
+  λ t. let was = h.1 (told t) in let k = keeps t was.0 was.1 in (k.0, k.1),
+)
+holds_still actor schema scan old new place told (Keep entry row) keeps h = subst (λ (o : Option Pair). IsAtKey entry o) (sym place) h
+holds_still actor schema scan old new place told Sort keeps h = tt
+holds_still actor schema scan old new place told Leave keeps h = tt
+
+pub searching_still : (actor : ℕ) (schema : Schema) (old new : WorldState) (search : RowSearch) → IsSearching actor schema old search → slice_get new.schemas search.scan.table ≡ Some schema → place_in actor search.scan new ≡ place_in actor search.scan old
+    → (IsTrue new.versions.told → IsTrue old.versions.told) → (IsTrue new.versions.told → KeepsWay schema search.scan.sight old.versions.kept_at new.versions.kept_at search.phase) → IsSearching actor schema new search
+searching_still actor schema old new search is there place told keeps =
+    record { there = there; key = is.key; few = is.few; phase = holds_still actor schema search.scan old new place told search.phase keeps is.phase }
+
+-- ---- keys of rows that are seen
+
+none_some : (row : List Value) → None ≡ Some row → ⊥
+none_some row e = cc
+
+some_there : (found : Option (List ℕ)) → (found ≡ None → ⊥) → is_some found ≡ true
+some_there None h = absurd (h refl)
+some_there (Some bytes) h = refl
+
+pub in_clustered : (schema : Schema) (kept : ℕ → Option Kept) (pairs : List Pair) (versions_at : Value → List Version) (sight : Sight) → IsClustered schema kept pairs versions_at → HaveKeys schema 0 pairs (rows_seen sight versions_at)
+in_clustered schema kept pairs versions_at sight is value row seen =
+    let h = home schema kept pairs versions_at (sees_by sight) value row is seen in
+    let kind : kind_at schema.columns schema.primary ≡ is.primary.kind = kind_is schema is.primary is.primary_is in
+    let key : index_key schema 0 row ≡ key_code is.primary.kind value = key_is_value schema value row h ∙ ap (λ (k : Kind). key_code k value) kind in
+    let has : HasKey is.primary.kind value = subst (λ (k : Kind). HasKey k value) kind h.has_key in
+    ap (λ k. is_some (value_of k pairs)) key
+    ∙ some_there (value_of (key_code is.primary.kind value) pairs)
+    (λ none. none_some row (sym (ap (first_seen (sees_by sight)) (no_record schema (key_code is.primary.kind value) kept (versions_at value)
+    (subst (λ (o : Option (List ℕ)). IsRecordWith schema (key_code is.primary.kind value) kept o (versions_at value)) none (is.records value has)))) ∙ seen))
+
+pub bits_in : (row : List Value) (at : ℕ) → All Has64Bits row → Has64Bits (value_in at row)
+bits_in [] at all = tt
+bits_in (value ∷ row) zero all = All-head Has64Bits value row all
+bits_in (value ∷ row) (suc at) all = bits_in row at (All-tail Has64Bits value row all)
+
+told_some : (some : Bool) (mark : List ℕ) → some ≡ true → is_some (cond some (Some mark) None) ≡ true
+told_some some mark is = rw is refl
+
+one_plus : (n : ℕ) → 1 + n ≡ suc n
+one_plus n = omega arith
+
+pub in_keyed : (schema : Schema) (kept : ℕ → Option Kept) (pairs entries : List Pair) (versions_at said : Value → List Version) (sight : Sight) (at : ℕ) (key : Key) → IsClustered schema kept pairs versions_at → slice_get schema.keys at ≡ Some key
+    → HasEntries schema key.column entries said
+    → ((value : Value) (row : List Value) → rows_seen sight versions_at value ≡ Some row → list_any (λ told. has_value key.column (value_in key.column row) told.row) (said value) ≡ true) → HaveKeys schema (1 + at) entries (rows_seen sight versions_at)
+in_keyed schema kept pairs entries versions_at said sight at key is there e says value row seen =
+    let h = home schema kept pairs versions_at (sees_by sight) value row is seen in
+    let kind : kind_at schema.columns schema.primary ≡ e.primary.kind = kind_is schema e.primary e.primary_is in
+    let has : HasKey e.primary.kind value = subst (λ (k : Kind). HasKey k value) kind h.has_key in
+    let has_entry : HasEntry e.indexed.kind (value_in key.column row) = (fits_in schema.columns row key.column e.indexed h.at.fits e.indexed_is, bits_in row key.column h.at.bits) in
+    let code : index_key schema (1 + at) row ≡ entry_code e.indexed.kind (value_in key.column row) (key_code e.primary.kind value)
+    = ap (λ n. index_key schema n row) (one_plus at)
+    ∙ (keyed_is schema at row key e.indexed there e.indexed_is
+    ∙ ap (entry_code e.indexed.kind (value_in key.column row)) (key_is_value schema value row h ∙ ap (λ (k : Kind). key_code k value) kind)) in
+    ap (λ k. is_some (value_of k entries)) code
+    ∙ (ap is_some (e.marks value (value_in key.column row) has has_entry)
+    ∙ told_some (list_any (λ told. has_value key.column (value_in key.column row) told.row) (said value)) _ (says value row seen))
+
+pub seen_among : (column : ℕ) (sight : Sight) (versions : List Version) (row : List Value) → first_seen (sees_by sight) versions ≡ Some row → list_any (λ told. has_value column (value_in column row) told.row) versions ≡ true
+seen_among column sight [] row is = cc
+seen_among column sight (version ∷ versions) row is = go (sees_by sight version.writer) is (seen_among column sight versions row) where
+  go : (b : Bool) → cond b version.row (first_seen (sees_by sight) versions) ≡ Some row → (first_seen (sees_by sight) versions ≡ Some row → list_any (λ told. has_value column (value_in column row) told.row) versions ≡ true)
+      → list_any (λ told. has_value column (value_in column row) told.row) (version ∷ versions) ≡ true
+  go true e later = or_left (has_value column (value_in column row) version.row) (list_any (λ told. has_value column (value_in column row) told.row) versions) (ap (has_value column (value_in column row)) e ∙ value_itself (value_in column row))
+  go false e later = or_right (has_value column (value_in column row) version.row) (list_any (λ told. has_value column (value_in column row) told.row) versions) (later e)
+
+pub newest_seen : (versions : List Version) → first_seen (λ id. true) versions ≡ newest versions
+newest_seen [] = refl
+newest_seen (version ∷ versions) = refl
+
+-- ---- a search that comes to its pair anew
+
+pub needs_none : (schema : Schema) (sight : Sight) (old new : ℕ → Option Kept) (phase : Phase) → ((entry bytes : List ℕ) → phase ≡ Look entry bytes → ⊥) → ((entry : List ℕ) (pointer : ℕ) → phase ≡ Walk entry pointer → ⊥) → KeepsWay schema sight old new phase
+needs_none schema sight old new Seek no_look no_walk = tt
+needs_none schema sight old new Follow no_look no_walk = tt
+needs_none schema sight old new (Fetch entry) no_look no_walk = tt
+needs_none schema sight old new (Look entry bytes) no_look no_walk = absurd (no_look entry bytes refl)
+needs_none schema sight old new (Walk entry pointer) no_look no_walk = absurd (no_walk entry pointer refl)
+needs_none schema sight old new (Keep entry row) no_look no_walk = tt
+needs_none schema sight old new Sort no_look no_walk = tt
+needs_none schema sight old new Leave no_look no_walk = tt

@@ -1,0 +1,122 @@
+-- The versions of a row along its pointers, as a search goes along them.
+use Rattle.std.proofs.Common.{◌≡◌, ◌≢◌, ◌∙◌, sym, ap, subst, refl, ℕ, ◌==◌, true, false, cond, List, [], ◌∷◌, Option, None, Some}
+use Rattle.std.specs.Prelude.{option_map, is_some}
+use Rattle.std.proofs.lemmas.Bool.{or_left, or_right}
+use Rattle.inno_types.specs.declared.value.Value.{Value}
+use Rattle.inno_types.specs.declared.value.Kind.{Kind}
+use Rattle.inno_types.specs.declared.value.Schema.{Schema}
+use Rattle.inno_db.specs.Database.{key_of}
+use Rattle.store_api.specs.declared.answers.Version.{Version as Coded}
+use Rattle.key_codec.specs.Keys.{HasKey, key_code}
+use Rattle.entries.specs.Pairs.{Pair, value_of}
+use Rattle.chain.specs.declared.kept.Kept.{Kept}
+use Rattle.chain.specs.Versions.{Versions, leads}
+use Rattle.row_versions.specs.declared.version.Version.{Version}
+use Rattle.row_versions.specs.Chains.{first_seen, older}
+use Rattle.coded_rows.specs.Records.{shown, row_shown, IsCodeOf, LeadTo, IsRecordWith, IsClustered}
+use Rattle.coded_rows.proofs.Values.{key_there, one_key}
+use Rattle.coded_rows.proofs.RowRecords.{record_read, pointer_followed, pointer_leads, leads_nowhere}
+use Rattle.sql_plan.specs.Visits.{kind_at, primary_key}
+use Rattle.row_search.specs.declared.scan.Scan.{Scan}
+use Rattle.row_search.specs.Sights.{sees_by}
+use Rattle.row_search.specs.Searches.{IsSeenAmong, IsSeenAt}
+use Rattle.row_search.proofs.Keys.{kind_is}
+
+-- These bytes are the record of a version behind which these versions are kept.
+pub record IsOnWay (schema : Schema) (key bytes : List ℕ) (kept : ℕ → Option Kept) (coded : Coded) (versions : List Version) : Type 0 where
+  pub code_is : IsCodeOf schema key bytes coded
+  pub first : versions ≡ shown coded ∷ older versions
+  pub rest : LeadTo schema key kept coded.pointer (older versions)
+
+pub from_record : (schema : Schema) (key bytes : List ℕ) (kept : ℕ → Option Kept) (coded : Coded) (versions : List Version) → IsRecordWith schema key kept (Some bytes) versions → IsCodeOf schema key bytes coded → IsOnWay schema key bytes kept coded versions
+from_record schema key bytes kept coded versions is code =
+    let read = record_read schema key bytes kept versions coded is code in
+    record { code_is = code; first = read.0; rest = read.1 }
+
+-- what was shown for the pointer is the next version
+pub from_pointer : (schema : Schema) (key : List ℕ) (kept : ℕ → Option Kept) (pointer : ℕ) (coded : Coded) (versions : List Version) → LeadTo schema key kept pointer versions → pointer ≢ 0
+    → option_map (λ (k : Kept). k.version) (kept pointer) ≡ Some coded → (bytes : List ℕ) × IsOnWay schema key bytes kept coded versions
+from_pointer schema key kept pointer coded versions lead leads is = go (kept pointer) refl is where
+  go : (found : Option Kept) → kept pointer ≡ found → option_map (λ (k : Kept). k.version) found ≡ Some coded → (bytes : List ℕ) × IsOnWay schema key bytes kept coded versions
+  go None at e = cc
+  go (Some found) at e =
+      let same : found.version ≡ coded = cc in
+      let next = pointer_followed schema key kept pointer versions found lead leads at in (
+        found.bytes,
+        subst (λ (c : Coded). IsOnWay schema key found.bytes kept c versions) same (record { code_is = next.0; first = next.1; rest = next.2 }),
+      )
+
+zero_test : (n : ℕ) → n ≡ 0 → (n == 0) ≡ true
+zero_test n e = rw e refl
+
+-- the pointer may be asked for
+pub may_ask : (schema : Schema) (key : List ℕ) (versions : Versions) (pointer : ℕ) (led : List Version) → LeadTo schema key versions.kept_at pointer led → leads pointer versions ≡ true
+may_ask schema key versions pointer [] is = or_left (pointer == 0) (is_some (versions.kept_at pointer)) (zero_test pointer is)
+may_ask schema key versions pointer (version ∷ rest) is = or_right (pointer == 0) (is_some (versions.kept_at pointer)) (pointer_leads schema key versions.kept_at pointer (version ∷ rest) is is.1.leads)
+
+-- ---- what the reader sees of them
+
+module _ (schema : Schema) (scan : Scan) (row_at : Value → Option (List Value)) (key bytes : List ℕ) (kept : ℕ → Option Kept) (coded : Coded) (versions : List Version) (way : IsOnWay schema key bytes kept coded versions)
+    (among : IsSeenAmong schema scan row_at key versions) where
+  sees-first : row_at among.value ≡ cond (sees_by scan.sight coded.writer) (row_shown coded.marked coded.row) (first_seen (sees_by scan.sight) (older versions))
+  sees-first = among.seen ∙ ap (first_seen (sees_by scan.sight)) way.first
+
+  -- the version is not seen: those behind it decide
+  pub passed_over : sees_by scan.sight coded.writer ≡ false → IsSeenAmong schema scan row_at key (older versions)
+  passed_over unseen =
+      record {
+        value = among.value;
+        has_key = among.has_key;
+        key_is = among.key_is;
+        seen = sees-first ∙ ap (λ b. cond b (row_shown coded.marked coded.row) (first_seen (sees_by scan.sight) (older versions))) unseen;
+      }
+
+  -- a marked version that is seen leaves no row
+  pub no_row : sees_by scan.sight coded.writer ≡ true → coded.marked ≡ true → row_at among.value ≡ None
+  no_row seen marked =
+      sees-first ∙ (ap (λ b. cond b (row_shown coded.marked coded.row) (first_seen (sees_by scan.sight) (older versions))) seen ∙ ap (λ b. row_shown b coded.row) marked)
+
+  pub row_there : sees_by scan.sight coded.writer ≡ true → coded.marked ≡ false → IsSeenAt schema row_at key coded.row
+  row_there seen unmarked =
+      let primary = way.code_is.record_is.key_is.column in
+      let primary_is = way.code_is.record_is.key_is.primary in
+      let there = key_there schema key bytes coded primary primary_is way.code_is in
+      let kind : kind_at schema.columns schema.primary ≡ primary.kind = kind_is schema primary primary_is in
+      let has : HasKey (kind_at schema.columns schema.primary) (key_of schema coded.row) = subst (λ (k : Kind). HasKey k (key_of schema coded.row)) (sym kind) there.0 in
+      let spelled : key ≡ primary_key schema coded.row = there.1 ∙ ap (λ (k : Kind). key_code k (key_of schema coded.row)) (sym kind) in
+      let same : among.value ≡ key_of schema coded.row = one_key (kind_at schema.columns schema.primary) among.value (key_of schema coded.row) among.has_key has (sym among.key_is ∙ spelled) in
+      record {
+        seen =
+            ap row_at (sym same)
+            ∙ (sees-first
+            ∙ (ap (λ b. cond b (row_shown coded.marked coded.row) (first_seen (sees_by scan.sight) (older versions))) seen
+            ∙ ap (λ b. row_shown b coded.row) unmarked));
+        has_key = has;
+        key_is = spelled;
+      }
+
+-- pointer 0 leads to nothing
+pub nothing_led : (schema : Schema) (scan : Scan) (row_at : Value → Option (List Value)) (key : List ℕ) (kept : ℕ → Option Kept) (pointer : ℕ) (versions : List Version) → LeadTo schema key kept pointer versions → pointer ≡ 0
+    → (among : IsSeenAmong schema scan row_at key versions) → row_at among.value ≡ None
+nothing_led schema scan row_at key kept pointer versions lead zero among = among.seen ∙ ap (first_seen (sees_by scan.sight)) (leads_nowhere schema key kept pointer versions lead zero)
+
+-- ---- records of the clustered index
+
+-- the record that stands at a key has the versions of its row
+pub at_key : (schema : Schema) (scan : Scan) (kept : ℕ → Option Kept) (pairs : List Pair) (versions_at : Value → List Version) (key bytes : List ℕ) → IsClustered schema kept pairs versions_at → value_of key pairs ≡ Some bytes
+    → (versions : List Version) × IsRecordWith schema key kept (Some bytes) versions × IsSeenAmong schema scan (λ value. first_seen (sees_by scan.sight) (versions_at value)) key versions
+at_key schema scan kept pairs versions_at key bytes is there =
+    let some = is.keys key (ap is_some there) in
+    let value = some.0 in
+    let kind : kind_at schema.columns schema.primary ≡ is.primary.kind = kind_is schema is.primary is.primary_is in
+    let At : List ℕ → Type 0 = λ k. IsRecordWith schema k kept (value_of k pairs) (versions_at value) in
+    let held : IsRecordWith schema key kept (value_of key pairs) (versions_at value) = subst At (sym some.2) (is.records value some.1) in (
+      versions_at value,
+      subst (λ (o : Option (List ℕ)). IsRecordWith schema key kept o (versions_at value)) there held,
+      record {
+        value = value;
+        has_key = subst (λ (k : Kind). HasKey k value) (sym kind) some.1;
+        key_is = some.2 ∙ ap (λ (k : Kind). key_code k value) (sym kind);
+        seen = refl;
+      },
+    )

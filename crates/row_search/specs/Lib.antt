@@ -1,0 +1,9 @@
+pub mod Sights
+pub mod FoundRows
+pub mod Ranges
+pub mod Owners
+pub mod Tables
+pub mod Searches
+pub mod Visits
+pub mod Steps
+pub mod Others

@@ -1,0 +1,39 @@
+-- What a search does with the pair, and with the version, that it was given.
+use Rattle.std.specs.Prelude.{◌≡◌, ◌==◌, ℕ, List, if◌then◌else◌}
+use Rattle.store_api.specs.declared.answers.Version.{Version}
+use Rattle.entries.specs.declared.answers.Move.{Move}
+use Rattle.entries.specs.declared.answers.Move.TheVariants as move
+use Rattle.mtr.specs.declared.answers.Visit.TheVariants.{Failed, Again, Bad}
+use Rattle.chain.specs.declared.answers.ChainBad.{ChainBad}
+use Rattle.chain.specs.declared.answers.ChainBad.TheVariants.{Visit, NoMemory}
+use Rattle.row_search.specs.declared.side.Side.{Side}
+use Rattle.row_search.specs.declared.side.Side.TheVariants.{Before, Within, Behind}
+use Rattle.row_search.specs.declared.scan.Scan.{Scan}
+use Rattle.row_search.specs.declared.sight.Sight.{Sight}
+use Rattle.row_search.specs.declared.phase.Phase.{Phase}
+use Rattle.row_search.specs.declared.phase.Phase.TheVariants.{Follow, Fetch, Look, Walk, Keep, Sort}
+use Rattle.row_search.specs.Sights.{sees_by}
+use Rattle.row_search.specs.Ranges.{IsOnSide}
+
+-- what comes next at a pair on this side of the range
+abbrev pub phase_at : ℕ → List ℕ → List ℕ → Side → Phase
+phase_at which key value Before = Follow
+phase_at which key value Within = if which == 0 then Look key value else Fetch key
+phase_at which key value Behind = Sort
+
+pub record IsGivenPhase (scan : Scan) (key value : List ℕ) (next : Phase) : Type 0 where
+  pub side : Side
+  pub is_on : IsOnSide scan.range key side
+  pub next_is : next ≡ phase_at scan.which key value side
+
+-- what comes next once this version was looked at
+abbrev pub phase_after : Sight → List ℕ → Version → Phase
+phase_after sight entry version =
+    if sees_by sight version.writer then (if version.marked then Follow else Keep entry version.row) else Walk entry version.pointer
+
+-- what keeps a version from being shown, as a call of an index says it
+abbrev pub move_for : ChainBad → Move
+move_for (Visit Failed) = move.Failed
+move_for (Visit Again) = move.Again
+move_for (Visit (Bad page rule)) = move.Bad page rule
+move_for NoMemory = move.NoMemory

@@ -1,0 +1,144 @@
+//! The steps of a search, one function for each, with at most one call of the world.
+
+ghost use Rattle.std.specs.Prelude.{◌≡◌, ◌<◌, ◌≤◌};
+ghost use Rattle.world.specs.State.{index_of};
+ghost use Rattle.row_search.specs.Visits.{IsGivenPhase};
+ghost use Rattle.row_search.specs.Searches.{IsSearching};
+ghost use Rattle.row_search.specs.Tables.{HoldsTable};
+ghost use Rattle.row_search.specs.Steps.{Searches};
+
+use crate::bounds::{copy_of, first_bytes, primary_of, side_of};
+use crate::found::FoundRow;
+use crate::phase::Phase;
+use crate::search::{Reached, RowSearch};
+use crate::side::Side;
+use crate::sight::Sight;
+use entries::Move;
+use inno_types::{Bytes, Range, Schema};
+use std::alloc::Global;
+use world::World;
+
+/// The longest value of a record.
+const MOST_BYTES_OF_VALUE: usize = 1024;
+
+/// What is searched, how its rows are read, and those that were found. `which` is 0 for the table's clustered index, and
+/// the number of a secondary key from 1.
+#[derive(Drop)]
+pub struct Scan {
+    pub table: u8,
+    pub which: u8,
+    pub range: Range,
+    pub sight: Sight,
+    pub rows: Vec<FoundRow>,
+}
+
+/// The number of a table's index.
+pub(crate) fn index_number(table: u8, which: u8) -> u32
+    ensures { result ≡ index_of table which }
+{
+    8 * u32::from(table) + u32::from(which)
+}
+
+impl Scan {
+    pub(crate) fn then(self, phase: Phase) -> Reached
+        ensures { result ≡ Reached.Went (record { scan = self; phase = phase }) }
+    {
+        Reached::Went(RowSearch { scan: self, phase })
+    }
+
+    pub(crate) fn hindered(self, phase: Phase, why: Move) -> Reached
+        ensures { result ≡ Reached.Hindered (record { scan = self; phase = phase }) why }
+    {
+        Reached::Hindered(RowSearch { scan: self, phase }, why)
+    }
+
+    /// What comes next where this pair was found.
+    fn given(&self, key: Bytes, value: Bytes) -> Phase
+        ensures { IsGivenPhase self.now key value result }
+    {
+        match side_of(&self.range, key.as_slice()) {
+            Side::Before => Phase::Follow,
+            Side::Within => {
+                if self.which == 0 {
+                    Phase::Look {
+                        entry: key,
+                        bytes: value,
+                    }
+                } else {
+                    Phase::Fetch { entry: key }
+                }
+            }
+            Side::Behind => Phase::Sort,
+        }
+    }
+
+    pub(crate) fn seek<W: World>(
+        self,
+        alloc: Global,
+        world: &mut W,
+        actor: u32,
+        schema: &Schema,
+    ) -> Reached
+        requires searching { IsSearching actor schema.now (W.state world.old) (record { scan = self; phase = Phase.Seek }) }
+        requires table { HoldsTable schema.now self.table (W.state world.old) }
+        ensures { Searches actor schema.now (W.state world.old) (W.state world.new) (record { scan = self; phase = Phase.Seek }) result }
+    {
+        let none = Bytes::new(alloc);
+        let found = world.seek(
+            index_number(self.table, self.which),
+            actor,
+            first_bytes(&self.range.low, &none),
+        );
+        match found {
+            Move::At(key, value) => {
+                let next = self.given(key, value);
+                self.then(next)
+            }
+            Move::End => self.then(Phase::Sort),
+            hindrance => self.hindered(Phase::Seek, hindrance),
+        }
+    }
+
+    pub(crate) fn follow<W: World>(self, world: &mut W, actor: u32, schema: &Schema) -> Reached
+        requires searching { IsSearching actor schema.now (W.state world.old) (record { scan = self; phase = Phase.Follow }) }
+        requires table { HoldsTable schema.now self.table (W.state world.old) }
+        ensures { Searches actor schema.now (W.state world.old) (W.state world.new) (record { scan = self; phase = Phase.Follow }) result }
+    {
+        match world.following(index_number(self.table, self.which), actor) {
+            Move::At(key, value) => {
+                let next = self.given(key, value);
+                self.then(next)
+            }
+            Move::End => self.then(Phase::Sort),
+            hindrance => self.hindered(Phase::Follow, hindrance),
+        }
+    }
+
+    pub(crate) fn fetch<W: World>(
+        self,
+        alloc: Global,
+        world: &mut W,
+        actor: u32,
+        schema: &Schema,
+        entry: Bytes,
+    ) -> Reached
+        requires searching { IsSearching actor schema.now (W.state world.old) (record { scan = self; phase = Phase.Fetch entry }) }
+        requires table { HoldsTable schema.now self.table (W.state world.old) }
+        ensures { Searches actor schema.now (W.state world.old) (W.state world.new) (record { scan = self; phase = Phase.Fetch entry }) result }
+    {
+        let Ok(key) = copy_of(alloc, primary_of(schema, entry.as_slice())) else {
+            return self.hindered(Phase::Fetch { entry }, Move::NoMemory);
+        };
+        let Ok(mut bytes) = Vec::with_capacity(alloc, MOST_BYTES_OF_VALUE) else {
+            return self.hindered(Phase::Fetch { entry }, Move::NoMemory);
+        };
+        match world.fetch(index_number(self.table, 0), actor, &key, &mut bytes) {
+            Move::Done => self.then(Phase::Look {
+                entry,
+                bytes: Bytes::from_vec(bytes),
+            }),
+            Move::End => self.then(Phase::Follow),
+            hindrance => self.hindered(Phase::Fetch { entry }, hindrance),
+        }
+    }
+}
