@@ -155,7 +155,7 @@ room_made s old new change p at ready =
     let is = subst (λ (x : Session). new ≡ record (with_session s (record x { undo_room = 1098; next_pointer = ready.pointer }) old) { paged = new.paged }) same ready.rest in
     let aside = readied_in_pages s p.session after old new p.has_work.session_is (record { setting = refl; work = refl; can_reply = refl; can_ack = refl }) is in
     let can_change = subst (λ stage. StageHolds stage p.schema change.edit change.key p.session (old.indexes (clustered_index change.table))) at p.stage in
-    goes_on s old new change Find p aside (record { entry = can_change; undo = omega arith }) (subst (λ stage. 3 < record_steps stage) (sym at) (omega arith))
+    goes_on s old new change Find p aside (record { entry = can_change; leads = ready.leads; undo = omega arith }) (subst (λ stage. 3 < record_steps stage) (sym at) (omega arith))
 
 pub unchanged_stays : (old new : WorldState) → IsUnchanged old new → RowsStay old new
 unchanged_stays old new same = record { pairs = λ index. (same.indexes index).pairs; versions = same.versions; rest = same.rest }
@@ -290,3 +290,7 @@ pub looked_up_none : (s : ℕ) (old new : WorldState) (change : RecordChange) (r
 looked_up_none s old new change read p at c =
     let r = read_none s (clustered_index change.table) change.key read old new c in
     missed s old new change change.edit p at refl r.0 r.1
+
+-- memory was lacking before the call
+pub lacks_memory : (s : ℕ) (state : WorldState) (change : RecordChange) → IsChangingRecord s state change → ChangesRecord s state state change (Hindered change moves.NoMemory)
+lacks_memory s state change p = hindered s state state change change moves.NoMemory p refl (same_rows state) (inl (record {}))

@@ -65,10 +65,10 @@ pub table_kept : (table : ℕ) (schema : Schema) (old new : WorldState) → new.
 table_kept table schema old new same is = record { there = ap (λ (s : List Schema). slice_get s table) same ∙ is.there; storable = is.storable }
 
 -- what is known of the change at its next step
-pub changing_next : (chains : Chains) (old new : WorldState) (change : KeysChange) (which : ℕ) (put : Option EntryPut) (p : IsChangingKeys chains old change) → new.schemas ≡ old.schemas → which ≤ length p.schema.keys
+pub changing_next : (chains : Chains) (old new : WorldState) (change : KeysChange) (which : ℕ) (put : Option EntryPut) (p : IsChangingKeys chains old change) → new.schemas ≡ old.schemas → (IsTold new → IsTold old) → which ≤ length p.schema.keys
     → IfSome put (IsEntering p.schema change.table which change.after change.key new) → HasRowsSoFar chains (record { table = change.table; key = p.value }) which (said_next put change.before p.older) p.older new
     → IsChangingKeys chains new (record change { which = which; put = put })
-changing_next chains old new change which put p same within entering rows =
+changing_next chains old new change which put p same back within entering rows =
     record {
       schema = p.schema;
       table = table_kept change.table p.schema old new same p.table;
@@ -80,6 +80,7 @@ changing_next chains old new change which put p same within entering rows =
       put = entering;
       older = p.older;
       pushed = p.pushed;
+      was = λ told. p.was (back told);
       rows = rows;
     }
 
@@ -102,7 +103,7 @@ goes_on chains old new change which put p stays holds nears =
 
 pub changing_kept : (chains : Chains) (old new : WorldState) (change : KeysChange) (p : IsChangingKeys chains old change) → RowsStay old new → IfSome change.put (IsEntering p.schema change.table change.which change.after change.key new) → IsChangingKeys chains new change
 changing_kept chains old new change p stay entering =
-    changing_next chains old new change change.which change.put p (ap (λ (state : WorldState). state.schemas) stay.rest) p.within entering
+    changing_next chains old new change change.which change.put p (ap (λ (state : WorldState). state.schemas) stay.rest) (stays_told old new stay) p.within entering
     (so_far_kept chains (record { table = change.table; key = p.value }) change.which (said_next change.put change.before p.older) p.older old new stay p.rows)
 
 beside_stay : (old new : WorldState) → RowsStay old new → StaysBesideKeys old new
@@ -126,7 +127,7 @@ rows_passed chains state change p to none from stay told =
     let same : change.which + (to - change.which) ≡ to = omega arith in
     subst (λ (d : ℕ). Says state.schemas state.versions.kept_at chains (record { table = change.table; key = p.value }) p.older (pairs_of state) d p.older) same
     (pass state.schemas state.versions.kept_at chains (record { table = change.table; key = p.value }) p.older p.schema p.table.there (pairs_of state) (to - change.which) change.which p.pushed.version p.pushed.versions
-    (λ which key from' below is. stays_alike key.column change.before change.after p.pushed.version p.older p.pushed.was p.pushed.is (stay which key from' (subst (λ (d : ℕ). which < d) same below) is))
+    (λ which key from' below is. stays_alike key.column change.before change.after p.pushed.version p.older (p.was told) p.pushed.is (stay which key from' (subst (λ (d : ℕ). which < d) same below) is))
     (rows_waiting chains state change p none told))
 
 -- ---- the end
@@ -209,14 +210,14 @@ short_entry schema which (Some row) primary entry storable fits is =
 
 -- the new row's entry is put next
 put_next : (chains : Chains) (old new : WorldState) (change : KeysChange) (p : IsChangingKeys chains old change) (index : ℕ) (entries : KeyEntries) (entry : List ℕ) → change.put ≡ None → index ≡ key_index change.table entries.which
-    → (all : AreEntries p.schema change.which change.before change.after change.key entries) → entries.new ≡ Some entry → new.schemas ≡ old.schemas → StaysBesideKeys old new
+    → (all : AreEntries p.schema change.which change.before change.after change.key entries) → entries.new ≡ Some entry → new.schemas ≡ old.schemas → (IsTold new → IsTold old) → StaysBesideKeys old new
     → HasRowsSoFar chains (record { table = change.table; key = p.value }) entries.which (without_row change.before p.older) p.older new → GoesOnWithKeys chains old new change (keys_next change index entries.which (Some entry))
-put_next chains old new change p index entries entry none is all new_is same stays rows =
+put_next chains old new change p index entries entry none is all new_is same back stays rows =
     let new_entry : IsEntryFor p.schema entries.which change.after change.key (Some entry) = subst (λ (e : Option (List ℕ)). IsEntryFor p.schema entries.which change.after change.key e) new_is all.new_is in
     let first : EntryPut = record { index = index; entry = entry; phase = Look } in
     let number : IsIndex new.schemas index = record { table = change.table; which = 1 + entries.which; number = is; schema = p.schema; there = ap (λ (s : List Schema). slice_get s change.table) same ∙ p.table.there; key = (let w = all.within in omega arith); few = (let f = few_keys p.schema entries.which p.table.storable all.within in omega arith) } in
     let entering : IsEntering p.schema change.table entries.which change.after change.key new first = record { index_is = is; entry_is = new_entry; within = all.within; putting = record { index_is = number; short = short_entry p.schema entries.which change.after change.key entry p.table.storable p.after new_entry; phase = record {} } } in
-    goes_on chains old new change entries.which (Some first) p stays (changing_next chains old new change entries.which (Some first) p same (let w = all.within in omega arith) entering rows)
+    goes_on chains old new change entries.which (Some first) p stays (changing_next chains old new change entries.which (Some first) p same back (let w = all.within in omega arith) entering rows)
     (fewer_put (length p.schema.keys) change.which entries.which change.put (ap (keys_steps (length p.schema.keys - change.which)) none) all.first.from_there all.within)
 
 -- nothing else is left to do in a key where no row is any more
@@ -243,7 +244,7 @@ marked_on chains old new change p index entries entry none is all old_is puts =
         let e : IsEntryIn p.schema entries.which row change.key entry = subst (λ (o : Option (List Value)). IsEntryFor p.schema entries.which o change.key (Some entry)) was old_entry in
         mark old.schemas old.versions.kept_at chains (record { table = change.table; key = p.value }) p.older p.schema p.table.there (pairs_of old) (pairs_of new) entries.which e.key.column (plain row 0) version
         (puts_entry old.schemas (pairs_of old) (pairs_of new) change.table entries.which p.schema row 0 change.key entry (Some marked) p.table.there (omega arith) fits e (put_pairs (key_index change.table entries.which) entry (Some marked) old new here told))
-        (key_of_row p.schema p.value row change.key p.at fits) (p.pushed.was ∙ was) no_row says)
+        (key_of_row p.schema p.value row change.key p.at fits) (p.was (put_told (key_index change.table entries.which) entry (Some marked) old new here told) ∙ was) no_row says)
         (rows_passed chains old change p entries.which none all.first.from_there all.first.stay)
 
     waiting : keys_steps (length p.schema.keys - change.which) change.put ≡ 4 * (length p.schema.keys - change.which)
@@ -258,12 +259,12 @@ marked_on chains old new change p index entries entry none is all old_is puts =
         let within = all.within in
         let from = all.first.from_there in
         goes_on chains old new change (entries.which + 1) None p (beside_put index entry (Some marked) old new puts)
-        (changing_next chains old new change (entries.which + 1) None p same (omega arith) (record {}) done)
+        (changing_next chains old new change (entries.which + 1) None p same (put_told index entry (Some marked) old new puts) (omega arith) (record {}) done)
         (fewer_next (length p.schema.keys) change.which entries.which change.put waiting from within)
     go (Some row) None (Some e) was now next_is = absurd (subst (λ (o : Option (List Value)). IsEntryFor p.schema entries.which o change.key (Some e)) now (subst (λ (x : Option (List ℕ)). IsEntryFor p.schema entries.which change.after change.key x) next_is all.new_is))
     go (Some row) (Some later) None was now next_is = absurd (subst (λ (o : Option (List Value)). IsEntryFor p.schema entries.which o change.key None) now (subst (λ (x : Option (List ℕ)). IsEntryFor p.schema entries.which change.after change.key x) next_is all.new_is))
     go (Some row) (Some later) (Some e) was now next_is =
-        put_next chains old new change p index entries e none is all next_is same (beside_put index entry (Some marked) old new puts)
+        put_next chains old new change p index entries e none is all next_is same (put_told index entry (Some marked) old new puts) (beside_put index entry (Some marked) old new puts)
         (subst (λ (o : Option (List Value)). HasRowsSoFar chains (record { table = change.table; key = p.value }) entries.which (without_row o p.older) p.older new) (sym was) (gone_now row was gone refl))
 
 -- there is no old entry
@@ -285,7 +286,7 @@ nothing_marked chains state change p index entries none is all old_is = go chang
     go (Some row) next was next_is = absurd (subst (λ (o : Option (List Value)). IsEntryFor p.schema entries.which o change.key None) was old_entry)
     go None None was next_is = absurd (after_none change.after was refl (subst (λ (x : Option (List ℕ)). IsEntryFor p.schema entries.which change.after change.key x) next_is all.new_is))
     go None (Some e) was next_is =
-        put_next chains state state change p index entries e none is all next_is refl (record { versions = (same_rows state).versions; rest = refl })
+        put_next chains state state change p index entries e none is all next_is refl (λ told. told) (record { versions = (same_rows state).versions; rest = refl })
         (subst (λ (o : Option (List Value)). HasRowsSoFar chains (record { table = change.table; key = p.value }) entries.which (without_row o p.older) p.older state) (sym was) (rows_passed chains state change p entries.which none all.first.from_there all.first.stay))
 
 -- ---- the new entry
@@ -301,7 +302,7 @@ entering_on chains old new change put next p g =
       putting = g.holds;
     } in
     goes_on chains old new (record change { put = Some put }) change.which (Some next) p (beside_stay old new g.stays)
-    (changing_next chains old new (record change { put = Some put }) change.which (Some next) p (ap (λ (state : WorldState). state.schemas) g.stays.rest) p.within entering
+    (changing_next chains old new (record change { put = Some put }) change.which (Some next) p (ap (λ (state : WorldState). state.schemas) g.stays.rest) (stays_told old new g.stays) p.within entering
     (so_far_kept chains (record { table = change.table; key = p.value }) change.which (without_row change.before p.older) p.older old new g.stays p.rows))
     (let nearer = g.nears in omega arith)
 
@@ -321,7 +322,7 @@ entered_key chains old new change put p puts =
     let within = e.within in
     let same : new.schemas ≡ old.schemas = ap (λ (state : WorldState). state.schemas) puts.rest in
     goes_on chains old new (record change { put = Some put }) (change.which + 1) None p (beside_put put.index put.entry (Some unmarked) old new puts)
-    (changing_next chains old new (record change { put = Some put }) (change.which + 1) None p same (omega arith) (record {}) (rows change.before change.after refl refl))
+    (changing_next chains old new (record change { put = Some put }) (change.which + 1) None p same (put_told put.index put.entry (Some unmarked) old new puts) (omega arith) (record {}) (rows change.before change.after refl refl))
     (fewer_done (length p.schema.keys) change.which (put_steps put.phase) within (some_step put.phase))
   where
     here : PutsPair (key_index change.table change.which) put.entry (Some unmarked) old new
@@ -349,7 +350,7 @@ entered_key chains old new change put p puts =
         step None was told says =
             put_first old.schemas old.versions.kept_at chains (record { table = change.table; key = p.value }) p.older p.schema p.table.there (pairs_of old) (pairs_of new) change.which entry.key.column (plain row p.pushed.version.writer)
             (puts_entry old.schemas (pairs_of old) (pairs_of new) change.table change.which p.schema row p.pushed.version.writer change.key put.entry (Some unmarked) p.table.there p.pushed.small fits entry (put_pairs (key_index change.table change.which) put.entry (Some unmarked) old new here told))
-            (key_of_row p.schema p.value row change.key p.at fits) refl (p.pushed.was ∙ was) says
+            (key_of_row p.schema p.value row change.key p.at fits) refl (p.was (put_told (key_index change.table change.which) put.entry (Some unmarked) old new here told) ∙ was) says
         step (Some was_row) was told says =
             put_after old.schemas old.versions.kept_at chains (record { table = change.table; key = p.value }) p.older p.schema p.table.there (pairs_of old) (pairs_of new) change.which entry.key.column (plain row p.pushed.version.writer) gone
             (puts_entry old.schemas (pairs_of old) (pairs_of new) change.table change.which p.schema row p.pushed.version.writer change.key put.entry (Some unmarked) p.table.there p.pushed.small fits entry (put_pairs (key_index change.table change.which) put.entry (Some unmarked) old new here told))

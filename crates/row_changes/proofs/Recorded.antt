@@ -33,7 +33,7 @@ use Rattle.row_changes.specs.declared.row_edit.RowEdit.TheVariants.{Put, Remove}
 use Rattle.row_changes.specs.Edits.{change_of, rows_put, FitsEdit, IsPut, version_by}
 use Rattle.row_codec.specs.Rows.{IsRowOf, IsKeyOf, IsRecordOf}
 use Rattle.fitting_rows.specs.Storable.{IsStorable}
-use Rattle.std.proofs.Common.{[]}
+use Rattle.std.proofs.Common.{[], ◌^◌}
 use Rattle.key_codec.proofs.Lengths.{length-key_code}
 use Rattle.inno_types.specs.declared.value.Column.{Column}
 use Rattle.coded_rows.specs.Records.{row_shown}
@@ -286,11 +286,11 @@ pub replaced_logs : (s index : ℕ) (key value : List ℕ) (undo : Undo) (old mi
 replaced_logs s index key value undo old mid c = c.beside
 
 pub replaced : (s : ℕ) (old mid new : WorldState) (change : RecordChange) (p : IsChangingRecord s old change) (before : Version) (bytes value : List ℕ) (undo : Undo) (found : Option (List Value)) → change.stage ≡ Replace before bytes
-    → value ≡ version_code p.schema (version_by change.edit before.row (id_for p.work.id old.txns.next) p.session.next_pointer) → undo ≡ undo_of_former change.table change.key bytes → found ≡ row_shown before.marked before.row
+    → value ≡ version_code p.schema (version_by change.edit before.row (id_for p.work.id old.txns.next) p.session.next_pointer) → undo ≡ undo_of_former change.table change.key bytes → found ≡ row_shown before.marked before.row → p.session.next_pointer < 2 ^ 64
     → (c : Changes (clustered_index change.table) s (Some undo) (λ b a answer. ReplacesWith (Some undo) s change.key value b a answer) old mid moves.Done)
     → ((session : Session) (work : Work) → HasWork s session work mid → Enters s (change_of change.table change.edit) (rows_put change.edit) session work mid new)
     → ChangesRecord s old new change (Recorded found)
-replaced s old mid new change p before bytes value undo found at value_is undo_is found_is c enters =
+replaced s old mid new change p before bytes value undo found at value_is undo_is found_is small c enters =
     let logged = replaced_logs s (clustered_index change.table) change.key value undo old mid c in
     let all = recorded s (change_of change.table change.edit) (rows_put change.edit) change.table change.key value undo old mid new logged (enters _ _ (logged_here s undo old mid logged)) c.index_is.here.1.pairs (λ other differs. (c.index_is.elsewhere other differs).pairs) in (
       p.schema,
@@ -302,6 +302,8 @@ replaced s old mid new change p before bytes value undo found at value_is undo_i
           work = p.work;
           had = p.has_work;
           bytes = bytes;
+          leads = (stage_at s old change (Replace before bytes) p at).0.leads;
+          small = small;
           finds = (stage_at s old change (Replace before bytes) p at).1;
           was = (stage_at s old change (Replace before bytes) p at).2;
           records = subst (λ u. RecordsEdit s change p.schema before.row (id_for p.work.id old.txns.next) p.session.next_pointer u old new) undo_is

@@ -55,11 +55,10 @@ pub record SaySoFar (chains : Chains) (place : Place) (done : ℕ) (next older :
 abbrev pub HasRowsSoFar : Chains → Place → ℕ → List Version → List Version → WorldState → Type 0
 HasRowsSoFar chains place done next older state = IsTold state → (said : Said) × AreRowsAs chains said state × SaySoFar chains place done next older said
 
--- a version came to the place, over these older ones: the row was the one before, and is the one after
-pub record IsPushed (chains : Chains) (place : Place) (older : List Version) (before after : Option (List Value)) : Type 0 where
+-- a version came to the place, over these older ones, and its row is this
+pub record IsPushed (chains : Chains) (place : Place) (older : List Version) (after : Option (List Value)) : Type 0 where
   pub version : Version
   pub versions : versions_at place chains ≡ version ∷ older
-  pub was : newest older ≡ before
   pub is : version.row ≡ after
   pub small : version.writer < 2 ^ 64
 
@@ -80,7 +79,8 @@ pub record IsChangingKeys (chains : Chains) (state : WorldState) (change : KeysC
   pub within : change.which ≤ length schema.keys
   pub put : IfSome change.put (IsEntering schema change.table change.which change.after change.key state)
   pub older : List Version
-  pub pushed : IsPushed chains (record { table = change.table; key = value }) older change.before change.after
+  pub pushed : IsPushed chains (record { table = change.table; key = value }) older change.after
+  pub was : IsTold state → newest older ≡ change.before
   pub rows : HasRowsSoFar chains (record { table = change.table; key = value }) change.which (said_next change.put change.before older) older state
 
 -- the new row's entry comes next, or the next key where there is none

@@ -48,9 +48,10 @@ pub record IsListed (s : ℕ) (work : Work) (state : WorldState) : Type 0 where
   pub few : state.txns.next < 2 ^ 64 - 1
   pub alone : (t : ℕ) (session : Session) (other : Work) → HasWork t session other state → other.txn ≡ work.txn → t ≡ s
 
--- the history has room for the change, and the log for its undo record
+-- the history has room for the change, and the log for its undo record, to which a pointer leads
 pub record HasRoom (session : Session) : Type 0 where
   pub entry : session.can_change ≡ true
+  pub leads : session.next_pointer ≢ 0
   pub undo : most_undo_bytes ≤ session.undo_room
 
 -- the bytes of the key's record are these, and this version's
@@ -166,6 +167,8 @@ pub record PutsOver (s : ℕ) (old new : WorldState) (change : RecordChange) (sc
   pub work : Work
   pub had : HasWork s session work old
   pub bytes : List ℕ
+  pub leads : session.next_pointer ≢ 0
+  pub small : session.next_pointer < 2 ^ 64
   pub finds : FindsRow change.edit former
   pub was : IsFormer schema change.key bytes former (old.indexes (clustered_index change.table))
   pub records : RecordsEdit s change schema former.row (id_for work.id old.txns.next) session.next_pointer (undo_of_former change.table change.key bytes) old new

@@ -1,4 +1,6 @@
 use Rattle.row_changes.proofs.record_change.RecordChange.replace.Goals as goal
+use Rattle.std.proofs.Common.{◌<◌, ◌^◌, arith}
+use Rattle.row_changes.proofs.Changing.{lacks_memory}
 use Rattle.row_changes.proofs.Recorded.{rows_index, value_of_row, found_at, value_short, version_next, may_log_former, may_enter_over, replaced_logs, replaced, replace_hindered}
 
 abbrev pub coded-requires : goal.coded-requires
@@ -29,8 +31,13 @@ returns-in-Done g c =
     let at = c.requires.stage.2 in
     let told = c.in-Ok.ensures _ _ at in
     let value = value_of_row p.schema _ _ _ _ _ _ _ _ _ (c.in-Ok-coded.ensures p.schema p.table.there) c.in-Ok-version.ensures (found_at _ _ _ at) (c.writer_of-writer.ensures p.session p.work p.has_work) (c.next_pointer-pointer.ensures p.session p.has_work.session_is) in
-    replaced _ _ _ _ _ p _ _ _ _ _ at value told.1 told.0 (rw c.index.ensures at (rw c.in-Done.is at c.replace.ensures)) c.enter.ensures
+    let pointer_is = c.next_pointer-pointer.ensures p.session p.has_work.session_is in
+    let small : p.session.next_pointer < 2 ^ 64 = omega (arith, pointer_is) in
+    replaced _ _ _ _ _ p _ _ _ _ _ at value told.1 told.0 small (rw c.index.ensures at (rw c.in-Done.is at c.replace.ensures)) c.enter.ensures
 
 abbrev pub returns-in_default-replace : goal.returns-in_default-replace
 returns-in_default-replace g c =
     replace_hindered _ _ _ _ c.requires.changing _ _ _ _ _ c.requires.stage.2 (rw c.index.ensures at c.replace.ensures) c.in_default-replace.not-Done
+
+abbrev pub returns-in_default-coded : goal.returns-in_default-coded
+returns-in_default-coded g c = lacks_memory c.args.s _ c.args.self c.requires.changing
