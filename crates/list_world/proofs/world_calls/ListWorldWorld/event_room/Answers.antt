@@ -1,0 +1,26 @@
+use Rattle.std.proofs.Common.{◌≡◌, ◌+◌, ◌<◌, ◌≤◌, ◌^◌, true, length, Some, refl, ap, arith}
+use Rattle.std.specs.Prelude.{slice_get}
+use Rattle.world.specs.State.{Session}
+use Rattle.list_world.specs.Owed.{owed_by_all}
+use Rattle.list_world.specs.Parts.{Parts}
+use Rattle.list_world.proofs.Sound.{read_of, sound_set, promised_same}
+use Rattle.list_world.proofs.Owing.{bit_le, puts_few}
+use Rattle.std.proofs.lemmas.Option.{slice_get_read}
+use Rattle.list_world.proofs.world_calls.ListWorldWorld.event_room.Goals as goal
+
+pub invariant_of-self-2 : goal.invariant_of-self-2
+invariant_of-self-2 c =
+    let l = c.self.inside in
+    let session = c.index_mut.result.now in
+    let there : slice_get l.sessions.items c.args.s ≡ Some session = slice_get_read l.sessions.items (length l.sessions.items) c.args.s session refl (omega (arith, c.requires, ap (λ (p : Parts). length p.sessions) c.self.view_is)) c.index_mut.ensures.value in
+    let room : owed_by_all l.sessions.items + 5 ≤ c.take_room.new.history.room = rw c.deref.ensures.value at c.in_ok-take_room.ensures.ok in
+    let fits : owed_by_all l.sessions.items + 5 < 2 ^ 64 = rw c.deref.ensures.value at c.in_ok-take_room.ensures.fits in
+    let new : Session = record session { can_begin = true; can_change = true } in
+    rw c.let_begin_and_change.ensures (sound_set l.history.room l.rows (length l.schemas) (length l.indexes.items) l.slots l.txns.begun l.sessions.items c.args.s session new
+    c.take_room.new.history.room l.rows l.slots c.self.invariant there (λ txn is. is) (promised_same l.slots l.sessions.items c.args.s session new c.self.invariant.promised there refl refl)
+    (omega (arith, room, bit_le 1 session.can_reply)) (omega (arith, fits)) (omega (arith, puts_few l.sessions.items, c.self.invariant.few, c.if-self-ge-MANY_ROWS.false)))
+
+pub returns-clause-ok : goal.returns-clause-ok
+returns-clause-ok c session is =
+    let here : c.index_mut.result.now ≡ session = read_of c.args.s session c.index_mut.result.now c.self.view_is is c.index_mut.ensures.value in
+    rw (← c.self.view_is, c.let_begin_and_change.ensures, here, c.in_ok-take_room.ensures.same.past, c.in_ok-take_room.ensures.same.names) refl

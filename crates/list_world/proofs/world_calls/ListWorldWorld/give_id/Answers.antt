@@ -1,0 +1,34 @@
+use Rattle.std.proofs.Common.{◌≡◌, length, refl, sym, ◌∙◌, arith}
+use Rattle.world.specs.State.{Session}
+use Rattle.list_world.proofs.Sound.{sound_quiet, promised_same}
+use Rattle.list_world.proofs.Owing.{same_owed_id, same_txn_id}
+use Rattle.world.specs.Sessions.{work_with_id}
+use Rattle.list_world.specs.Holding.{Holds, NoneHolds}
+use Rattle.list_world.proofs.Places.{element}
+use Rattle.list_world.proofs.Held.{held, unheld}
+use Rattle.list_world.proofs.world_calls.ListWorldWorld.give_id.Goals as goal
+
+pub invariant_of-self : goal.invariant_of-self
+invariant_of-self c =
+    let l = c.self.inside in
+    let holds : Holds c.args.txn c.in-Some.s l.sessions.items = rw c.deref.ensures.value at c.in-Some.ensures in
+    let session = holds.session in
+    let here : c.index_mut.result.now ≡ session = element l.sessions.items c.in-Some.s session c.index_mut.result.now holds.there c.index_mut.ensures.value in
+    let new : Session = record session { work = work_with_id l.txns.next session.work } in
+    rw (c.set_id.ensures, here, c.give_id-id.ensures.id, c.give_id-id.ensures.given) (sound_quiet l.history.room l.rows (length l.schemas) (length l.indexes.items) l.slots l.txns.begun l.sessions.items c.in-Some.s session new l.slots c.self.invariant holds.there (λ txn is. sym (same_txn_id session.work l.txns.next) ∙ is)
+    (promised_same l.slots l.sessions.items c.in-Some.s session new c.self.invariant.promised holds.there refl refl) (omega (arith, same_owed_id session.work l.txns.next)) refl)
+
+pub returns-in-Some-clause-given : goal.returns-in-Some-clause-given
+returns-in-Some-clause-given c =
+    let l = c.self.inside in
+    let holds : Holds c.args.txn c.in-Some.s l.sessions.items = rw c.deref.ensures.value at c.in-Some.ensures in
+    let session = holds.session in
+    let here : c.index_mut.result.now ≡ session = element l.sessions.items c.in-Some.s session c.index_mut.result.now holds.there c.index_mut.ensures.value in
+    let one = held c.args.txn c.in-Some.s (λ session. record session { work = work_with_id c.self.inside.txns.next session.work }) session l.sessions.items c.self.invariant.apart holds.there holds.is in
+    rw (← c.self.view_is, one, c.set_id.ensures, here, c.give_id-id.ensures.id, c.give_id-id.ensures.given) refl
+
+pub returns-in-None-clause-given : goal.returns-in-None-clause-given
+returns-in-None-clause-given c =
+    let l = c.self.inside in
+    let none : NoneHolds c.args.txn l.sessions.items = rw c.deref.ensures.value at c.in-None.ensures in
+    rw (← c.self.view_is, unheld c.args.txn (λ session. record session { work = work_with_id c.self.inside.txns.next session.work }) l.sessions.items none, c.give_id-id.ensures.given) refl

@@ -1,0 +1,7 @@
+pub mod Rooms
+pub mod Owed
+pub mod Slots
+pub mod Brought
+pub mod Holding
+pub mod Parts
+pub mod Engine

@@ -1,0 +1,44 @@
+//! The world itself. Its parts are changed by the calls of the engine and by those of the trait alone.
+
+use crate::session_room::SessionRoom;
+use crate::versions::Slots;
+use entries::ListIndex;
+use inno_model::History;
+use inno_types::{Listed, Schema};
+use std::alloc::Global;
+use std::marker::Model;
+use txn_table::TxnTable;
+
+/// A world in memory.
+#[derive(Drop)]
+pub struct ListWorld {
+    pub(crate) alloc: Global,
+    pub(crate) history: History,
+    /// How many rows the history holds.
+    pub(crate) rows: u64,
+    /// The tables, by number.
+    pub(crate) schemas: Listed<Schema>,
+    /// Eight for each table: the clustered index, one for each key, and empty ones.
+    pub(crate) indexes: Vec<ListIndex>,
+    /// Older versions.
+    pub(crate) slots: Slots,
+    pub(crate) txns: TxnTable,
+    /// By number.
+    pub(crate) sessions: Vec<SessionRoom>,
+}
+
+impl Model for ListWorld {
+    ghost use Rattle.std.specs.Prelude.{length};
+    ghost use Rattle.list_world.specs.Parts.{Parts, IsSound};
+    ghost use Rattle.inno_model.specs.contracts.event.Event as of_event;
+    ghost use Rattle.entries.specs.contracts.list_index.ListIndex as of_index;
+    ghost use Rattle.std.specs.Coded.{codes};
+
+    ghost Value = { Parts };
+
+    ghost coded = { Prim.hlevel (codes, of_event.the_row.coded, of_index.the_row.coded) };
+
+    ghost view = { λ w. record { names = w.history.names; past = w.history.past; rows = w.rows; schemas = w.schemas; indexes = w.indexes.items; slots = w.slots; txns = w.txns; sessions = w.sessions.items } };
+
+    ghost invariant = { λ w. IsSound w.history.room w.rows (length w.schemas) (length w.indexes.items) w.slots w.txns.begun w.sessions.items };
+}

@@ -1,0 +1,77 @@
+//! What is copied out of a world, and copies of schemas.
+
+ghost use Rattle.std.specs.Prelude.{◌≡◌, ◌≤◌, IfOk, OnErr, true, false, length, option_copied, vec_capacity};
+ghost use Rattle.world.specs.Undoing.{HoldsRecord, IsRead, read_into};
+ghost use Rattle.list_world.specs.Rooms.{IsShortRecord};
+ghost use Rattle.std.specs.Prelude.{IfSome};
+
+use crate::versions::copy_into;
+use inno_types::{Column, Columns, Ids, Key, Keys, Listed, Schema};
+use std::alloc::{AllocError, Global};
+use store_api::Undo;
+use world::UndoRoom;
+
+/// The same ids.
+pub fn copy_ids(alloc: Global, ids: &Ids) -> Result<Ids, AllocError>
+    ensures { IfOk result (λ copy. copy ≡ ids.now) }
+{
+    Ok(Ids::from_vec(Vec::from_slice(alloc, ids.as_slice())?))
+}
+
+/// Puts the record into the room, if there is one.
+pub fn read_undo(undo: Option<&Undo>, into: &mut UndoRoom) -> bool
+    requires holds { HoldsRecord into.old }
+    requires short { IfSome undo (λ undo. IsShortRecord undo.now) }
+    ensures read { IsRead (option_copied undo.entry) (read_into into.new) result }
+    ensures room { HoldsRecord into.new }
+{
+    match undo {
+        Some(undo) => {
+            into.kind = undo.kind;
+            into.table = undo.table;
+            copy_into(undo.key.as_slice(), &mut into.key);
+            copy_into(undo.value.as_slice(), &mut into.value);
+            true
+        }
+        None => false,
+    }
+}
+
+/// The same schema.
+pub fn copy_schema(alloc: Global, schema: &Schema) -> Result<Schema, AllocError>
+    ensures { IfOk result (λ copy. copy ≡ schema.now) }
+{
+    Ok(Schema {
+        name: schema.name.copied()?,
+        columns: copy_columns(alloc, &schema.columns)?,
+        primary: schema.primary,
+        keys: copy_keys(alloc, &schema.keys)?,
+    })
+}
+
+fn copy_columns(alloc: Global, columns: &Columns) -> Result<Columns, AllocError>
+    ensures { IfOk result (λ copy. copy ≡ columns.now) }
+{
+    let mut copy = Vec::new(alloc);
+    for column in columns.as_slice() {
+        copy.push(Column {
+            name: column.name.copied()?,
+            kind: column.kind,
+            not_null: column.not_null,
+        })?;
+    }
+    Ok(Listed::from_vec(copy))
+}
+
+fn copy_keys(alloc: Global, keys: &Keys) -> Result<Keys, AllocError>
+    ensures { IfOk result (λ copy. copy ≡ keys.now) }
+{
+    let mut copy = Vec::new(alloc);
+    for key in keys.as_slice() {
+        copy.push(Key {
+            name: key.name.copied()?,
+            column: key.column,
+        })?;
+    }
+    Ok(Listed::from_vec(copy))
+}

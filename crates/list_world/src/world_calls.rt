@@ -1,0 +1,254 @@
+//! The calls by which statements, rollback and purge drive a world, in memory. Each ends at once, but where another actor
+//! is awaited or memory is wanting.
+
+ghost use Rattle.std.specs.Prelude.{◌≡◌, ◌+◌, ◌<◌, ◌^◌, true};
+ghost use Rattle.list_world.specs.Owed.{bit};
+
+use crate::history_room::{take_room, take_room_unless};
+use crate::holder::holder;
+use crate::list_world::ListWorld;
+use crate::open_work::SeenIds;
+use crate::reading::{copy_ids, read_undo};
+use chain::ChainBad;
+use entries::{Entries, Move};
+use inno_db::Change;
+use inno_model::Event;
+use inno_types::{Bytes, Ids, Level, Row, Schema, Value};
+use mtr::Visit;
+use store_api::{NoMemory, Standing, Undo, Version};
+use world::{UndoRoom, World};
+
+/// From this count of rows on no more are let in.
+const MANY_ROWS: u64 = 1 << 63;
+
+/// Whether one more row can be counted.
+fn may_count(owed: bool, rows: u64) -> bool
+    ensures few { result ≡ true → rows < 2 ^ 63 + bit (2 ^ 63) owed }
+    ensures sure { owed ≡ true → result ≡ true }
+{
+    owed || rows < MANY_ROWS
+}
+
+impl World for ListWorld {
+    ghost use Rattle.list_world.specs.Parts.{world_of};
+
+    ghost state = { world_of };
+
+    fn seek(&mut self, index: u32, actor: u32, from: &Bytes) -> Move {
+        self.indexes[index as usize].seek(actor, from)
+    }
+
+    fn following(&mut self, index: u32, actor: u32) -> Move {
+        self.indexes[index as usize].following(actor)
+    }
+
+    fn fetch(&mut self, index: u32, actor: u32, key: &Bytes, into: &mut Vec<u8>) -> Move {
+        self.indexes[index as usize].fetch(actor, key, into)
+    }
+
+    fn next_key(&mut self, index: u32, actor: u32, key: &Bytes, into: &mut Vec<u8>) -> Move {
+        self.indexes[index as usize].next_key(actor, key, into)
+    }
+
+    fn insert(
+        &mut self,
+        index: u32,
+        actor: u32,
+        key: &Bytes,
+        value: &Bytes,
+        undo: Option<&Undo>,
+    ) -> Move {
+        match undo {
+            None => self.indexes[index as usize].insert(actor, key, value),
+            Some(undo) => self.insert_logged(index, actor, key, value, undo),
+        }
+    }
+
+    fn replace(
+        &mut self,
+        index: u32,
+        actor: u32,
+        key: &Bytes,
+        value: &Bytes,
+        undo: Option<&Undo>,
+    ) -> Move {
+        match undo {
+            None => self.indexes[index as usize].replace(actor, key, value),
+            Some(undo) => self.replace_logged(index, actor, key, value, undo),
+        }
+    }
+
+    fn remove(&mut self, index: u32, actor: u32, key: &Bytes) -> Move {
+        self.indexes[index as usize].remove(actor, key)
+    }
+
+    fn tidy(&mut self, index: u32, actor: u32) -> Move {
+        self.indexes[index as usize].tidy(actor)
+    }
+
+    fn leave(&mut self, index: u32, actor: u32) {
+        let list = &mut self.indexes[index as usize];
+        // It does nothing, and tells that the pairs are sound.
+        let _ = list.tidy(actor);
+        list.leave(actor);
+    }
+
+    fn version(&mut self, pointer: u64) -> Result<Option<Version>, ChainBad> {
+        self.slots.version(pointer)
+    }
+
+    fn value(&mut self, pointer: u64, into: &mut Vec<u8>) -> Result<bool, Visit> {
+        self.slots.value(pointer, into)
+    }
+
+    fn undo_room(&mut self, actor: u32, bytes: u16) -> Move {
+        match self.make_room(actor, bytes) {
+            Ok(()) => Move::Done,
+            Err(_) => Move::NoMemory,
+        }
+    }
+
+    fn next_pointer(&self, actor: u32) -> u64 {
+        self.sessions[actor as usize].next_pointer()
+    }
+
+    fn last(&mut self, _actor: u32, slot: u8, into: &mut UndoRoom, there: &mut bool) -> Move {
+        *there = read_undo(self.sessions[slot as usize].newest(), into);
+        Move::Done
+    }
+
+    fn cut_back(&mut self, _actor: u32, slot: u8) -> Move {
+        self.sessions[slot as usize].cut_back();
+        Move::Done
+    }
+
+    fn begin(&mut self, s: u32, level: Level) -> Result<u64, NoMemory> {
+        let log = Vec::with_capacity(self.alloc, 1)?;
+        let txn = self.txns.begin(s, level)?;
+        self.sessions[s as usize].begin(txn, level, log);
+        Ok(txn)
+    }
+
+    fn next_id(&self) -> u64 {
+        self.txns.next_id()
+    }
+
+    fn give_id(&mut self, txn: u64) -> u64 {
+        let id = self.txns.give_id(txn);
+        match holder(&self.sessions, txn) {
+            Some(s) => self.sessions[s].set_id(id),
+            None => {}
+        }
+        id
+    }
+
+    fn active(&self, out: &mut Ids) -> Result<(), NoMemory> {
+        self.txns.active(self.alloc, out)
+    }
+
+    fn savepoint(&mut self, txn: u64, name: &Bytes, own: u64) -> Result<(), NoMemory> {
+        match holder(&self.sessions, txn) {
+            Some(s) => self.sessions[s].save(name.copied()?, own),
+            None => Ok(()),
+        }
+    }
+
+    fn find_savepoint(&mut self, txn: u64, name: &Bytes) -> Option<u64> {
+        let s = holder(&self.sessions, txn)?;
+        let made = self.sessions[s].made_at(name)?;
+        self.sessions[s].back_to(name);
+        Some(made)
+    }
+
+    fn end(&mut self, txn: u64) {
+        self.txns.end(txn);
+        match holder(&self.sessions, txn) {
+            Some(s) => self.sessions[s].end(),
+            None => {}
+        }
+    }
+
+    fn event_room(&mut self, s: u32) -> Result<(), NoMemory> {
+        if self.rows >= MANY_ROWS {
+            return Err(NoMemory);
+        }
+        take_room(&mut self.history, &self.sessions, 5)?;
+        self.sessions[s as usize].let_begin_and_change();
+        Ok(())
+    }
+
+    fn add_begin(&mut self, s: u32, txn: u64, level: Level) -> Result<(), NoMemory> {
+        let owed = self.sessions[s as usize].can_begin();
+        take_room_unless(owed, &mut self.history, &self.sessions, 3)?;
+        self.sessions[s as usize].begun();
+        self.history.add(Event::Begin { s, txn, level });
+        Ok(())
+    }
+
+    fn add_view(&mut self, s: u32, active: &Ids, next: u64) -> Result<(), NoMemory> {
+        let active = copy_ids(self.alloc, active)?;
+        take_room(&mut self.history, &self.sessions, 1)?;
+        self.sessions[s as usize].keep_view(SeenIds { active, next });
+        self.history.add(Event::View { s });
+        Ok(())
+    }
+
+    fn add_put(&mut self, s: u32, table: u8, row: Row) -> Result<(), NoMemory> {
+        let owed = self.sessions[s as usize].can_change();
+        if !may_count(owed, self.rows) {
+            return Err(NoMemory);
+        }
+        take_room_unless(owed, &mut self.history, &self.sessions, 2)?;
+        self.sessions[s as usize].changed();
+        self.rows += 1;
+        let change = Change::Put { table, row };
+        self.history.add(Event::Changed { s, change });
+        Ok(())
+    }
+
+    fn add_remove(&mut self, s: u32, table: u8, key: Value) -> Result<(), NoMemory> {
+        let owed = self.sessions[s as usize].can_change();
+        take_room_unless(owed, &mut self.history, &self.sessions, 2)?;
+        self.sessions[s as usize].changed();
+        let change = Change::Remove { table, key };
+        self.history.add(Event::Changed { s, change });
+        Ok(())
+    }
+
+    fn add_undone(&mut self, s: u32, keep: u64) {
+        self.sessions[s as usize].undone();
+        self.history.add(Event::Undone { s, keep });
+    }
+
+    fn add_committed(&mut self, s: u32) {
+        self.sessions[s as usize].committed();
+        self.history.add(Event::Committed { s });
+    }
+
+    fn add_rolled_back(&mut self, s: u32) {
+        self.sessions[s as usize].rolled_back();
+        self.history.add(Event::RolledBack { s });
+    }
+
+    fn schema(&self, table: u8) -> Option<&Schema> {
+        self.schemas.as_slice().get(table as usize)
+    }
+
+    fn session(&self, s: u32) -> Standing {
+        self.sessions[s as usize].standing()
+    }
+
+    fn view(&self, s: u32, into: &mut Ids) -> Result<Option<u64>, NoMemory> {
+        match self.sessions[s as usize].view() {
+            Some(seen) => {
+                *into = copy_ids(self.alloc, &seen.active)?;
+                Ok(Some(seen.next))
+            }
+            None => Ok(None),
+        }
+    }
+
+    fn rows(&self) -> u64 {
+        self.rows
+    }
+}
