@@ -1,0 +1,232 @@
+-- What the change of one entry makes of a change that is being taken back.
+use Rattle.std.proofs.Common.{◌≡◌, ◌≢◌, inl, inr, ⊎_elim, ℕ, ◌+◌, ◌<◌, Bool, true, false, cond, List, [], ◌∷◌, Option, Some, None, refl, sym, ap, subst, ◌∙◌, arith, slice_get, length}
+use Rattle.std.specs.Prelude.{◌==◌}
+use Rattle.std.specs.List.{list_any}
+use Rattle.std.proofs.lemmas.Bool.{cases_eq, cond-false, ne_eqb}
+use Rattle.inno_types.specs.declared.value.Value.{Value}
+use Rattle.inno_types.specs.declared.value.Column.{Column}
+use Rattle.inno_types.specs.declared.value.Key.{Key}
+use Rattle.inno_types.specs.declared.value.Schema.{Schema}
+use Rattle.store_api.specs.declared.answers.Undo.{Undo}
+use Rattle.store_api.specs.declared.answers.Version.{Version as Coded}
+use Rattle.entries.specs.Pairs.{value_of}
+use Rattle.row_versions.specs.declared.place.Place.{Place}
+use Rattle.row_versions.specs.declared.version.Version.{Version}
+use Rattle.row_versions.specs.Chains.{Chains, newest}
+use Rattle.secondary.specs.Entries.{entry_of}
+use Rattle.coded_rows.specs.Edits.{clustered_index, key_index, Puts}
+use Rattle.coded_rows.specs.Entries.{value_in, has_value, entry_of as entry_said, TellAlike, TellAlikeBut}
+use Rattle.coded_rows.specs.Records.{shown, row_shown, IsCodeOf}
+use Rattle.coded_rows.specs.Tables.{SaysNow}
+use Rattle.coded_rows.proofs.Values.{value_itself}
+use Rattle.coded_rows.proofs.Pairs.{no_key}
+use Rattle.coded_rows.proofs.Entries.{marked, taken, is_taken, unmarked, is_unmarked, without_row, value_again}
+use Rattle.coded_rows.proofs.Keys.{entry_changed}
+use Rattle.undo_apply.specs.Told.{Rows}
+use Rattle.undo_apply.specs.Standing.{TellsOf, IsNewest, said_but, AreCodedBut, IsCleared, IsLagging, SayBefore, IsUnderWay, versions_before, column_of, some_has}
+use Rattle.undo_apply.proofs.Telling.{pairs_after}
+use Rattle.undo_apply.proofs.Places.{place_is, WasThere, WasNot}
+use Rattle.undo_apply.proofs.Columns.{IsKeyAt, key_at, column_is, entry_is, few_keys}
+use Rattle.undo_apply.proofs.Says.{set_said, set_here, set_others, here_is, here_now, one_done, says_place, sets_there, but_alike}
+
+-- a version without a row
+abbrev gone : Version
+gone = record { writer = 0; row = None }
+
+-- ---- what one key says, before its entry is changed and after
+
+module _ (column : ℕ) (value : Value) (first : Version) (before : List Version) where
+  abbrev any : Bool
+  any = list_any (λ version. has_value column value version.row) before
+
+  -- the key may say these versions once the entry is dropped
+  pub record Dropped (said : List Version) : Type 0 where
+    pub versions : List Version
+    pub alike : TellAlikeBut value column said versions
+    pub told : entry_said column value versions ≡ cond any (Some (1 ∷ [])) None
+    pub cleared : IsCleared before versions
+
+  gone_now : (said : List Version) → TellAlikeBut value column said (gone ∷ before) → Dropped said
+  gone_now said alike = record { versions = gone ∷ before; alike = alike; told = is_taken column value gone before refl; cleared = inr (gone, refl, refl) }
+
+  at_before : (b : Bool) → has_value column value (newest before) ≡ b → Dropped before
+  at_before true has = gone_now before (marked column value gone before has refl)
+  at_before false has = record {
+    versions = before;
+    alike = λ other apart. refl;
+    told = rw has refl;
+    cleared = inl refl;
+  }
+
+  pub drop_to : has_value column value first.row ≡ true → (said : List Version) → IsLagging first before said → Dropped said
+  drop_to has said (inl (inl same)) = subst Dropped (sym same) (at_before (has_value column value (newest before)) refl)
+  drop_to has said (inl (inr (away, none, same))) = record {
+    versions = away ∷ before;
+    alike = λ other apart. ap (entry_said column other) same;
+    told = is_taken column value away before none;
+    cleared = inr (away, none, refl);
+  }
+  drop_to has said (inr same) = subst Dropped (sym same) (gone_now (first ∷ before) (taken column value first gone before has refl))
+
+  pub unmark_to : has_value column value (newest before) ≡ true → (said : List Version) → IsCleared before said → TellAlikeBut value column said before
+  unmark_to has said (inl same) = λ other apart. ap (entry_said column other) same
+  unmark_to has said (inr (away, none, same)) = λ other apart. ap (entry_said column other) same ∙ unmarked column value away before has none other apart
+
+shown_has : (column : ℕ) (coded : Coded) → coded.marked ≡ false → has_value column (value_in column coded.row) (row_shown coded.marked coded.row) ≡ true
+shown_has column coded plain = ap (λ (m : Bool). has_value column (value_in column coded.row) (row_shown m coded.row)) plain ∙ value_itself (value_in column coded.row)
+
+first_has : (column : ℕ) (row : List Value) (found : Option (List Value)) → found ≡ Some row → has_value column (value_in column row) found ≡ true
+first_has column row found is = ap (has_value column (value_in column row)) is ∙ value_itself (value_in column row)
+
+-- ---- all keys
+
+module _ (chains : Chains) (place : Place) (undo : Undo) (schema : Schema) (rows : Rows) (tells : TellsOf undo schema place rows.schemas) where
+  abbrev before : List Version
+  before = versions_before chains place
+
+  abbrev entry_at : ℕ → Coded → List ℕ
+  entry_at which version = entry_of schema (which + 1) version.row undo.key
+
+  -- the rows once the entry of a record has this value
+  abbrev pub with_entry : ℕ → Coded → Option (List ℕ) → Rows
+  with_entry which version value = record rows { pairs = pairs_after (key_index undo.table which) (entry_at which version) value rows.pairs }
+
+  records_same : (which : ℕ) (version : Coded) (value : Option (List ℕ)) → which < length schema.keys → (with_entry which version value).pairs (clustered_index undo.table) ≡ rows.pairs (clustered_index undo.table)
+  records_same which version value within =
+      let few = few_keys schema tells.storable in
+      let differs : clustered_index undo.table ≢ key_index undo.table which = λ same. no_key undo.table undo.table which (omega (arith, within, few)) (sym same) in
+      cond-false (clustered_index undo.table == key_index undo.table which) _ (rows.pairs (clustered_index undo.table)) (ne_eqb (clustered_index undo.table) (key_index undo.table which) differs)
+
+  newest_same : (which : ℕ) (version : Coded) (value : Option (List ℕ)) (bytes : List ℕ) (coded : Coded) → which < length schema.keys → IsNewest undo schema rows.pairs rows.kept bytes coded → IsNewest undo schema (with_entry which version value).pairs rows.kept bytes coded
+  newest_same which version value bytes coded within is = record {
+    there = ap (value_of undo.key) (records_same which version value within) ∙ is.there;
+    code_is = is.code_is;
+    before = is.before;
+  }
+
+  -- the entry of a record of the place is changed
+  entry_put : (said : ℕ → List Version) (which : ℕ) (it : IsKeyAt schema which) (indexed : Column) (version : Coded) (bytes : List ℕ) (versions : List Version) (value : Option (List ℕ)) → slice_get schema.columns it.key.column ≡ Some indexed
+      → AreCodedBut rows.schemas rows.pairs rows.kept chains place said → IsCodeOf schema undo.key bytes version
+      → TellAlikeBut (value_in it.key.column version.row) it.key.column (said which) versions → entry_said it.key.column (value_in it.key.column version.row) versions ≡ value
+      → AreCodedBut rows.schemas (with_entry which version value).pairs rows.kept chains place (set_said said which versions)
+  entry_put said which it indexed version bytes versions value indexed_is are code alike told =
+      let here = place_is undo schema place rows.schemas tells bytes version code in
+      let entry = entry_is schema which it.key indexed version undo.key it.key_is indexed_is in
+      let changed : Puts rows.pairs (with_entry which version value).pairs (key_index undo.table which) (entry_at which version) value = λ other. refl in
+      let Change : List ℕ → Option (List ℕ) → Type 0 = λ e v. Puts rows.pairs (with_entry which version value).pairs (key_index undo.table which) e v in
+      let puts = subst (λ (e : List ℕ). Change e (entry_said it.key.column (value_in it.key.column version.row) versions)) entry (subst (λ (v : Option (List ℕ)). Change (entry_at which version) v) (sym told) changed) in
+      let was = said_but chains place said in
+      let now = said_but chains place (set_said said which versions) in
+      let Alike : List Version → Type 0 = λ v. TellAlikeBut (value_in it.key.column version.row) it.key.column v versions in
+      let alike_there = subst (λ (p : Place). Alike (was p.table which p.key)) (sym here) (subst Alike (sym (says_place chains place said which)) alike) in
+      entry_changed rows.schemas rows.pairs (with_entry which version value).pairs rows.kept chains undo.table schema which it.key indexed undo.key bytes version was now versions
+      are tells.there it.key_is indexed_is code alike_there puts (subst (λ (p : Place). SaysNow was now p which versions) (sym here) (sets_there chains place said which versions))
+
+  abbrev UnderWay : Rows → List ℕ → Coded → ℕ → (List Version → Type 0) → Type 0
+  UnderWay now bytes coded done Holds = IsUnderWay chains place undo schema now bytes coded done Holds
+
+  -- The newest row's entry is marked, or removed.
+  pub dropped : (bytes : List ℕ) (coded : Coded) (which : ℕ) (found : Bool) → which < length schema.keys → UnderWay rows bytes coded which (IsLagging (shown coded) before) → coded.marked ≡ false → some_has schema which coded before ≡ found
+      → UnderWay (with_entry which coded (cond found (Some (1 ∷ [])) None)) bytes coded which (IsCleared before)
+  dropped bytes coded which found within way plain found_is =
+      let it = key_at schema which within in
+      let on = it.on tells.storable.column.kind tells.storable.keys in
+      let column = it.key.column in
+      let value = value_in column coded.row in
+      let drop = drop_to column value (shown coded) before (shown_has column coded plain) (way.said which) way.says.here in
+      let same : some_has schema which coded before ≡ list_any (λ version. has_value column value version.row) before
+      = ap (λ (c : ℕ). list_any (λ version. has_value c (value_in c coded.row) version.row) before) (column_is schema which it.key it.key_is) in
+      let told : entry_said column value drop.versions ≡ cond found (Some (1 ∷ [])) None
+      = drop.told ∙ ap (λ (b : Bool). cond b (Some (1 ∷ [])) None) (sym same ∙ found_is) in
+      record {
+        newest = newest_same which coded (cond found (Some (1 ∷ [])) None) bytes coded within way.newest;
+        said = set_said way.said which drop.versions;
+        coded_but = entry_put way.said which it on.column coded bytes drop.versions (cond found (Some (1 ∷ [])) None) on.there way.coded_but way.newest.code_is drop.alike told;
+        says = here_now (shown coded) before way.said which (IsLagging (shown coded) before) (IsCleared before) drop.versions drop.cleared way.says;
+      }
+
+  -- The entry of the row before is unmarked.
+  pub unmarked_now : (bytes : List ℕ) (coded : Coded) (which : ℕ) (was : WasThere undo schema before) → which < length schema.keys → UnderWay rows bytes coded which (IsCleared before)
+      → UnderWay (with_entry which was.former (Some (0 ∷ []))) bytes coded (which + 1) (IsLagging (shown coded) before)
+  unmarked_now bytes coded which was within way =
+      let it = key_at schema which within in
+      let on = it.on tells.storable.column.kind tells.storable.keys in
+      let column = it.key.column in
+      let value = value_in column was.former.row in
+      let has = first_has column was.former.row (newest before) was.first in
+      record {
+        newest = newest_same which was.former (Some (0 ∷ [])) bytes coded within way.newest;
+        said = set_said way.said which before;
+        coded_but = entry_put way.said which it on.column was.former undo.value before (Some (0 ∷ [])) on.there way.coded_but was.code_is
+            (unmark_to column value (shown coded) before has (way.said which) way.says.here) (is_unmarked column value before has);
+        says = one_done (shown coded) before way.said which (IsCleared before) way.says;
+      }
+
+  -- what a key says may be said otherwise
+  said_now : (bytes : List ℕ) (coded : Coded) (which done : ℕ) (Was Now : List Version → Type 0) (versions : List Version) (way : UnderWay rows bytes coded which Was)
+      → ((key : Key) → slice_get schema.keys which ≡ Some key → TellAlike key.column (way.said which) versions) → SayBefore done Now (shown coded) before (set_said way.said which versions) → UnderWay rows bytes coded done Now
+  said_now bytes coded which done Was Now versions way alike says = record {
+    newest = way.newest;
+    said = set_said way.said which versions;
+    coded_but = but_alike rows.schemas rows.pairs rows.kept chains place way.said (set_said way.said which versions) way.coded_but
+        (λ other at_key key there key_is. ⊎_elim
+        (λ same.
+        let table : place.table ≡ undo.table = tells.table_is in
+        let there_too : slice_get rows.schemas undo.table ≡ Some other = subst (λ (t : ℕ). slice_get rows.schemas t ≡ Some other) table there in
+        let one : schema ≡ other = cc (there_too, tells.there) in
+        let key_too : slice_get schema.keys which ≡ Some key = subst (λ (w : ℕ). slice_get schema.keys w ≡ Some key) same (subst (λ (s : Schema). slice_get s.keys at_key ≡ Some key) (sym one) key_is) in
+        subst (λ (w : ℕ). TellAlike key.column (way.said w) (set_said way.said which versions w)) (sym same)
+        (subst (λ (v : List Version). TellAlike key.column (way.said which) v) (sym (set_here way.said which versions)) (alike key key_too)))
+        (λ differs. subst (λ (v : List Version). TellAlike key.column (way.said at_key) v) (sym (set_others way.said which versions at_key differs)) (λ value. refl))
+        (cases_eq at_key which));
+    says = says;
+  }
+
+  -- Where there was no row before, a cleared key is done.
+  pub passed : (bytes : List ℕ) (coded : Coded) (which : ℕ) → WasNot undo before → UnderWay rows bytes coded which (IsCleared before) → UnderWay rows bytes coded (which + 1) (IsLagging (shown coded) before)
+  passed bytes coded which was way =
+      said_now bytes coded which (which + 1) (IsCleared before) (IsLagging (shown coded) before) before way (λ key key_is. alike key (way.said which) way.says.here)
+      (one_done (shown coded) before way.said which (IsCleared before) way.says) where
+        alike : (key : Key) (said : List Version) → IsCleared before said → TellAlike key.column said before
+        alike key said (inl same) = λ value. ap (entry_said key.column value) same
+        alike key said (inr (away, none, same)) = λ value. ap (entry_said key.column value) same ∙ sym (without_row key.column away before none was.first value)
+
+  -- Where the newest version has no row, the key is clear.
+  pub clear_unless_row : (bytes : List ℕ) (coded : Coded) (which : ℕ) → coded.marked ≡ true → UnderWay rows bytes coded which (IsLagging (shown coded) before) → UnderWay rows bytes coded which (IsCleared before)
+  clear_unless_row bytes coded which is_marked way = record {
+    newest = way.newest;
+    said = way.said;
+    coded_but = way.coded_but;
+    says = here_is (shown coded) before way.said which (IsLagging (shown coded) before) (IsCleared before) (clear (way.said which)) way.says;
+  } where
+    none : row_shown coded.marked coded.row ≡ None
+    none = ap (λ (m : Bool). row_shown m coded.row) is_marked
+
+    clear : (said : List Version) → IsLagging (shown coded) before said → IsCleared before said
+    clear said (inl cleared) = cleared
+    clear said (inr same) = inr (shown coded, none, same)
+
+  -- Where the newest row has the value of the row before, the key is clear.
+  pub clear_of_same : (bytes : List ℕ) (coded : Coded) (which : ℕ) (was : WasThere undo schema before) → which < length schema.keys → coded.marked ≡ false → value_in (column_of schema which) was.former.row ≡ value_in (column_of schema which) coded.row
+      → UnderWay rows bytes coded which (IsLagging (shown coded) before) → UnderWay rows bytes coded which (IsCleared before)
+  clear_of_same bytes coded which was within plain same way = by_said (way.said which) refl way.says.here where
+    shown_row : row_shown coded.marked coded.row ≡ Some coded.row
+    shown_row = ap (λ (m : Bool). row_shown m coded.row) plain
+
+    alike : (key : Key) → slice_get schema.keys which ≡ Some key → TellAlike key.column (shown coded ∷ before) before
+    alike key key_is =
+        let column = column_is schema which key key_is in
+        let one : value_in key.column was.former.row ≡ value_in key.column coded.row = subst (λ (c : ℕ). value_in c was.former.row ≡ value_in c coded.row) column same in
+        λ value. sym (value_again key.column was.former.row (shown coded) before coded.row was.first shown_row one value)
+
+    by_said : (said : List Version) → way.said which ≡ said → IsLagging (shown coded) before said → UnderWay rows bytes coded which (IsCleared before)
+    by_said said is (inl cleared) = record {
+      newest = way.newest;
+      said = way.said;
+      coded_but = way.coded_but;
+      says = here_is (shown coded) before way.said which (IsLagging (shown coded) before) (IsCleared before) (λ lags. subst (λ (v : List Version). IsCleared before v) (sym is) cleared) way.says;
+    }
+    by_said said is (inr with_newest) =
+        said_now bytes coded which which (IsLagging (shown coded) before) (IsCleared before) before way
+        (λ key key_is. subst (λ (v : List Version). TellAlike key.column v before) (sym (is ∙ with_newest)) (alike key key_is))
+        (here_now (shown coded) before way.said which (IsLagging (shown coded) before) (IsCleared before) before (inl refl) way.says)

@@ -1,0 +1,7 @@
+pub mod Lengths
+pub mod EntryRoom
+pub mod Rooms
+pub mod Told
+pub mod Standing
+pub mod Stages
+pub mod Moves

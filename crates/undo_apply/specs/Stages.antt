@@ -1,0 +1,146 @@
+-- What is known between the steps of a taking back, stage by stage, and what each step does.
+use Rattle.std.specs.Prelude.{◌≡◌, ◌≢◌, ◌⊎◌, ℕ, ◌<◌, ◌≤◌, Bool, true, false, List, length, slice_get, Option, Some}
+use Rattle.inno_types.specs.declared.value.Schema.{Schema}
+use Rattle.store_api.specs.declared.answers.Undo.{Undo}
+use Rattle.store_api.specs.declared.answers.Version.{Version as Coded}
+use Rattle.entries.specs.declared.answers.Move.{Move}
+use Rattle.entries.specs.declared.answers.Move.TheVariants.{Done, Step, Latch, Again, Failed, Bad}
+use Rattle.mtr.specs.declared.answers.Visit.TheVariants as visit
+use Rattle.entries.specs.Pairs.{value_of}
+use Rattle.chain.specs.Calls.{IsUnseen}
+use Rattle.row_versions.specs.declared.place.Place.{Place}
+use Rattle.row_versions.specs.declared.version.Version.{Version}
+use Rattle.row_versions.specs.Chains.{Chains, Pops}
+use Rattle.coded_rows.specs.Edits.{clustered_index, key_index}
+use Rattle.coded_rows.specs.Records.{shown, LeadTo}
+use Rattle.world.specs.State.{WorldState}
+use Rattle.row_changes.specs.Pairs.{RowsStay, PutsPair, Hinders}
+use Rattle.undo_apply.specs.declared.work_room.WorkRoom.{WorkRoom}
+use Rattle.undo_apply.specs.declared.work_room.Stage.{Stage}
+use Rattle.undo_apply.specs.declared.work_room.Stage.TheVariants.{Find, Key, Walk, Mark, Await, Remove, Unmark, AwaitRecords, Record}
+use Rattle.undo_apply.specs.Rooms.{IsWhole, steps_left}
+use Rattle.undo_apply.specs.Told.{IsTold, Rows, rows_of}
+use Rattle.undo_apply.specs.Standing.{TellsOf, was_before, had_row, versions_before, IsCleared, IsLagging, IsUnderWay, IsTakenBack, some_has, HasWalked}
+
+-- the key of a stage is one of the table's
+abbrev pub FitsKeys : ℕ → Undo → Stage → Type 0
+FitsKeys keys undo Find = Unit {0}
+FitsKeys keys undo (Key which) = which ≤ keys
+FitsKeys keys undo (Walk which pointer) = which < keys
+FitsKeys keys undo (Mark which) = which < keys
+FitsKeys keys undo (Await which) = which < keys
+FitsKeys keys undo (Remove which) = which < keys
+FitsKeys keys undo (Unmark which) = (which < keys) × (had_row undo ≡ true)
+FitsKeys keys undo AwaitRecords = undo.kind ≡ 1
+FitsKeys keys undo Record = Unit {0}
+
+-- the newest row has this key's value, and an older version has it too, or none has
+pub record IsFound (schema : Schema) (which : ℕ) (coded : Coded) (before : List Version) (found : Bool) : Type 0 where
+  pub plain : coded.marked ≡ false
+  pub found_is : some_has schema which coded before ≡ found
+
+module _ (chains : Chains) (place : Place) (undo : Undo) (schema : Schema) (rows : Rows) (bytes : List ℕ) where
+  -- so many keys are done, and the next one lags
+  abbrev pub LagsAt : ℕ → Coded → Type 0
+  LagsAt done coded = IsUnderWay chains place undo schema rows bytes coded done (IsLagging (shown coded) (versions_before chains place))
+
+  -- what is known at a stage where all is told
+  abbrev pub StageHolds : Stage → Type 0
+  StageHolds Find = ((read : List ℕ) × (coded : Coded) × IsUnderWay chains place undo schema rows read coded 0 (IsLagging (shown coded) (versions_before chains place))) ⊎ IsTakenBack chains undo rows
+  StageHolds (Key which) = (coded : Coded) × LagsAt which coded
+  StageHolds (Walk which pointer) =
+      (coded : Coded) × LagsAt which coded × (coded.marked ≡ false) × HasWalked schema undo.key rows.kept which pointer coded (versions_before chains place)
+  StageHolds (Mark which) = (coded : Coded) × LagsAt which coded × IsFound schema which coded (versions_before chains place) true
+  StageHolds (Await which) = (coded : Coded) × LagsAt which coded × IsFound schema which coded (versions_before chains place) false
+  StageHolds (Remove which) = (coded : Coded) × LagsAt which coded × IsFound schema which coded (versions_before chains place) false
+  StageHolds (Unmark which) = (coded : Coded) × IsUnderWay chains place undo schema rows bytes coded which (IsCleared (versions_before chains place))
+  StageHolds AwaitRecords = (coded : Coded) × LagsAt (length schema.keys) coded
+  StageHolds Record = (coded : Coded) × LagsAt (length schema.keys) coded
+
+-- A change is being taken back, or is to be, or has been. Where all is told, it is known how far it has come.
+pub record IsPuttingBack (chains : Chains) (place : Place) (undo : Undo) (room : WorkRoom) (state : WorldState) : Type 0 where
+  pub schema : Schema
+  pub tells : TellsOf undo schema place state.schemas
+  pub whole : IsWhole room
+  pub fits : FitsKeys (length schema.keys) undo room.stage
+  pub holds : IsTold state → StageHolds chains place undo schema (rows_of state) room.newest.items room.stage
+
+-- ---- steps
+
+-- one entry of a key of the table was changed, or none
+abbrev pub ChangesOneEntry : Schema → Undo → WorldState → WorldState → Type 0
+ChangesOneEntry schema undo old new =
+    RowsStay old new ⊎ ((which : ℕ) × (which < length schema.keys) × (entry : List ℕ) × (value : Option (List ℕ)) × PutsPair (key_index undo.table which) entry value old new)
+
+-- a walk goes on where fewer versions are left
+abbrev pub WalksOn : Schema → Undo → WorldState → Stage → Stage → Type 0
+WalksOn schema undo state (Walk which pointer) (Walk next behind) =
+    (next ≡ which) × (IsTold state → (versions others : List Version) → LeadTo schema undo.key state.versions.kept_at pointer versions → LeadTo schema undo.key state.versions.kept_at behind others → length others < length versions)
+WalksOn schema undo state stage other = ⊥
+
+-- fewer steps are left, or fewer versions of a walk
+abbrev pub Nears : Schema → Undo → WorldState → Stage → Stage → Type 0
+Nears schema undo state stage next = (steps_left (length schema.keys) next < steps_left (length schema.keys) stage) ⊎ WalksOn schema undo state stage next
+
+pub record GoesOn (chains : Chains) (place : Place) (undo : Undo) (room next : WorkRoom) (old new : WorldState) : Type 0 where
+  pub changes : (schema : Schema) → slice_get new.schemas undo.table ≡ Some schema → ChangesOneEntry schema undo old new
+  pub holds : IsPuttingBack chains place undo next new
+  pub nears : (schema : Schema) → slice_get new.schemas undo.table ≡ Some schema → Nears schema undo new room.stage next.stage
+
+-- the index that a stage calls
+abbrev pub index_at : Undo → Stage → ℕ
+index_at undo Find = clustered_index undo.table
+index_at undo (Key which) = clustered_index undo.table
+index_at undo (Walk which pointer) = clustered_index undo.table
+index_at undo (Mark which) = key_index undo.table which
+index_at undo (Await which) = key_index undo.table which
+index_at undo (Remove which) = key_index undo.table which
+index_at undo (Unmark which) = key_index undo.table which
+index_at undo AwaitRecords = clustered_index undo.table
+index_at undo Record = clustered_index undo.table
+
+-- Why a call of an index has not done what it was asked. Want of memory or pages, and pairs that are missing against what
+-- is known, come only where not all is told.
+abbrev pub Stops : ℕ → ℕ → WorldState → WorldState → Move → Type 0
+Stops actor index old new Step = Hinders actor (old.indexes index) (new.indexes index) Step
+Stops actor index old new (Latch by) = Hinders actor (old.indexes index) (new.indexes index) (Latch by)
+Stops actor index old new Again = Hinders actor (old.indexes index) (new.indexes index) Again
+Stops actor index old new Failed = Hinders actor (old.indexes index) (new.indexes index) Failed
+Stops actor index old new (Bad page rule) = Hinders actor (old.indexes index) (new.indexes index) (Bad page rule)
+Stops actor index old new other = IsTold old → ⊥
+
+-- Why an older version was not read.
+abbrev pub StopsWalk : WorldState → WorldState → Move → Type 0
+StopsWalk old new Failed = IsUnseen old.versions new.versions visit.Failed
+StopsWalk old new Again = IsUnseen old.versions new.versions visit.Again
+StopsWalk old new (Bad page rule) = IsUnseen old.versions new.versions (visit.Bad page rule)
+StopsWalk old new other = IsTold old → ⊥
+
+abbrev pub StopsAt : ℕ → Undo → Stage → WorldState → WorldState → Move → Type 0
+StopsAt actor undo (Walk which pointer) old new why = StopsWalk old new why
+StopsAt actor undo stage old new why = Stops actor (index_at undo stage) old new why
+
+-- The call that came next was not done: the stage is the same, and so are all pairs.
+pub record IsHindered (chains : Chains) (place : Place) (actor : ℕ) (undo : Undo) (room next : WorkRoom) (old new : WorldState) (why : Move) : Type 0 where
+  pub stays : RowsStay old new
+  pub stage_is : next.stage ≡ room.stage
+  pub holds : IsPuttingBack chains place undo next new
+  pub cause : StopsAt actor undo room.stage old new why
+
+-- the record is put back or removed, or nothing has changed
+abbrev pub ChangesRecord : Undo → WorldState → WorldState → Type 0
+ChangesRecord undo old new = RowsStay old new ⊎ PutsPair (clustered_index undo.table) undo.key (was_before undo) old new
+
+-- The change is taken back: the newest version of its place is gone. One that had been taken back already is left as it is.
+pub record IsDone (chains : Chains) (place : Place) (undo : Undo) (room next : WorkRoom) (old new : WorldState) : Type 0 where
+  pub changes : ChangesRecord undo old new
+  pub whole : IsWhole next
+  pub anew : next.stage ≡ Find
+  pub popped : IsTold new → value_of undo.key ((rows_of old).pairs (clustered_index undo.table)) ≢ was_before undo
+      → (after : Chains) → Pops chains after place → IsTakenBack after undo (rows_of new)
+  pub again : IsTold new → value_of undo.key ((rows_of old).pairs (clustered_index undo.table)) ≡ was_before undo → RowsStay old new × IsTakenBack chains undo (rows_of new)
+
+abbrev pub PutsBack : Chains → Place → ℕ → Undo → WorkRoom → WorkRoom → WorldState → WorldState → Move → Type 0
+PutsBack chains place actor undo room next old new Done = IsDone chains place undo room next old new
+PutsBack chains place actor undo room next old new Step = GoesOn chains place undo room next old new ⊎ IsHindered chains place actor undo room next old new Step
+PutsBack chains place actor undo room next old new why = IsHindered chains place actor undo room next old new why

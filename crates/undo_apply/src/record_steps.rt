@@ -1,0 +1,82 @@
+//! The steps that deal with the record: it is found first, and put back last.
+
+ghost use Rattle.std.specs.Prelude.{◌≡◌, ◌*◌, ◌↔◌, IsTrue, Some};
+ghost use Rattle.row_versions.specs.declared.place.Place.{Place};
+ghost use Rattle.row_versions.specs.Chains.{Chains};
+ghost use Rattle.undo_apply.specs.Standing.{was_before};
+ghost use Rattle.undo_apply.specs.Stages.{IsPuttingBack, PutsBack};
+
+use crate::moves::{end, go_on_or_end, go_to};
+use crate::work_room::{Stage, WorkRoom};
+use entries::Move;
+use store_api::Undo;
+use world::World;
+
+/// The undo record of a new row.
+const NEW_ROW: u8 = 1;
+
+/// The number of the table's clustered index.
+fn records_of(undo: &Undo) -> u32
+    ensures { result ≡ 8 * undo.now.table }
+{
+    8 * u32::from(undo.table)
+}
+
+/// Whether these bytes are the version that was there before the change.
+fn is_version_before(undo: &Undo, value: &[u8]) -> bool
+    ensures { IsTrue result ↔ (Some value.now ≡ was_before undo.now) }
+{
+    undo.kind != NEW_ROW && value == undo.value.as_slice()
+}
+
+pub(crate) fn find<W: World>(world: &mut W, actor: u32, undo: &Undo, room: &mut WorkRoom) -> Move
+    requires under_way { (chains : Chains) × (place : Place) × IsPuttingBack chains place undo.now room.old (W.state world.old) }
+    requires stage { room.old.stage ≡ Stage.Find }
+    ensures { (chains : Chains) (place : Place) → IsPuttingBack chains place undo.now room.old (W.state world.old)
+        → PutsBack chains place actor undo.now room.old room.new (W.state world.old) (W.state world.new) result }
+{
+    match world.fetch(records_of(undo), actor, &undo.key, &mut room.newest) {
+        Move::Done => {
+            if is_version_before(undo, room.newest.as_slice()) {
+                return Move::Done;
+            }
+            go_to(room, Stage::Key { which: 0 })
+        }
+        Move::End => Move::Done,
+        hindrance => hindrance,
+    }
+}
+
+pub(crate) fn await_records<W: World>(
+    world: &mut W,
+    actor: u32,
+    undo: &Undo,
+    room: &mut WorkRoom,
+) -> Move
+    requires under_way { (chains : Chains) × (place : Place) × IsPuttingBack chains place undo.now room.old (W.state world.old) }
+    requires stage { room.old.stage ≡ Stage.AwaitRecords }
+    ensures { (chains : Chains) (place : Place) → IsPuttingBack chains place undo.now room.old (W.state world.old)
+        → PutsBack chains place actor undo.now room.old room.new (W.state world.old) (W.state world.new) result }
+{
+    let answer = world.next_key(records_of(undo), actor, &undo.key, &mut room.next);
+    go_on_or_end(room, answer, Stage::Record)
+}
+
+pub(crate) fn put_record<W: World>(
+    world: &mut W,
+    actor: u32,
+    undo: &Undo,
+    room: &mut WorkRoom,
+) -> Move
+    requires under_way { (chains : Chains) × (place : Place) × IsPuttingBack chains place undo.now room.old (W.state world.old) }
+    requires stage { room.old.stage ≡ Stage.Record }
+    ensures { (chains : Chains) (place : Place) → IsPuttingBack chains place undo.now room.old (W.state world.old)
+        → PutsBack chains place actor undo.now room.old room.new (W.state world.old) (W.state world.new) result }
+{
+    if undo.kind == NEW_ROW {
+        let answer = world.remove(records_of(undo), actor, &undo.key);
+        return end(room, answer);
+    }
+    let answer = world.replace(records_of(undo), actor, &undo.key, &undo.value, None);
+    end(room, answer)
+}

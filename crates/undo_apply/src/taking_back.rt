@@ -1,0 +1,35 @@
+//! One change is taken back, a call of the world a step. Steps of others come between; they change no row.
+
+ghost use Rattle.std.specs.Prelude.{◌≡◌};
+ghost use Rattle.row_versions.specs.declared.place.Place.{Place};
+ghost use Rattle.row_versions.specs.Chains.{Chains};
+ghost use Rattle.undo_apply.specs.Told.{TellsTogether};
+ghost use Rattle.undo_apply.specs.Stages.{IsPuttingBack, PutsBack};
+
+use crate::key_steps::{await_entries, look_at_key, mark, remove_entry, unmark, walk};
+use crate::record_steps::{await_records, find, put_record};
+use crate::work_room::{Stage, WorkRoom};
+use entries::Move;
+use store_api::Undo;
+use world::World;
+
+/// One step of the taking back of the change that an undo record tells of. After `Step`, `Latch` and `Again` the same call is
+/// to be made again. After `Done` the room serves another change; the same one once more is left as it is.
+pub fn put_back<W: World>(world: &mut W, actor: u32, undo: &Undo, room: &mut WorkRoom) -> Move
+    requires under_way { (chains : Chains) × (place : Place) × IsPuttingBack chains place undo.now room.old (W.state world.old) }
+    requires together { TellsTogether (W.state world.old) }
+    ensures { (chains : Chains) (place : Place) → IsPuttingBack chains place undo.now room.old (W.state world.old)
+        → PutsBack chains place actor undo.now room.old room.new (W.state world.old) (W.state world.new) result }
+{
+    match room.stage {
+        Stage::Find => find(world, actor, undo, room),
+        Stage::Key { which } => look_at_key(world, undo, room, which),
+        Stage::Walk { which, pointer } => walk(world, undo, room, which, pointer),
+        Stage::Mark { which } => mark(world, actor, undo, room, which),
+        Stage::Await { which } => await_entries(world, actor, undo, room, which),
+        Stage::Remove { which } => remove_entry(world, actor, undo, room, which),
+        Stage::Unmark { which } => unmark(world, actor, undo, room, which),
+        Stage::AwaitRecords => await_records(world, actor, undo, room),
+        Stage::Record => put_record(world, actor, undo, room),
+    }
+}
