@@ -1,16 +1,17 @@
-//! A transaction that makes a table, and a pair that is put, read and removed. Memory is ample here.
+//! A transaction that makes a table, a pair that is put, read and removed, and a row that is put and taken back. Memory is
+//! ample here.
 
-ghost use Rattle.std.specs.Prelude.{◌≡◌, [], length, IfOk};
+ghost use Rattle.std.specs.Prelude.{◌≡◌, ◌≢◌, ◌≤◌, ◌<◌, [], length, IfOk};
 ghost use Rattle.world.specs.State.{Session, Work, HasWork, IsIndex};
 ghost use Rattle.list_world.specs.Parts.{world_of};
 
 use crate::ListWorld;
 use entries::Move;
-use inno_types::{Bytes, Column, Columns, Key, Keys, Kind, Level, Schema};
+use inno_types::{Bytes, Column, Columns, Key, Keys, Kind, Level, Row, Schema, Value};
 use std::alloc::{AllocError, Global};
 use std::test::Fail;
-use store_api::NoMemory;
-use world::World;
+use store_api::{NoMemory, Undo};
+use world::{UndoRoom, World};
 
 fn bytes(alloc: Global, byte: u8) -> Result<Bytes, AllocError>
     ensures { IfOk result (λ bytes. length bytes ≡ 1) }
@@ -82,5 +83,81 @@ fn a_pair_is_put_read_and_removed(rt: HostRuntime) -> Result<(), Fail> {
     assert!(rt; matches!(gone, Move::End));
     let names = world.history().names().len();
     assert_eq!(rt; (names, world.rows()), (2, 0));
+    Ok(())
+}
+
+/// An undo record that tells of a new row.
+fn new_row(alloc: Global) -> Result<Undo, AllocError>
+    ensures { IfOk result (λ undo. (undo.kind ≡ 1) × (undo.value ≡ []) × (length undo.key ≡ 1)) }
+{
+    Ok(Undo {
+        kind: 1,
+        table: 0,
+        key: bytes(alloc, 1)?,
+        value: Bytes::new(alloc),
+    })
+}
+
+/// A world with a table, and with room for a change in the log and in the history.
+fn with_room(alloc: Global) -> Result<ListWorld, NoMemory>
+    ensures log { IfOk result (λ world. (session : Session) × (work : Work) × HasWork 0 session work (world_of world) × (8 ≤ session.undo_room)) }
+    ensures rows { IfOk result (λ world. IsIndex (world_of world).schemas 0) }
+{
+    let mut world = tabled(alloc)?;
+    let Move::Done = world.undo_room(0, 8) else {
+        return Err(NoMemory);
+    };
+    world.event_room(0)?;
+    Ok(world)
+}
+
+/// A row is put, with its undo record and its entry.
+fn with_row(alloc: Global) -> Result<ListWorld, NoMemory>
+    ensures { IfOk result (λ world. (session : Session) × (work : Work) × HasWork 0 session work (world_of world) × (work.log ≢ []) × (0 < work.own)) }
+{
+    let mut world = with_room(alloc)?;
+    let undo = new_row(alloc)?;
+    let value = bytes(alloc, 2)?;
+    let row = Row::from_vec(vec![in alloc; Value::Int(1), Value::Int(2)]?);
+    let Move::Done = world.insert(0, 0, &undo.key, &value, Some(&undo)) else {
+        return Err(NoMemory);
+    };
+    world.add_put(0, 0, row)?;
+    Ok(world)
+}
+
+/// The row is taken back.
+fn without_row(alloc: Global) -> Result<ListWorld, NoMemory>
+    ensures { IfOk result (λ world. 0 < length (world_of world).sessions) }
+{
+    let mut world = with_row(alloc)?;
+    let Move::Done = world.cut_back(0, 0) else {
+        return Err(NoMemory);
+    };
+    world.add_undone(0, 0);
+    Ok(world)
+}
+
+#[test]
+fn the_undo_record_of_a_row_is_read(rt: HostRuntime) -> Result<(), Fail> {
+    let mut world = with_row(rt.alloc())?;
+    assert_eq!(rt; world.rows(), 1);
+    let mut read = UndoRoom::new(rt.alloc())?;
+    let mut there = false;
+    let last = world.last(0, 0, &mut read, &mut there);
+    assert!(rt; matches!(last, Move::Done));
+    assert_eq!(rt; (there, read.kind, read.table), (true, 1, 0));
+    assert_eq!(rt; read.key.as_slice(), [1].as_slice());
+    Ok(())
+}
+
+#[test]
+fn a_row_taken_back_leaves_no_undo_record(rt: HostRuntime) -> Result<(), Fail> {
+    let mut world = without_row(rt.alloc())?;
+    let mut read = UndoRoom::new(rt.alloc())?;
+    let mut there = true;
+    let last = world.last(0, 0, &mut read, &mut there);
+    assert!(rt; matches!(last, Move::Done));
+    assert!(rt; !there);
     Ok(())
 }

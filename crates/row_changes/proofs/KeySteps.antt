@@ -1,6 +1,6 @@
 -- What one key says of a place while a change goes over into the keys.
-use Rattle.std.proofs.Common.{◌≡◌, ◌≢◌, ◌⊎◌, ⊎_elim, ◌∙◌, sym, ap, subst, refl, ℕ, zero, suc, ◌+◌, ◌<◌, ◌≤◌, ◌^◌, ◌==◌, Bool, true, false, cond, List, [], ◌∷◌, length, Option, None, Some, slice_get, arith, eqb-true}
-use Rattle.std.specs.Prelude.{◌&&◌, is_some}
+use Rattle.std.proofs.Common.{◌≡◌, ◌≢◌, ⊎_elim, ◌∙◌, sym, ap, subst, refl, ℕ, zero, suc, ◌+◌, ◌<◌, ◌≤◌, ◌^◌, ◌==◌, Bool, true, false, cond, List, [], ◌∷◌, length, Option, None, Some, slice_get, arith}
+use Rattle.std.specs.Prelude.{◌&&◌}
 use Rattle.std.proofs.lemmas.Bool.{cases_eq}
 use Rattle.std.proofs.lemmas.Bool.Decides.{eqb_tells}
 use Rattle.std.proofs.lemmas.Option.{slice_get_within}
@@ -19,7 +19,7 @@ use Rattle.coded_rows.specs.Edits.{key_index, Puts}
 use Rattle.coded_rows.specs.Entries.{value_in, entry_of, TellAlike}
 use Rattle.coded_rows.specs.Records.{IsCodeOf, shown}
 use Rattle.coded_rows.specs.Steps.{PutsEntry}
-use Rattle.coded_rows.specs.Tables.{Said, AreCodedAs, AreCoded, LagAt, SaysNow, place_in}
+use Rattle.coded_rows.specs.Tables.{Said, AreCodedAs, AreCoded, SaysNow}
 use Rattle.coded_rows.proofs.Values.{same_place, same_value}
 use Rattle.coded_rows.proofs.Keys.{now_says, others_say, lag_says, said_alike, change_over}
 use Rattle.coded_rows.proofs.Entries.{value_again, without_row}

@@ -1,5 +1,5 @@
 -- What stays known while the keys of a table take over a change of a row.
-use Rattle.std.proofs.Common.{◌≡◌, ◌≢◌, ◌⊎◌, inl, inr, ⊎_elim, ◌∙◌, sym, ap, subst, refl, ℕ, ◌+◌, ◌-◌, ◌*◌, ◌^◌, ◌<◌, ◌≤◌, Bool, true, false, List, [], ◌∷◌, length, Option, None, Some, slice_get, get_or, arith}
+use Rattle.std.proofs.Common.{◌≡◌, ◌⊎◌, inl, inr, ◌∙◌, sym, ap, subst, refl, ℕ, ◌+◌, ◌-◌, ◌*◌, ◌<◌, ◌≤◌, false, List, [], ◌∷◌, length, Option, None, Some, slice_get, get_or, arith}
 use Rattle.std.proofs.lemmas.Option.{slice_get_cases, slice_get_within, get_or_from_slice_get}
 use Rattle.inno_types.specs.declared.value.Column.{Column}
 use Rattle.fitting_rows.specs.Records.{IsEntryOf}
@@ -17,29 +17,26 @@ use Rattle.entries.specs.declared.answers.Move.{Move}
 use Rattle.entries.specs.declared.answers.Move.TheVariants as moves
 use Rattle.entries.specs.Pairs.{Pair}
 use Rattle.entries.specs.Index.{Index}
-use Rattle.key_codec.specs.Keys.{HasKey, key_code}
-use Rattle.row_codec.specs.Rows.{IsRowOf}
 use Rattle.fitting_rows.specs.Storable.{IsStorable}
 use Rattle.row_versions.specs.declared.place.Place.{Place}
 use Rattle.row_versions.specs.declared.version.Version.{Version}
-use Rattle.row_versions.specs.Chains.{Chains, versions_at, newest}
+use Rattle.row_versions.specs.Chains.{Chains}
 use Rattle.coded_rows.specs.Edits.{key_index}
 use Rattle.coded_rows.specs.Records.{shown}
-use Rattle.coded_rows.specs.Tables.{Said}
 use Rattle.world.specs.State.{WorldState}
 use Rattle.row_changes.specs.declared.entry_put.EntryPut.{EntryPut}
 use Rattle.row_changes.specs.declared.entry_put.PutPhase.{PutPhase}
 use Rattle.row_changes.specs.declared.entry_put.PutPhase.TheVariants.{Look, Unmark, Next, Insert}
 use Rattle.row_changes.specs.declared.keys_change.KeysChange.{KeysChange}
 use Rattle.row_changes.specs.declared.key_entries.KeyEntries.{KeyEntries}
-use Rattle.row_changes.specs.declared.reached.Reached.TheVariants.{Went, Done, Hindered}
+use Rattle.row_changes.specs.declared.reached.Reached.TheVariants.{Done, Hindered}
 use Rattle.row_changes.specs.Pairs.{RowsStay, PutsPair, Hinders}
-use Rattle.row_changes.specs.Entries.{unmarked, marked, IsPutting, put_steps, GoesOnPutting, HindersEntry, PutsEntry}
+use Rattle.row_changes.specs.Entries.{unmarked, marked, put_steps, GoesOnPutting, HindersEntry, PutsEntry}
 use Rattle.row_changes.specs.Edits.{IsRowFor, IsKeyAt}
 use Rattle.row_changes.specs.Records.{IsTable}
-use Rattle.row_changes.specs.Told.{pairs_of, IsTold, AreRowsAs, HasRows}
-use Rattle.row_changes.specs.KeyEntries.{value_stays, StayBetween, IsFirstToChange, IsEntryIn, IsEntryFor, AreEntries}
-use Rattle.row_changes.specs.Keys.{gone, without_row, said_next, SaySoFar, HasRowsSoFar, IsPushed, IsEntering, IsChangingKeys, keys_steps, keys_next, StaysBesideKeys, GoesOnWithKeys, HindersKeys, ChangesKeys}
+use Rattle.row_changes.specs.Told.{pairs_of, IsTold}
+use Rattle.row_changes.specs.KeyEntries.{value_stays, StayBetween, IsEntryIn, IsEntryFor, AreEntries}
+use Rattle.row_changes.specs.Keys.{gone, without_row, said_next, HasRowsSoFar, IsEntering, IsChangingKeys, keys_steps, keys_next, StaysBesideKeys, GoesOnWithKeys, ChangesKeys}
 use Rattle.row_changes.proofs.Changing.{same_rows}
 use Rattle.row_changes.proofs.KeySteps.{plain, code_of, Says, pass, mark, put_after, put_first, key_done, over, stays_alike, puts_entry}
 use Rattle.row_changes.proofs.Telling.{stays_told, rows_again, coded_again, put_told, put_pairs}

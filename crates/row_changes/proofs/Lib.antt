@@ -7,3 +7,5 @@ pub mod KeySteps
 pub mod Telling
 pub mod KeyLists
 pub mod Keying
+pub mod Pushed
+pub mod Whole

@@ -1,6 +1,6 @@
 -- What stays told of pairs and versions.
 use Rattle.std.proofs.Common.{◌≡◌, ◌≢◌, ⊎_elim, ◌∙◌, sym, ap, subst, refl, ℕ, ◌==◌, Bool, true, false, cond, List, Option, None, Some}
-use Rattle.std.specs.Prelude.{IsSome, IsTrue}
+use Rattle.std.specs.Prelude.{IfSome, IsSome}
 use Rattle.std.proofs.lemmas.Bool.{cases_eq}
 use Rattle.std.proofs.lemmas.Bool.Decides.{eqb_tells}
 use Rattle.inno_types.specs.declared.value.Schema.{Schema}
@@ -44,13 +44,15 @@ rows_again old new chains said stay told is =
 
 -- ---- where one pair changes
 
-pub put_told : (index : ℕ) (key : List ℕ) (value : Option (List ℕ)) (old new : WorldState) → PutsPair index key value old new → IsTold new → IsTold old
-put_told index key value old new puts told =
-    record {
-      pairs = λ i. ⊎_elim (λ e. subst (λ k. IsSome (old.indexes k).pairs) (sym e) (told_before (λ before after. after ≡ with_value key value before) (old.indexes index).pairs (new.indexes index).pairs puts.here (told.pairs index)))
-          (λ differs. told_before (λ before after. after ≡ before) (old.indexes i).pairs (new.indexes i).pairs (puts.elsewhere i differs) (told.pairs i)) (cases_eq i index);
-      versions = puts.versions.told told.versions;
-    }
+-- at one index the key has another value, and no other pair has changed
+abbrev pub HasPut : ℕ → List ℕ → Option (List ℕ) → WorldState → WorldState → Type 0
+HasPut index key value old new =
+    Goes (λ before after. after ≡ with_value key value before) (old.indexes index).pairs (new.indexes index).pairs × ((other : ℕ) → other ≢ index → AreKept (old.indexes other).pairs (new.indexes other).pairs)
+
+pub pairs_told : (index : ℕ) (key : List ℕ) (value : Option (List ℕ)) (old new : WorldState) → HasPut index key value old new → IsTold new → (i : ℕ) → IsSome (old.indexes i).pairs
+pairs_told index key value old new puts told i =
+    ⊎_elim (λ e. subst (λ k. IsSome (old.indexes k).pairs) (sym e) (told_before (λ before after. after ≡ with_value key value before) (old.indexes index).pairs (new.indexes index).pairs puts.0 (told.pairs index)))
+    (λ differs. told_before (λ before after. after ≡ before) (old.indexes i).pairs (new.indexes i).pairs (puts.1 i differs) (told.pairs i)) (cases_eq i index)
 
 if_true : (b : Bool) (a c x : List Pair) → b ≡ true → x ≡ a → x ≡ cond b a c
 if_true b a c x is same = same ∙ sym (ap (λ (t : Bool). cond t a c) is)
@@ -58,9 +60,20 @@ if_true b a c x is same = same ∙ sym (ap (λ (t : Bool). cond t a c) is)
 if_false : (b : Bool) (a c x : List Pair) → b ≡ false → x ≡ c → x ≡ cond b a c
 if_false b a c x is same = same ∙ sym (ap (λ (t : Bool). cond t a c) is)
 
-pub put_pairs : (index : ℕ) (key : List ℕ) (value : Option (List ℕ)) (old new : WorldState) → PutsPair index key value old new → IsTold new → Puts (pairs_of old) (pairs_of new) index key value
-put_pairs index key value old new puts told i =
+pub puts_pairs : (index : ℕ) (key : List ℕ) (value : Option (List ℕ)) (old new : WorldState) → HasPut index key value old new → IsTold new → Puts (pairs_of old) (pairs_of new) index key value
+puts_pairs index key value old new puts told i =
     ⊎_elim
-    (λ t. if_true (i == index) (with_value key value (pairs_of old index)) (pairs_of old i) (pairs_of new i) t.0 (ap (pairs_of new) t.1 ∙ went (with_value key value) (old.indexes index).pairs (new.indexes index).pairs puts.here (told.pairs index)))
-    (λ f. if_false (i == index) (with_value key value (pairs_of old index)) (pairs_of old i) (pairs_of new i) f.0 (went (λ pairs. pairs) (old.indexes i).pairs (new.indexes i).pairs (puts.elsewhere i f.1) (told.pairs i)))
+    (λ t. if_true (i == index) (with_value key value (pairs_of old index)) (pairs_of old i) (pairs_of new i) t.0 (ap (pairs_of new) t.1 ∙ went (with_value key value) (old.indexes index).pairs (new.indexes index).pairs puts.0 (told.pairs index)))
+    (λ f. if_false (i == index) (with_value key value (pairs_of old index)) (pairs_of old i) (pairs_of new i) f.0 (went (λ pairs. pairs) (old.indexes i).pairs (new.indexes i).pairs (puts.1 i f.1) (told.pairs i)))
     (eqb_tells i index)
+
+pub put_told : (index : ℕ) (key : List ℕ) (value : Option (List ℕ)) (old new : WorldState) → PutsPair index key value old new → IsTold new → IsTold old
+put_told index key value old new puts told = record { pairs = pairs_told index key value old new (puts.here, puts.elsewhere) told; versions = puts.versions.told told.versions }
+
+pub put_pairs : (index : ℕ) (key : List ℕ) (value : Option (List ℕ)) (old new : WorldState) → PutsPair index key value old new → IsTold new → Puts (pairs_of old) (pairs_of new) index key value
+put_pairs index key value old new puts told = puts_pairs index key value old new (puts.here, puts.elsewhere) told
+
+-- what an index tells
+pub tells : (P : List Pair → Type 0) (pairs : Option (List Pair)) → IfSome pairs P → IsSome pairs → P (pairs_in pairs)
+tells P None h told = absurd (cc)
+tells P (Some pairs) h told = h

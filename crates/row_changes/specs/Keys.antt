@@ -1,18 +1,13 @@
 -- What is known while the keys of a table take over a change of a row, and what each step does.
-use Rattle.std.specs.Prelude.{◌≡◌, ℕ, ◌+◌, ◌-◌, ◌*◌, ◌^◌, ◌<◌, ◌≤◌, Bool, true, false, List, ◌∷◌, length, slice_get, Option, None, Some, IfSome}
+use Rattle.std.specs.Prelude.{◌≡◌, ℕ, ◌+◌, ◌-◌, ◌*◌, ◌^◌, ◌<◌, ◌≤◌, List, ◌∷◌, length, slice_get, Option, None, Some, IfSome}
 use Rattle.inno_types.specs.declared.value.Value.{Value}
-use Rattle.inno_types.specs.declared.value.Column.{Column}
-use Rattle.inno_types.specs.declared.value.Key.{Key}
 use Rattle.inno_types.specs.declared.value.Schema.{Schema}
 use Rattle.entries.specs.declared.answers.Move.{Move}
-use Rattle.entries.specs.declared.answers.Move.TheVariants.{NoMemory}
 use Rattle.chain.specs.Versions.{Stays}
-use Rattle.key_codec.specs.Keys.{entry_code}
 use Rattle.row_versions.specs.declared.place.Place.{Place}
 use Rattle.row_versions.specs.declared.version.Version.{Version}
 use Rattle.row_versions.specs.Chains.{Chains, versions_at, newest}
 use Rattle.coded_rows.specs.Edits.{key_index}
-use Rattle.coded_rows.specs.Entries.{value_in, is_same_value}
 use Rattle.coded_rows.specs.Tables.{Said, LagAt}
 use Rattle.world.specs.State.{WorldState}
 use Rattle.row_changes.specs.declared.entry_put.EntryPut.{EntryPut}

@@ -8,3 +8,4 @@ pub mod Entering
 pub mod Told
 pub mod KeyEntries
 pub mod Keys
+pub mod Rows

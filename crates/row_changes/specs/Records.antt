@@ -1,5 +1,5 @@
 -- What is known of a record that is being changed between its steps, and what each step does.
-use Rattle.std.specs.Prelude.{◌≡◌, ◌≢◌, ◌⊎◌, ℕ, ◌+◌, ◌-◌, ◌^◌, ◌<◌, ◌≤◌, ◌==◌, if◌then◌else◌, true, false, All, List, [], ◌∷◌, length, slice_get, Option, None, Some}
+use Rattle.std.specs.Prelude.{◌≡◌, ◌≢◌, ◌⊎◌, ℕ, ◌+◌, ◌-◌, ◌^◌, ◌<◌, ◌≤◌, ◌==◌, if◌then◌else◌, true, false, List, [], ◌∷◌, length, slice_get, Option, None, Some}
 use Rattle.inno_types.specs.declared.value.Value.{Value}
 use Rattle.inno_types.specs.declared.value.Schema.{Schema}
 use Rattle.inno_db.specs.declared.change.Change.{Change}
@@ -10,11 +10,9 @@ use Rattle.entries.specs.declared.answers.Move.{Move}
 use Rattle.entries.specs.declared.answers.Move.TheVariants.{Done, End}
 use Rattle.entries.specs.Pairs.{value_of}
 use Rattle.entries.specs.Index.{Index, Told, Goes, AreKept}
-use Rattle.key_codec.specs.Keys.{Has64Bits}
-use Rattle.row_codec.specs.Rows.{IsRecordOf, IsKeyOf, version_code}
+use Rattle.row_codec.specs.Rows.{IsRecordOf, version_code}
 use Rattle.txn_table.specs.Txns.{Txns, is_there, id_at, with_id}
 use Rattle.fitting_rows.specs.Storable.{IsStorable}
-use Rattle.fitting_rows.specs.Fitting.{FitsTable}
 use Rattle.coded_rows.specs.Edits.{clustered_index, with_value}
 use Rattle.coded_rows.specs.Records.{IsCodeOf, row_shown}
 use Rattle.world.specs.State.{WorldState, Session, Work, Logged, HasWork}

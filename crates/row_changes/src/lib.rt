@@ -10,6 +10,7 @@ mod key_entries;
 mod keys_change;
 mod reached;
 mod record_change;
+mod row_change;
 mod row_edit;
 
 pub use entry_drop::{DropPhase, EntryDrop};
@@ -18,4 +19,5 @@ pub use entry_put::{EntryPut, PutPhase};
 pub use keys_change::KeysChange;
 pub use reached::Reached;
 pub use record_change::{RecordChange, RecordReached, RecordStage};
+pub use row_change::RowChange;
 pub use row_edit::RowEdit;

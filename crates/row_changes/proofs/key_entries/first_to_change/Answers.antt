@@ -1,5 +1,5 @@
 use Rattle.row_changes.proofs.key_entries.first_to_change.Goals as goal
-use Rattle.std.proofs.Common.{◌≡◌, ◌<◌, ◌≤◌, ℕ, length, get_or, sym, ap, ◌∙◌, arith}
+use Rattle.std.proofs.Common.{◌≡◌, length, get_or, sym, ap, ◌∙◌, arith}
 use Rattle.row_changes.proofs.KeyLists.{more_stay, stay_to_end, none_at_end, item_there}
 
 abbrev pub loop-which-preserved : goal.loop-which-preserved

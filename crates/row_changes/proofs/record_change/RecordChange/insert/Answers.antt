@@ -1,9 +1,8 @@
 use Rattle.row_changes.proofs.record_change.RecordChange.insert.Goals as goal
-use Rattle.std.proofs.Common.{refl, subst, sym}
+use Rattle.std.proofs.Common.{refl}
 use Rattle.row_changes.specs.declared.record_change.RecordStage.TheVariants.{Insert}
-use Rattle.row_codec.specs.Rows.{IsRowOf}
 use Rattle.row_changes.proofs.Changing.{stage_at}
-use Rattle.row_changes.proofs.Recorded.{key_short, value_short, first_fits, version_first, may_log_new, may_enter, inserted_logs, inserted, insert_hindered, value_of_row, found_first}
+use Rattle.row_changes.proofs.Recorded.{key_short, value_short, version_first, may_log_new, may_enter, inserted_logs, inserted, insert_hindered, value_of_row, found_first}
 
 abbrev pub coded-requires : goal.coded-requires
 coded-requires g c =

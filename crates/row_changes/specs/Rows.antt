@@ -1,0 +1,81 @@
+-- What is known of a whole change of a row between its steps, and what each step does.
+use Rattle.std.specs.Prelude.{◌≡◌, ℕ, ◌+◌, ◌-◌, ◌*◌, ◌<◌, List, length, slice_get, Option, None, Some}
+use Rattle.inno_types.specs.declared.value.Value.{Value}
+use Rattle.inno_types.specs.declared.value.Schema.{Schema}
+use Rattle.inno_db.specs.Database.{key_of}
+use Rattle.entries.specs.declared.answers.Move.{Move}
+use Rattle.row_versions.specs.declared.place.Place.{Place}
+use Rattle.row_versions.specs.Chains.{Chains, Pushes}
+use Rattle.world.specs.State.{WorldState, Session, Work, HasWork}
+use Rattle.row_changes.specs.declared.row_edit.RowEdit.{RowEdit}
+use Rattle.row_changes.specs.declared.row_edit.RowEdit.TheVariants.{Put, Remove}
+use Rattle.row_changes.specs.declared.record_change.RecordChange.{RecordChange}
+use Rattle.row_changes.specs.declared.record_change.RecordReached.TheVariants as records
+use Rattle.row_changes.specs.declared.row_change.RowChange.{RowChange}
+use Rattle.row_changes.specs.declared.row_change.RowChange.TheVariants.{Record, Keys}
+use Rattle.row_changes.specs.declared.reached.Reached.{Reached}
+use Rattle.row_changes.specs.declared.reached.Reached.TheVariants.{Went, Done, Hindered}
+use Rattle.row_changes.specs.Pairs.{RowsStay}
+use Rattle.row_changes.specs.Asides.{StepsAside}
+use Rattle.row_changes.specs.Records.{IsTable, IsChangingRecord, GoesOnWithRecord, HindersRecord, ChangesRecord, record_steps, id_for}
+use Rattle.row_changes.specs.Told.{HasRows}
+use Rattle.row_changes.specs.Keys.{IsChangingKeys, GoesOnWithKeys, HindersKeys, keys_steps}
+
+-- the row that readers of the newest rows find after it
+abbrev pub row_after : RowEdit → Option (List Value)
+row_after (Put row) = Some row
+row_after (Remove value) = None
+
+-- the value of the primary key
+abbrev pub primary_of : Schema → RowEdit → Value
+primary_of schema (Put row) = key_of schema row
+primary_of schema (Remove value) = value
+
+-- the place of the row
+abbrev pub place_of : Schema → RecordChange → Place
+place_of schema change = record { table = change.table; key = primary_of schema change.edit }
+
+-- The place of the row has a newer version now, which the session's transaction wrote, and each other place has what it had.
+pub record PushesEdit (s : ℕ) (change : RecordChange) (state : WorldState) (before after : Chains) : Type 0 where
+  pub schema : Schema
+  pub there : slice_get state.schemas change.table ≡ Some schema
+  pub session : Session
+  pub work : Work
+  pub has_work : HasWork s session work state
+  pub pushes : Pushes before after (place_of schema change) (record { writer = id_for work.id state.txns.next; row = row_after change.edit })
+
+-- Before the record, the indexes are the rows before; then keys take over what was pushed.
+abbrev pub IsChangingRow : ℕ → Chains → WorldState → RowChange → Type 0
+IsChangingRow s chains state (Record change key after) = IsChangingRecord s state change × HasRows chains state × (key ≡ change.key) × (after ≡ row_after change.edit)
+IsChangingRow s chains state (Keys change) = IsChangingKeys chains state change
+
+-- how many steps are left at most, where the table has so many keys
+abbrev pub row_steps : ℕ → RowChange → ℕ
+row_steps keys (Record change key after) = 4 * keys + record_steps change.stage
+row_steps keys (Keys change) = keys_steps (keys - change.which) change.put
+
+-- one of the two parts has gone on; or the version stands, the history tells it, and the keys come next
+abbrev pub GoesOnWithRow : ℕ → Chains → WorldState → WorldState → RowChange → RowChange → Type 0
+GoesOnWithRow s chains old new (Record change key after) (Record next key' after') = GoesOnWithRecord s old new change next × IsChangingRow s chains new (Record next key' after')
+GoesOnWithRow s chains old new (Record change key after) (Keys next) =
+    ChangesRecord s old new change (records.Recorded next.before) × ((pushed : Chains) → PushesEdit s change old chains pushed → IsChangingKeys pushed new next)
+GoesOnWithRow s chains old new (Keys change) (Record next key after) = ⊥
+GoesOnWithRow s chains old new (Keys change) (Keys next) = GoesOnWithKeys chains old new change next
+
+-- why neither has gone on
+abbrev pub HindersRow : ℕ → WorldState → WorldState → RowChange → Move → Type 0
+HindersRow s old new (Record change key after) why = StepsAside s old new × (schema : Schema) × IsTable change.table schema old × HindersRecord s change schema old new why
+HindersRow s old new (Keys change) why = RowsStay old new × HindersKeys s old new change why
+
+-- the table of the change
+abbrev pub table_of : RowChange → ℕ
+table_of (Record change key after) = change.table
+table_of (Keys change) = change.table
+
+-- The last step leaves the indexes as the rows that are there now.
+abbrev pub ChangesRow : ℕ → Chains → WorldState → WorldState → RowChange → Reached RowChange → Type 0
+ChangesRow s chains old new change (Went next) =
+    GoesOnWithRow s chains old new change next × ((schema : Schema) → slice_get old.schemas (table_of change) ≡ Some schema → row_steps (length schema.keys) next < row_steps (length schema.keys) change)
+ChangesRow s chains old new (Record change key after) Done = ⊥
+ChangesRow s chains old new (Keys change) Done = RowsStay old new × HasRows chains new
+ChangesRow s chains old new change (Hindered same why) = (same ≡ change) × IsChangingRow s chains new change × HindersRow s old new change why
