@@ -1,6 +1,5 @@
 -- An entry of another session leaves what a CREATE TABLE knows.
 use Rattle.std.proofs.Common.{◌≡◌, ◌≢◌, ◌⊎◌, ◌<◌, ℕ, Bool, true, false, Some, None, List, [], ◌∷◌, refl, sym, ap, subst, ◌∙◌, inl, inr, length}
-use Rattle.std.proofs.lemmas.Bool.{false≢true}
 use Rattle.std.specs.Prelude.{is_some}
 use Rattle.std.specs.List.{AllByRecursion, list_any}
 use Rattle.inno_types.specs.declared.lock.Level.{Level}
@@ -16,15 +15,15 @@ use Rattle.inno_model.proofs.Untouched.{IsUntouched, untouched}
 use Rattle.sql_grammar.specs.Grammar.{Spells}
 use Rattle.sql_history.specs.Items.{own_before, base, point}
 use Rattle.sql_history.specs.Waiting.{is_victim}
-use Rattle.sql_history.specs.Legal.{CommittedFirst, LeavesIt, MayLeaveOpen, EndsCreate}
-use Rattle.table_lists.specs.State.{State}
+use Rattle.sql_history.specs.Legal.{CommittedFirst, LeavesIt, EndsCreate}
 use Rattle.table_lists.specs.Order.{IsOfRow, created}
+use Rattle.shared_lists.specs.State.{State}
 use Rattle.sql_lists.specs.Steps.{Adding, HasRowsAlone, StaysRunning, changes_rows}
 use Rattle.sql_lists.proofs.Staying.{StaysAtWork, at_work, other_of, within_of_other, point_stays, steady_on, base_on}
 use Rattle.create_statement.specs.declared.machine.CreateStatement.{CreateStatement}
 use Rattle.create_statement.specs.declared.machine.CreateStatement.TheVariants as machine
 use Rattle.create_statement.specs.Knowing.{IsAt, IsToBegin, HasMadeNone, IsEmptied, HasOpened, IsToMake, HasMadeIt, IsCommitted, IsFailing, IsGivingUp}
-use Rattle.create_statement.specs.Running.{IsRunning}
+use Rattle.create_statement.specs.Running.{RunsBy, IsRunning}
 use Rattle.create_statement.proofs.Staying.{takes_on, at_on, to_begin_on, made_on, ends_on, created_other}
 
 module _ (e : Event) (h : List Event) (s : ℕ) (other : is_of s e ≡ false) where
@@ -147,6 +146,7 @@ module _ (old new : State) (t s : ℕ) (differ : t ≢ s) (e : Event) (mine : is
         new = at_past (λ h. own s h ≡ []) ((same e old.past s other).own_is ∙ m.new);
         steady = steady_on old new t s differ adding keeps m.steady;
         makes = ap (λ db. (outcome statement db).changes) (base_on old new t s differ adding keeps m.steady) ∙ m.makes;
+        storable = m.storable;
         few = at_past (λ h. length (created h) < MOST_TABLES) (subst (λ schemas. length schemas < MOST_TABLES) (sym (created_other e old.past t mine spares)) m.few);
       }
 
@@ -161,7 +161,7 @@ module _ (old new : State) (t s : ℕ) (differ : t ≢ s) (e : Event) (mine : is
         makes = ap (λ db. (outcome statement db).changes) (base_on old new t s differ adding keeps m.steady) ∙ m.makes;
       }
 
-  adds_on : (m : CreateStatement) → IsRunning old s m → IsRunning new s m
+  adds_on : (m : CreateStatement) → RunsBy old s m → RunsBy new s m
   adds_on (machine.Asked statement l) r =
       at_past (λ h. IsToBegin s statement l h × (of_item s h ≡ []) × HasRowsAlone s h)
       (to_begin_other e old.past s other statement l r.0, (same e old.past s other).entries ∙ r.1, rows_on e old.past s other r.2)
@@ -185,7 +185,7 @@ module _ (old new : State) (t s : ℕ) (differ : t ≢ s) (same_past : new.past 
   as_before : (P : List Event → Type 0) → P old.past → P new.past
   as_before P here = subst P (sym same_past) here
 
-  same_on : (m : CreateStatement) → IsRunning old s m → IsRunning new s m
+  same_on : (m : CreateStatement) → RunsBy old s m → RunsBy new s m
   same_on (machine.Asked statement l) r = as_before (λ h. IsToBegin s statement l h × (of_item s h ≡ []) × HasRowsAlone s h) r
   same_on (machine.Unacked statement l) r = as_before (λ h. IsToBegin s statement l h × IsEmptied s h × (awaits_ack (of_item s h) ≡ true)) r
   same_on (machine.Closed statement l) r = as_before (λ h. IsToBegin s statement l h × IsEmptied s h × (awaits_ack (of_item s h) ≡ false)) r
@@ -196,6 +196,7 @@ module _ (old new : State) (t s : ℕ) (differ : t ≢ s) (same_past : new.past 
         new = as_before (λ h. own s h ≡ []) r.new;
         steady = steady_on old new t s differ (inl same_past) keeps r.steady;
         makes = as_before (λ h. (outcome statement (base s h)).changes ≡ Create schema ∷ []) r.makes;
+        storable = r.storable;
         few = as_before (λ h. length (created h) < MOST_TABLES) r.few;
       }
   same_on (machine.Made statement) r =
@@ -213,8 +214,8 @@ module _ (old new : State) (t s : ℕ) (differ : t ≢ s) (same_past : new.past 
   same_on machine.Failed r = as_before (IsGivingUp s) r
 
 pub runs_on : StaysRunning IsRunning
-runs_on old new t s m differ (inl same) keeps r = same_on old new t s differ same keeps m r
-runs_on old new t s m differ (inr adds) keeps r = adds_on old new t s differ adds.0 adds.1 adds.2 adds.3 keeps m r
+runs_on old new t s m differ (inl same) keeps same_task r = (same_on old new t s differ same keeps m r.0, same_task ∙ r.1)
+runs_on old new t s m differ (inr adds) keeps same_task r = (adds_on old new t s differ adds.0 adds.1 adds.2 adds.3 keeps m r.0, same_task ∙ r.1)
 
 -- ---- its item is under way
 
@@ -222,12 +223,12 @@ asks_some : (s : ℕ) (statement : Stmt) (past : List Event) → IsAt s statemen
 asks_some s statement past at none = (let x = at.takes.asks.1 in cc)
 
 pub has_item : (state : State) (s : ℕ) (m : CreateStatement) → IsRunning state s m → under_way s state.past ≢ None
-has_item state s (machine.Asked statement l) r = asks_some s statement state.past r.0.at
-has_item state s (machine.Unacked statement l) r = asks_some s statement state.past r.0.at
-has_item state s (machine.Closed statement l) r = asks_some s statement state.past r.0.at
-has_item state s (machine.Begun statement schema) r = asks_some s statement state.past r.at
-has_item state s (machine.Made statement) r = asks_some s statement state.past r.at
-has_item state s (machine.Committed statement) r = asks_some s statement state.past r.0.at
-has_item state s (machine.Ending statement) r = asks_some s statement state.past r.0.at
-has_item state s machine.Failing r = asks_some s r.statement state.past r.at
-has_item state s machine.Failed r = λ none. (let x = r.item in cc)
+has_item state s (machine.Asked statement l) r = asks_some s statement state.past r.0.0.at
+has_item state s (machine.Unacked statement l) r = asks_some s statement state.past r.0.0.at
+has_item state s (machine.Closed statement l) r = asks_some s statement state.past r.0.0.at
+has_item state s (machine.Begun statement schema) r = asks_some s statement state.past r.0.at
+has_item state s (machine.Made statement) r = asks_some s statement state.past r.0.at
+has_item state s (machine.Committed statement) r = asks_some s statement state.past r.0.0.at
+has_item state s (machine.Ending statement) r = asks_some s statement state.past r.0.0.at
+has_item state s machine.Failing r = asks_some s r.0.statement state.past r.0.at
+has_item state s machine.Failed r = λ none. (let x = r.0.item in cc)

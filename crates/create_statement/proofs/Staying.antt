@@ -13,7 +13,6 @@ use Rattle.sql_grammar.specs.Grammar.{Spells}
 use Rattle.sql_history.specs.Items.{of_turn, is_over, before_turn, own_before, point, HasMade}
 use Rattle.sql_history.specs.Settings.{Setting, HasSet, Either}
 use Rattle.sql_history.specs.Waiting.{is_victim}
-use Rattle.sql_history.specs.Endings.{IsClosed, Commits}
 use Rattle.sql_history.specs.Legal.{Takes, EndsCreate}
 use Rattle.table_lists.specs.Order.{IsOfRow, created}
 use Rattle.sql_lists.specs.Steps.{changes_rows}

@@ -1,5 +1,5 @@
 -- What one entry of its own makes of a CREATE TABLE, and how its item may end.
-use Rattle.std.proofs.Common.{◌≡◌, ◌≢◌, ℕ, ◌+◌, ◌≤◌, ◌<◌, Bool, true, false, eqb, Option, Some, None, List, [], ◌∷◌, refl, sym, ap, subst, ◌∙◌, inl, inr, arith, length}
+use Rattle.std.proofs.Common.{◌≡◌, ◌≢◌, ℕ, ◌+◌, ◌≤◌, true, false, Option, Some, None, List, [], ◌∷◌, refl, sym, ap, subst, ◌∙◌, inl, inr, arith, length}
 use Rattle.std.proofs.lemmas.Bool.Decides.{nat_tests}
 use Rattle.std.proofs.lemmas.Bool.{false≢true}
 use Rattle.std.specs.Prelude.{is_some}
@@ -20,62 +20,32 @@ use Rattle.inno_model.specs.Past.{is_of, of_item, did, begins_txn, commits_txn, 
 use Rattle.sql_grammar.specs.Grammar.{Spells}
 use Rattle.sql_history.specs.Items.{own_before, of_turn, is_over, point, base, HasMade}
 use Rattle.sql_history.specs.Settings.{Setting, HasSet, next_level}
-use Rattle.sql_history.specs.Statements.{refused_at_once}
 use Rattle.sql_history.specs.Counts.{rows_kept, most_rows}
 use Rattle.sql_history.specs.Endings.{IsOpen, IsClosed}
 use Rattle.sql_history.specs.Waiting.{is_victim}
 use Rattle.sql_history.specs.Legal.{IsCreation, EndsCreate, MayBegin, MayChange, MayCommit, MayRollBack}
-use Rattle.table_lists.specs.State.{State, Adds, Closes, writer_without}
 use Rattle.table_lists.specs.Order.{IsOfRow}
+use Rattle.shared_lists.specs.State.{State, IsNow, Adds, task_of}
 use Rattle.sql_lists.specs.Kept.{MayReply}
 use Rattle.sql_lists.specs.Steps.{Moves, changes_rows, HasRowsAlone, IsTaken}
 use Rattle.sql_lists.proofs.Staying.{point_now, point_before, point_stays}
-use Rattle.create_statement.specs.Knowing.{IsAt, IsToBegin, HasMadeNone, IsEmptied, HasOpened, IsToMake, HasMadeIt, IsCommitted, IsFinished, IsFailing, IsGivingUp}
+use Rattle.create_statement.specs.Knowing.{IsAt, IsToBegin, HasMadeNone, IsEmptied, HasOpened, IsCommitted, IsFinished, IsGivingUp}
 use Rattle.create_statement.proofs.Creations.{begins_by, commits_by, rolls_back_by, changes_by, ends_taken, brings, same_refusal}
-use Rattle.create_statement.proofs.Staying.{takes_on, at_on, to_begin_on, made_on, ends_on, still, goes_on_still, made_still, set_before}
+use Rattle.create_statement.proofs.Staying.{at_on, to_begin_on, made_on, ends_on, still, goes_on_still, made_still, set_before}
 
 pub not_some : {X : Type 0} (x : X) → None ≡ Some x → ⊥
 not_some x is = cc
 
 -- ---- moves
 
-pub moves_none : (t : ℕ) (state : State) → Moves t state state
-moves_none t state = record { names_stay = refl; adding = inl refl; writer_stays = λ s differ is. is }
-
-pub moves_adds : (t : ℕ) (e : Event) (old new : State) → is_of t e ≡ true → changes_rows e ≡ false → Adds e old new → Moves t old new
-moves_adds t e old new mine spares adds =
-    record {
-      names_stay = ap (λ (x : State). x.names) adds;
-      adding = inr (e, mine, ap (λ (x : State). x.past) adds, λ is. absurd (false≢true (sym spares ∙ is)));
-      writer_stays = λ s differ is. ap (λ (x : State). x.writer) adds ∙ is;
-    }
-
-pub moves_closes : (t : ℕ) (e : Event) (old new : State) → is_of t e ≡ true → changes_rows e ≡ false → Closes e t old new → Moves t old new
-moves_closes t e old new mine spares closes-it =
-    record {
-      names_stay = ap (λ (x : State). x.names) closes-it;
-      adding = inr (e, mine, ap (λ (x : State). x.past) closes-it, λ is. absurd (false≢true (sym spares ∙ is)));
-      writer_stays = λ s differ is.
-          let other : eqb s t ≡ false = grind (arith, nat_tests, differ) in
-          ap (λ (x : State). x.writer) closes-it ∙ (ap (λ w. writer_without w t) is ∙ rw other refl);
-    }
-
--- the session that may write changes something
-pub moves_changes : (t : ℕ) (e : Event) (old new : State) → is_of t e ≡ true → old.writer ≡ Some t → Adds e old new → Moves t old new
-moves_changes t e old new mine locked adds =
-    record {
-      names_stay = ap (λ (x : State). x.names) adds;
-      adding = inr (e, mine, ap (λ (x : State). x.past) adds, λ is. ap (λ (x : State). x.writer) adds ∙ locked);
-      writer_stays = λ s differ is. ap (λ (x : State). x.writer) adds ∙ is;
-    }
-
 -- where nobody may write the session comes to
-pub moves_locks : (t : ℕ) (e : Event) (old between new : State) → is_of t e ≡ true → changes_rows e ≡ false → old.writer ≡ None → Adds e old between → new ≡ record between { writer = Some t } → Moves t old new
+pub moves_locks : (t : ℕ) (e : Event) (old between new : State) → is_of t e ≡ true → changes_rows e ≡ false → old.writer ≡ None → Adds e t old between → IsNow between.past t (task_of t between) (Some t) between new → Moves t old new
 moves_locks t e old between new mine spares free adds locks =
     record {
-      names_stay = ap (λ (x : State). x.names) locks ∙ ap (λ (x : State). x.names) adds;
-      adding = inr (e, mine, ap (λ (x : State). x.past) locks ∙ ap (λ (x : State). x.past) adds, λ is. absurd (false≢true (sym spares ∙ is)));
+      names_stay = locks.names_are ∙ adds.names_are;
+      adding = inr (e, mine, locks.past_is ∙ adds.past_is, λ is. absurd (false≢true (sym spares ∙ is)));
       writer_stays = λ s differ is. absurd (not_some s (sym free ∙ is));
+      tasks_stay = λ s differ. locks.others s differ ∙ adds.others s differ;
     }
 
 -- ---- what the lists say of a transaction

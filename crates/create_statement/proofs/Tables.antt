@@ -2,7 +2,7 @@
 use Rattle.std.proofs.Common.{◌≡◌, ℕ, ◌<◌, Bool, true, false, cond, Option, Some, None, List, [], ◌∷◌, ◌++◌, length, refl, sym, ap, subst, ◌∙◌, arith}
 use Rattle.std.proofs.lemmas.Bool.Decides.{nat_tests}
 use Rattle.std.proofs.lemmas.List.{append-nil, append_assoc}
-use Rattle.std.specs.Prelude.{is_some, is_none, nat_le}
+use Rattle.std.specs.Prelude.{is_some, is_none, nat_le, IfSome}
 use Rattle.std.specs.List.{AllByRecursion}
 use Rattle.inno_types.specs.declared.value.Schema.{Schema}
 use Rattle.inno_types.specs.declared.reply.Reply.TheVariants.{Done}
@@ -24,6 +24,7 @@ use Rattle.inno_types.specs.declared.lock.Level.{Level}
 use Rattle.inno_model.specs.declared.event.Event.{Event}
 use Rattle.inno_model.specs.declared.event.Event.TheVariants as events
 use Rattle.inno_model.specs.Past.{own, commits, committed, opening, changed}
+use Rattle.fitting_rows.proofs.Declared.{declared-IsStorable}
 use Rattle.sql_history.specs.Items.{own_before, base}
 use Rattle.sql_history.specs.Statements.{schemas_now}
 use Rattle.sql_history.specs.Legal.{IsCreation}
@@ -112,5 +113,13 @@ makes_declared schemas table i definitions schema allowed absent declared =
           ap (λ r. (unless_refused r (answer_to statement db)).changes) (ap (λ x. refusal x statement) same ∙ allowed)
           ∙ (ap (λ b. (cond b (answered Done) (creation (schema_declared table definitions))).changes) (ap (λ x. is_some (table_place x table)) same ∙ absent)
           ∙ ap (λ o. (creation o).changes) declared);
+      storable = declared-IsStorable table definitions schema declared;
       few = room MOST_TABLES (length schemas) (not_refused (nat_le MOST_TABLES (length schemas)) (CatalogFull MOST_TABLES) full);
     }
+
+-- so with whatever is declared
+pub makes_if_declared : (schemas : List Schema) (statement : Stmt) (table : List ℕ) (i : Bool) (definitions : List Definition) (told : Option Schema) → statement ≡ stmt.CreateTable table i definitions → refusal schemas statement ≡ None → is_there schemas statement ≡ false → told ≡ schema_declared table definitions → IfSome told (λ schema. Makes statement schema schemas)
+makes_if_declared schemas statement table i definitions None is allowed absent declared = tt
+makes_if_declared schemas statement table i definitions (Some schema) is allowed absent declared =
+    subst (λ x. Makes x schema schemas) (sym is)
+    (makes_declared schemas table i definitions schema (subst (λ x. refusal schemas x ≡ None) is allowed) (subst (λ x. is_there schemas x ≡ false) is absent) (sym declared))

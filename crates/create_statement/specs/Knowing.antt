@@ -17,8 +17,9 @@ use Rattle.sql_history.specs.Settings.{next_level}
 use Rattle.sql_history.specs.Endings.{IsOpen, IsClosed}
 use Rattle.sql_history.specs.Waiting.{is_victim}
 use Rattle.sql_history.specs.Legal.{Takes, IsCreation, EndsCreate, LeavesIt, CommittedFirst}
-use Rattle.table_lists.specs.State.{State}
+use Rattle.fitting_rows.specs.Storable.{IsStorable}
 use Rattle.table_lists.specs.Order.{IsOfRow, created}
+use Rattle.shared_lists.specs.State.{State}
 use Rattle.sql_lists.specs.Steps.{HasRowsAlone}
 use Rattle.sql_lists.proofs.Staying.{IsSteady}
 
@@ -62,6 +63,7 @@ pub record IsToMake (state : State) (s : ℕ) (statement : Stmt) (schema : Schem
   pub steady : IsSteady state s
   pub makes : (outcome statement (base s state.past)).changes ≡ Create schema ∷ []
   pub few : length (created state.past) < MOST_TABLES
+  pub storable : IsStorable schema
 
 -- it is made
 pub record HasMadeIt (state : State) (s : ℕ) (statement : Stmt) : Type 0 where

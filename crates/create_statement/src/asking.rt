@@ -17,19 +17,20 @@ use crate::ending::finish;
 use crate::machine::CreateStatement;
 use crate::planning::{is_there, table_to_make};
 use inno_types::{Level, Schema, Stmt};
+use shared_lists::SharedLists;
 use sql_lists::{Advance, SqlLists};
 use std::alloc::Global;
 
-pub fn step_asked(
+pub fn step_asked<L: SharedLists>(
     stmt: Stmt,
     level: Level,
     session: u32,
-    lists: &mut SqlLists,
+    lists: &mut SqlLists<L>,
 ) -> (CreateStatement, Advance)
     requires joined { session < length lists.old.names }
     requires running { IsRunning lists.old session (CreateStatement.Asked stmt level) }
     ensures steps { Steps IsRunning session lists.old lists.new result.0 result.1 }
-    ensures nears { Nears to_go session lists.old.past (CreateStatement.Asked stmt level) lists.new.past result.0 result.1 }
+    ensures nears { Nears to_go session lists.old (CreateStatement.Asked stmt level) lists.new result.0 result.1 }
 {
     if let Some(by) = lists.other_maker(session) {
         return wait_asked(by, stmt, level, session, lists);
@@ -41,18 +42,18 @@ pub fn step_asked(
 }
 
 /// Another session makes a table: the statement waits for its transaction.
-fn wait_asked(
+fn wait_asked<L: SharedLists>(
     by: u32,
     stmt: Stmt,
     level: Level,
     session: u32,
-    lists: &mut SqlLists,
+    lists: &mut SqlLists<L>,
 ) -> (CreateStatement, Advance)
     requires joined { (session < length lists.old.names) × (by < length lists.old.names) }
     requires running { IsRunning lists.old session (CreateStatement.Asked stmt level) }
     requires held { (by ≢ session) × (lists.old.writer ≡ Some by) × IsOpen by lists.old.past }
     ensures steps { Steps IsRunning session lists.old lists.new result.0 result.1 }
-    ensures nears { Nears to_go session lists.old.past (CreateStatement.Asked stmt level) lists.new.past result.0 result.1 }
+    ensures nears { Nears to_go session lists.old (CreateStatement.Asked stmt level) lists.new result.0 result.1 }
 {
     match lists.edge_to(session, by) {
         Ok(blockers) => (
@@ -64,12 +65,17 @@ fn wait_asked(
 }
 
 /// The table is there: an open transaction is committed all the same.
-fn skip(stmt: Stmt, level: Level, session: u32, lists: &mut SqlLists) -> (CreateStatement, Advance)
+fn skip<L: SharedLists>(
+    stmt: Stmt,
+    level: Level,
+    session: u32,
+    lists: &mut SqlLists<L>,
+) -> (CreateStatement, Advance)
     requires joined { session < length lists.old.names }
     requires running { IsRunning lists.old session (CreateStatement.Asked stmt level) }
     requires none { (outcome stmt (base session lists.old.past)).changes ≡ [] }
     ensures steps { Steps IsRunning session lists.old lists.new result.0 result.1 }
-    ensures nears { Nears to_go session lists.old.past (CreateStatement.Asked stmt level) lists.new.past result.0 result.1 }
+    ensures nears { Nears to_go session lists.old (CreateStatement.Asked stmt level) lists.new result.0 result.1 }
 {
     if lists.lists().level(session).is_none() {
         return finish(stmt, session, lists);
@@ -79,11 +85,16 @@ fn skip(stmt: Stmt, level: Level, session: u32, lists: &mut SqlLists) -> (Create
 }
 
 /// Commits what is open before a table is made.
-fn close(stmt: Stmt, level: Level, session: u32, lists: &mut SqlLists) -> (CreateStatement, Advance)
+fn close<L: SharedLists>(
+    stmt: Stmt,
+    level: Level,
+    session: u32,
+    lists: &mut SqlLists<L>,
+) -> (CreateStatement, Advance)
     requires joined { session < length lists.old.names }
     requires running { IsRunning lists.old session (CreateStatement.Asked stmt level) }
     ensures steps { Steps IsRunning session lists.old lists.new result.0 result.1 }
-    ensures nears { Nears to_go session lists.old.past (CreateStatement.Asked stmt level) lists.new.past result.0 result.1 }
+    ensures nears { Nears to_go session lists.old (CreateStatement.Asked stmt level) lists.new result.0 result.1 }
 {
     if lists.lists().level(session).is_none() {
         return (CreateStatement::Closed { stmt, level }, Advance::Went);
@@ -92,33 +103,33 @@ fn close(stmt: Stmt, level: Level, session: u32, lists: &mut SqlLists) -> (Creat
     (CreateStatement::Unacked { stmt, level }, Advance::Went)
 }
 
-pub fn step_unacked(
+pub fn step_unacked<L: SharedLists>(
     stmt: Stmt,
     level: Level,
     session: u32,
-    lists: &mut SqlLists,
+    lists: &mut SqlLists<L>,
 ) -> (CreateStatement, Advance)
     requires joined { session < length lists.old.names }
     requires running { IsRunning lists.old session (CreateStatement.Unacked stmt level) }
     ensures steps { Steps IsRunning session lists.old lists.new result.0 result.1 }
-    ensures nears { Nears to_go session lists.old.past (CreateStatement.Unacked stmt level) lists.new.past result.0 result.1 }
+    ensures nears { Nears to_go session lists.old (CreateStatement.Unacked stmt level) lists.new result.0 result.1 }
 {
     lists.ack(session);
     (CreateStatement::Closed { stmt, level }, Advance::Went)
 }
 
 /// Nothing of the session's is open: once nobody else may write it opens its own transaction.
-pub fn step_closed(
+pub fn step_closed<L: SharedLists>(
     alloc: Global,
     stmt: Stmt,
     level: Level,
     session: u32,
-    lists: &mut SqlLists,
+    lists: &mut SqlLists<L>,
 ) -> (CreateStatement, Advance)
     requires joined { session < length lists.old.names }
     requires running { IsRunning lists.old session (CreateStatement.Closed stmt level) }
     ensures steps { Steps IsRunning session lists.old lists.new result.0 result.1 }
-    ensures nears { Nears to_go session lists.old.past (CreateStatement.Closed stmt level) lists.new.past result.0 result.1 }
+    ensures nears { Nears to_go session lists.old (CreateStatement.Closed stmt level) lists.new result.0 result.1 }
 {
     if let Some(by) = lists.lists().writer() {
         return wait_closed(by, stmt, level, session, lists);
@@ -130,18 +141,18 @@ pub fn step_closed(
 }
 
 /// Another session may write: the statement waits for its transaction.
-fn wait_closed(
+fn wait_closed<L: SharedLists>(
     by: u32,
     stmt: Stmt,
     level: Level,
     session: u32,
-    lists: &mut SqlLists,
+    lists: &mut SqlLists<L>,
 ) -> (CreateStatement, Advance)
     requires joined { (session < length lists.old.names) × (by < length lists.old.names) }
     requires running { IsRunning lists.old session (CreateStatement.Closed stmt level) }
     requires held { (lists.old.writer ≡ Some by) × IsOpen by lists.old.past }
     ensures steps { Steps IsRunning session lists.old lists.new result.0 result.1 }
-    ensures nears { Nears to_go session lists.old.past (CreateStatement.Closed stmt level) lists.new.past result.0 result.1 }
+    ensures nears { Nears to_go session lists.old (CreateStatement.Closed stmt level) lists.new result.0 result.1 }
 {
     match lists.edge_to(session, by) {
         Ok(blockers) => (
@@ -153,12 +164,12 @@ fn wait_closed(
 }
 
 /// Opens the statement's own transaction, and takes the right to write.
-fn open(
+fn open<L: SharedLists>(
     stmt: Stmt,
     schema: Schema,
     level: Level,
     session: u32,
-    lists: &mut SqlLists,
+    lists: &mut SqlLists<L>,
 ) -> (CreateStatement, Advance)
     requires joined { session < length lists.old.names }
     requires running { IsRunning lists.old session (CreateStatement.Closed stmt level) }
@@ -167,7 +178,7 @@ fn open(
     requires tables { AreStanding lists.old.past }
     requires makes { Makes stmt schema (created lists.old.past) }
     ensures steps { Steps IsRunning session lists.old lists.new result.0 result.1 }
-    ensures nears { Nears to_go session lists.old.past (CreateStatement.Closed stmt level) lists.new.past result.0 result.1 }
+    ensures nears { Nears to_go session lists.old (CreateStatement.Closed stmt level) lists.new result.0 result.1 }
 {
     match lists.begin(session, level) {
         Ok(()) => {

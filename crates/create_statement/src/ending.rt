@@ -2,6 +2,8 @@
 
 ghost use Rattle.std.specs.Prelude.{◌≡◌, ◌<◌, length};
 ghost use Rattle.inno_types.specs.declared.reply.Reply.TheVariants.{Done as DoneReply};
+ghost use Rattle.shared_lists.specs.Tasks.{Idle};
+ghost use Rattle.shared_lists.specs.State.{task_of};
 ghost use Rattle.sql_lists.specs.Steps.{Steps};
 ghost use Rattle.sql_lists.specs.Going.{Nears};
 ghost use Rattle.create_statement.specs.Knowing.{IsFinished};
@@ -10,12 +12,18 @@ ghost use Rattle.create_statement.specs.Going.{to_go};
 
 use crate::machine::CreateStatement;
 use inno_types::{Reply, Stmt};
+use shared_lists::SharedLists;
 use sql_lists::{Advance, SqlLists};
 
 /// Ends the item of a statement that was done.
-pub fn finish(stmt: Stmt, session: u32, lists: &mut SqlLists) -> (CreateStatement, Advance)
+pub fn finish<L: SharedLists>(
+    stmt: Stmt,
+    session: u32,
+    lists: &mut SqlLists<L>,
+) -> (CreateStatement, Advance)
     requires joined { session < length lists.old.names }
     requires finished { IsFinished session stmt lists.old.past }
+    requires idle { task_of session lists.old ≡ Idle }
     ensures steps { Steps IsRunning session lists.old lists.new result.0 result.1 }
     ensures over { result.1 ≡ Advance.Done DoneReply }
 {
@@ -23,41 +31,55 @@ pub fn finish(stmt: Stmt, session: u32, lists: &mut SqlLists) -> (CreateStatemen
     (CreateStatement::Failed, Advance::Done(Reply::Done))
 }
 
-pub fn step_committed(stmt: Stmt, session: u32, lists: &mut SqlLists) -> (CreateStatement, Advance)
+pub fn step_committed<L: SharedLists>(
+    stmt: Stmt,
+    session: u32,
+    lists: &mut SqlLists<L>,
+) -> (CreateStatement, Advance)
     requires joined { session < length lists.old.names }
     requires running { IsRunning lists.old session (CreateStatement.Committed stmt) }
     ensures steps { Steps IsRunning session lists.old lists.new result.0 result.1 }
-    ensures nears { Nears to_go session lists.old.past (CreateStatement.Committed stmt) lists.new.past result.0 result.1 }
+    ensures nears { Nears to_go session lists.old (CreateStatement.Committed stmt) lists.new result.0 result.1 }
 {
     lists.ack(session);
     (CreateStatement::Ending { stmt }, Advance::Went)
 }
 
-pub fn step_ending(stmt: Stmt, session: u32, lists: &mut SqlLists) -> (CreateStatement, Advance)
+pub fn step_ending<L: SharedLists>(
+    stmt: Stmt,
+    session: u32,
+    lists: &mut SqlLists<L>,
+) -> (CreateStatement, Advance)
     requires joined { session < length lists.old.names }
     requires running { IsRunning lists.old session (CreateStatement.Ending stmt) }
     ensures steps { Steps IsRunning session lists.old lists.new result.0 result.1 }
-    ensures nears { Nears to_go session lists.old.past (CreateStatement.Ending stmt) lists.new.past result.0 result.1 }
+    ensures nears { Nears to_go session lists.old (CreateStatement.Ending stmt) lists.new result.0 result.1 }
 {
     finish(stmt, session, lists)
 }
 
 /// Rolls the statement's own transaction back, in which nothing is changed.
-pub fn step_failing(session: u32, lists: &mut SqlLists) -> (CreateStatement, Advance)
+pub fn step_failing<L: SharedLists>(
+    session: u32,
+    lists: &mut SqlLists<L>,
+) -> (CreateStatement, Advance)
     requires joined { session < length lists.old.names }
     requires running { IsRunning lists.old session CreateStatement.Failing }
     ensures steps { Steps IsRunning session lists.old lists.new result.0 result.1 }
-    ensures nears { Nears to_go session lists.old.past CreateStatement.Failing lists.new.past result.0 result.1 }
+    ensures nears { Nears to_go session lists.old CreateStatement.Failing lists.new result.0 result.1 }
 {
     lists.roll_back(session);
     (CreateStatement::Failed, Advance::Went)
 }
 
-pub fn step_failed(session: u32, lists: &mut SqlLists) -> (CreateStatement, Advance)
+pub fn step_failed<L: SharedLists>(
+    session: u32,
+    lists: &mut SqlLists<L>,
+) -> (CreateStatement, Advance)
     requires joined { session < length lists.old.names }
     requires running { IsRunning lists.old session CreateStatement.Failed }
     ensures steps { Steps IsRunning session lists.old lists.new result.0 result.1 }
-    ensures nears { Nears to_go session lists.old.past CreateStatement.Failed lists.new.past result.0 result.1 }
+    ensures nears { Nears to_go session lists.old CreateStatement.Failed lists.new result.0 result.1 }
 {
     lists.end(session, Reply::NoMemory);
     (CreateStatement::Failed, Advance::Done(Reply::NoMemory))

@@ -1,7 +1,9 @@
 //! A CREATE TABLE under way, its beginning and its steps.
 
-ghost use Rattle.std.specs.Prelude.{◌<◌, length};
+ghost use Rattle.std.specs.Prelude.{◌≡◌, ◌<◌, length};
 ghost use Rattle.sql_history.specs.Legal.{IsCreation};
+ghost use Rattle.shared_lists.specs.Tasks.{Idle};
+ghost use Rattle.shared_lists.specs.State.{task_of};
 ghost use Rattle.sql_lists.specs.Steps.{IsTaken, Steps, StaysRunning};
 ghost use Rattle.sql_lists.specs.Going.{Nears};
 ghost use Rattle.create_statement.specs.Running.{IsRunning};
@@ -11,6 +13,7 @@ use crate::asking::{step_asked, step_closed, step_unacked};
 use crate::ending::{step_committed, step_ending, step_failed, step_failing};
 use crate::making::{step_begun, step_made};
 use inno_types::{Level, Schema, Stmt};
+use shared_lists::SharedLists;
 use sql_lists::{Advance, SqlLists};
 use std::alloc::Global;
 
@@ -35,10 +38,11 @@ pub enum CreateStatement {
 
 impl CreateStatement {
     /// The statement of an item that has done nothing yet.
-    pub fn new(stmt: Stmt, session: u32, lists: &SqlLists) -> Self
+    pub fn new<L: SharedLists>(stmt: Stmt, session: u32, lists: &SqlLists<L>) -> Self
         requires joined { session < length lists.now.names }
         requires kind { IsCreation stmt }
         requires taken { IsTaken session stmt lists.now.past }
+        requires idle { task_of session lists.now ≡ Idle }
         ensures { IsRunning lists.now session result }
     {
         let level = lists.setting(session).next_level();
@@ -46,11 +50,16 @@ impl CreateStatement {
     }
 
     /// One step of the session's statement.
-    pub fn step(self, alloc: Global, session: u32, lists: &mut SqlLists) -> (Self, Advance)
+    pub fn step<L: SharedLists>(
+        self,
+        alloc: Global,
+        session: u32,
+        lists: &mut SqlLists<L>,
+    ) -> (Self, Advance)
         requires joined { session < length lists.old.names }
         requires running { IsRunning lists.old session self }
         ensures steps { Steps IsRunning session lists.old lists.new result.0 result.1 }
-        ensures nears { Nears to_go session lists.old.past self lists.new.past result.0 result.1 }
+        ensures nears { Nears to_go session lists.old self lists.new result.0 result.1 }
     {
         match self {
             CreateStatement::Asked { stmt, level } => step_asked(stmt, level, session, lists),

@@ -25,8 +25,7 @@ use Rattle.sql_history.specs.Settings.{Setting, HasSet, next_level}
 use Rattle.sql_history.specs.Statements.{refused_at_once}
 use Rattle.sql_history.specs.Legal.{Takes}
 use Rattle.sql_lists.specs.Kept.{MayReply}
-use Rattle.table_lists.specs.State.{State}
-use Rattle.sql_lists.specs.Steps.{IsTaken, Moves}
+use Rattle.sql_lists.specs.Steps.{IsTaken}
 use Rattle.read_statement.specs.Running.{IsTakenWith}
 use Rattle.engine.specs.declared.statement.Look.TheVariants as looks
 use Rattle.engine.specs.Running.{HasOnlyStarted, LooksAs}
@@ -206,7 +205,3 @@ module _ (s : ℕ) (text : List ℕ) (h : List Event) (only : HasOnlyStarted s t
           })),
         );
       }
-
--- nothing moves
-pub nothing_moves : (s : ℕ) (state : State) → Moves s state state
-nothing_moves s state = record { names_stay = refl; adding = inl refl; writer_stays = λ u apart held. held }

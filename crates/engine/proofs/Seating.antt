@@ -3,6 +3,7 @@ use Rattle.std.proofs.Common.{◌≡◌, ◌≢◌, ℕ, zero, suc, ◌+◌, ◌
 use Rattle.std.proofs.lemmas.Bool.Decides.{nat_tests, eqb_tells}
 use Rattle.std.proofs.lemmas.Bool.{false≢true}
 use Rattle.std.proofs.lemmas.List.{get_or-set_same, get_or-set_other, length-set, length-append}
+use Rattle.std.specs.List.{AllByRecursion}
 use Rattle.std.specs.Prelude.{Result, Ok, Err, OnOk, OnErr}
 use Rattle.inno_types.specs.declared.reply.Item.{Item}
 use Rattle.inno_types.specs.declared.reply.Item.TheVariants.{Sql}
@@ -14,17 +15,20 @@ use Rattle.inno_model.specs.Legal.{IsClosed}
 use Rattle.store_api.specs.declared.answers.Progress.{Progress}
 use Rattle.store_api.specs.declared.answers.Progress.TheVariants as progress
 use Rattle.sql_history.specs.Legal.{is_leaving}
-use Rattle.table_lists.specs.State.{State as Lists}
+use Rattle.shared_lists.specs.Tasks as tasks
+use Rattle.table_lists.specs.Order.{IsOfRow}
+use Rattle.shared_lists.specs.State.{State as Lists, Lists as AllLists, IsFirst, Adds, Stays, task_of}
 use Rattle.sql_lists.specs.declared.advance.Advance.{Advance}
 use Rattle.sql_lists.specs.declared.advance.Advance.TheVariants as advance
 use Rattle.sql_lists.specs.Steps.{Moves, Adding, Steps, HasRowsAlone}
+use Rattle.sql_lists.proofs.Moving.{moves_none, moves_stays, moves_adds}
 use Rattle.sql_lists.specs.Going.{IsBelow, Nears as StatementNears}
 use Rattle.engine.specs.declared.statement.Statement.{Statement}
 use Rattle.engine.specs.declared.seats.Seat.{Seat}
 use Rattle.engine.specs.declared.seats.Seat.TheVariants.{Idle, Busy, Leaving, Left}
 use Rattle.engine.specs.Running.{IsRunning, IsReadFrom}
-use Rattle.engine.specs.Seats.{seat_at, is_working, MayGoOut, SeatAgrees, AreSeats}
-use Rattle.engine.specs.Calls.{Joins, SameState, OthersStay, KeepsItems, GoesOn, StepsOn, Settled, GoesOut, StepsBy}
+use Rattle.engine.specs.Seats.{seat_at, is_working, MayGoOut, IsGoingOut, SeatAgrees, AreSeats}
+use Rattle.engine.specs.Calls.{AreFirst, SameLists, Joins, Starts, SameState, OthersStay, KeepsItems, GoesOn, StepsOn, Settled, GoesOut, StepsBy}
 use Rattle.engine.specs.Going.{statement_to_go, Nears, NearsEnding}
 use Rattle.engine.proofs.Others.{seat_stays, has_item, read_runs}
 
@@ -52,8 +56,8 @@ leaving_is Left works other = absurd (false≢true works)
 
 -- ---- one session moves
 
-moved : (old new : Lists) (t s : ℕ) → Adding t old new → s ≢ t → (old.writer ≡ Some s → new.writer ≡ Some s) → (seat : Seat) → SeatAgrees old s seat → SeatAgrees new s seat
-moved old new t s adding differ keeps seat agrees = seat_stays old new t s (λ is. differ (sym is)) adding keeps seat agrees
+moved : (old new : Lists) (t s : ℕ) → Moves t old new → s ≢ t → (seat : Seat) → SeatAgrees old s seat → SeatAgrees new s seat
+moved old new t s moves differ seat agrees = seat_stays old new t s (λ is. differ (sym is)) moves.adding (moves.writer_stays s differ) (moves.tasks_stay s differ) seat agrees
 
 -- one session moves, and takes another seat
 pub seats_kept : (old new : Lists) (seats : List Seat) (s : ℕ) (seat : Seat) → AreSeats old seats → s < length old.names → Moves s old new → SeatAgrees new s seat → AreSeats new (set seats s seat)
@@ -63,29 +67,78 @@ seats_kept old new seats s seat are joined moves agrees =
       each = λ u.
           elim (eqb_tells u s) [
             | inl same ↦ subst (λ v. SeatAgrees new v (get_or (set seats s seat) v Idle)) (sym same.1) (subst (SeatAgrees new s) (sym (get_or-set_same seats s seat Idle (omega (arith, joined, are.enough)))) agrees)
-            | inr differ ↦ subst (SeatAgrees new u) (sym (get_or-set_other seats s u seat Idle differ.1)) (moved old new s u moves.adding differ.1 (moves.writer_stays u differ.1) (get_or seats u Idle) (are.each u))
+            | inr differ ↦ subst (SeatAgrees new u) (sym (get_or-set_other seats s u seat Idle differ.1)) (moved old new s u moves differ.1 (get_or seats u Idle) (are.each u))
           ];
+    }
+
+-- ---- an engine that is opened
+
+pub first_seats : (lists : Lists) → AreFirst lists → ((s : ℕ) → task_of s lists ≡ tasks.Idle) → AreSeats lists []
+first_seats lists first idle =
+    record {
+      enough = rw first.names (omega arith);
+      each = λ u.
+          let rests : under_way u lists.past ≡ None = ap (under_way u) first.past in
+          let nothing : own u lists.past ≡ [] = ap (own u) first.past in
+          (record { rests = rests; rows_alone = subst (AllByRecursion IsOfRow) (sym nothing) tt }, ap (is_leaving u) first.past, idle u);
+    }
+
+pub are_first : (all : AllLists) (lists : Lists) → IsFirst all → lists ≡ all.state → AreFirst lists
+are_first all lists first is =
+    record {
+      db = first.db;
+      no_tables = first.no_tables;
+      no_rows = first.no_rows;
+      past = ap (λ l. l.past) is ∙ first.past;
+      names = ap (λ l. l.names) is ∙ first.names;
+      writer = ap (λ l. l.writer) is ∙ first.writer;
     }
 
 -- ---- a session that joins
 
-pub seats_joined : (old : Lists) (name : List ℕ) (seats : List Seat) → AreSeats old seats → AreSeats (record old { names = old.names ++ name ∷ [] }) (seats ++ Idle ∷ [])
-seats_joined old name seats are =
-    record {
-      enough = rw (length-append old.names (name ∷ []), length-append seats (Idle ∷ [])) (omega (arith, are.enough));
-      each = λ u. subst (SeatAgrees (record old { names = old.names ++ name ∷ [] }) u) (sym (joined_seat seats u)) (seat_stays old (record old { names = old.names ++ name ∷ [] }) (u + 1) u (λ is. absurd (omega (arith, is))) (inl refl) (λ w. w) (get_or seats u Idle) (are.each u));
-    }
+-- the lists are the same to all sessions, whatever their names
+module _ (old new : Lists) (past-is : new.past ≡ old.past) (writer-is : new.writer ≡ old.writer) (tasks-are : (s : ℕ) → task_of s new ≡ task_of s old) where
+  pub seat_kept : (u : ℕ) (seat : Seat) → SeatAgrees old u seat → SeatAgrees new u seat
+  seat_kept u seat agrees = seat_stays old new (u + 1) u (λ is. absurd (omega (arith, is))) (inl past-is) (λ w. writer-is ∙ w) (tasks-are u) seat agrees
 
--- a seat too many waits for its session
-pub seats_wait : (old : Lists) (seats : List Seat) → AreSeats old seats → AreSeats old (seats ++ Idle ∷ [])
-seats_wait old seats are =
-    record {
-      enough = rw (length-append seats (Idle ∷ [])) (omega (arith, are.enough));
-      each = λ u. subst (SeatAgrees old u) (sym (joined_seat seats u)) (are.each u);
-    }
+  pub seats_joined : (name : List ℕ) (seats : List Seat) → new.names ≡ old.names ++ name ∷ [] → AreSeats old seats → AreSeats new (seats ++ Idle ∷ [])
+  seats_joined name seats names-are are =
+      record {
+        enough = rw (names-are, length-append old.names (name ∷ []), length-append seats (Idle ∷ [])) (omega (arith, are.enough));
+        each = λ u. subst (SeatAgrees new u) (sym (joined_seat seats u)) (seat_kept u (get_or seats u Idle) (are.each u));
+      }
+
+  -- a seat too many waits for its session
+  pub seats_wait : (seats : List Seat) → new.names ≡ old.names → AreSeats old seats → AreSeats new (seats ++ Idle ∷ [])
+  seats_wait seats names-are are =
+      record {
+        enough = rw (names-are, length-append seats (Idle ∷ [])) (omega (arith, are.enough));
+        each = λ u. subst (SeatAgrees new u) (sym (joined_seat seats u)) (seat_kept u (get_or seats u Idle) (are.each u));
+      }
 
 pub joined_seats : (seats : List Seat) (u : ℕ) → seat_at (seats ++ Idle ∷ []) u ≡ seat_at seats u
 joined_seats seats u = joined_seat seats u
+
+-- nothing has changed, for the session and for the others
+pub all_same : (old new : Lists) (s : ℕ) → Stays s old new → SameLists old new
+all_same old new s stays =
+    record {
+      names_stay = stays.names_are;
+      past_stays = stays.past_is;
+      writer_stays = stays.writer_is;
+      tasks_stay = λ u. elim (eqb_tells u s) [
+        | inl same ↦ subst (λ v. task_of v new ≡ task_of v old) (sym same.1) stays.task_is
+        | inr differ ↦ stays.others u differ.1
+      ];
+    }
+
+pub seats_same : (old new : Lists) (seats : List Seat) (s : ℕ) → Stays s old new → AreSeats old seats → AreSeats new seats
+seats_same old new seats s stays are =
+    let same = all_same old new s stays in
+    record {
+      enough = rw same.names_stay are.enough;
+      each = λ u. seat_kept old new same.past_stays same.writer_stays same.tasks_stay u (get_or seats u Idle) (are.each u);
+    }
 
 -- ---- an item that starts
 
@@ -93,26 +146,25 @@ starts_of : (s j : ℕ) (item : Item) → is_of s (events.Started s j item) ≡ 
 starts_of s j item = grind (arith, nat_tests)
 
 pub seats_started : (old new : Lists) (seats : List Seat) (s : ℕ) (text : List ℕ) (item : Item) (statement : Statement) → AreSeats old seats → s < length old.names → seat_at seats s ≡ Idle → item ≡ Sql text
-    → new ≡ record old { past = events.Started s (started s old.past + 1) item ∷ old.past } → IsReadFrom text statement → AreSeats new (set seats s (Busy statement))
-seats_started old new seats s text item statement are joined idle item-is is reads =
+    → Adds (events.Started s (started s old.past + 1) item) s old new → IsReadFrom text statement → AreSeats new (set seats s (Busy statement))
+seats_started old new seats s text item statement are joined idle item-is adds reads =
     let e : Event = events.Started s (started s old.past + 1) (Sql text) in
-    let to : Lists = record old { past = e ∷ old.past } in
-    let new-is : new ≡ to = is ∙ ap (λ i. record old { past = events.Started s (started s old.past + 1) i ∷ old.past }) item-is in
-    let moves : Moves s old to = record { names_stay = refl; adding = inr (e, starts_of s (started s old.past + 1) (Sql text), refl, λ x. absurd (false≢true x)); writer_stays = λ u apart w. w } in
+    let adds_text : Adds e s old new = subst (λ i. Adds (events.Started s (started s old.past + 1) i) s old new) item-is adds in
+    let moves : Moves s old new = moves_adds s e old new (starts_of s (started s old.past + 1) (Sql text)) (λ x. absurd (false≢true x)) adds_text in
     let rests : SeatAgrees old s Idle = subst (SeatAgrees old s) idle (are.each s) in
-    subst (λ l. AreSeats l (set seats s (Busy statement))) (sym new-is)
-    (seats_kept old to seats s (Busy statement) are joined moves (read_runs old s (started s old.past + 1) text statement rests.0.rows_alone reads))
+    seats_kept old new seats s (Busy statement) are joined moves (read_runs old new s (started s old.past + 1) text statement rests.0.rows_alone rests.2 adds_text reads)
 
 -- ---- a step
 
-moves_none : (old new : Lists) (s : ℕ) → new ≡ old → Moves s old new
-moves_none old new s is = record { names_stay = ap (λ l. l.names) is; adding = inl (ap (λ l. l.past) is); writer_stays = λ u apart w. ap (λ l. l.writer) is ∙ w }
+moves_is : (old new : Lists) (s : ℕ) → new ≡ old → Moves s old new
+moves_is old new s is = subst (Moves s old) (sym is) (moves_none s old)
 
 ended_at : (s j : ℕ) (reply : Reply) (h : List Event) → HasRowsAlone s h → MayGoOut s (events.Ended s j reply ∷ h) × (is_leaving s (events.Ended s j reply ∷ h) ≡ false)
 ended_at s j reply h rows = (record { rests = grind (arith, nat_tests); rows_alone = rows }, grind (arith, nat_tests))
 
-ended_item : (new : Lists) (s j : ℕ) (reply : Reply) (h : List Event) → new.past ≡ events.Ended s j reply ∷ h → HasRowsAlone s h → SeatAgrees new s Idle
-ended_item new s j reply h is rows = subst (λ g. MayGoOut s g × (is_leaving s g ≡ false)) (sym is) (ended_at s j reply h rows)
+ended_item : (new : Lists) (s j : ℕ) (reply : Reply) (h : List Event) → new.past ≡ events.Ended s j reply ∷ h → HasRowsAlone s h → task_of s new ≡ tasks.Idle → SeatAgrees new s Idle
+ended_item new s j reply h is rows idle =
+    (let at = subst (λ g. MayGoOut s g × (is_leaving s g ≡ false)) (sym is) (ended_at s j reply h rows) in (at.0, at.1, idle))
 
 keeps_items : (e : Event) (h : List Event) (s : ℕ) → is_of s e ≡ true → started s (e ∷ h) ≡ started s h → under_way s (e ∷ h) ≢ None → KeepsItems e
 keeps_items (events.Started t j item) h s mine count item-is = grind (arith, nat_tests, mine, count)
@@ -150,30 +202,30 @@ module _ (old new : Lists) (seats : List Seat) (s : ℕ) (are : AreSeats old sea
   is_at seat = ap (λ xs. get_or xs s Idle) (twice seat) ∙ get_or-set_same seats s seat Idle within
 
   steps_on : {D : Type 0} (disk : D) (seat : Seat) → Moves s old new → StepsOn s (record { disk = disk; lists = old; seats = seats }) (record { disk = disk; lists = new; seats = set (set seats s Idle) s seat })
-  steps_on disk seat moves = record { disk_stays = refl; names_stay = moves.names_stay; others_stay = λ u apart. ap (λ xs. get_or xs u Idle) (twice seat) ∙ others_set seats s seat u apart }
+  steps_on disk seat moves = record { disk_stays = refl; names_stay = moves.names_stay; others_write = moves.writer_stays; others_go_on = moves.tasks_stay; others_stay = λ u apart. ap (λ xs. get_or xs u Idle) (twice seat) ∙ others_set seats s seat u apart }
 
   pub step_keeps : (statement : Statement) (adv : Advance) (seat : Seat) (answer : Progress) → Steps IsRunning s old new statement adv → Settled statement adv seat answer → AreSeats new (set (set seats s Idle) s seat)
   step_keeps statement advance.Went seat answer steps settled = kept seat steps.0 (subst (SeatAgrees new s) (sym settled.0) steps.1)
-  step_keeps statement (advance.Waiting by blockers) seat answer steps settled = kept seat (moves_none old new s steps.0) (subst (SeatAgrees new s) (sym settled.0) steps.1)
+  step_keeps statement (advance.Waiting by blockers) seat answer steps settled = kept seat (moves_stays s old new steps.0) (subst (SeatAgrees new s) (sym settled.0) steps.1)
   step_keeps statement advance.NoMemory seat answer steps settled = kept seat steps.0 (subst (SeatAgrees new s) (sym settled.0) steps.1)
-  step_keeps statement (advance.Done reply) seat answer steps settled = kept seat steps.0 (subst (SeatAgrees new s) (sym settled.0) (ended_item new s (started s old.past) reply old.past steps.1 steps.2))
+  step_keeps statement (advance.Done reply) seat answer steps settled = kept seat steps.0 (subst (SeatAgrees new s) (sym settled.0) (ended_item new s (started s old.past) reply old.past steps.1 steps.2 steps.3))
 
   pub step_does : {D : Type 0} (disk : D) (statement : Statement) (adv : Advance) (seat : Seat) (answer : Progress) → Steps IsRunning s old new statement adv → Settled statement adv seat answer
       → StepsBy s answer (record { disk = disk; lists = old; seats = seats }) (record { disk = disk; lists = new; seats = set (set seats s Idle) s seat })
   step_does disk statement advance.Went seat answer steps settled =
       rw settled.1 (steps_on disk seat steps.0, goes_on old new s steps.0.adding steps.2 (has_item new s statement steps.1), ap is_working (is_at seat ∙ settled.0))
   step_does disk statement (advance.Waiting by blockers) seat answer steps settled =
-      rw settled.1 (steps_on disk seat (moves_none old new s steps.0), steps.0, ap is_working (is_at seat ∙ settled.0), (by, steps.2))
+      rw settled.1 (steps_on disk seat (moves_stays s old new steps.0), all_same old new s steps.0, ap is_working (is_at seat ∙ settled.0), (by, steps.2))
   step_does disk statement advance.NoMemory seat answer steps settled =
       rw settled.1 (steps_on disk seat steps.0, steps.2, ap is_working (is_at seat ∙ settled.0))
   step_does disk statement (advance.Done reply) seat answer steps settled =
       rw settled.1 (steps_on disk seat steps.0, inl (steps.1, is_at seat ∙ settled.0))
 
-  step_nears_by : {D : Type 0} (disk : D) (before after : Statement) (seat : Seat) → seat_at seats s ≡ Busy before → seat ≡ Busy after → IsBelow (statement_to_go s new.past after) (statement_to_go s old.past before)
+  step_nears_by : {D : Type 0} (disk : D) (before after : Statement) (seat : Seat) → seat_at seats s ≡ Busy before → seat ≡ Busy after → IsBelow (statement_to_go s new after) (statement_to_go s old before)
       → Nears s progress.Went (record { disk = disk; lists = old; seats = seats }) (record { disk = disk; lists = new; seats = set (set seats s Idle) s seat })
   step_nears_by disk before after seat was now below = rw (is_at seat, now, was) below
 
-  pub step_nears : {D : Type 0} (disk : D) (before after : Statement) (adv : Advance) (seat : Seat) (answer : Progress) → seat_at seats s ≡ Busy before → StatementNears statement_to_go s old.past before new.past after adv → Settled after adv seat answer
+  pub step_nears : {D : Type 0} (disk : D) (before after : Statement) (adv : Advance) (seat : Seat) (answer : Progress) → seat_at seats s ≡ Busy before → StatementNears statement_to_go s old before new after adv → Settled after adv seat answer
       → Nears s answer (record { disk = disk; lists = old; seats = seats }) (record { disk = disk; lists = new; seats = set (set seats s Idle) s seat })
   step_nears disk before after advance.Went seat answer was nears settled = rw settled.1 (step_nears_by disk before after seat was settled.0 nears)
   step_nears disk before after (advance.Waiting by blockers) seat answer was nears settled = rw settled.1 tt
@@ -183,38 +235,46 @@ module _ (old new : Lists) (seats : List Seat) (s : ℕ) (are : AreSeats old sea
   -- ---- a step of the ending
 
   module _ (leaving : seat_at seats s ≡ Leaving) where
-    pub may_go : MayGoOut s old.past
+    pub may_go : IsGoingOut s old
     may_go = subst (SeatAgrees old s) leaving (are.each s)
 
     pub out_keeps : (seat : Seat) (answer : Progress) → GoesOut s old new seat answer → AreSeats new (set (set seats s Idle) s seat)
     out_keeps seat progress.Went goes = kept seat goes.0 (subst (SeatAgrees new s) (sym goes.3) goes.2)
-    out_keeps seat (progress.Done reply) goes = kept seat (moves_none old new s goes.1) (subst (SeatAgrees new s) (sym goes.3) (subst (λ l. (under_way s l.past ≡ None) × IsClosed s l.past) (sym goes.1) (may_go.rests, goes.2)))
+    out_keeps seat progress.NoMemory goes = kept seat goes.0 (subst (SeatAgrees new s) (sym goes.3) goes.2)
+    out_keeps seat (progress.Done reply) goes =
+        kept seat (moves_is old new s goes.1)
+        (subst (SeatAgrees new s) (sym goes.4) (subst (λ l. (under_way s l.past ≡ None) × IsClosed s l.past × (task_of s l ≡ tasks.Idle)) (sym goes.1) (may_go.may.rests, goes.2, goes.3)))
     out_keeps seat other goes = elim goes [ ]
 
     pub out_does : {D : Type 0} (disk : D) (seat : Seat) (answer : Progress) → GoesOut s old new seat answer
         → StepsBy s answer (record { disk = disk; lists = old; seats = seats }) (record { disk = disk; lists = new; seats = set (set seats s Idle) s seat })
     out_does disk seat progress.Went goes = (steps_on disk seat goes.0, goes.1, ap is_working (is_at seat ∙ goes.3))
-    out_does disk seat (progress.Done reply) goes = (steps_on disk seat (moves_none old new s goes.1), inr (leaving, goes.0, goes.1, is_at seat ∙ goes.3))
+    out_does disk seat progress.NoMemory goes = (steps_on disk seat goes.0, goes.1, ap is_working (is_at seat ∙ goes.3))
+    out_does disk seat (progress.Done reply) goes = (steps_on disk seat (moves_is old new s goes.1), inr (leaving, goes.0, goes.1, is_at seat ∙ goes.4))
     out_does disk seat other goes = elim goes [ ]
 
-    pub out_nears : {D : Type 0} (disk : D) (seat : Seat) (answer : Progress) → GoesOut s old new seat answer → NearsEnding s old.past new.past answer
+    pub out_nears : {D : Type 0} (disk : D) (seat : Seat) (answer : Progress) → GoesOut s old new seat answer → NearsEnding s old new answer
         → Nears s answer (record { disk = disk; lists = old; seats = seats }) (record { disk = disk; lists = new; seats = set (set seats s Idle) s seat })
     out_nears disk seat progress.Went goes nears = rw (is_at seat, goes.3, leaving) (inr (refl, nears))
+    out_nears disk seat progress.NoMemory goes nears = tt
     out_nears disk seat (progress.Done reply) goes nears = tt
     out_nears disk seat other goes nears = elim goes [ ]
 
 -- ---- what the calls do
 
-pub joined_either : {X Y : Type 0} (result : Result X Y) (old new : Lists) (name : List ℕ) (seats : List Seat) → AreSeats old seats → OnOk result (new ≡ record old { names = old.names ++ name ∷ [] }) → OnErr result (new ≡ old) → AreSeats new (seats ++ Idle ∷ [])
-joined_either (Ok x) old new name seats are ok err = subst (λ l. AreSeats l (seats ++ Idle ∷ [])) (sym ok) (seats_joined old name seats are)
-joined_either (Err e) old new name seats are ok err = subst (λ l. AreSeats l (seats ++ Idle ∷ [])) (sym err) (seats_wait old seats are)
+module _ (old new : Lists) (past-is : new.past ≡ old.past) (writer-is : new.writer ≡ old.writer) (tasks-are : (s : ℕ) → task_of s new ≡ task_of s old) where
+  pub joined_either : {X Y : Type 0} (result : Result X Y) (name : List ℕ) (seats : List Seat) → AreSeats old seats → OnOk result (new.names ≡ old.names ++ name ∷ []) → OnErr result (new.names ≡ old.names) → AreSeats new (seats ++ Idle ∷ [])
+  joined_either (Ok x) name seats are ok err = seats_joined old new past-is writer-is tasks-are name seats ok are
+  joined_either (Err e) name seats are ok err = seats_wait old new past-is writer-is tasks-are seats err are
 
-pub joins : {D X Y : Type 0} (result : Result X Y) (disk : D) (old new : Lists) (name : List ℕ) (seats : List Seat) → OnOk result (new ≡ record old { names = old.names ++ name ∷ [] })
-    → OnOk result (Joins name (record { disk = disk; lists = old; seats = seats }) (record { disk = disk; lists = new; seats = seats ++ Idle ∷ [] }))
-joins (Ok x) disk old new name seats ok = record { disk_stays = refl; lists_are = ok; seats_stay = joined_seats seats }
-joins (Err e) disk old new name seats ok = tt
+  pub joins : {D X Y : Type 0} (result : Result X Y) (disk : D) (name : List ℕ) (seats : List Seat) → OnOk result (new.names ≡ old.names ++ name ∷ [])
+      → OnOk result (Joins name (record { disk = disk; lists = old; seats = seats }) (record { disk = disk; lists = new; seats = seats ++ Idle ∷ [] }))
+  joins (Ok x) disk name seats ok =
+      record { disk_stays = refl; names_are = ok; past_stays = past-is; writer_stays = writer-is; tasks_stay = tasks-are; seats_stay = joined_seats seats }
+  joins (Err e) disk name seats ok = tt
 
-pub refused_join : {D X Y : Type 0} (result : Result X Y) (disk : D) (old new : Lists) (seats : List Seat) → OnErr result (new ≡ old)
-    → OnErr result (SameState (record { disk = disk; lists = old; seats = seats }) (record { disk = disk; lists = new; seats = seats ++ Idle ∷ [] }))
-refused_join (Ok x) disk old new seats err = tt
-refused_join (Err e) disk old new seats err = record { disk_stays = refl; lists_stay = err; seats_stay = joined_seats seats }
+  pub refused_join : {D X Y : Type 0} (result : Result X Y) (disk : D) (seats : List Seat) → OnErr result (new.names ≡ old.names)
+      → OnErr result (SameState (record { disk = disk; lists = old; seats = seats }) (record { disk = disk; lists = new; seats = seats ++ Idle ∷ [] }))
+  refused_join (Ok x) disk seats err = tt
+  refused_join (Err e) disk seats err =
+      record { disk_stays = refl; lists_stay = record { names_stay = err; past_stays = past-is; writer_stays = writer-is; tasks_stay = tasks-are }; seats_stay = joined_seats seats }

@@ -1,32 +1,51 @@
 -- What each call of the engine does, between two states.
 use Rattle.std.specs.Prelude.{◌≡◌, ◌≢◌, ◌⊎◌, ℕ, ◌+◌, true, None, Some, List, [], ◌∷◌, ◌++◌}
+use Rattle.std.specs.FinMap.{from_entries}
 use Rattle.inno_types.specs.declared.reply.Item.{Item}
 use Rattle.inno_types.specs.declared.reply.Reply.{Reply}
 use Rattle.inno_types.specs.declared.reply.Reply.TheVariants.{Done}
+use Rattle.inno_db.specs.Database.{Database}
 use Rattle.inno_model.specs.declared.event.Event.{Event}
-use Rattle.inno_model.specs.declared.event.Event.TheVariants.{Started, Ended}
+use Rattle.inno_model.specs.declared.event.Event.TheVariants.{Opened, Started, Ended}
 use Rattle.inno_model.specs.Past.{is_of, started}
 use Rattle.inno_model.specs.Legal.{IsClosed}
 use Rattle.store_api.specs.declared.answers.Progress.{Progress}
 use Rattle.store_api.specs.declared.answers.Progress.TheVariants as progress
-use Rattle.table_lists.specs.State.{State as Lists, IsFirst}
+use Rattle.shared_lists.specs.Tasks as tasks
+use Rattle.shared_lists.specs.State.{State as Lists, Adds, task_of}
 use Rattle.sql_lists.specs.declared.advance.Advance.{Advance}
 use Rattle.sql_lists.specs.declared.advance.Advance.TheVariants as advance
 use Rattle.sql_lists.specs.Steps.{Moves, WaitsFor}
 use Rattle.engine.specs.declared.statement.Statement.{Statement}
 use Rattle.engine.specs.declared.seats.Seat.{Seat}
 use Rattle.engine.specs.declared.seats.Seat.TheVariants as seats
-use Rattle.engine.specs.Seats.{State, seat_at, is_working, MayGoOut}
+use Rattle.engine.specs.Seats.{State, seat_at, is_working, IsGoingOut}
+
+-- the lists of a database without tables and rows, where nobody has joined
+pub record AreFirst (lists : Lists) : Type 0 where
+  pub db : Database
+  pub no_tables : db.schemas ≡ []
+  pub no_rows : db.rows ≡ from_entries []
+  pub past : lists.past ≡ Opened db ∷ []
+  pub names : lists.names ≡ []
+  pub writer : lists.writer ≡ None
 
 pub record IsOpened {D : Type 0} (disk : D) (state : State D) : Type 0 where
   pub disk_is : state.disk ≡ disk
-  pub lists_are : IsFirst state.lists
+  pub lists_are : AreFirst state.lists
   pub nobody : state.seats ≡ []
+
+-- the lists are the same to all sessions
+pub record SameLists (old new : Lists) : Type 0 where
+  pub names_stay : new.names ≡ old.names
+  pub past_stays : new.past ≡ old.past
+  pub writer_stays : new.writer ≡ old.writer
+  pub tasks_stay : (s : ℕ) → task_of s new ≡ task_of s old
 
 -- the state is the same to all sessions
 pub record SameState {D : Type 0} (old new : State D) : Type 0 where
   pub disk_stays : new.disk ≡ old.disk
-  pub lists_stay : new.lists ≡ old.lists
+  pub lists_stay : SameLists old.lists new.lists
   pub seats_stay : (s : ℕ) → seat_at new.seats s ≡ seat_at old.seats s
 
 -- the seats of the other sessions are as they were
@@ -35,12 +54,15 @@ OthersStay s old new = (u : ℕ) → u ≢ s → seat_at new u ≡ seat_at old u
 
 pub record Joins {D : Type 0} (name : List ℕ) (old new : State D) : Type 0 where
   pub disk_stays : new.disk ≡ old.disk
-  pub lists_are : new.lists ≡ record old.lists { names = old.lists.names ++ name ∷ [] }
+  pub names_are : new.lists.names ≡ old.lists.names ++ name ∷ []
+  pub past_stays : new.lists.past ≡ old.lists.past
+  pub writer_stays : new.lists.writer ≡ old.lists.writer
+  pub tasks_stay : (s : ℕ) → task_of s new.lists ≡ task_of s old.lists
   pub seats_stay : (s : ℕ) → seat_at new.seats s ≡ seat_at old.seats s
 
 pub record Starts {D : Type 0} (s : ℕ) (item : Item) (old new : State D) : Type 0 where
   pub disk_stays : new.disk ≡ old.disk
-  pub lists_are : new.lists ≡ record old.lists { past = Started s (started s old.lists.past + 1) item ∷ old.lists.past }
+  pub lists_are : Adds (Started s (started s old.lists.past + 1) item) s old.lists new.lists
   pub works : is_working (seat_at new.seats s) ≡ true
   pub others_stay : OthersStay s old.seats new.seats
 
@@ -64,6 +86,8 @@ GoesOn s old new = (new ≡ old) ⊎ ((e : Event) × (is_of s e ≡ true) × Kee
 pub record StepsOn {D : Type 0} (s : ℕ) (old new : State D) : Type 0 where
   pub disk_stays : new.disk ≡ old.disk
   pub names_stay : new.lists.names ≡ old.lists.names
+  pub others_write : (u : ℕ) → u ≢ s → old.lists.writer ≡ Some u → new.lists.writer ≡ Some u
+  pub others_go_on : (u : ℕ) → u ≢ s → task_of u new.lists ≡ task_of u old.lists
   pub others_stay : OthersStay s old.seats new.seats
 
 -- the step ends the session's item with the reply, or its ending
@@ -81,14 +105,15 @@ Settled statement (advance.Done reply) seat answer = (seat ≡ seats.Idle) × (a
 
 -- what a step of a session's ending does
 abbrev pub GoesOut : ℕ → Lists → Lists → Seat → Progress → Type 0
-GoesOut s old new seat progress.Went = Moves s old new × GoesOn s old.past new.past × MayGoOut s new.past × (seat ≡ seats.Leaving)
-GoesOut s old new seat (progress.Done reply) = (reply ≡ Done) × (new ≡ old) × IsClosed s old.past × (seat ≡ seats.Left)
+GoesOut s old new seat progress.Went = Moves s old new × GoesOn s old.past new.past × IsGoingOut s new × (seat ≡ seats.Leaving)
+GoesOut s old new seat progress.NoMemory = Moves s old new × (new.past ≡ old.past) × IsGoingOut s new × (seat ≡ seats.Leaving)
+GoesOut s old new seat (progress.Done reply) = (reply ≡ Done) × (new ≡ old) × IsClosed s old.past × (task_of s old ≡ tasks.Idle) × (seat ≡ seats.Left)
 GoesOut s old new seat other = ⊥
 
 -- what a step does, by its answer
 abbrev pub StepsBy : {D : Type 0} → ℕ → Progress → State D → State D → Type 0
 StepsBy s progress.Went old new = StepsOn s old new × GoesOn s old.lists.past new.lists.past × (is_working (seat_at new.seats s) ≡ true)
-StepsBy s (progress.Waiting blockers) old new = StepsOn s old new × (new.lists ≡ old.lists) × (is_working (seat_at new.seats s) ≡ true) × ((by : ℕ) × WaitsFor s by blockers old.lists)
+StepsBy s (progress.Waiting blockers) old new = StepsOn s old new × SameLists old.lists new.lists × (is_working (seat_at new.seats s) ≡ true) × ((by : ℕ) × WaitsFor s by blockers old.lists)
 StepsBy s progress.NoMemory old new = StepsOn s old new × (new.lists.past ≡ old.lists.past) × (is_working (seat_at new.seats s) ≡ true)
 StepsBy s (progress.Done reply) old new = StepsOn s old new × EndsBy s reply old new
 StepsBy s other old new = ⊥

@@ -1,8 +1,8 @@
 -- A step that went did work: what its session has before it at most, a list of sixteen numbers, gets smaller.
 use Rattle.std.specs.Prelude.{ℕ, List, ◌∷◌}
-use Rattle.inno_model.specs.declared.event.Event.{Event}
 use Rattle.store_api.specs.declared.answers.Progress.{Progress}
 use Rattle.store_api.specs.declared.answers.Progress.TheVariants as progress
+use Rattle.shared_lists.specs.State.{State as Lists}
 use Rattle.sql_lists.specs.Going.{IsBelow, left, to_roll_back}
 use Rattle.transaction_statements.specs.Going.{to_go as of_transaction}
 use Rattle.create_statement.specs.Going.{to_go as of_create}
@@ -15,32 +15,32 @@ use Rattle.engine.specs.declared.seats.Seat.TheVariants as seats
 use Rattle.engine.specs.Seats.{State, seat_at}
 
 -- what a statement has before it at most: it is yet to begin, and then what its kind has
-abbrev pub statement_to_go : ℕ → List Event → Statement → List ℕ
-statement_to_go s past (statements.Unread at) = 1 ∷ left 0 0 0
-statement_to_go s past (statements.Asked stmt) = 1 ∷ left 0 0 0
-statement_to_go s past (statements.Transaction statement) = 0 ∷ of_transaction s past statement
-statement_to_go s past (statements.Create statement) = 0 ∷ of_create s past statement
-statement_to_go s past (statements.Read statement) = 0 ∷ of_read s past statement
-statement_to_go s past (statements.Write statement) = 0 ∷ of_write s past statement
-statement_to_go s past statements.Failed = 0 ∷ left 0 0 0
+abbrev pub statement_to_go : ℕ → Lists → Statement → List ℕ
+statement_to_go s lists (statements.Unread at) = 1 ∷ left 0 0 0 0
+statement_to_go s lists (statements.Asked stmt) = 1 ∷ left 0 0 0 0
+statement_to_go s lists (statements.Transaction statement) = 0 ∷ of_transaction s lists statement
+statement_to_go s lists (statements.Create statement) = 0 ∷ of_create s lists statement
+statement_to_go s lists (statements.Read statement) = 0 ∷ of_read s lists statement
+statement_to_go s lists (statements.Write statement) = 0 ∷ of_write s lists statement
+statement_to_go s lists statements.Failed = 0 ∷ left 0 0 0 0
 
 -- what a seat has before it at most
-abbrev pub seat_to_go : ℕ → List Event → Seat → List ℕ
-seat_to_go s past seats.Idle = 0 ∷ left 0 0 0
-seat_to_go s past (seats.Busy statement) = statement_to_go s past statement
-seat_to_go s past seats.Leaving = 0 ∷ to_roll_back s past
-seat_to_go s past seats.Left = 0 ∷ left 0 0 0
+abbrev pub seat_to_go : ℕ → Lists → Seat → List ℕ
+seat_to_go s lists seats.Idle = 0 ∷ left 0 0 0 0
+seat_to_go s lists (seats.Busy statement) = statement_to_go s lists statement
+seat_to_go s lists seats.Leaving = 0 ∷ to_roll_back s lists
+seat_to_go s lists seats.Left = 0 ∷ left 0 0 0 0
 
 -- what the session has before it at most
 abbrev pub to_go : {D : Type 0} → ℕ → State D → List ℕ
-to_go s state = seat_to_go s state.lists.past (seat_at state.seats s)
+to_go s state = seat_to_go s state.lists (seat_at state.seats s)
 
 -- a step that went makes it smaller
 abbrev pub Nears : {D : Type 0} → ℕ → Progress → State D → State D → Type 0
 Nears s progress.Went old new = IsBelow (to_go s new) (to_go s old)
 Nears s other old new = Unit {0}
 
--- so does a step of the ending, between two pasts
-abbrev pub NearsEnding : ℕ → List Event → List Event → Progress → Type 0
+-- so does a step of the ending
+abbrev pub NearsEnding : ℕ → Lists → Lists → Progress → Type 0
 NearsEnding s old new progress.Went = IsBelow (to_roll_back s new) (to_roll_back s old)
 NearsEnding s old new other = Unit {0}

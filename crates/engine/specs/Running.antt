@@ -1,4 +1,4 @@
--- What the engine knows of a statement between its steps.
+-- What the engine knows of a statement between its steps. One that hasn't begun has nothing under way with rows.
 use Rattle.std.specs.Prelude.{◌≡◌, ℕ, Bool, true, false, Some, None, List, []}
 use Rattle.inno_types.specs.declared.stmt.Stmt.{Stmt}
 use Rattle.inno_types.specs.declared.reply.Item.{Item}
@@ -11,7 +11,8 @@ use Rattle.sql_history.specs.Statements.{is_select, refused_at_once}
 use Rattle.sql_history.specs.Legal.{IsCreation, IsWriting}
 use Rattle.sql_lists.specs.declared.advance.Advance.{Advance}
 use Rattle.sql_lists.specs.declared.advance.Advance.TheVariants as advances
-use Rattle.table_lists.specs.State.{State}
+use Rattle.shared_lists.specs.Tasks.{Idle}
+use Rattle.shared_lists.specs.State.{State, task_of}
 use Rattle.sql_lists.specs.Steps.{HasRowsAlone}
 use Rattle.transaction_statements.specs.Committing.{IsOnTransactions}
 use Rattle.transaction_statements.specs.Running.{IsRunning as of_transaction}
@@ -45,13 +46,13 @@ abbrev pub ReadsItem : Item → Statement → Type 0
 ReadsItem item statement = (text : List ℕ) × (item ≡ Sql text) × IsReadFrom text statement
 
 abbrev pub IsRunning : State → ℕ → Statement → Type 0
-IsRunning state s (statements.Unread at) = (text : List ℕ) × HasOnlyStarted s text state.past × IsNone text
-IsRunning state s (statements.Asked stmt) = (text : List ℕ) × HasOnlyStarted s text state.past × Spells text stmt
+IsRunning state s (statements.Unread at) = (text : List ℕ) × HasOnlyStarted s text state.past × IsNone text × (task_of s state ≡ Idle)
+IsRunning state s (statements.Asked stmt) = (text : List ℕ) × HasOnlyStarted s text state.past × Spells text stmt × (task_of s state ≡ Idle)
 IsRunning state s (statements.Transaction statement) = of_transaction state s statement
 IsRunning state s (statements.Create statement) = of_create state s statement
 IsRunning state s (statements.Read statement) = of_read state s statement
 IsRunning state s (statements.Write statement) = of_write state s statement
-IsRunning state s statements.Failed = (text : List ℕ) × HasOnlyStarted s text state.past
+IsRunning state s statements.Failed = (text : List ℕ) × HasOnlyStarted s text state.past × (task_of s state ≡ Idle)
 
 -- ---- before it begins
 

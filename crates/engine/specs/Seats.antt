@@ -2,11 +2,13 @@
 use Rattle.std.specs.Prelude.{◌≡◌, ℕ, ◌<◌, ◌≤◌, Bool, true, false, None, List, length, slice_index_or, refl}
 use Rattle.std.specs.Coded.{Coded, code_by, coded×, coded_list}
 use Rattle.inno_model.specs.declared.event.Event.{Event}
-use Rattle.inno_model.specs.Past.{under_way}
+use Rattle.inno_model.specs.Past.{under_way, own}
 use Rattle.inno_model.specs.Legal.{IsClosed}
 use Rattle.sql_history.specs.Legal.{is_leaving}
-use Rattle.table_lists.specs.State.{State as Lists, state_code as lists_code}
+use Rattle.shared_lists.specs.Tasks as tasks
+use Rattle.shared_lists.specs.State.{State as Lists, state_code as lists_code, task_of}
 use Rattle.sql_lists.specs.Steps.{HasRowsAlone}
+use Rattle.transaction_statements.specs.Running.{TakesBackTo}
 use Rattle.engine.specs.Running.{IsRunning}
 use Rattle.engine.specs.declared.seats.Seat.{Seat}
 use Rattle.engine.specs.declared.seats.Seat.TheVariants.{Idle, Busy, Leaving, Left}
@@ -57,12 +59,17 @@ pub record MayGoOut (s : ℕ) (past : List Event) : Type 0 where
   pub rests : under_way s past ≡ None
   pub rows_alone : HasRowsAlone s past
 
--- what is kept of a session is what the past says
+-- It takes its changes back one by one: nothing is under way with rows, or the newest one is being taken back.
+pub record IsGoingOut (s : ℕ) (lists : Lists) : Type 0 where
+  pub may : MayGoOut s lists.past
+  pub task : TakesBackTo 0 (length (own s lists.past)) (task_of s lists)
+
+-- What is kept of a session is what the past says. One that is idle or gone has nothing under way with rows.
 abbrev pub SeatAgrees : Lists → ℕ → Seat → Type 0
-SeatAgrees lists s Idle = MayGoOut s lists.past × (is_leaving s lists.past ≡ false)
+SeatAgrees lists s Idle = MayGoOut s lists.past × (is_leaving s lists.past ≡ false) × (task_of s lists ≡ tasks.Idle)
 SeatAgrees lists s (Busy statement) = IsRunning lists s statement
-SeatAgrees lists s Leaving = MayGoOut s lists.past
-SeatAgrees lists s Left = (under_way s lists.past ≡ None) × IsClosed s lists.past
+SeatAgrees lists s Leaving = IsGoingOut s lists
+SeatAgrees lists s Left = (under_way s lists.past ≡ None) × IsClosed s lists.past × (task_of s lists ≡ tasks.Idle)
 
 pub record AreSeats (lists : Lists) (seats : List Seat) : Type 0 where
   -- a seat for each session, and maybe some that wait for their sessions

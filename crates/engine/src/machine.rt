@@ -2,29 +2,35 @@
 
 ghost use Rattle.std.specs.Prelude.{◌≡◌, ℕ, ◌<◌, ◌^◌, ◌∷◌, ◌++◌, [], length, None, Ok, IsTrue, IfOk, IfErr, OnOk, OnErr};
 ghost use Rattle.inno_types.specs.declared.reply.Item.TheVariants.{Sql};
-ghost use Rattle.inno_model.specs.Past.{under_way};
-ghost use Rattle.engine.specs.Calls.{IsOpened, Settled, GoesOut};
+ghost use Rattle.inno_model.specs.Past.{under_way, own};
+ghost use Rattle.inno_model.specs.Legal.{IsOpen};
+ghost use Rattle.shared_lists.specs.Tasks.{Idle as TaskIdle};
+ghost use Rattle.shared_lists.specs.State.{task_of};
+ghost use Rattle.engine.specs.Calls.{IsOpened, AreFirst, Settled, GoesOut};
 ghost use Rattle.engine.specs.Running.{IsReadFrom, ReadsItem};
-ghost use Rattle.engine.specs.Seats.{MayGoOut};
+ghost use Rattle.engine.specs.Seats.{IsGoingOut};
 ghost use Rattle.engine.specs.Going.{NearsEnding};
 
 use crate::seats::{Seat, Seats};
 use crate::statement::Statement;
 use inno_model::History;
 use inno_types::{Bytes, Cause, Item, Reply};
+use list_world::ListWorld;
+use shared_lists::{SharedLists, Undone};
 use sql_lists::{Advance, SqlLists};
 use sql_prefix::parse;
 use sql_text::ParseBad;
 use std::alloc::Global;
 use std::marker::Model;
 use store_api::{Disk, MountBad, NoMemory, Progress};
+use world_lists::WorldLists;
 
 /// An engine over a disk, on which the files of a database will lie. So far it leaves the disk untouched.
 #[derive(Drop)]
 pub struct Engine<D> {
     alloc: Global,
     disk: D,
-    lists: SqlLists,
+    lists: SqlLists<WorldLists<ListWorld>>,
     seats: Seats,
 }
 
@@ -45,7 +51,7 @@ pub fn mount<D: Disk>(alloc: Global, disk: D) -> Result<Engine<D>, (D, MountBad)
     ensures ok { IfOk result (IsOpened disk) }
     ensures err { IfErr result (λ e. (e.0 ≡ disk) × (e.1 ≡ MountBad.NoMemory)) }
 {
-    match SqlLists::new(alloc) {
+    match new_lists(alloc) {
         Ok(lists) => Ok(Engine {
             alloc,
             disk,
@@ -54,6 +60,15 @@ pub fn mount<D: Disk>(alloc: Global, disk: D) -> Result<Engine<D>, (D, MountBad)
         }),
         Err(_) => Err((disk, MountBad::NoMemory)),
     }
+}
+
+/// The lists of a database without tables, over a world in memory.
+fn new_lists(alloc: Global) -> Result<SqlLists<WorldLists<ListWorld>>, NoMemory>
+    ensures first { IfOk result AreFirst }
+    ensures idle { IfOk result (λ lists. (s : ℕ) → task_of s lists ≡ TaskIdle) }
+{
+    let world = ListWorld::new(alloc)?;
+    Ok(SqlLists::new(alloc, WorldLists::new(alloc, world)?))
 }
 
 impl<D: Disk> Engine<D> {
@@ -213,20 +228,34 @@ fn settled(statement: Statement, advance: Advance) -> (Seat, Progress)
     }
 }
 
-/// A step of a session's ending: its open transaction is rolled back, one change at a step.
-fn go_out(s: u32, lists: &mut SqlLists) -> (Seat, Progress)
+/// A step of a session's ending: its changes are taken back, the newest first, and then its transaction is rolled back.
+fn go_out<L: SharedLists>(s: u32, lists: &mut SqlLists<L>) -> (Seat, Progress)
     requires joined { s < length lists.old.names }
-    requires may { MayGoOut s lists.old.past }
+    requires goes_out { IsGoingOut s lists.old }
     ensures goes { GoesOut s lists.old lists.new result.0 result.1 }
-    ensures nears { NearsEnding s lists.old.past lists.new.past result.1 }
+    ensures nears { NearsEnding s lists.old lists.new result.1 }
 {
     if lists.lists().level(s).is_none() {
         return (Seat::Left, Progress::Done(Reply::Done));
     }
     if lists.lists().change_count(s) > 0 {
-        lists.undo(s);
-    } else {
-        lists.roll_back(s);
+        return take_back(s, lists);
     }
+    lists.roll_back(s);
     (Seat::Leaving, Progress::Went)
+}
+
+/// A step by which the session's newest change is taken back. Where it finds no memory, it is to be made again.
+fn take_back<L: SharedLists>(s: u32, lists: &mut SqlLists<L>) -> (Seat, Progress)
+    requires joined { s < length lists.old.names }
+    requires goes_out { IsGoingOut s lists.old }
+    requires is_open { IsOpen s lists.old.past }
+    requires stands { 0 < length (own s lists.old.past) }
+    ensures goes { GoesOut s lists.old lists.new result.0 result.1 }
+    ensures nears { NearsEnding s lists.old lists.new result.1 }
+{
+    match lists.undo(s) {
+        Undone::Went | Undone::Undone => (Seat::Leaving, Progress::Went),
+        Undone::NoMemory => (Seat::Leaving, Progress::NoMemory),
+    }
 }

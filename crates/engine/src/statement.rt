@@ -17,6 +17,7 @@ use create_statement::CreateStatement;
 use inno_types::{Level, LevelScope, Reply, SqlError, Stmt};
 use read_statement::ReadStatement;
 use session_settings::SessionSettings;
+use shared_lists::SharedLists;
 use sql_lists::{Advance, SqlLists};
 use sql_refusals::refuse;
 use std::alloc::{AllocError, Global};
@@ -40,11 +41,16 @@ pub enum Statement {
 
 impl Statement {
     /// One step of the session's statement.
-    pub fn step(self, alloc: Global, session: u32, lists: &mut SqlLists) -> (Statement, Advance)
+    pub fn step<L: SharedLists>(
+        self,
+        alloc: Global,
+        session: u32,
+        lists: &mut SqlLists<L>,
+    ) -> (Statement, Advance)
         requires joined { session < length lists.old.names }
         requires running { IsRunning lists.old session self }
         ensures steps { Steps IsRunning session lists.old lists.new result.0 result.1 }
-        ensures nears { Nears statement_to_go session lists.old.past self lists.new.past result.0 result.1 }
+        ensures nears { Nears statement_to_go session lists.old self lists.new result.0 result.1 }
     {
         match self {
             Statement::Unread { at } => refuse_text(at, session, lists),
@@ -71,7 +77,11 @@ impl Statement {
 }
 
 /// The text of the item is no statement.
-fn refuse_text(at: u32, session: u32, lists: &mut SqlLists) -> (Statement, Advance)
+fn refuse_text<L: SharedLists>(
+    at: u32,
+    session: u32,
+    lists: &mut SqlLists<L>,
+) -> (Statement, Advance)
     requires joined { session < length lists.old.names }
     requires running { IsRunning lists.old session (Statement.Unread at) }
     ensures steps { Steps IsRunning session lists.old lists.new result.0 result.1 }
@@ -85,7 +95,7 @@ fn refuse_text(at: u32, session: u32, lists: &mut SqlLists) -> (Statement, Advan
 }
 
 /// No memory was found: nothing was begun.
-fn give_up(session: u32, lists: &mut SqlLists) -> (Statement, Advance)
+fn give_up<L: SharedLists>(session: u32, lists: &mut SqlLists<L>) -> (Statement, Advance)
     requires joined { session < length lists.old.names }
     requires running { IsRunning lists.old session Statement.Failed }
     ensures steps { Steps IsRunning session lists.old lists.new result.0 result.1 }
@@ -98,11 +108,16 @@ fn give_up(session: u32, lists: &mut SqlLists) -> (Statement, Advance)
 /// Looks whether something refuses the statement at once, and else begins it. Which tables stand is settled only while
 /// no other session makes one.
 /// MySQL 8.0 Reference Manual, "Metadata Locking".
-fn first_step(alloc: Global, stmt: Stmt, session: u32, lists: &mut SqlLists) -> (Statement, Advance)
+fn first_step<L: SharedLists>(
+    alloc: Global,
+    stmt: Stmt,
+    session: u32,
+    lists: &mut SqlLists<L>,
+) -> (Statement, Advance)
     requires joined { session < length lists.old.names }
     requires running { IsRunning lists.old session (Statement.Asked stmt) }
     ensures steps { Steps IsRunning session lists.old lists.new result.0 result.1 }
-    ensures nears { Nears statement_to_go session lists.old.past (Statement.Asked stmt) lists.new.past result.0 result.1 }
+    ensures nears { Nears statement_to_go session lists.old (Statement.Asked stmt) lists.new result.0 result.1 }
 {
     if let Some(by) = lists.other_maker(session) {
         return wait_for(by, stmt, session, lists);
@@ -118,7 +133,12 @@ fn first_step(alloc: Global, stmt: Stmt, session: u32, lists: &mut SqlLists) -> 
 }
 
 /// Another session makes a table: the statement waits for its transaction.
-fn wait_for(by: u32, stmt: Stmt, session: u32, lists: &mut SqlLists) -> (Statement, Advance)
+fn wait_for<L: SharedLists>(
+    by: u32,
+    stmt: Stmt,
+    session: u32,
+    lists: &mut SqlLists<L>,
+) -> (Statement, Advance)
     requires running { IsRunning lists.old session (Statement.Asked stmt) }
     requires joined { (session < length lists.old.names) × (by < length lists.old.names) }
     requires is_open { IsOpen by lists.old.past }
@@ -141,7 +161,12 @@ pub enum Look {
 
 /// What refuses a statement before it sees a row: what its session has open and has kept, and then its text and the
 /// tables.
-fn examine(alloc: Global, stmt: &Stmt, session: u32, lists: &SqlLists) -> Result<Look, AllocError>
+fn examine<L: SharedLists>(
+    alloc: Global,
+    stmt: &Stmt,
+    session: u32,
+    lists: &SqlLists<L>,
+) -> Result<Look, AllocError>
     requires joined { session < length lists.now.names }
     requires lone { IsOnlyMaker session lists.now.past }
     ensures { IfOk result (LooksAs session stmt.now lists.now.past) }
@@ -210,11 +235,11 @@ fn is_serializable(level: Level) -> bool
     matches!(level, Level::Serializable)
 }
 
-fn refuse_at_once(
+fn refuse_at_once<L: SharedLists>(
     error: SqlError,
     stmt: Stmt,
     session: u32,
-    lists: &mut SqlLists,
+    lists: &mut SqlLists<L>,
 ) -> (Statement, Advance)
     requires joined { session < length lists.old.names }
     requires running { IsRunning lists.old session (Statement.Asked stmt) }
@@ -252,7 +277,13 @@ fn kind_of(stmt: &Stmt) -> Kind
 }
 
 /// Nothing refuses the statement at once: it begins.
-fn begin(stmt: Stmt, autocommit: bool, level: Level, session: u32, lists: &SqlLists) -> Statement
+fn begin<L: SharedLists>(
+    stmt: Stmt,
+    autocommit: bool,
+    level: Level,
+    session: u32,
+    lists: &SqlLists<L>,
+) -> Statement
     requires joined { session < length lists.now.names }
     requires running { IsRunning lists.now session (Statement.Asked stmt) }
     requires ready { LooksAs session stmt lists.now.past (Look.Ready autocommit level) }

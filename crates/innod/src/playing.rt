@@ -1,12 +1,12 @@
 //! Plays a script on the calling thread: its items in order, and after each the steps of all sessions until no
 //! session can go on.
 
-ghost use Rattle.std.specs.Prelude.{◌≡◌, ◌<◌, ◌≤◌, [], ℕ, List, length, take, slice_index_or, All, IsTrue, IfSome, OnOk, None};
+ghost use Rattle.std.specs.Prelude.{◌≡◌, ◌<◌, ◌≤◌, [], ℕ, List, length, take, slice_index_or, All, IsTrue, IfSome, OnOk, None, true};
 ghost use Rattle.inno_model.specs.Past.{under_way};
 ghost use Rattle.inno_model.specs.Text.{items};
 ghost use Rattle.script.specs.declared.script.ScriptItem.{ScriptItem as ScriptItemValue};
 ghost use Rattle.script.specs.Script.{IsPlayable};
-ghost use Rattle.innod.specs.Sessions.{IsJoined, IsIdle, FollowsScript, HasPlayed, AllRest, Plays, IsNew, items_of, IsStatement};
+ghost use Rattle.innod.specs.Sessions.{IsJoined, IsIdle, StartsNothing, FollowsScript, HasPlayed, AllRest, Plays, IsNew, items_of, IsStatement};
 
 use crate::sessions::Sessions;
 use inno_types::Bytes;
@@ -225,7 +225,7 @@ fn advance<E: Sessions>(
         return Ok(false);
     }
     if engine.is_working(s) {
-        return Ok(went_on(&engine.step(s, MOMENT)));
+        return step(engine, s);
     }
     let next = skip_others(items, known, places[s as usize], s);
     if next >= known {
@@ -235,6 +235,29 @@ fn advance<E: Sessions>(
     engine.start(s, &items[next].item)?;
     places[s as usize] = next + 1;
     Ok(true)
+}
+
+/// Makes a step of a session at work, and says whether it went on. One that found no memory is followed by another one;
+/// where that finds none either, there is no use in going on, since what is to be taken back would be tried for ever.
+fn step<E: Sessions>(engine: &mut E, s: u32) -> Result<bool, NoMemory>
+    requires joined { IsJoined s (E.shown engine.old) }
+    requires working { (E.shown engine.old).is_working s ≡ true }
+    ensures { StartsNothing (E.shown engine.old) (E.shown engine.new) }
+{
+    let progress = engine.step(s, MOMENT);
+    if !lacked_memory(&progress) || !engine.is_working(s) {
+        return Ok(went_on(&progress));
+    }
+    let again = engine.step(s, MOMENT);
+    if lacked_memory(&again) {
+        Err(NoMemory)
+    } else {
+        Ok(went_on(&again))
+    }
+}
+
+fn lacked_memory(progress: &Progress) -> bool {
+    matches!(progress, Progress::NoMemory)
 }
 
 /// Whether a step changed anything: a session that waits stays where it is.

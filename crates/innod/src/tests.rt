@@ -161,6 +161,41 @@ fn prints_what_sessions_were_answered(rt: HostRuntime) -> Result<(), Fail> {
             "CREATE TABLE t (id BIGINT, a BIGINT, PRIMARY KEY (id), KEY ka (a));\nINSERT INTO t VALUES (1,10);\n@session a\nBEGIN;\nINSERT INTO t VALUES (2,20);\n@session b\nSET SESSION TRANSACTION ISOLATION LEVEL READ UNCOMMITTED;\nSELECT * FROM t;\n@session a\nROLLBACK;\n@session b\nSELECT * FROM t;\n",
             "@session setup\n1> OK\n2> OK 1\n@session a\n1> OK\n2> OK 1\n3> OK\n@session b\n1> OK\n2> ROWS 2\n1\t10\n2\t20\n3> ROWS 1\n1\t10\n",
         ),
+        ran(
+            "play",
+            "CREATE TABLE t (id BIGINT, a BIGINT, s VARBINARY(8), PRIMARY KEY (id), KEY ka (a), KEY ks (s));\nINSERT INTO t VALUES (1,30,'c'),(2,10,'b'),(3,20,NULL),(4,10,'a'),(5,NULL,'b');\n@session a\nSELECT id FROM t WHERE a = 10;\nSELECT id FROM t WHERE a > 10;\nSELECT id FROM t WHERE a >= 10 AND a < 30;\nSELECT id FROM t WHERE a IS NULL;\nSELECT id FROM t WHERE a <= 10;\nSELECT id FROM t WHERE s = 'b';\nSELECT id FROM t WHERE s BETWEEN 'a' AND 'b';\nSELECT id FROM t WHERE a IN (30, 20);\nSELECT * FROM t WHERE a = 10 AND s > 'a';\nSELECT id FROM t WHERE a = 99;\nSELECT id FROM t WHERE id > 1 AND id <= 3;\n",
+            "@session setup\n1> OK\n2> OK 5\n@session a\n1> ROWS 2\n2\n4\n2> ROWS 2\n1\n3\n3> ROWS 3\n2\n3\n4\n4> ROWS 1\n5\n5> ROWS 2\n2\n4\n6> ROWS 2\n2\n5\n7> ROWS 3\n2\n4\n5\n8> ROWS 2\n1\n3\n9> ROWS 1\n2\t10\tb\n10> ROWS 0\n11> ROWS 2\n2\n3\n",
+        ),
+        ran(
+            "play",
+            "CREATE TABLE t (id BIGINT, a BIGINT, PRIMARY KEY (id), KEY ka (a));\nINSERT INTO t VALUES (1,10),(2,20),(3,30),(4,40);\n@session a\nUPDATE t SET a = a + 25 WHERE a <= 20;\nSELECT id FROM t WHERE a <= 20;\nSELECT * FROM t WHERE a > 30;\nSELECT id FROM t WHERE a BETWEEN 35 AND 40;\nUPDATE t SET a = 40 WHERE a = 40;\nUPDATE t SET a = NULL WHERE a > 35;\nSELECT id FROM t WHERE a IS NULL;\nSELECT * FROM t WHERE a < 100;\n",
+            "@session setup\n1> OK\n2> OK 4\n@session a\n1> OK 2\n2> ROWS 0\n3> ROWS 3\n1\t35\n2\t45\n4\t40\n4> ROWS 2\n1\n4\n5> OK 0\n6> OK 2\n7> ROWS 2\n2\n4\n8> ROWS 2\n1\t35\n3\t30\n",
+        ),
+        ran(
+            "play",
+            "CREATE TABLE t (id BIGINT, a BIGINT, PRIMARY KEY (id), KEY ka (a));\nINSERT INTO t VALUES (1,10),(2,20);\n@session a\nBEGIN;\nDELETE FROM t WHERE a = 10;\nSELECT * FROM t;\nINSERT INTO t VALUES (1,11);\nSELECT id FROM t WHERE a = 10;\nSELECT id FROM t WHERE a = 11;\n@session b\nSELECT * FROM t WHERE a < 20;\n@session a\nCOMMIT;\nDELETE FROM t WHERE id = 1;\nINSERT INTO t VALUES (1,12),(3,30);\nSELECT * FROM t WHERE a > 0;\n@session b\nSELECT * FROM t;\n",
+            "@session setup\n1> OK\n2> OK 2\n@session a\n1> OK\n2> OK 1\n3> ROWS 1\n2\t20\n4> OK 1\n5> ROWS 0\n6> ROWS 1\n1\n7> OK\n8> OK 1\n9> OK 2\n10> ROWS 3\n1\t12\n2\t20\n3\t30\n@session b\n1> ROWS 1\n1\t10\n2> ROWS 3\n1\t12\n2\t20\n3\t30\n",
+        ),
+        ran(
+            "play",
+            "CREATE TABLE t (id BIGINT, a BIGINT, PRIMARY KEY (id), KEY ka (a));\nINSERT INTO t VALUES (1,10),(2,20),(3,30);\n@session a\nBEGIN;\nUPDATE t SET a = 15 WHERE id = 1;\nSAVEPOINT s;\nUPDATE t SET a = a + 100 WHERE a >= 15;\nDELETE FROM t WHERE a = 120;\nINSERT INTO t VALUES (4,20);\nSELECT id FROM t WHERE a = 20;\nSELECT id FROM t WHERE a > 100;\nROLLBACK TO s;\nSELECT id FROM t WHERE a = 20;\nSELECT id FROM t WHERE a > 100;\nSELECT * FROM t WHERE a < 100;\nROLLBACK;\nSELECT * FROM t WHERE a >= 10;\nSELECT id FROM t WHERE a = 15;\n",
+            "@session setup\n1> OK\n2> OK 3\n@session a\n1> OK\n2> OK 1\n3> OK\n4> OK 3\n5> OK 1\n6> OK 1\n7> ROWS 1\n4\n8> ROWS 2\n1\n3\n9> OK\n10> ROWS 1\n2\n11> ROWS 0\n12> ROWS 3\n1\t15\n2\t20\n3\t30\n13> OK\n14> ROWS 3\n1\t10\n2\t20\n3\t30\n15> ROWS 0\n",
+        ),
+        ran(
+            "play",
+            "CREATE TABLE t (id BIGINT, a BIGINT, PRIMARY KEY (id), KEY ka (a));\nINSERT INTO t VALUES (3,30);\n@session a\nINSERT INTO t VALUES (1,10),(2,20),(3,31),(4,40);\nSELECT * FROM t;\nSELECT id FROM t WHERE a = 10;\nBEGIN;\nINSERT INTO t VALUES (5,50);\nINSERT INTO t VALUES (6,60),(5,51);\nSELECT id FROM t WHERE a > 30;\nINSERT INTO t VALUES (1,10),(6,60);\nCOMMIT;\nSELECT id FROM t WHERE a >= 10;\n",
+            "@session setup\n1> OK\n2> OK 1\n@session a\n1> ERROR 1062 (23000)\n2> ROWS 1\n3\t30\n3> ROWS 0\n4> OK\n5> OK 1\n6> ERROR 1062 (23000)\n7> ROWS 1\n5\n8> OK 2\n9> OK\n10> ROWS 4\n1\n3\n5\n6\n",
+        ),
+        ran(
+            "play",
+            "CREATE TABLE t (id BIGINT, a BIGINT, PRIMARY KEY (id), KEY ka (a));\nINSERT INTO t VALUES (1,10),(2,20);\n@session a\nBEGIN;\nUPDATE t SET a = 40 WHERE id = 1;\nINSERT INTO t VALUES (3,30);\nDELETE FROM t WHERE id = 2;\n@session b\nSET SESSION TRANSACTION ISOLATION LEVEL READ UNCOMMITTED;\nSELECT * FROM t;\nSELECT id FROM t WHERE a = 10;\nSELECT id FROM t WHERE a > 25;\n@session c\nSELECT * FROM t;\n@session a\nROLLBACK;\n@session b\nSELECT id FROM t WHERE a > 25;\nSELECT * FROM t;\n",
+            "@session setup\n1> OK\n2> OK 2\n@session a\n1> OK\n2> OK 1\n3> OK 1\n4> OK 1\n5> OK\n@session b\n1> OK\n2> ROWS 2\n1\t40\n3\t30\n3> ROWS 0\n4> ROWS 2\n1\n3\n5> ROWS 0\n6> ROWS 2\n1\t10\n2\t20\n@session c\n1> ROWS 2\n1\t10\n2\t20\n",
+        ),
+        ran(
+            "play",
+            "CREATE TABLE t (id BIGINT, a BIGINT, PRIMARY KEY (id), KEY ka (a));\nINSERT INTO t VALUES (1,10);\n@session a\nBEGIN;\nUPDATE t SET a = a + 1;\nINSERT INTO t VALUES (2,11);\n@session b\nUPDATE t SET a = a + 5 WHERE a = 10;\nSELECT * FROM t;\n",
+            "@session setup\n1> OK\n2> OK 1\n@session a\n1> OK\n2> OK 1\n3> OK 1\n@session b\n1> OK 1\n2> ROWS 1\n1\t15\n",
+        ),
         failed("@sesion a\n", 0, 0, Fault::ScriptBad { line: 1 }, 2),
         failed(
             "@session a\nBEGIN;\nx\n",

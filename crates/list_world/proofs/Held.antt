@@ -56,6 +56,13 @@ held txn s f x sessions apart there is =
     map_one (λ y. of_txn txn f y y.work) sessions s x there (others_stay txn s f x sessions apart there is)
     ∙ ap (slice_set sessions s) (of_it txn f x x.work is)
 
+-- what stands then where that session stood
+pub held_there : (txn s : ℕ) (f : Session → Session) (x : Session) (sessions : List Session) → slice_get sessions s ≡ Some x → is_of txn x.work ≡ true
+    → slice_get (change_txn txn f sessions) s ≡ Some (f x)
+held_there txn s f x [] there is = absurd (cc)
+held_there txn zero f x (y ∷ sessions) there is = let e : y ≡ x = cc in rw e (ap Some (of_it txn f x x.work is))
+held_there txn (suc s) f x (y ∷ sessions) there is = held_there txn s f x sessions there is
+
 -- where no session holds it, none changes
 pub unheld : (txn : ℕ) (f : Session → Session) (sessions : List Session) → NoneHolds txn sessions → change_txn txn f sessions ≡ sessions
 unheld txn f sessions none = map_same (λ y. of_txn txn f y y.work) sessions (λ k y there. not_of_it txn f y y.work (none k y there))

@@ -6,3 +6,4 @@ pub mod Held
 pub mod Indexed
 pub mod Logs
 pub mod Tables
+pub mod InItem

@@ -4,4 +4,4 @@ pub mod Slots
 pub mod Brought
 pub mod Holding
 pub mod Parts
-pub mod Engine
+pub mod Memory

@@ -3,7 +3,6 @@ use Rattle.std.specs.Prelude.{ℕ, ◌==◌, ◌<◌, ◌≤◌, Bool, false, Li
 use Rattle.list_world.specs.declared.open_work.OpenWork.{OpenWork}
 use Rattle.std.specs.List.{AllByRecursion}
 use Rattle.store_api.specs.declared.answers.Undo.{Undo}
-use Rattle.sql_history.specs.Settings.{at_first}
 use Rattle.world.specs.State.{Work, Session, Seen, Logged}
 
 -- its log is seen the newest first
@@ -26,10 +25,6 @@ AreShortRecords log = AllByRecursion (λ logged. IsShortRecord logged.undo) log
 abbrev pub IsLogShort : Option OpenWork → Type 0
 IsLogShort None = Unit {0}
 IsLogShort (Some work) = AreShortRecords work.log.items
-
--- a session that has just joined
-abbrev pub fresh_session : Session
-fresh_session = record { setting = at_first; work = None; can_reply = false; can_ack = false; can_begin = false; can_change = false; undo_room = 0; next_pointer = 0 }
 
 -- the session's open transaction, if it has one, is changed so
 abbrev pub working : (Work → Work) → Session → Session

@@ -1,23 +1,24 @@
 //! The calls of a world in memory that the engine alone makes: it opens it, joins sessions, starts and ends items, and
 //! makes tables.
 
-ghost use Rattle.std.specs.Prelude.{◌≡◌, ◌+◌, ◌<◌, ◌≤◌, ◌^◌, true, [], length, OnOk, OnErr, IfOk, vec_len, vec_capacity};
+ghost use Rattle.std.specs.Prelude.{◌≡◌, ◌+◌, ◌<◌, ◌≤◌, ◌^◌, [], length, reverse, IfOk, vec_len, vec_capacity};
 ghost use Rattle.std.specs.FinMap.{from_entries};
-ghost use Rattle.inno_db.specs.declared.limits.TheConstants.{MOST_KEYS};
 ghost use Rattle.sql_history.specs.Counts.{rows_of_reply};
-ghost use Rattle.world.specs.State.{Session, Work, HasWork, IsSession};
+ghost use Rattle.engine_world.specs.Calls.{IsNew};
+ghost use Rattle.list_world.specs.Memory.{in_memory};
 ghost use Rattle.list_world.specs.Parts.{world_of, AreAdded};
-ghost use Rattle.list_world.specs.Engine.{IsNew, joined, item_started, item_ended, acknowledged, with_setting, MakesTable};
 
 use crate::history_room::take_room;
 use crate::list_world::ListWorld;
 use crate::reading::copy_schema;
 use crate::session_room::SessionRoom;
 use crate::versions::Slots;
+use engine_world::EngineWorld;
 use entries::ListIndex;
 use inno_db::{Change, Db};
 use inno_model::{Event, History};
 use inno_types::{Bytes, Item, Listed, Reply, Schema, Stmt};
+use session_settings::SessionSettings;
 use std::alloc::Global;
 use store_api::NoMemory;
 use txn_table::TxnTable;
@@ -47,31 +48,35 @@ impl ListWorld {
             sessions: Vec::new(alloc),
         })
     }
+}
 
-    /// What happened.
-    pub fn history(&self) -> &History
-        ensures names { result.now.names ≡ (world_of self.now).names }
-        ensures past { result.now.past ≡ (world_of self.now).past }
-    {
+impl EngineWorld for ListWorld {
+    ghost tells = { in_memory };
+
+    fn history(&self) -> &History {
+        // It does nothing, and tells that there are fewer than 2 ^ 63.
+        let _ = self.history.events().len();
         &self.history
     }
 
-    /// What happened, and nothing else.
-    pub fn into_history(self) -> History
-        ensures names { result.names ≡ (world_of self).names }
-        ensures past { result.past ≡ (world_of self).past }
-    {
+    fn into_history(self) -> History {
         let ListWorld { history, .. } = self;
         history
     }
 
-    /// Another session, and its number. An `Err` changes nothing.
-    pub fn join(&mut self, name: Bytes) -> Result<u32, NoMemory>
-        requires { length (world_of self.old).sessions < 68 }
-        ensures number { IfOk result (λ s. s ≡ length (world_of self.old).sessions) }
-        ensures ok { OnOk result (world_of self.new ≡ joined name (world_of self.old)) }
-        ensures err { OnErr result (world_of self.new ≡ world_of self.old) }
-    {
+    fn tables(&self) -> &Listed<Schema> {
+        &self.schemas
+    }
+
+    fn settings(&self, s: u32) -> &SessionSettings {
+        self.sessions[s as usize].settings()
+    }
+
+    fn has_view(&self, s: u32) -> bool {
+        self.sessions[s as usize].view().is_some()
+    }
+
+    fn join(&mut self, name: Bytes) -> Result<u32, NoMemory> {
         let s = self.sessions.len() as u32;
         self.sessions.reserve(1)?;
         self.history.add_name(name)?;
@@ -79,53 +84,29 @@ impl ListWorld {
         Ok(s)
     }
 
-    /// Starts an item of the session. An `Err` changes nothing.
-    pub fn start(&mut self, s: u32, j: u32, item: Item) -> Result<(), NoMemory>
-        requires { s < length (world_of self.old).sessions }
-        ensures ok { OnOk result ((session : Session) → IsSession s session (world_of self.old) → world_of self.new ≡ item_started s j item session (world_of self.old)) }
-        ensures err { OnErr result (world_of self.new ≡ world_of self.old) }
-    {
+    fn start(&mut self, s: u32, j: u32, item: Item) -> Result<(), NoMemory> {
         take_room(&mut self.history, &self.sessions, 2)?;
         self.sessions[s as usize].let_reply(true);
         self.history.add(Event::Started { s, j, item });
         Ok(())
     }
 
-    /// Ends an item of the session, for which there is room. It takes no memory.
-    pub fn end_item(&mut self, s: u32, j: u32, reply: Reply)
-        requires may { (session : Session) × IsSession s session (world_of self.old) × (session.can_reply ≡ true) }
-        requires few { (world_of self.old).rows + rows_of_reply reply < 2 ^ 63 }
-        ensures { (session : Session) → IsSession s session (world_of self.old) → world_of self.new ≡ item_ended s j reply session (world_of self.old) }
-    {
+    fn end_item(&mut self, s: u32, j: u32, reply: Reply) {
         self.sessions[s as usize].let_reply(false);
         self.rows += rows_of(&reply);
         self.history.add(Event::Ended { s, j, reply });
     }
 
-    /// Acknowledges the session's commit. It takes no memory.
-    pub fn ack(&mut self, s: u32)
-        requires { (session : Session) × IsSession s session (world_of self.old) × (session.can_ack ≡ true) }
-        ensures { (session : Session) → IsSession s session (world_of self.old) → world_of self.new ≡ acknowledged s session (world_of self.old) }
-    {
+    fn ack(&mut self, s: u32) {
         self.sessions[s as usize].acknowledge();
         self.history.add(Event::Acked { s, moment: 0 });
     }
 
-    /// Sets what a statement sets that was done, other than a savepoint of an open transaction. It takes no memory.
-    pub fn set(&mut self, s: u32, stmt: &Stmt)
-        requires { s < length (world_of self.old).sessions }
-        ensures { (session : Session) → IsSession s session (world_of self.old) → world_of self.new ≡ with_setting s stmt.now session (world_of self.old) }
-    {
+    fn set(&mut self, s: u32, stmt: &Stmt) {
         self.sessions[s as usize].set(stmt);
     }
 
-    /// Makes a table, by the session's open transaction. An `Err` changes nothing.
-    pub fn add_table(&mut self, s: u32, schema: Schema) -> Result<(), NoMemory>
-        requires may { (session : Session) × (work : Work) × HasWork s session work (world_of self.old) }
-        requires keys { length schema.keys ≤ MOST_KEYS }
-        ensures ok { OnOk result (MakesTable s schema (world_of self.old) (world_of self.new)) }
-        ensures err { OnErr result (world_of self.new ≡ world_of self.old) }
-    {
+    fn add_table(&mut self, s: u32, schema: Schema) -> Result<(), NoMemory> {
         let copy = copy_schema(self.alloc, &schema)?;
         self.indexes.reserve(INDEXES_OF_TABLE)?;
         take_room(&mut self.history, &self.sessions, 2)?;

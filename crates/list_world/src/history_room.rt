@@ -1,6 +1,6 @@
 //! The history's room: what it owes to sessions, and room for more.
 
-ghost use Rattle.std.specs.Prelude.{◌≡◌, ◌+◌, ◌<◌, ◌≤◌, ◌^◌, true, IfSome, OnOk, OnErr, IsOk, take};
+ghost use Rattle.std.specs.Prelude.{◌≡◌, ◌+◌, ◌<◌, ◌≤◌, ◌^◌, true, SomeIff, OnOk, OnErr, IsOk, take};
 ghost use Rattle.inno_model.specs.Recorded.{SameEntries};
 ghost use Rattle.list_world.specs.Owed.{bit, owed_of, owed_by_all};
 
@@ -8,9 +8,9 @@ use crate::session_room::SessionRoom;
 use inno_model::History;
 use store_api::NoMemory;
 
-/// How many entries the history has room for on behalf of all sessions.
+/// How many entries the history has room for on behalf of all sessions, if that number fits.
 fn owed_by_all(sessions: &[SessionRoom]) -> Option<u64>
-    ensures { IfSome result (λ n. n ≡ owed_by_all sessions.now) }
+    ensures { SomeIff result (owed_by_all sessions.now < 2 ^ 64) (owed_by_all sessions.now) }
 {
     let mut total = 0u64;
     for room in sessions {

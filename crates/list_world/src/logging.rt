@@ -90,6 +90,8 @@ impl ListWorld {
         let answer = self.indexes[index as usize].insert(actor, key, value);
         if let Move::Done = answer {
             self.log(actor, brought);
+        } else {
+            drop(brought);
         }
         answer
     }
@@ -115,6 +117,8 @@ impl ListWorld {
         let answer = self.indexes[index as usize].replace(actor, key, value);
         if let Move::Done = answer {
             self.log(actor, brought);
+        } else {
+            drop(brought);
         }
         answer
     }

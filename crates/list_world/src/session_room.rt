@@ -1,12 +1,13 @@
 //! What is kept of one session: its settings, its open transaction, and for which entries the history has room. The world
 //! alone changes it.
 
-ghost use Rattle.std.specs.Prelude.{◌≡◌, ℕ, ◌+◌, ◌-◌, ◌<◌, ◌≤◌, ◌^◌, true, false, [], ◌∷◌, None, Some, IfOk, IfSome, IfNone, OnOk, OnErr, option_map, option_copied, vec_len, vec_capacity};
+ghost use Rattle.std.specs.Prelude.{◌≡◌, ℕ, ◌+◌, ◌-◌, ◌<◌, ◌≤◌, ◌^◌, true, false, [], ◌∷◌, None, Some, IfOk, IfSome, IfNone, SomeIff, OnOk, OnErr, option_map, option_copied, vec_len, vec_capacity};
 ghost use Rattle.sql_history.specs.Settings.{at_begin, at_end, saved, back_to, made_at, set_by};
 ghost use Rattle.world.specs.State.{Work, standing_of};
 ghost use Rattle.world.specs.Sessions.{fresh_work, work_with_id};
 ghost use Rattle.world.specs.Undoing.{newest, older};
-ghost use Rattle.list_world.specs.Rooms.{fresh_session, working, work_of, is_of, log_of, view_of, HasLogRoom, IsLogShort, IsShortRecord};
+ghost use Rattle.engine_world.specs.Calls.{fresh_session};
+ghost use Rattle.list_world.specs.Rooms.{working, work_of, is_of, log_of, view_of, HasLogRoom, IsLogShort, IsShortRecord};
 ghost use Rattle.list_world.specs.Owed.{bit, owed_of};
 
 use crate::open_work::{LoggedUndo, OpenWork, SeenIds};
@@ -56,6 +57,13 @@ impl SessionRoom {
             undo_room: 0,
             next_pointer: 0,
         }
+    }
+
+    /// What the session has set.
+    pub fn settings(&self) -> &SessionSettings
+        ensures { result.now ≡ self.now.setting }
+    {
+        &self.settings
     }
 
     pub fn is_of(&self, txn: u64) -> bool
@@ -162,9 +170,9 @@ impl SessionRoom {
 
     // ---- the history's room
 
-    /// How many entries the history has room for on behalf of this session.
+    /// How many entries the history has room for on behalf of this session, if that number fits.
     pub fn owed(&self) -> Option<u64>
-        ensures { IfSome result (λ n. n ≡ owed_of self.now) }
+        ensures { SomeIff result (owed_of self.now < 2 ^ 64) (owed_of self.now) }
     {
         let flags = bit(1, self.can_reply)
             + bit(1, self.can_ack)

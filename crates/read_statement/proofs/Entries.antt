@@ -21,16 +21,17 @@ use Rattle.sql_history.specs.Waiting.{is_victim}
 use Rattle.sql_history.specs.Endings.{IsOpen, IsClosed}
 use Rattle.sql_history.specs.Legal.{MayBegin, MayView, MayCommit, MayRollBack, is_alone}
 use Rattle.sql_lists.proofs.Staying.{point_now, point_before, is_within, before_within, starts_not}
-use Rattle.table_lists.specs.State.{State, Adds, Closes}
+use Rattle.shared_lists.specs.Tasks.{Idle}
+use Rattle.shared_lists.specs.State.{State, Adds, Closes, Turns, Stays, task_of}
 use Rattle.table_lists.specs.Order.{IsOfRow}
 use Rattle.sql_lists.specs.Steps.{Moves}
+use Rattle.sql_lists.proofs.Moving.{moves_none, moves_turns, moves_adds, moves_closes}
 use Rattle.read_statement.specs.declared.machine.Asked.{Asked}
 use Rattle.read_statement.specs.Running.{IsTakenWith, IsOpening, IsIn, IsEarly, HasView, MayTakeView, IsFound, IsSettledBy, IsAnswered, IsClosing, IsFailing, HasClosed, is_rows}
 use Rattle.read_statement.proofs.Items.{quiet_own, quiet_level, quiet_turn, none_closed, none_committed, none_rolled, none_undone, no_victim, turn_goes_on, takes_on, none_of}
 use Rattle.read_statement.proofs.Selects.{plain_taken, begins_by, commits_by, rolls_back_by, views_by, answers}
 use Rattle.read_statement.proofs.Ending.{is_alone_of}
 use Rattle.read_statement.proofs.Staying.{settled_on, closing_on}
-use Rattle.read_statement.proofs.Moving.{moves_none, moves_adds, moves_closes}
 
 -- ---- opening
 
@@ -110,26 +111,30 @@ module _ (s : ℕ) (h : List Event) (asked : Asked) (opening : IsOpening h s ask
     pub begun_unseen : did takes_view s (events.Begin s n l ∷ h) ≡ false
     begun_unseen = grind (arith, nat_tests, opening.nothing)
 
-pub begun : (s n : ℕ) (l : Level) (old new : State) (asked : Asked) → IsOpening old.past s asked → IsClosed s old.past → own s old.past ≡ [] → Adds (events.Begin s n l) old new → Moves s old new × (IsEarly new.past s asked.stmt asked.autocommit × IsOpen s new.past × (did takes_view s new.past ≡ false)) × (started s new.past ≡ started s old.past)
-begun s n l old new asked opening closed none adds =
-    let past-is = ap (λ (x : State). x.past) adds in (
-      moves_adds s (events.Begin s n l) old new (grind (arith, nat_tests)) refl adds,
-      rw past-is (begun_early s old.past asked opening n l closed none, begun_open s old.past asked opening n l closed none, begun_unseen s old.past asked opening n l closed none),
-      ap (started s) past-is,
-    )
+pub never : {P : Type 0} → false ≡ true → P
+never is = absurd (false≢true is)
+
+pub begun : (s n : ℕ) (l : Level) (old new : State) (asked : Asked) → IsOpening old.past s asked → IsClosed s old.past → own s old.past ≡ [] → task_of s old ≡ Idle → Adds (events.Begin s n l) s old new
+    → Moves s old new × (IsEarly new.past s asked.stmt asked.autocommit × IsOpen s new.past × (did takes_view s new.past ≡ false) × (task_of s new ≡ Idle)) × (started s new.past ≡ started s old.past)
+begun s n l old new asked opening closed none idle adds = (
+  moves_adds s (events.Begin s n l) old new (grind (arith, nat_tests)) never adds,
+  rw adds.past_is (begun_early s old.past asked opening n l closed none, begun_open s old.past asked opening n l closed none, begun_unseen s old.past asked opening n l closed none, adds.task_is ∙ idle),
+  ap (started s) adds.past_is,
+)
 
 -- where a transaction is open it works in that
-pub stays_open : (s : ℕ) (state : State) (asked : Asked) → IsOpening state.past s asked → IsOpen s state.past
-    → Moves s state state × (IsEarly state.past s asked.stmt false × IsOpen s state.past × (did takes_view s state.past ≡ false)) × (started s state.past ≡ started s state.past)
-stays_open s state asked opening is-open = (moves_none s state, (early_in s state.past asked opening, is-open, unseen s state.past asked opening), refl)
+pub stays_open : (s : ℕ) (state : State) (asked : Asked) → IsOpening state.past s asked → IsOpen s state.past → task_of s state ≡ Idle
+    → Moves s state state × (IsEarly state.past s asked.stmt false × IsOpen s state.past × (did takes_view s state.past ≡ false) × (task_of s state ≡ Idle)) × (started s state.past ≡ started s state.past)
+stays_open s state asked opening is-open idle = (moves_none s state, (early_in s state.past asked opening, is-open, unseen s state.past asked opening, idle), refl)
+
+-- the session has nothing under way, as before
+pub rests : (s : ℕ) (old new : State) → task_of s old ≡ Idle → Stays s old new → Turns s Idle old new
+rests s old new idle stays = record { names_are = stays.names_are; past_is = stays.past_is; writer_is = stays.writer_is; task_is = stays.task_is ∙ idle; others = stays.others }
 
 -- no memory was found
-pub fails : (s : ℕ) (old new : State) (statement : Stmt) (alone : Bool) → new ≡ old → IsEarly old.past s statement alone → (alone ≡ true → IsOpen s old.past) → Moves s old new × IsFailing new.past s alone × (new.past ≡ old.past)
-fails s old new statement alone is early is-open =
-    subst (λ (x : State). Moves s old x × IsFailing x.past s alone × (x.past ≡ old.past)) (sym is) (moves_none s old, record { stmt = statement; early = early; is_open = is-open }, refl)
-
-pub not_alone : {P : Type 0} → false ≡ true → P
-not_alone is = absurd (false≢true is)
+pub fails : (s : ℕ) (old new : State) (statement : Stmt) (alone : Bool) → Turns s Idle old new → IsEarly old.past s statement alone → (alone ≡ true → IsOpen s old.past) → Moves s old new × (IsFailing new.past s alone × (task_of s new ≡ Idle)) × (new.past ≡ old.past)
+fails s old new statement alone turns early is-open =
+    (moves_turns s Idle old new turns, (subst (λ h. IsFailing h s alone) (sym turns.past_is) (record { stmt = statement; early = early; is_open = is-open }), turns.task_is), turns.past_is)
 
 -- ---- the view
 
@@ -166,14 +171,13 @@ viewed_has s h takes =
     let counts : view_of s (events.View s ∷ h) ≡ Some (commits h) = grind (arith, nat_tests) in
     record { l = takes.0; level_is = takes.1; by_view = takes.2; viewed = λ by-view apart. seen; number = commits h; view_is = counts }
 
-pub viewed : (s : ℕ) (old new : State) (statement : Stmt) (alone : Bool) → IsEarly old.past s statement alone → IsOpen s old.past → MayTakeView s old.past → Adds (events.View s) old new
-    → Moves s old new × (IsEarly new.past s statement alone × IsOpen s new.past × HasView new.past s) × (started s new.past ≡ started s old.past)
-viewed s old new statement alone early is-open takes adds =
-    let past-is = ap (λ (x : State). x.past) adds in (
-      moves_adds s (events.View s) old new (grind (arith, nat_tests)) refl adds,
-      rw past-is (viewed_early s old.past statement alone early, is-open, viewed_has s old.past takes),
-      ap (started s) past-is,
-    )
+pub viewed : (s : ℕ) (old new : State) (statement : Stmt) (alone : Bool) → IsEarly old.past s statement alone → IsOpen s old.past → MayTakeView s old.past → task_of s old ≡ Idle → Adds (events.View s) s old new
+    → Moves s old new × (IsEarly new.past s statement alone × IsOpen s new.past × HasView new.past s × (task_of s new ≡ Idle)) × (started s new.past ≡ started s old.past)
+viewed s old new statement alone early is-open takes idle adds = (
+  moves_adds s (events.View s) old new (grind (arith, nat_tests)) never adds,
+  rw adds.past_is (viewed_early s old.past statement alone early, is-open, viewed_has s old.past takes, adds.task_is ∙ idle),
+  ap (started s) adds.past_is,
+)
 
 number_of : (o : Option ℕ) → is_some o ≡ true → (n : ℕ) × (o ≡ Some n)
 number_of None is = (let x = is in cc)
@@ -272,36 +276,34 @@ module _ (s : ℕ) (h : List Event) (statement : Stmt) (early : IsEarly h s stat
       let commits : did commits_txn s (events.RolledBack s ∷ h) ≡ false = grind (arith, nat_tests, none_committed s h early.goes_on) in
       subst (λ b. HasClosed b s (events.RolledBack s ∷ h)) (sym no-rows) (rolls, commits))
 
-pub commit_steps : (s : ℕ) (old new : State) (kept given : Reply) → is_rows kept ≡ true → IsAnswered old.past s true kept given → Closes (events.Committed s) s old new
-    → Moves s old new × (IsClosing new.past s kept given × (is_rows kept ≡ true) × (awaits_ack (of_item s new.past) ≡ true)) × (started s new.past ≡ started s old.past)
-commit_steps s old new kept given rows a closes-it =
-    let past-is = ap (λ (x : State). x.past) closes-it in
+pub commit_steps : (s : ℕ) (old new : State) (kept given : Reply) → is_rows kept ≡ true → IsAnswered old.past s true kept given → task_of s old ≡ Idle → Closes (events.Committed s) s old new
+    → Moves s old new × (IsClosing new.past s kept given × (is_rows kept ≡ true) × (awaits_ack (of_item s new.past) ≡ true) × (task_of s new ≡ Idle)) × (started s new.past ≡ started s old.past)
+commit_steps s old new kept given rows a idle closes-it =
     let owed : awaits_ack (of_item s (events.Committed s ∷ old.past)) ≡ true = grind (arith, nat_tests) in (
       moves_closes s (events.Committed s) old new (grind (arith, nat_tests)) refl closes-it,
-      rw past-is (committed s old.past a.stmt a.early kept given rows a.same a.settled, rows, owed),
-      ap (started s) past-is,
+      rw closes-it.past_is (committed s old.past a.stmt a.early kept given rows a.same a.settled, rows, owed, closes-it.task_is ∙ idle),
+      ap (started s) closes-it.past_is,
     )
 
-pub roll_back_steps : (s : ℕ) (old new : State) (kept given : Reply) → is_rows kept ≡ false → IsAnswered old.past s true kept given → Closes (events.RolledBack s) s old new
-    → Moves s old new × (IsClosing new.past s kept given × (awaits_ack (of_item s new.past) ≡ false)) × (started s new.past ≡ started s old.past)
-roll_back_steps s old new kept given no-rows a closes-it =
-    let past-is = ap (λ (x : State). x.past) closes-it in
+pub roll_back_steps : (s : ℕ) (old new : State) (kept given : Reply) → is_rows kept ≡ false → IsAnswered old.past s true kept given → task_of s old ≡ Idle → Closes (events.RolledBack s) s old new
+    → Moves s old new × (IsClosing new.past s kept given × (awaits_ack (of_item s new.past) ≡ false) × (task_of s new ≡ Idle)) × (started s new.past ≡ started s old.past)
+roll_back_steps s old new kept given no-rows a idle closes-it =
     let acked : awaits_ack (of_item s (events.RolledBack s ∷ old.past)) ≡ false = grind (arith, nat_tests) in (
       moves_closes s (events.RolledBack s) old new (grind (arith, nat_tests)) refl closes-it,
-      rw past-is (rolled s old.past a.stmt a.early kept given no-rows a.same a.settled, acked),
-      ap (started s) past-is,
+      rw closes-it.past_is (rolled s old.past a.stmt a.early kept given no-rows a.same a.settled, acked, closes-it.task_is ∙ idle),
+      ap (started s) closes-it.past_is,
     )
 
-pub ack_steps : (s : ℕ) (old new : State) (kept given : Reply) → IsClosing old.past s kept given → Adds (events.Acked s 0) old new
-    → Moves s old new × (IsClosing new.past s kept given × (awaits_ack (of_item s new.past) ≡ false)) × (started s new.past ≡ started s old.past)
-ack_steps s old new kept given closing adds =
-    let past-is = ap (λ (x : State). x.past) adds in
+pub ack_steps : (s : ℕ) (old new : State) (kept given : Reply) → IsClosing old.past s kept given → task_of s old ≡ Idle → Adds (events.Acked s 0) s old new
+    → Moves s old new × (IsClosing new.past s kept given × (awaits_ack (of_item s new.past) ≡ false) × (task_of s new ≡ Idle)) × (started s new.past ≡ started s old.past)
+ack_steps s old new kept given closing idle adds =
     let h = old.past in
     let none : awaits_ack (of_item s (events.Acked s 0 ∷ h)) ≡ false = grind (arith, nat_tests) in (
-      moves_adds s (events.Acked s 0) old new (grind (arith, nat_tests)) refl adds,
-      rw past-is (
+      moves_adds s (events.Acked s 0) old new (grind (arith, nat_tests)) never adds,
+      rw adds.past_is (
         closing_on s (events.Acked s 0) h refl (λ over. grind (arith, nat_tests, over)) refl refl (grind (arith, nat_tests)) (grind (arith, nat_tests)) (grind (arith, nat_tests)) (grind (arith, nat_tests)) (grind (arith, nat_tests)) (grind (arith, nat_tests)) kept given closing,
         none,
+        adds.task_is ∙ idle,
       ),
-      ap (started s) past-is,
+      ap (started s) adds.past_is,
     )

@@ -1,6 +1,7 @@
 -- The steps by which a SELECT ends its transaction and its item.
 use Rattle.std.proofs.Common.{◌≡◌, ◌≢◌, ℕ, ◌+◌, ◌<◌, Bool, true, false, List, ◌∷◌, refl, sym, ap, subst, ◌∙◌, arith}
 use Rattle.std.proofs.lemmas.Bool.Decides.{nat_tests}
+use Rattle.std.proofs.lemmas.Bool.{false≢true}
 use Rattle.std.specs.List.{AllByRecursion}
 use Rattle.inno_types.specs.declared.reply.Reply.{Reply}
 use Rattle.inno_types.specs.declared.reply.Reply.TheVariants as replies
@@ -13,21 +14,23 @@ use Rattle.sql_grammar.specs.Grammar.{Spells}
 use Rattle.sql_history.specs.Items.{point}
 use Rattle.sql_history.specs.Counts.{rows_of_reply, rows_kept, most_rows}
 use Rattle.sql_history.specs.Legal.{MayCommit, MayRollBack, IsWithin}
-use Rattle.table_lists.specs.State.{State, Adds}
+use Rattle.shared_lists.specs.Tasks.{Idle}
+use Rattle.shared_lists.specs.State.{State, Adds, task_of}
 use Rattle.table_lists.specs.Order.{IsOfRow}
 use Rattle.sql_lists.specs.Kept.{MayReply, OwesAck}
 use Rattle.sql_lists.specs.Steps.{Moves, HasRowsAlone}
+use Rattle.sql_lists.proofs.Moving.{moves_adds}
 use Rattle.read_statement.specs.Running.{IsEarly, IsFailing, IsSettledBy, IsAnswered, IsClosing, is_rows}
-use Rattle.read_statement.proofs.Moving.{moves_adds}
 use Rattle.read_statement.proofs.Ending.{ends_open, ends_closed, ends_limited}
 use Rattle.read_statement.proofs.Entries.{may_commit, may_roll_back}
 
-pub end_steps : (s : ℕ) (old new : State) (kept given : Reply) → given ≡ kept → HasRowsAlone s old.past → Adds (events.Ended s (started s old.past) kept) old new
-    → Moves s old new × (new.past ≡ events.Ended s (started s old.past) given ∷ old.past) × HasRowsAlone s old.past
-end_steps s old new kept given same rows-alone adds = (
-  moves_adds s (events.Ended s (started s old.past) kept) old new (grind (arith, nat_tests)) refl adds,
-  ap (λ (x : State). x.past) adds ∙ ap (λ r. events.Ended s (started s old.past) r ∷ old.past) (sym same),
+pub end_steps : (s : ℕ) (old new : State) (kept given : Reply) → given ≡ kept → HasRowsAlone s old.past → task_of s old ≡ Idle → Adds (events.Ended s (started s old.past) kept) s old new
+    → Moves s old new × (new.past ≡ events.Ended s (started s old.past) given ∷ old.past) × HasRowsAlone s old.past × (task_of s new ≡ Idle)
+end_steps s old new kept given same rows-alone idle adds = (
+  moves_adds s (events.Ended s (started s old.past) kept) old new (grind (arith, nat_tests)) (λ is. absurd (false≢true is)) adds,
+  adds.past_is ∙ ap (λ r. events.Ended s (started s old.past) r ∷ old.past) (sym same),
   rows-alone,
+  adds.task_is ∙ idle,
 )
 
 not_done : (kept : Reply) (h point : List Event) (s : ℕ) (stmt : Stmt) → IsSettledBy kept h point s stmt → kept ≢ replies.Done

@@ -1,43 +1,96 @@
--- A reply by the rows that were gathered is settled, or too many rows.
-use Rattle.std.proofs.Common.{◌≡◌, ℕ, ◌+◌, ◌<◌, true, None, List, refl, sym}
+-- A reply by the rows that were found is settled, or too many rows; and what becomes of a search.
+use Rattle.std.proofs.Common.{◌≡◌, ℕ, ◌+◌, ◌<◌, Bool, true, None, List, refl, sym, ap, subst, ◌∙◌}
 use Rattle.inno_types.specs.declared.reply.Reply.{Reply}
 use Rattle.inno_types.specs.declared.reply.Reply.TheVariants as replies
 use Rattle.inno_types.specs.declared.stmt.Stmt.{Stmt}
 use Rattle.inno_model.specs.declared.event.Event.{Event}
+use Rattle.inno_model.specs.Past.{started}
 use Rattle.sql_history.specs.Statements.{refused_at_once}
 use Rattle.sql_history.specs.Counts.{rows_of_reply, rows_kept, most_rows}
-use Rattle.table_lists.specs.State.{State}
+use Rattle.sql_history.specs.Endings.{IsOpen}
+use Rattle.table_lists.specs.Order.{created}
+use Rattle.table_lists.specs.Agreement.{IsSound}
+use Rattle.sql_plan.specs.declared.choice.Plan.{Plan}
+use Rattle.shared_lists.specs.declared.answers.Reading.TheVariants.{View}
+use Rattle.shared_lists.specs.Tasks.{Idle, Searching}
+use Rattle.shared_lists.specs.State.{State, Turns, task_of}
+use Rattle.shared_lists.specs.Steps.{AreFoundBy}
 use Rattle.sql_lists.specs.Steps.{Moves}
+use Rattle.sql_lists.proofs.Moving.{moves_turns}
 use Rattle.read_statement.specs.declared.machine.Read.{Read}
-use Rattle.read_statement.specs.Running.{IsWalking, IsFailing, IsSeen, IsSettledBy, IsAnswered, answers_rows}
+use Rattle.read_statement.specs.declared.machine.Found.{Found}
+use Rattle.read_statement.specs.Planning.{IsPlanned}
+use Rattle.read_statement.specs.Running.{IsEarly, HasView, IsSearching, HasFound, IsSeen, IsSettledBy, IsAnswered, answers_rows}
 use Rattle.read_statement.proofs.Items.{some_past}
-use Rattle.read_statement.proofs.Entries.{fails}
+use Rattle.read_statement.proofs.Searched.{seen_tabled}
 
 pub settled_by : (h : List Event) (s : ℕ) (stmt : Stmt) (reply : Reply) → answers_rows reply ≡ true → IsSeen h h s stmt reply → IsSettledBy reply h h s stmt
 settled_by h s stmt (replies.Rows rows) kind seen = seen
 settled_by h s stmt (replies.Fail error) kind seen = seen
 settled_by h s stmt other kind seen = (let x = kind in cc)
 
-module _ (h : List Event) (s : ℕ) (read : Read) (walking : IsWalking h s read) (reply : Reply) (seen : IsSeen h h s read.stmt reply) where
-  pub settled : answers_rows reply ≡ true → (kept : Reply) → kept ≡ reply → IsAnswered h s read.alone kept reply
-  settled kind kept is =
-      record { same = sym is; stmt = read.stmt; early = walking.early; is_open = λ alone. walking.is_open; settled = rw is (settled_by h s read.stmt reply kind seen) }
+module _ (h : List Event) (s : ℕ) (stmt : Stmt) (alone : Bool) (early : IsEarly h s stmt alone) (is_open : IsOpen s h) (reply : Reply) (seen : IsSeen h h s stmt reply) where
+  pub settled : answers_rows reply ≡ true → (kept : Reply) → kept ≡ reply → IsAnswered h s alone kept reply
+  settled kind kept is = record { same = sym is; stmt = stmt; early = early; is_open = λ a. is_open; settled = rw is (settled_by h s stmt reply kind seen) }
 
-  pub limited : (rows : ℕ) → most_rows < rows → rows ≡ rows_kept h + rows_of_reply reply → IsAnswered h s read.alone (replies.RunLimit rows) (replies.RunLimit rows)
+  pub limited : (rows : ℕ) → most_rows < rows → rows ≡ rows_kept h + rows_of_reply reply → IsAnswered h s alone (replies.RunLimit rows) (replies.RunLimit rows)
   limited rows many sum =
       record {
         same = refl;
-        stmt = read.stmt;
-        early = walking.early;
-        is_open = λ alone. walking.is_open;
+        stmt = stmt;
+        early = early;
+        is_open = λ a. is_open;
         settled = record {
           many = many;
           reply = reply;
           found = seen.found;
-          sum = some_past (λ g. refused_at_once s walking.early.takes.setting read.stmt g ≡ None) s h walking.early.takes.not_refused (λ g. rows ≡ rows_kept g + rows_of_reply reply) sum;
+          sum = some_past (λ g. refused_at_once s early.takes.setting stmt g ≡ None) s h early.takes.not_refused (λ g. rows ≡ rows_kept g + rows_of_reply reply) sum;
         };
       }
 
--- no memory was found while it walked
-pub walk_fails : (s : ℕ) (old new : State) (read : Read) → new ≡ old → IsWalking old.past s read → Moves s old new × IsFailing new.past s read.alone × (new.past ≡ old.past)
-walk_fails s old new read is walking = fails s old new read.stmt read.alone is walking.early (λ alone. walking.is_open)
+-- ---- the search
+
+pub search_begins : (s table : ℕ) (plan : Plan) (old new : State) (read : Read) → IsEarly old.past s read.stmt read.alone → IsOpen s old.past → HasView old.past s → IsPlanned (created old.past) read.stmt table plan
+    → Turns s (Searching table plan View) old new → Moves s old new × IsSearching new.past s (task_of s new) read × (started s new.past ≡ started s old.past)
+search_begins s table plan old new read early is-open view planned turns = (
+  moves_turns s (Searching table plan View) old new turns,
+  subst (λ h. IsSearching h s (task_of s new) read) (sym turns.past_is) (record { early = early; is_open = is-open; view = view; table = table; plan = plan; planned = planned; task_is = turns.task_is }),
+  ap (started s) turns.past_is,
+)
+
+-- it goes on, some steps fewer before it
+pub search_goes_on : (s : ℕ) (old new : State) (read later : Read) → later.stmt ≡ read.stmt → later.alone ≡ read.alone → IsSearching old.past s (task_of s old) read → Turns s (task_of s old) old new
+    → Moves s old new × IsSearching new.past s (task_of s new) later × (started s new.past ≡ started s old.past)
+search_goes_on s old new read later same-stmt same-alone is turns = (
+  moves_turns s (task_of s old) old new turns,
+  subst (λ h. IsSearching h s (task_of s new) later) (sym turns.past_is) (record {
+    early = subst (λ st. IsEarly old.past s st later.alone) (sym same-stmt) (subst (IsEarly old.past s read.stmt) (sym same-alone) is.early);
+    is_open = is.is_open;
+    view = is.view;
+    table = is.table;
+    plan = is.plan;
+    planned = subst (λ st. IsPlanned (created old.past) st is.table is.plan) (sym same-stmt) is.planned;
+    task_is = turns.task_is ∙ is.task_is;
+  }),
+  ap (started s) turns.past_is,
+)
+
+pub search_finds : (s : ℕ) (old new : State) (read : Read) (found : Found) → found.stmt ≡ read.stmt → found.alone ≡ read.alone → IsSound old.past → (is : IsSearching old.past s (task_of s old) read) → Turns s Idle old new
+    → AreFoundBy View is.table is.plan old.past s found.rows → Moves s old new × (HasFound new.past s found × (task_of s new ≡ Idle)) × (started s new.past ≡ started s old.past)
+search_finds s old new read found same-stmt same-alone sound is turns rows = (
+  moves_turns s Idle old new turns,
+  (
+    subst (λ h. HasFound h s found) (sym turns.past_is) (record {
+      early = subst (λ st. IsEarly old.past s st found.alone) (sym same-stmt) (subst (IsEarly old.past s read.stmt) (sym same-alone) is.early);
+      is_open = is.is_open;
+      view = is.view;
+      table = is.table;
+      plan = is.plan;
+      planned = subst (λ st. IsPlanned (created old.past) st is.table is.plan) (sym same-stmt) is.planned;
+      tabled = seen_tabled old.past s is.view.number sound;
+      rows = rows is.view.number is.view.view_is;
+    }),
+    turns.task_is,
+  ),
+  ap (started s) turns.past_is,
+)

@@ -1,5 +1,5 @@
 -- An entry of another session leaves what a SELECT knows as it was.
-use Rattle.std.proofs.Common.{◌≡◌, ℕ, Bool, true, false, Option, Some, List, ◌∷◌, refl, sym, ap, subst, ◌∙◌, inl, inr}
+use Rattle.std.proofs.Common.{◌≡◌, ℕ, Bool, true, false, List, ◌∷◌, refl, sym, ap, subst, ◌∙◌, inl, inr}
 use Rattle.std.specs.Prelude.{is_some}
 use Rattle.inno_types.specs.declared.reply.Reply.{Reply}
 use Rattle.inno_types.specs.declared.reply.Reply.TheVariants as replies
@@ -12,20 +12,24 @@ use Rattle.inno_model.proofs.Untouched.{IsUntouched, untouched}
 use Rattle.inno_model.proofs.Commits.{view_within}
 use Rattle.sql_history.specs.Items.{is_over, point, own_before, undoes}
 use Rattle.sql_history.specs.Waiting.{is_victim}
+use Rattle.sql_history.specs.Readings.{is_plain_select}
+use Rattle.sql_plan.specs.declared.choice.Plan.{Plan}
 use Rattle.sql_lists.specs.Steps.{HasRowsAlone, StaysRunning}
 use Rattle.sql_lists.proofs.Staying.{other_of, not_starting, at_work, is_within, before_within, starts_not, within_of_other, point_stays}
-use Rattle.table_lists.specs.State.{State}
+use Rattle.shared_lists.specs.Tasks.{Task}
+use Rattle.shared_lists.specs.State.{task_of}
 use Rattle.table_lists.specs.Order.{IsOfRow, created}
 use Rattle.std.specs.List.{AllByRecursion}
-use Rattle.inno_db.proofs.Outcomes.{table_read}
-use Rattle.gathering.specs.Walk.{Walk, at_key}
 use Rattle.read_statement.specs.declared.machine.Read.{Read}
+use Rattle.read_statement.specs.declared.machine.Found.{Found}
 use Rattle.read_statement.specs.declared.machine.Asked.{Asked}
 use Rattle.read_statement.specs.declared.machine.ReadStatement.{ReadStatement}
 use Rattle.read_statement.specs.declared.machine.ReadStatement.TheVariants as machine
-use Rattle.read_statement.specs.Running.{strays, IsOpening, IsIn, IsEarly, HasView, IsOfView, IsWalking, IsSeen, IsTooMany, IsSettledBy, IsClosing, HasClosed, IsRunning, is_rows}
+use Rattle.read_statement.specs.Planning.{IsPlanned}
+use Rattle.read_statement.specs.Running.{strays, IsOpening, IsIn, IsEarly, HasView, IsSearching, HasFound, IsSeen, IsTooMany, IsSettledBy, IsClosing, HasClosed, IsAt, IsRunning, is_rows}
 use Rattle.read_statement.proofs.Items.{takes_on}
-use Rattle.read_statement.proofs.Tables.{grown, table_stays, tabled_stays, seen_stays}
+use Rattle.read_statement.proofs.Tables.{grown, tabled_stays}
+use Rattle.read_statement.proofs.MoreTables.{planned_stays, rows_seen_stay}
 
 -- what stands behind a reply stays, and its point with it
 seen_on : (s : ℕ) (e : Event) (h before after : List Event) (stmt : Stmt) → did takes_view s (e ∷ h) ≡ did takes_view s h → after ≡ before → (reply : Reply) → IsSeen h before s stmt reply → IsSeen (e ∷ h) after s stmt reply
@@ -120,27 +124,39 @@ module _ (t s : ℕ) (e : Event) (h : List Event) (mine : is_of t e ≡ true) (o
   abbrev view_on : HasView h s → HasView (e ∷ h) s
   view_on view = record { l = view.l; level_is = same.level_is ∙ view.level_is; by_view = view.by_view; viewed = λ by-view apart. did_same takes_view ∙ view.viewed by-view apart; number = view.number; view_is = same.view_is ∙ view.view_is }
 
-  of_view_on : (walk : Walk) → IsOfView h s walk → IsOfView (e ∷ h) s walk
-  of_view_on walk o =
-      let n = o.view.number in
-      let within = view_within h s n o.view.view_is in
-      record {
-        view = view_on o.view;
-        tabled = tabled_stays t s n e h mine same.own_is within o.tabled;
-        rows = record { rising = o.rows.rising; reached = o.rows.reached; each = λ key before. o.rows.each key before ∙ sym (seen_stays t s n e h mine same.own_is within o.tabled (at_key walk.table key)) };
-      }
-
   open_on : is_some (level s h) ≡ true → is_some (level s (e ∷ h)) ≡ true
   open_on is-open = ap is_some same.level_is ∙ is-open
 
-  walking_on : (read : Read) → IsWalking h s read → IsWalking (e ∷ h) s read
-  walking_on read w =
+  planned_on : (stmt : Stmt) (table : ℕ) (plan : Plan) → is_plain_select stmt ≡ true → IsPlanned (created h) stmt table plan → IsPlanned (created (e ∷ h)) stmt table plan
+  planned_on stmt table plan plain p =
       let more = grown t e h mine in
+      subst (λ schemas. IsPlanned schemas stmt table plan) (sym more.1) (planned_stays (created h) more.0 stmt table plan plain p)
+
+  searching_on : (task : Task) (read : Read) → IsSearching h s task read → IsSearching (e ∷ h) s task read
+  searching_on task read is =
       record {
-        early = early_on read.stmt read.alone w.early;
-        is_open = open_on w.is_open;
-        table_is = subst (λ schemas. table_read schemas read.stmt ≡ Some read.gathering.table) (sym more.1) (table_stays (created h) more.0 read.gathering.table read.stmt w.early.plain w.table_is);
-        gathered = of_view_on read.gathering w.gathered;
+        early = early_on read.stmt read.alone is.early;
+        is_open = open_on is.is_open;
+        view = view_on is.view;
+        table = is.table;
+        plan = is.plan;
+        planned = planned_on read.stmt is.table is.plan is.early.plain is.planned;
+        task_is = is.task_is;
+      }
+
+  found_on : (found : Found) → HasFound h s found → HasFound (e ∷ h) s found
+  found_on found f =
+      let n = f.view.number in
+      let within = view_within h s n f.view.view_is in
+      record {
+        early = early_on found.stmt found.alone f.early;
+        is_open = open_on f.is_open;
+        view = view_on f.view;
+        table = f.table;
+        plan = f.plan;
+        planned = planned_on found.stmt f.table f.plan f.early.plain f.planned;
+        tabled = tabled_stays t s n e h mine same.own_is within f.tabled;
+        rows = rows_seen_stay t s n e h mine same.own_is within f.tabled f.table f.plan f.planned.schema found.rows f.planned.there f.rows;
       }
 
   over_on : is_over s h ≡ true → is_over s (e ∷ h) ≡ true
@@ -149,29 +165,21 @@ module _ (t s : ℕ) (e : Event) (h : List Event) (mine : is_of t e ≡ true) (o
   closing_other : (kept given : Reply) → IsClosing h s kept given → IsClosing (e ∷ h) s kept given
   closing_other = closing_on s e h (within_of_other e s other) over_on same.level_is same.own_is (did_same _) (did_same _) (did_same _) (did_same _) (did_same _) (did_same _)
 
-  pub runs_on : (names new-names : List (List ℕ)) (writer new-writer : Option ℕ) (statement : ReadStatement) → IsRunning (record { names = names; past = h; writer = writer }) s statement → IsRunning (record { names = new-names; past = e ∷ h; writer = new-writer }) s statement
-  runs_on names new-names writer new-writer (machine.Opening asked) r = opening_on asked r
-  runs_on names new-names writer new-writer (machine.Open stmt alone) r = (early_on stmt alone r.0, open_on r.1, did_same takes_view ∙ r.2)
-  runs_on names new-names writer new-writer (machine.Viewed stmt alone) r = (early_on stmt alone r.0, open_on r.1, view_on r.2)
-  runs_on names new-names writer new-writer (machine.Walking read) r = walking_on read r
-  runs_on names new-names writer new-writer (machine.Unacked kept given) r = (closing_other kept given r.0, r.1, acks_same ∙ r.2)
-  runs_on names new-names writer new-writer (machine.Ending kept given) r = (closing_other kept given r.0, acks_same ∙ r.1)
-  runs_on names new-names writer new-writer (machine.Failed alone) r = record { stmt = r.stmt; early = early_on r.stmt alone r.early; is_open = λ is. open_on (r.is_open is) }
-
-same_past : (s : ℕ) (statement : ReadStatement) (old new : State) → new.past ≡ old.past → IsRunning old s statement → IsRunning new s statement
-same_past s (machine.Opening asked) old new same r = rw same r
-same_past s (machine.Open stmt alone) old new same r = rw same r
-same_past s (machine.Viewed stmt alone) old new same r = rw same r
-same_past s (machine.Walking read) old new same r = rw same r
-same_past s (machine.Unacked kept given) old new same r = rw same r
-same_past s (machine.Ending kept given) old new same r = rw same r
-same_past s (machine.Failed alone) old new same r = rw same r
+  pub runs_on : (task : Task) (statement : ReadStatement) → IsAt h task s statement → IsAt (e ∷ h) task s statement
+  runs_on task (machine.Opening asked) r = (opening_on asked r.0, r.1)
+  runs_on task (machine.Open stmt alone) r = (early_on stmt alone r.0, open_on r.1, did_same takes_view ∙ r.2, r.3)
+  runs_on task (machine.Viewed stmt alone) r = (early_on stmt alone r.0, open_on r.1, view_on r.2, r.3)
+  runs_on task (machine.Searching read) r = searching_on task read r
+  runs_on task (machine.Found found) r = (found_on found r.0, r.1)
+  runs_on task (machine.Unacked kept given) r = (closing_other kept given r.0, r.1, acks_same ∙ r.2, r.3)
+  runs_on task (machine.Ending kept given) r = (closing_other kept given r.0, acks_same ∙ r.1, r.2)
+  runs_on task (machine.Failed alone) r = (record { stmt = r.0.stmt; early = early_on r.0.stmt alone r.0.early; is_open = λ is. open_on (r.0.is_open is) }, r.1)
 
 pub stays_running : StaysRunning IsRunning
-stays_running old new t s statement differ adding keeps running =
-    elim adding [
-      | inl same ↦ same_past s statement old new same running
+stays_running old new t s statement differ adding keeps same-task running =
+    subst (λ task. IsAt new.past task s statement) (sym same-task) (elim adding [
+      | inl same ↦ subst (λ h. IsAt h (task_of s old) s statement) (sym same) running
       | inr added ↦
-          same_past s statement (record { names = new.names; past = added.0 ∷ old.past; writer = new.writer }) new added.2
-          (runs_on t s added.0 old.past added.1 (other_of added.0 t s added.1 (λ is. differ (sym is))) old.names new.names old.writer new.writer statement running)
-    ]
+          subst (λ h. IsAt h (task_of s old) s statement) (sym added.2)
+          (runs_on t s added.0 old.past added.1 (other_of added.0 t s added.1 (λ is. differ (sym is))) (task_of s old) statement running)
+    ])

@@ -15,11 +15,9 @@ use Rattle.inno_model.specs.declared.event.Event.{Event}
 use Rattle.inno_model.specs.declared.event.Event.TheVariants as events
 use Rattle.inno_model.specs.Past.{is_of, own, commits, committed}
 use Rattle.inno_model.proofs.Commits.{committed_stays}
-use Rattle.row_versions.specs.declared.place.Place.{Place}
 use Rattle.sql_history.specs.Readings.{is_plain_select}
 use Rattle.table_lists.specs.Order.{created, IsTabled}
-use Rattle.table_lists.specs.Rows.{is_at, row_at, row_of, seen, row_seen}
-use Rattle.table_lists.proofs.Tables.{at_stays}
+use Rattle.table_lists.specs.Rows.{seen}
 use Rattle.read_statement.proofs.Selects.{of_plain}
 
 -- an entry of a session adds a table at most
@@ -75,12 +73,8 @@ tabled_more : (n m : ℕ) → n ≤ m → (cs : List Change) → AllByRecursion 
 tabled_more n m le [] all = tt
 tabled_more n m le (c ∷ cs) all = (tabled_one n m le c all.0, tabled_more n m le cs all.1)
 
-row_at_so : (schemas more : List Schema) (place : Place) (cs : List Change) → AllByRecursion (IsTabled (length schemas)) cs → row_at (is_at (schemas ++ more) place) cs ≡ row_at (is_at schemas place) cs
-row_at_so schemas more place [] all = refl
-row_at_so schemas more place (c ∷ cs) all = rw (at_stays schemas more place c all.0) (ap (λ later. cond (is_at schemas place c) (row_of c) later) (row_at_so schemas more place cs all.1))
-
 module _ (t s n : ℕ) (e : Event) (h : List Event) (mine : is_of t e ≡ true) (same-own : own s (e ∷ h) ≡ own s h) (within : n ≤ commits h) where
-  same_seen : seen (e ∷ h) s n ≡ seen h s n
+  pub same_seen : seen (e ∷ h) s n ≡ seen h s n
   same_seen = ap (λ cs. cs ++ committed n (e ∷ h)) same-own ∙ ap (λ cs. own s h ++ cs) (committed_stays e h n within)
 
   pub tabled_stays : AllByRecursion (IsTabled (length (created h))) (seen h s n) → AllByRecursion (IsTabled (length (created (e ∷ h)))) (seen (e ∷ h) s n)
@@ -88,9 +82,3 @@ module _ (t s n : ℕ) (e : Event) (h : List Event) (mine : is_of t e ≡ true) 
       let more = grown t e h mine in
       subst (λ cs. AllByRecursion (IsTabled (length (created (e ∷ h)))) cs) (sym same_seen)
       (tabled_more (length (created h)) (length (created (e ∷ h))) (subst (λ (l : List Schema). length (created h) ≤ length l) (sym more.1) (omega (arith, length-append (created h) more.0))) (seen h s n) all)
-
-  pub seen_stays : AllByRecursion (IsTabled (length (created h))) (seen h s n) → (place : Place) → row_seen (e ∷ h) s n place ≡ row_seen h s n place
-  seen_stays all place =
-      let more = grown t e h mine in
-      ap (λ cs. row_at (is_at (created (e ∷ h)) place) cs) same_seen
-      ∙ (ap (λ (l : List Schema). row_at (is_at l place) (seen h s n)) more.1 ∙ row_at_so (created h) more.0 place (seen h s n) all)

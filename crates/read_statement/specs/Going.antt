@@ -1,25 +1,26 @@
 -- What a SELECT has before it at most.
 use Rattle.std.specs.Prelude.{ℕ, List, Bool, true, false}
-use Rattle.inno_model.specs.declared.event.Event.{Event}
+use Rattle.shared_lists.specs.State.{State}
 use Rattle.sql_lists.specs.Going.{left, IsBelow}
 use Rattle.sql_lists.specs.declared.advance.Advance.{Advance}
 use Rattle.sql_lists.specs.declared.advance.Advance.TheVariants as advance
 use Rattle.read_statement.specs.declared.machine.ReadStatement.{ReadStatement}
 use Rattle.read_statement.specs.declared.machine.ReadStatement.TheVariants as machine
 
--- its phases, and the places that it may yet visit
-abbrev pub to_go : ℕ → List Event → ReadStatement → List ℕ
-to_go s past (machine.Opening asked) = left 8 0 0
-to_go s past (machine.Open stmt alone) = left 7 0 0
-to_go s past (machine.Viewed stmt alone) = left 6 0 0
-to_go s past (machine.Walking read) = left 5 read.left 0
-to_go s past (machine.Unacked kept given) = left 3 0 0
-to_go s past (machine.Failed alone) = left 2 0 0
-to_go s past (machine.Ending kept given) = left 1 0 0
+-- its phases, and the steps that its search may yet make
+abbrev pub to_go : ℕ → State → ReadStatement → List ℕ
+to_go s state (machine.Opening asked) = left 9 0 0 0
+to_go s state (machine.Open stmt alone) = left 8 0 0 0
+to_go s state (machine.Viewed stmt alone) = left 7 0 0 0
+to_go s state (machine.Searching read) = left 6 read.left 0 0
+to_go s state (machine.Found found) = left 5 0 0 0
+to_go s state (machine.Unacked kept given) = left 3 0 0 0
+to_go s state (machine.Failed alone) = left 2 0 0 0
+to_go s state (machine.Ending kept given) = left 1 0 0 0
 
 -- a step that went has fewer phases before it
-abbrev pub NearsTo : ℕ → ℕ → List Event → ReadStatement → Advance → Type 0
-NearsTo phases s new after advance.Went = IsBelow (to_go s new after) (left phases 0 0)
+abbrev pub NearsTo : ℕ → ℕ → State → ReadStatement → Advance → Type 0
+NearsTo phases s new after advance.Went = IsBelow (to_go s new after) (left phases 0 0 0)
 NearsTo phases s new after other = Unit {0}
 
 abbrev pub is_done : Advance → Bool

@@ -1,17 +1,17 @@
 -- What holds of a SELECT between its steps.
-use Rattle.std.specs.Prelude.{◌≡◌, ◌≢◌, ◌⊎◌, ℕ, ◌+◌, ◌<◌, Bool, true, false, Some, None, List, [], length}
+use Rattle.std.specs.Prelude.{◌≡◌, ◌≢◌, ◌⊎◌, ℕ, ◌+◌, ◌<◌, Bool, true, false, Some, List, [], length}
 use Rattle.std.specs.List.{AllByRecursion}
 use Rattle.inno_types.specs.declared.lock.Level.{Level}
 use Rattle.inno_types.specs.declared.lock.Level.TheVariants.{RepeatableRead, Serializable}
 use Rattle.inno_types.specs.declared.stmt.Stmt.{Stmt}
+use Rattle.inno_types.specs.declared.value.Value.{Value}
 use Rattle.inno_types.specs.declared.reply.Reply.{Reply}
 use Rattle.inno_types.specs.declared.reply.Reply.TheVariants as replies
 use Rattle.inno_db.specs.Database.{Database}
 use Rattle.inno_db.specs.Outcome.{outcome}
-use Rattle.inno_db.proofs.Outcomes.{table_read}
 use Rattle.inno_model.specs.declared.event.Event.{Event}
 use Rattle.inno_model.specs.declared.event.Event.TheVariants as events
-use Rattle.inno_model.specs.Past.{before_item, of_item, did, begins_txn, takes_view, commits_txn, rolls_back_txn, level, own, view_of, commits}
+use Rattle.inno_model.specs.Past.{before_item, of_item, did, begins_txn, takes_view, commits_txn, rolls_back_txn, level, own, view_of}
 use Rattle.inno_model.specs.Loose.{Sometime}
 use Rattle.inno_model.specs.Legal.{awaits_ack}
 use Rattle.sql_grammar.specs.Grammar.{Spells}
@@ -24,15 +24,20 @@ use Rattle.sql_history.specs.Counts.{rows_of_reply, rows_kept, most_rows}
 use Rattle.sql_history.specs.Endings.{IsOpen, IsClosed}
 use Rattle.sql_history.specs.Waiting.{is_victim}
 use Rattle.sql_history.specs.Legal.{Takes, TakesView}
-use Rattle.table_lists.specs.State.{State}
 use Rattle.table_lists.specs.Order.{created, IsTabled}
-use Rattle.table_lists.specs.Rows.{seen, row_seen}
-use Rattle.gathering.specs.Walk.{Walk, at_key, AreRowsSoFar}
+use Rattle.table_lists.specs.Rows.{seen}
+use Rattle.sql_plan.specs.declared.choice.Plan.{Plan}
+use Rattle.shared_lists.specs.declared.answers.Reading.TheVariants.{View}
+use Rattle.shared_lists.specs.Tasks.{Task, Idle, Searching}
+use Rattle.shared_lists.specs.State.{State, task_of}
+use Rattle.shared_lists.specs.Steps.{AreRowsSeen, AreNewestRows}
 use Rattle.sql_lists.specs.Steps.{IsTaken, HasRowsAlone}
 use Rattle.read_statement.specs.declared.machine.Asked.{Asked}
 use Rattle.read_statement.specs.declared.machine.Read.{Read}
+use Rattle.read_statement.specs.declared.machine.Found.{Found}
 use Rattle.read_statement.specs.declared.machine.ReadStatement.{ReadStatement}
 use Rattle.read_statement.specs.declared.machine.ReadStatement.TheVariants as machine
+use Rattle.read_statement.specs.Planning.{IsPlanned}
 
 -- A statement that was taken with these settings.
 pub record IsTakenWith (autocommit : Bool) (l : Level) (s : ℕ) (stmt : Stmt) (past : List Event) : Type 0 where
@@ -87,26 +92,33 @@ pub record HasView (h : List Event) (s : ℕ) : Type 0 where
   pub number : ℕ
   pub view_is : view_of s h ≡ Some number
 
--- the rows so far are those that the view shows, of changes that were made in tables that are there
-pub record IsOfView (h : List Event) (s : ℕ) (walk : Walk) : Type 0 where
-  pub view : HasView h s
-  pub tabled : AllByRecursion (IsTabled (length (created h))) (seen h s view.number)
-  pub rows : AreRowsSoFar walk (λ key row. row ≡ row_seen h s view.number (at_key walk.table key))
-
--- before the first place of a table
-abbrev pub at_start : ℕ → Walk
-at_start table = record { table = table; last = None; rows = [] }
-
--- each place that was visited has the row that the session sees there as the latest
-pub record AreLatest (h : List Event) (s table : ℕ) (walk : Walk) : Type 0 where
-  pub table_is : walk.table ≡ table
-  pub rows : AreRowsSoFar walk (λ key row. row ≡ row_seen h s (commits h) (at_key walk.table key))
-
-pub record IsWalking (h : List Event) (s : ℕ) (read : Read) : Type 0 where
+-- It searches its table by its view, by the plan that was chosen.
+pub record IsSearching (h : List Event) (s : ℕ) (task : Task) (read : Read) : Type 0 where
   pub early : IsEarly h s read.stmt read.alone
   pub is_open : IsOpen s h
-  pub table_is : table_read (created h) read.stmt ≡ Some read.gathering.table
-  pub gathered : IsOfView h s read.gathering
+  pub view : HasView h s
+  pub table : ℕ
+  pub plan : Plan
+  pub planned : IsPlanned (created h) read.stmt table plan
+  pub task_is : task ≡ Searching table plan View
+
+-- It has the rows in its plan's range of what its view shows, where all changes are of tables that are there.
+pub record HasFound (h : List Event) (s : ℕ) (found : Found) : Type 0 where
+  pub early : IsEarly h s found.stmt found.alone
+  pub is_open : IsOpen s h
+  pub view : HasView h s
+  pub table : ℕ
+  pub plan : Plan
+  pub planned : IsPlanned (created h) found.stmt table plan
+  pub tabled : AllByRecursion (IsTabled (length (created h))) (seen h s view.number)
+  pub rows : AreRowsSeen table plan h s view.number found.rows
+
+-- These are the newest rows of the statement's table that its plan asks for, or all of them.
+pub record AreRead (h : List Event) (stmt : Stmt) (rows : List (List Value)) : Type 0 where
+  pub table : ℕ
+  pub plan : Plan
+  pub planned : IsPlanned (created h) stmt table plan
+  pub newest : (writer : ℕ) → ((other : ℕ) → other ≢ writer → own other h ≡ []) → AreNewestRows table plan h writer rows
 
 pub record IsFailing (h : List Event) (s : ℕ) (alone : Bool) : Type 0 where
   pub stmt : Stmt
@@ -190,12 +202,16 @@ pub record IsClosing (h : List Event) (s : ℕ) (kept given : Reply) : Type 0 wh
 abbrev pub MayTakeView : ℕ → List Event → Type 0
 MayTakeView s h = (l : Level) × (level s h ≡ Some l) × ((alone : Bool) → plain_sight l alone ≡ Sight.of_view) × (l ≢ Serializable) × TakesView l s h
 
--- what a SELECT knows of the past
+-- what a SELECT knows of the past, and of what its session has under way
+abbrev pub IsAt : List Event → Task → ℕ → ReadStatement → Type 0
+IsAt h task s (machine.Opening asked) = IsOpening h s asked × (task ≡ Idle)
+IsAt h task s (machine.Open stmt alone) = IsEarly h s stmt alone × IsOpen s h × (did takes_view s h ≡ false) × (task ≡ Idle)
+IsAt h task s (machine.Viewed stmt alone) = IsEarly h s stmt alone × IsOpen s h × HasView h s × (task ≡ Idle)
+IsAt h task s (machine.Searching read) = IsSearching h s task read
+IsAt h task s (machine.Found found) = HasFound h s found × (task ≡ Idle)
+IsAt h task s (machine.Unacked kept given) = IsClosing h s kept given × (is_rows kept ≡ true) × (awaits_ack (of_item s h) ≡ true) × (task ≡ Idle)
+IsAt h task s (machine.Ending kept given) = IsClosing h s kept given × (awaits_ack (of_item s h) ≡ false) × (task ≡ Idle)
+IsAt h task s (machine.Failed alone) = IsFailing h s alone × (task ≡ Idle)
+
 abbrev pub IsRunning : State → ℕ → ReadStatement → Type 0
-IsRunning state s (machine.Opening asked) = IsOpening state.past s asked
-IsRunning state s (machine.Open stmt alone) = IsEarly state.past s stmt alone × IsOpen s state.past × (did takes_view s state.past ≡ false)
-IsRunning state s (machine.Viewed stmt alone) = IsEarly state.past s stmt alone × IsOpen s state.past × HasView state.past s
-IsRunning state s (machine.Walking read) = IsWalking state.past s read
-IsRunning state s (machine.Unacked kept given) = IsClosing state.past s kept given × (is_rows kept ≡ true) × (awaits_ack (of_item s state.past) ≡ true)
-IsRunning state s (machine.Ending kept given) = IsClosing state.past s kept given × (awaits_ack (of_item s state.past) ≡ false)
-IsRunning state s (machine.Failed alone) = IsFailing state.past s alone
+IsRunning state s statement = IsAt state.past (task_of s state) s statement

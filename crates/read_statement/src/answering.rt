@@ -1,136 +1,115 @@
-//! How a SELECT answers when no place is left, in one step: by the tables that stand, and the rows that were gathered.
+//! How a SELECT answers by the rows that it has found, in one step: where no other session makes a table.
 
-ghost use Rattle.std.specs.Prelude.{◌≡◌, ◌≢◌, ◌<◌, ◌+◌, length, IfOk, IfSome, IfNone, Some, true, false};
+ghost use Rattle.std.specs.Prelude.{◌≡◌, ◌≢◌, ◌<◌, ◌+◌, length, IfOk, IfSome, IfNone, Some, true};
 ghost use Rattle.sql_history.specs.Endings.{IsOpen};
 ghost use Rattle.sql_history.specs.Counts.{rows_kept, rows_of_reply, most_rows};
 ghost use Rattle.sql_history.specs.Legal.{IsWithin};
-ghost use Rattle.tables_as_db.specs.Tables.{rows_in};
-ghost use Rattle.gathering.specs.Walk.{IsOver};
 ghost use Rattle.sql_lists.specs.Going.{Nears};
 ghost use Rattle.sql_lists.specs.Kept.{IsOnlyMaker};
 ghost use Rattle.sql_lists.specs.Steps.{Steps};
 ghost use Rattle.read_statement.specs.Going.{to_go};
-ghost use Rattle.read_statement.specs.Running.{IsRunning, IsWalking, IsSeen, IsAnswered, answers_rows, is_rows};
+ghost use Rattle.read_statement.specs.Running.{IsRunning, IsEarly, HasFound, IsSeen, IsAnswered, answers_rows, is_rows};
 
 use crate::closing::close;
-use crate::machine::{Read, ReadStatement};
+use crate::machine::{Found, ReadStatement};
 use inno_db::Outcome;
-use inno_types::{Reply, Row, Rows, Value};
+use inno_types::{Reply, Stmt};
 use plain_sql::plain_on_rows;
+use shared_lists::SharedLists;
 use sql_lists::{Advance, SqlLists};
 use std::alloc::Global;
 use store_api::NoMemory;
 
-/// No place is left. Where another session makes a table this one waits: which tables stand is not settled.
-pub fn answer(
+/// Answers. Where another session makes a table this one waits: which tables stand is not settled.
+pub fn step_found<L: SharedLists>(
     alloc: Global,
-    read: Read,
+    found: Found,
     session: u32,
-    lists: &mut SqlLists,
+    lists: &mut SqlLists<L>,
 ) -> (ReadStatement, Advance)
     requires joined { session < length lists.old.names }
-    requires running { IsRunning lists.old session (ReadStatement.Walking read) }
-    requires over { IsOver lists.old.past read.gathering.table read.gathering.last }
+    requires running { IsRunning lists.old session (ReadStatement.Found found) }
     ensures steps { Steps IsRunning session lists.old lists.new result.0 result.1 }
-    ensures nears { Nears to_go session lists.old.past (ReadStatement.Walking read) lists.new.past result.0 result.1 }
+    ensures nears { Nears to_go session lists.old (ReadStatement.Found found) lists.new result.0 result.1 }
 {
     if let Some(by) = lists.other_maker(session) {
-        return wait_for(by, read, session, lists);
+        return wait_for(by, found, session, lists);
     }
-    let alone = read.alone;
-    match settle(alloc, &read, session, lists) {
+    let alone = found.alone;
+    match settle_found(alloc, &found, session, lists) {
         Ok(settled) => close(alone, settled, session, lists),
         Err(_) => (ReadStatement::Failed { alone }, Advance::NoMemory),
     }
 }
 
 /// Waits for the transaction that makes a table.
-fn wait_for(by: u32, read: Read, session: u32, lists: &mut SqlLists) -> (ReadStatement, Advance)
+fn wait_for<L: SharedLists>(
+    by: u32,
+    found: Found,
+    session: u32,
+    lists: &mut SqlLists<L>,
+) -> (ReadStatement, Advance)
     requires joined { (session < length lists.old.names) × (by < length lists.old.names) }
-    requires running { IsRunning lists.old session (ReadStatement.Walking read) }
+    requires running { IsRunning lists.old session (ReadStatement.Found found) }
     requires held { (by ≢ session) × (lists.old.writer ≡ Some by) × IsOpen by lists.old.past }
     ensures steps { Steps IsRunning session lists.old lists.new result.0 result.1 }
-    ensures nears { Nears to_go session lists.old.past (ReadStatement.Walking read) lists.new.past result.0 result.1 }
+    ensures nears { Nears to_go session lists.old (ReadStatement.Found found) lists.new result.0 result.1 }
 {
-    let alone = read.alone;
+    let alone = found.alone;
     match lists.edge_to(session, by) {
         Ok(blockers) => (
-            ReadStatement::Walking(read),
+            ReadStatement::Found(found),
             Advance::Waiting { by, blockers },
         ),
         Err(_) => (ReadStatement::Failed { alone }, Advance::NoMemory),
     }
 }
 
-/// A reply, one copy for the history and one to be given.
-#[derive(Drop)]
-pub struct Settled {
-    pub kept: Reply,
-    pub given: Reply,
-}
-
-/// The reply by the rows that were gathered, or that they are too many.
-fn settle(alloc: Global, read: &Read, session: u32, lists: &SqlLists) -> Result<Settled, NoMemory>
-    requires joined { session < length lists.now.names }
-    requires running { IsRunning lists.now session (ReadStatement.Walking read.now) }
-    requires over { IsOver lists.now.past read.now.gathering.table read.now.gathering.last }
+/// The reply by the rows that were found, or that they are too many.
+fn settle_found<L: SharedLists>(
+    alloc: Global,
+    found: &Found,
+    session: u32,
+    lists: &SqlLists<L>,
+) -> Result<Settled, NoMemory>
+    requires found { HasFound lists.now.past session found.now }
     requires tables { IsOnlyMaker session lists.now.past }
-    ensures answered { IfOk result (λ settled. IsAnswered lists.now.past session read.now.alone settled.kept settled.given) }
+    ensures answered { IfOk result (λ settled. IsAnswered lists.now.past session found.now.alone settled.kept settled.given) }
     ensures within { IfOk result (λ settled. IsWithin settled.kept lists.now.past) }
 {
-    let given = reply_of(alloc, read, session, lists)?;
-    match overfull_by(&given, lists) {
-        Some(rows) => Ok(Settled {
-            kept: Reply::RunLimit { rows },
-            given: Reply::RunLimit { rows },
-        }),
-        None => Ok(Settled {
-            kept: given.copied()?,
-            given,
-        }),
-    }
+    let given = reply_by(alloc, found, session, lists)?;
+    settle(given, &found.stmt, found.alone, session, lists)
 }
 
-/// How many rows the history would hold with a reply, where these are too many.
-pub fn overfull_by(reply: &Reply, lists: &SqlLists) -> Option<u64>
-    ensures fits { IfNone result (IsWithin reply.now lists.now.past) }
-    ensures many { IfSome result (λ rows. (most_rows < rows) × (rows ≡ rows_kept lists.now.past + rows_of_reply reply.now)) }
-    ensures rows { IfSome result (λ rows. is_rows reply.now ≡ true) }
-{
-    match reply {
-        Reply::Rows(rows) => lists.overfull(rows.as_slice().len() as u64),
-        _ => None,
-    }
-}
-
-/// What the statement answers: rows, or a refusal.
-fn reply_of(alloc: Global, read: &Read, session: u32, lists: &SqlLists) -> Result<Reply, NoMemory>
-    requires joined { session < length lists.now.names }
-    requires running { IsRunning lists.now session (ReadStatement.Walking read.now) }
-    requires over { IsOver lists.now.past read.now.gathering.table read.now.gathering.last }
+/// What the statement answers by the rows that were found: rows, or a refusal.
+fn reply_by<L: SharedLists>(
+    alloc: Global,
+    found: &Found,
+    session: u32,
+    lists: &SqlLists<L>,
+) -> Result<Reply, NoMemory>
+    requires found { HasFound lists.now.past session found.now }
     requires tables { IsOnlyMaker session lists.now.past }
-    ensures found { IfOk result (λ reply. IsSeen lists.now.past lists.now.past session read.now.stmt reply) }
+    ensures seen { IfOk result (λ reply. IsSeen lists.now.past lists.now.past session found.now.stmt reply) }
     ensures kind { IfOk result (λ reply. answers_rows reply ≡ true) }
 {
-    let Outcome { reply, .. } = outcome_of(alloc, read, session, lists)?;
+    let Outcome { reply, .. } = outcome_by(alloc, found, session, lists)?;
     only_answer(reply)
 }
 
-/// The statement's outcome by the rows that were gathered.
-fn outcome_of(
+/// The statement's outcome by the rows that were found.
+fn outcome_by<L: SharedLists>(
     alloc: Global,
-    read: &Read,
+    found: &Found,
     session: u32,
-    lists: &SqlLists,
+    lists: &SqlLists<L>,
 ) -> Result<Outcome, NoMemory>
-    requires running { IsRunning lists.now session (ReadStatement.Walking read.now) }
-    requires over { IsOver lists.now.past read.now.gathering.table read.now.gathering.last }
+    requires found { HasFound lists.now.past session found.now }
     requires tables { IsOnlyMaker session lists.now.past }
-    ensures { IfOk result (λ outcome. IsSeen lists.now.past lists.now.past session read.now.stmt outcome.reply) }
+    ensures { IfOk result (λ outcome. IsSeen lists.now.past lists.now.past session found.now.stmt outcome.reply) }
 {
     let _ = session;
-    let rows = rows_of(alloc, read.gathering.rows())?;
-    plain_on_rows(alloc, lists.lists().schemas(), &rows, &read.stmt)
+    plain_on_rows(alloc, lists.lists().schemas(), &found.rows, &found.stmt)
 }
 
 /// A SELECT answers rows or a refusal, and nothing else.
@@ -145,13 +124,51 @@ pub fn only_answer(reply: Reply) -> Result<Reply, NoMemory>
     }
 }
 
-/// The rows without their keys.
-pub fn rows_of(alloc: Global, found: &[(Value, Row)]) -> Result<Rows, NoMemory>
-    ensures { IfOk result (λ rows. rows ≡ rows_in found.now) }
+/// A reply, one copy for the history and one to be given.
+#[derive(Drop)]
+pub struct Settled {
+    pub kept: Reply,
+    pub given: Reply,
+}
+
+/// A reply to be kept, or that its rows are too many.
+pub fn settle<L: SharedLists>(
+    given: Reply,
+    stmt: &Stmt,
+    alone: bool,
+    session: u32,
+    lists: &SqlLists<L>,
+) -> Result<Settled, NoMemory>
+    requires early { IsEarly lists.now.past session stmt.now alone }
+    requires is_open { IsOpen session lists.now.past }
+    requires seen { IsSeen lists.now.past lists.now.past session stmt.now given }
+    requires kind { answers_rows given ≡ true }
+    ensures answered { IfOk result (λ settled. IsAnswered lists.now.past session alone settled.kept settled.given) }
+    ensures within { IfOk result (λ settled. IsWithin settled.kept lists.now.past) }
 {
-    let mut rows = Rows::new(alloc);
-    for (_, row) in found {
-        rows.push(row.copied()?)?;
+    let _ = stmt;
+    let _ = alone;
+    let _ = session;
+    match overfull_by(&given, lists) {
+        Some(rows) => Ok(Settled {
+            kept: Reply::RunLimit { rows },
+            given: Reply::RunLimit { rows },
+        }),
+        None => Ok(Settled {
+            kept: given.copied()?,
+            given,
+        }),
     }
-    Ok(rows)
+}
+
+/// How many rows the history would hold with a reply, where these are too many.
+pub fn overfull_by<L: SharedLists>(reply: &Reply, lists: &SqlLists<L>) -> Option<u64>
+    ensures fits { IfNone result (IsWithin reply.now lists.now.past) }
+    ensures many { IfSome result (λ rows. (most_rows < rows) × (rows ≡ rows_kept lists.now.past + rows_of_reply reply.now)) }
+    ensures rows { IfSome result (λ rows. is_rows reply.now ≡ true) }
+{
+    match reply {
+        Reply::Rows(rows) => lists.overfull(rows.as_slice().len() as u64),
+        _ => None,
+    }
 }

@@ -3,6 +3,8 @@
 ghost use Rattle.std.specs.Prelude.{◌≡◌, ◌≢◌, ◌<◌, length, true, false};
 ghost use Rattle.inno_types.specs.declared.reply.Reply.TheVariants.{Done};
 ghost use Rattle.sql_history.specs.Legal.{IsWithin};
+ghost use Rattle.shared_lists.specs.Tasks.{Idle};
+ghost use Rattle.shared_lists.specs.State.{task_of};
 ghost use Rattle.sql_lists.specs.Going.{Nears};
 ghost use Rattle.sql_lists.specs.Kept.{MayReply};
 ghost use Rattle.sql_lists.specs.Steps.{Steps, HasRowsAlone};
@@ -12,20 +14,22 @@ ghost use Rattle.read_statement.specs.Running.{IsRunning, IsAnswered, is_rows};
 use crate::answering::{Settled, overfull_by};
 use crate::machine::ReadStatement;
 use inno_types::Reply;
+use shared_lists::SharedLists;
 use sql_lists::{Advance, SqlLists};
 
 /// A settled reply ends the item, or first the statement's own transaction: rows by its commit.
-pub fn close(
+pub fn close<L: SharedLists>(
     alone: bool,
     settled: Settled,
     session: u32,
-    lists: &mut SqlLists,
+    lists: &mut SqlLists<L>,
 ) -> (ReadStatement, Advance)
     requires joined { session < length lists.old.names }
     requires answered { IsAnswered lists.old.past session alone settled.kept settled.given }
     requires within { IsWithin settled.kept lists.old.past }
+    requires idle { task_of session lists.old ≡ Idle }
     ensures steps { Steps IsRunning session lists.old lists.new result.0 result.1 }
-    ensures nears { NearsTo 4 session lists.new.past result.0 result.1 }
+    ensures nears { NearsTo 4 session lists.new result.0 result.1 }
 {
     let Settled { kept, given } = settled;
     if !alone {
@@ -45,12 +49,18 @@ fn is_rows(reply: &Reply) -> bool
 }
 
 /// Ends the item.
-fn end(kept: Reply, given: Reply, session: u32, lists: &mut SqlLists) -> (ReadStatement, Advance)
+fn end<L: SharedLists>(
+    kept: Reply,
+    given: Reply,
+    session: u32,
+    lists: &mut SqlLists<L>,
+) -> (ReadStatement, Advance)
     requires joined { session < length lists.old.names }
     requires may { MayReply session kept lists.old.past }
     requires not_done { kept ≢ Done }
     requires same { given ≡ kept }
     requires rows_alone { HasRowsAlone session lists.old.past }
+    requires idle { task_of session lists.old ≡ Idle }
     ensures steps { Steps IsRunning session lists.old lists.new result.0 result.1 }
     ensures over { is_done result.1 ≡ true }
 {
@@ -59,49 +69,50 @@ fn end(kept: Reply, given: Reply, session: u32, lists: &mut SqlLists) -> (ReadSt
 }
 
 /// Rolls back the statement's own transaction, which has changed nothing.
-fn give_up(
+fn give_up<L: SharedLists>(
     kept: Reply,
     given: Reply,
     session: u32,
-    lists: &mut SqlLists,
+    lists: &mut SqlLists<L>,
 ) -> (ReadStatement, Advance)
     requires joined { session < length lists.old.names }
     requires answered { IsAnswered lists.old.past session true kept given }
     requires no_rows { is_rows kept ≡ false }
+    requires idle { task_of session lists.old ≡ Idle }
     ensures steps { Steps IsRunning session lists.old lists.new result.0 result.1 }
-    ensures nears { NearsTo 2 session lists.new.past result.0 result.1 }
+    ensures nears { NearsTo 2 session lists.new result.0 result.1 }
 {
     lists.roll_back(session);
     (ReadStatement::Ending { kept, given }, Advance::Went)
 }
 
 /// Acknowledges the commit.
-pub fn step_unacked(
+pub fn step_unacked<L: SharedLists>(
     kept: Reply,
     given: Reply,
     session: u32,
-    lists: &mut SqlLists,
+    lists: &mut SqlLists<L>,
 ) -> (ReadStatement, Advance)
     requires joined { session < length lists.old.names }
     requires running { IsRunning lists.old session (ReadStatement.Unacked kept given) }
     ensures steps { Steps IsRunning session lists.old lists.new result.0 result.1 }
-    ensures nears { Nears to_go session lists.old.past (ReadStatement.Unacked kept given) lists.new.past result.0 result.1 }
+    ensures nears { Nears to_go session lists.old (ReadStatement.Unacked kept given) lists.new result.0 result.1 }
 {
     lists.ack(session);
     (ReadStatement::Ending { kept, given }, Advance::Went)
 }
 
 /// Ends the item, with its reply or, where others have filled the history meanwhile, without.
-pub fn step_ending(
+pub fn step_ending<L: SharedLists>(
     kept: Reply,
     given: Reply,
     session: u32,
-    lists: &mut SqlLists,
+    lists: &mut SqlLists<L>,
 ) -> (ReadStatement, Advance)
     requires joined { session < length lists.old.names }
     requires running { IsRunning lists.old session (ReadStatement.Ending kept given) }
     ensures steps { Steps IsRunning session lists.old lists.new result.0 result.1 }
-    ensures nears { Nears to_go session lists.old.past (ReadStatement.Ending kept given) lists.new.past result.0 result.1 }
+    ensures nears { Nears to_go session lists.old (ReadStatement.Ending kept given) lists.new result.0 result.1 }
 {
     match overfull_by(&kept, lists) {
         Some(rows) => end(
@@ -115,11 +126,15 @@ pub fn step_ending(
 }
 
 /// Gives up: a transaction of its own is rolled back.
-pub fn step_failed(alone: bool, session: u32, lists: &mut SqlLists) -> (ReadStatement, Advance)
+pub fn step_failed<L: SharedLists>(
+    alone: bool,
+    session: u32,
+    lists: &mut SqlLists<L>,
+) -> (ReadStatement, Advance)
     requires joined { session < length lists.old.names }
     requires running { IsRunning lists.old session (ReadStatement.Failed alone) }
     ensures steps { Steps IsRunning session lists.old lists.new result.0 result.1 }
-    ensures nears { Nears to_go session lists.old.past (ReadStatement.Failed alone) lists.new.past result.0 result.1 }
+    ensures nears { Nears to_go session lists.old (ReadStatement.Failed alone) lists.new result.0 result.1 }
 {
     if alone {
         return give_up(Reply::NoMemory, Reply::NoMemory, session, lists);

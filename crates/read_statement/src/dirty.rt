@@ -1,162 +1,150 @@
 //! How a SELECT at READ UNCOMMITTED reads: the newest rows of its table, committed or not, all in one step.
 
-ghost use Rattle.std.specs.Prelude.{◌≡◌, ◌≢◌, ◌<◌, ◌≤◌, ℕ, [], IfOk, Some, length, true};
+ghost use Rattle.std.specs.Prelude.{◌≡◌, ◌≢◌, ◌<◌, ℕ, [], IfOk, Some, length, true};
 ghost use Rattle.inno_types.specs.declared.lock.Level.TheVariants.{ReadUncommitted};
-ghost use Rattle.inno_db.specs.Database.{rows_of};
 ghost use Rattle.inno_model.specs.Past.{level, own};
 ghost use Rattle.sql_history.specs.Endings.{IsOpen};
 ghost use Rattle.sql_history.specs.Legal.{IsWithin};
-ghost use Rattle.sql_history.specs.LooseReading.{newest};
 ghost use Rattle.sql_history.specs.Readings.{is_plain_select};
-ghost use Rattle.table_lists.specs.Order.{created};
-ghost use Rattle.gathering.specs.Walk.{IsOver};
+ghost use Rattle.shared_lists.specs.Tasks.{Idle};
+ghost use Rattle.shared_lists.specs.State.{Stays, task_of};
 ghost use Rattle.sql_lists.specs.Going.{Nears};
 ghost use Rattle.sql_lists.specs.Steps.{Steps};
-ghost use Rattle.read_statement.specs.Going.{to_go};
-ghost use Rattle.read_statement.specs.Running.{IsRunning, IsEarly, IsSeen, IsAnswered, AreLatest, answers_rows};
+ghost use Rattle.read_statement.specs.Going.{to_go, NearsTo};
+ghost use Rattle.read_statement.specs.Running.{IsRunning, IsEarly, IsSeen, IsAnswered, AreRead, answers_rows};
 
-use crate::answering::{Settled, only_answer, overfull_by, rows_of};
+use crate::answering::{Settled, only_answer, settle};
 use crate::closing::close;
 use crate::machine::ReadStatement;
-use crate::opening::table_of;
-use gathering::{Gathering, Sight};
+use crate::planning::{Planned, plan_search};
 use inno_db::Outcome;
 use inno_types::{Reply, Rows, Stmt};
 use plain_sql::plain_on_rows;
+use shared_lists::SharedLists;
 use sql_lists::{Advance, SqlLists};
 use std::alloc::Global;
 use store_api::NoMemory;
 
 /// Answers by the newest rows as they are now. They are read in one step, so they are those of one moment.
 /// MySQL 8.0 Reference Manual, "Transaction Isolation Levels".
-pub fn read_newest(
+pub fn step_dirty<L: SharedLists>(
     alloc: Global,
     stmt: Stmt,
     alone: bool,
     session: u32,
-    lists: &mut SqlLists,
+    lists: &mut SqlLists<L>,
 ) -> (ReadStatement, Advance)
     requires joined { session < length lists.old.names }
     requires running { IsRunning lists.old session (ReadStatement.Open stmt alone) }
     requires dirty { level session lists.old.past ≡ Some ReadUncommitted }
     ensures steps { Steps IsRunning session lists.old lists.new result.0 result.1 }
-    ensures nears { Nears to_go session lists.old.past (ReadStatement.Open stmt alone) lists.new.past result.0 result.1 }
+    ensures nears { Nears to_go session lists.old (ReadStatement.Open stmt alone) lists.new result.0 result.1 }
 {
-    match settle_newest(alloc, &stmt, alone, session, lists) {
+    match read_newest(alloc, &stmt, session, lists) {
+        Ok(rows) => answer_newest(alloc, stmt, alone, &rows, session, lists),
+        Err(_) => (ReadStatement::Failed { alone }, Advance::NoMemory),
+    }
+}
+
+/// The newest rows of the statement's table.
+fn read_newest<L: SharedLists>(
+    alloc: Global,
+    stmt: &Stmt,
+    session: u32,
+    lists: &mut SqlLists<L>,
+) -> Result<Rows, NoMemory>
+    requires joined { session < length lists.old.names }
+    requires plain { is_plain_select stmt.now ≡ true }
+    requires idle { task_of session lists.old ≡ Idle }
+    ensures same { Stays session lists.old lists.new }
+    ensures read { IfOk result (AreRead lists.old.past stmt.now) }
+{
+    let Planned { table, plan } = plan_search(alloc, stmt, lists)?;
+    lists.read_newest(session, table, plan)
+}
+
+/// Answers by the rows that were read.
+fn answer_newest<L: SharedLists>(
+    alloc: Global,
+    stmt: Stmt,
+    alone: bool,
+    rows: &Rows,
+    session: u32,
+    lists: &mut SqlLists<L>,
+) -> (ReadStatement, Advance)
+    requires joined { session < length lists.old.names }
+    requires running { IsRunning lists.old session (ReadStatement.Open stmt alone) }
+    requires dirty { level session lists.old.past ≡ Some ReadUncommitted }
+    requires read { AreRead lists.old.past stmt rows.now }
+    ensures steps { Steps IsRunning session lists.old lists.new result.0 result.1 }
+    ensures nears { NearsTo 4 session lists.new result.0 result.1 }
+{
+    match settle_newest(alloc, &stmt, alone, rows, session, lists) {
         Ok(settled) => close(alone, settled, session, lists),
         Err(_) => (ReadStatement::Failed { alone }, Advance::NoMemory),
     }
 }
 
 /// The reply, or that its rows are too many.
-fn settle_newest(
+fn settle_newest<L: SharedLists>(
     alloc: Global,
     stmt: &Stmt,
     alone: bool,
+    rows: &Rows,
     session: u32,
-    lists: &SqlLists,
+    lists: &SqlLists<L>,
 ) -> Result<Settled, NoMemory>
-    requires joined { session < length lists.now.names }
     requires early { IsEarly lists.now.past session stmt.now alone }
     requires is_open { IsOpen session lists.now.past }
     requires dirty { level session lists.now.past ≡ Some ReadUncommitted }
+    requires read { AreRead lists.now.past stmt.now rows.now }
     ensures answered { IfOk result (λ settled. IsAnswered lists.now.past session alone settled.kept settled.given) }
     ensures within { IfOk result (λ settled. IsWithin settled.kept lists.now.past) }
 {
-    let given = newest_reply(alloc, stmt, session, lists)?;
-    match overfull_by(&given, lists) {
-        Some(rows) => Ok(Settled {
-            kept: Reply::RunLimit { rows },
-            given: Reply::RunLimit { rows },
-        }),
-        None => Ok(Settled {
-            kept: given.copied()?,
-            given,
-        }),
-    }
+    let given = newest_reply(alloc, stmt, rows, session, lists)?;
+    settle(given, stmt, alone, session, lists)
 }
 
 /// What the statement answers over the newest rows: rows, or a refusal.
-fn newest_reply(
+fn newest_reply<L: SharedLists>(
     alloc: Global,
     stmt: &Stmt,
+    rows: &Rows,
     session: u32,
-    lists: &SqlLists,
+    lists: &SqlLists<L>,
 ) -> Result<Reply, NoMemory>
-    requires joined { session < length lists.now.names }
     requires plain { is_plain_select stmt.now ≡ true }
-    requires is_open { IsOpen session lists.now.past }
     requires dirty { level session lists.now.past ≡ Some ReadUncommitted }
-    ensures found { IfOk result (λ reply. IsSeen lists.now.past lists.now.past session stmt.now reply) }
+    requires read { AreRead lists.now.past stmt.now rows.now }
+    ensures seen { IfOk result (λ reply. IsSeen lists.now.past lists.now.past session stmt.now reply) }
     ensures kind { IfOk result (λ reply. answers_rows reply ≡ true) }
 {
-    let Outcome { reply, .. } = newest_outcome(alloc, stmt, session, lists)?;
+    let Outcome { reply, .. } = newest_outcome(alloc, stmt, rows, session, lists)?;
     only_answer(reply)
 }
 
-fn newest_outcome(
+fn newest_outcome<L: SharedLists>(
     alloc: Global,
     stmt: &Stmt,
+    rows: &Rows,
     session: u32,
-    lists: &SqlLists,
+    lists: &SqlLists<L>,
 ) -> Result<Outcome, NoMemory>
-    requires joined { session < length lists.now.names }
     requires plain { is_plain_select stmt.now ≡ true }
-    requires is_open { IsOpen session lists.now.past }
     requires dirty { level session lists.now.past ≡ Some ReadUncommitted }
+    requires read { AreRead lists.now.past stmt.now rows.now }
     ensures { IfOk result (λ outcome. IsSeen lists.now.past lists.now.past session stmt.now outcome.reply) }
 {
-    let Some(table) = table_of(lists.lists().schemas(), stmt) else {
-        // A table that is not there was refused before.
-        return Err(NoMemory);
-    };
-    let rows = newest_rows(alloc, table, session, lists)?;
-    plain_on_rows(alloc, lists.lists().schemas(), &rows, stmt)
+    let _writer = only_writer(session, lists);
+    plain_on_rows(alloc, lists.lists().schemas(), rows, stmt)
 }
 
-/// The session that alone may have changes. The newest tables are those that were made.
-fn only_writer(session: u32, lists: &SqlLists) -> u32
-    ensures alone { (u : ℕ) → u ≢ result → own u lists.now.past ≡ [] }
-    ensures tables { (newest lists.now.past).schemas ≡ created lists.now.past }
+/// The session that alone may have changes.
+fn only_writer<L: SharedLists>(session: u32, lists: &SqlLists<L>) -> u32
+    ensures { (other : ℕ) → other ≢ result → own other lists.now.past ≡ [] }
 {
     match lists.lists().writer() {
         Some(writer) => writer,
         None => session,
     }
-}
-
-/// The newest rows of a table.
-fn newest_rows(alloc: Global, table: u8, session: u32, lists: &SqlLists) -> Result<Rows, NoMemory>
-    requires joined { session < length lists.now.names }
-    requires is_open { IsOpen session lists.now.past }
-    ensures rows { IfOk result (λ rows. rows ≡ rows_of table (newest lists.now.past)) }
-    ensures tables { IfOk result (λ rows. (newest lists.now.past).schemas ≡ created lists.now.past) }
-{
-    let writer = only_writer(session, lists);
-    let mut gathering = Gathering::new(alloc, table);
-    for _ in 0..u64::MAX {
-        if !gathering.step(lists.lists(), session, Sight::Newest)? {
-            return rows_gathered(alloc, table, writer, &gathering, lists);
-        }
-    }
-    Err(NoMemory)
-}
-
-/// The rows that were gathered, when no place is left: those that the one writer sees.
-fn rows_gathered(
-    alloc: Global,
-    table: u8,
-    writer: u32,
-    gathering: &Gathering,
-    lists: &SqlLists,
-) -> Result<Rows, NoMemory>
-    requires alone { (u : ℕ) → u ≢ writer → own u lists.now.past ≡ [] }
-    requires latest { AreLatest lists.now.past writer table gathering.now }
-    requires over { IsOver lists.now.past gathering.now.table gathering.now.last }
-    ensures { IfOk result (λ rows. rows ≡ rows_of table (newest lists.now.past)) }
-{
-    let _ = lists.lists();
-    let _ = table;
-    let _ = writer;
-    rows_of(alloc, gathering.rows())
 }

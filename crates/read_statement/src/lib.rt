@@ -1,5 +1,5 @@
-//! A SELECT as a machine: each step visits one place or adds one entry, and steps of other sessions may come between.
-//! It takes its view, gathers the rows of its table, and answers in the step that ends its transaction or its item.
+//! A SELECT as a machine: each step is one of its search or adds one entry, and steps of other sessions may come between.
+//! It takes its view, searches its table by a plan, and answers in the step that ends its transaction or its item.
 #![tactic(auto)]
 
 mod answering;
@@ -8,7 +8,8 @@ mod dirty;
 mod laws;
 mod machine;
 mod opening;
-mod walking;
+mod planning;
+mod searching;
 
 pub use laws::{rows_of_moments_are_a_loose_reading, the_newest_is_what_the_writer_sees};
 pub use machine::{ReadStatement, others_leave_it};

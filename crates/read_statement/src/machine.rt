@@ -3,16 +3,19 @@
 ghost use Rattle.std.specs.Prelude.{◌≡◌, ◌<◌, length, true};
 ghost use Rattle.sql_history.specs.Readings.{is_plain_select};
 ghost use Rattle.sql_history.specs.Statements.{is_select};
+ghost use Rattle.shared_lists.specs.Tasks.{Idle};
+ghost use Rattle.shared_lists.specs.State.{task_of};
 ghost use Rattle.sql_lists.specs.Going.{Nears};
 ghost use Rattle.sql_lists.specs.Steps.{Steps, StaysRunning};
 ghost use Rattle.read_statement.specs.Going.{to_go};
 ghost use Rattle.read_statement.specs.Running.{IsRunning, IsTakenWith};
 
+use crate::answering::step_found;
 use crate::closing::{step_ending, step_failed, step_unacked};
 use crate::opening::{step_open, step_opening, step_viewed};
-use crate::walking::step_walking;
-use gathering::Gathering;
-use inno_types::{Level, Reply, Stmt};
+use crate::searching::step_searching;
+use inno_types::{Level, Reply, Rows, Stmt};
+use shared_lists::SharedLists;
 use sql_lists::{Advance, SqlLists};
 use std::alloc::Global;
 
@@ -25,14 +28,21 @@ pub struct Asked {
     pub level: Level,
 }
 
-/// A SELECT that visits the places of its table.
+/// A SELECT whose search of its table is under way.
 #[derive(Drop)]
 pub struct Read {
     pub stmt: Stmt,
     pub alone: bool,
-    /// How many places it may yet visit: more than any history has.
+    /// How many steps the search may yet make: more than any table needs.
     pub left: u64,
-    pub gathering: Gathering,
+}
+
+/// A SELECT with the rows that its search has found.
+#[derive(Drop)]
+pub struct Found {
+    pub stmt: Stmt,
+    pub alone: bool,
+    pub rows: Rows,
 }
 
 /// A SELECT under way. `alone` says that it is a transaction of its own. Of a reply the history is to keep one copy,
@@ -44,7 +54,8 @@ pub enum ReadStatement {
     Open { stmt: Stmt, alone: bool },
     /// It has the view that it reads by.
     Viewed { stmt: Stmt, alone: bool },
-    Walking(Read),
+    Searching(Read),
+    Found(Found),
     /// Its own transaction is committed.
     Unacked { kept: Reply, given: Reply },
     /// Its own transaction has ended, and nothing awaits an acknowledgement.
@@ -55,10 +66,17 @@ pub enum ReadStatement {
 
 impl ReadStatement {
     /// A SELECT that was taken with these settings of its session.
-    pub fn new(stmt: Stmt, autocommit: bool, level: Level, session: u32, lists: &SqlLists) -> Self
+    pub fn new<L: SharedLists>(
+        stmt: Stmt,
+        autocommit: bool,
+        level: Level,
+        session: u32,
+        lists: &SqlLists<L>,
+    ) -> Self
         requires joined { session < length lists.now.names }
         requires select { is_select stmt ≡ true }
         requires taken { IsTakenWith autocommit level session stmt lists.now.past }
+        requires idle { task_of session lists.now ≡ Idle }
         ensures { IsRunning lists.now session result }
     {
         let asked = Asked {
@@ -72,11 +90,16 @@ impl ReadStatement {
     }
 
     /// One step of the session's SELECT.
-    pub fn step(self, alloc: Global, session: u32, lists: &mut SqlLists) -> (Self, Advance)
+    pub fn step<L: SharedLists>(
+        self,
+        alloc: Global,
+        session: u32,
+        lists: &mut SqlLists<L>,
+    ) -> (Self, Advance)
         requires joined { session < length lists.old.names }
         requires running { IsRunning lists.old session self }
         ensures steps { Steps IsRunning session lists.old lists.new result.0 result.1 }
-        ensures nears { Nears to_go session lists.old.past self lists.new.past result.0 result.1 }
+        ensures nears { Nears to_go session lists.old self lists.new result.0 result.1 }
     {
         match self {
             ReadStatement::Opening(asked) => step_opening(asked, session, lists),
@@ -84,7 +107,8 @@ impl ReadStatement {
             ReadStatement::Viewed { stmt, alone } => step_viewed(
                 alloc, stmt, alone, session, lists,
             ),
-            ReadStatement::Walking(read) => step_walking(alloc, read, session, lists),
+            ReadStatement::Searching(read) => step_searching(read, session, lists),
+            ReadStatement::Found(found) => step_found(alloc, found, session, lists),
             ReadStatement::Unacked { kept, given } => step_unacked(kept, given, session, lists),
             ReadStatement::Ending { kept, given } => step_ending(kept, given, session, lists),
             ReadStatement::Failed { alone } => step_failed(alone, session, lists),
@@ -92,7 +116,7 @@ impl ReadStatement {
     }
 }
 
-/// An entry of another session leaves what a SELECT knows.
+/// A step of another session leaves what a SELECT knows.
 pub fn others_leave_it()
     ensures { StaysRunning IsRunning }
 {}

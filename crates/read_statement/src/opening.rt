@@ -1,29 +1,31 @@
-//! How a SELECT opens its transaction, and begins with its view.
+//! How a SELECT opens its transaction, takes its view, and begins to search by it.
 
-ghost use Rattle.std.specs.Prelude.{◌≡◌, ◌<◌, ◌≤◌, ℕ, length, true};
-ghost use Rattle.inno_db.specs.declared.limits.TheConstants.{MOST_TABLES};
-ghost use Rattle.inno_db.proofs.Outcomes.{table_read};
-ghost use Rattle.sql_history.specs.Endings.{IsOpen};
-ghost use Rattle.sql_history.specs.Readings.{is_plain_select};
-ghost use Rattle.sql_lists.specs.Going.{Nears, IsBelow, left};
+ghost use Rattle.std.specs.Prelude.{◌≡◌, ◌<◌, length};
+ghost use Rattle.table_lists.specs.Order.{created};
+ghost use Rattle.sql_lists.specs.Going.{Nears};
 ghost use Rattle.sql_lists.specs.Steps.{Steps};
 ghost use Rattle.read_statement.specs.Going.{to_go};
-ghost use Rattle.read_statement.specs.Running.{IsRunning, IsEarly, IsOfView, MayTakeView, at_start};
+ghost use Rattle.read_statement.specs.Planning.{IsPlanned};
+ghost use Rattle.read_statement.specs.Running.{IsRunning, MayTakeView};
 
-use crate::dirty::read_newest;
+use crate::dirty::step_dirty;
 use crate::machine::{Asked, Read, ReadStatement};
-use gathering::Gathering;
-use inno_types::{Level, Listed, Schema, Stmt};
+use crate::planning::{Planned, plan_search};
+use inno_types::{Level, Stmt};
+use shared_lists::{Reading, SharedLists};
 use sql_lists::{Advance, SqlLists};
-use sql_values::place_of_table;
 use std::alloc::Global;
 
 /// Opens a transaction where none is open: one of its own, where the session commits each statement.
-pub fn step_opening(asked: Asked, session: u32, lists: &mut SqlLists) -> (ReadStatement, Advance)
+pub fn step_opening<L: SharedLists>(
+    asked: Asked,
+    session: u32,
+    lists: &mut SqlLists<L>,
+) -> (ReadStatement, Advance)
     requires joined { session < length lists.old.names }
     requires running { IsRunning lists.old session (ReadStatement.Opening asked) }
     ensures steps { Steps IsRunning session lists.old lists.new result.0 result.1 }
-    ensures nears { Nears to_go session lists.old.past (ReadStatement.Opening asked) lists.new.past result.0 result.1 }
+    ensures nears { Nears to_go session lists.old (ReadStatement.Opening asked) lists.new result.0 result.1 }
 {
     let Asked {
         stmt,
@@ -44,17 +46,17 @@ pub fn step_opening(asked: Asked, session: u32, lists: &mut SqlLists) -> (ReadSt
 }
 
 /// Takes the view, where the level asks for one; at READ UNCOMMITTED it reads without.
-pub fn step_open(
+pub fn step_open<L: SharedLists>(
     alloc: Global,
     stmt: Stmt,
     alone: bool,
     session: u32,
-    lists: &mut SqlLists,
+    lists: &mut SqlLists<L>,
 ) -> (ReadStatement, Advance)
     requires joined { session < length lists.old.names }
     requires running { IsRunning lists.old session (ReadStatement.Open stmt alone) }
     ensures steps { Steps IsRunning session lists.old lists.new result.0 result.1 }
-    ensures nears { Nears to_go session lists.old.past (ReadStatement.Open stmt alone) lists.new.past result.0 result.1 }
+    ensures nears { Nears to_go session lists.old (ReadStatement.Open stmt alone) lists.new result.0 result.1 }
 {
     match lists.lists().level(session) {
         Some(Level::ReadCommitted) => view_first(stmt, alone, session, lists),
@@ -64,24 +66,24 @@ pub fn step_open(
             }
             view_first(stmt, alone, session, lists)
         }
-        Some(Level::ReadUncommitted) => read_newest(alloc, stmt, alone, session, lists),
+        Some(Level::ReadUncommitted) => step_dirty(alloc, stmt, alone, session, lists),
         // A SELECT at SERIALIZABLE is refused before it comes here.
         _ => (ReadStatement::Failed { alone }, Advance::NoMemory),
     }
 }
 
 /// Takes the view.
-fn view_first(
+fn view_first<L: SharedLists>(
     stmt: Stmt,
     alone: bool,
     session: u32,
-    lists: &mut SqlLists,
+    lists: &mut SqlLists<L>,
 ) -> (ReadStatement, Advance)
     requires joined { session < length lists.old.names }
     requires running { IsRunning lists.old session (ReadStatement.Open stmt alone) }
     requires takes { MayTakeView session lists.old.past }
     ensures steps { Steps IsRunning session lists.old lists.new result.0 result.1 }
-    ensures nears { Nears to_go session lists.old.past (ReadStatement.Open stmt alone) lists.new.past result.0 result.1 }
+    ensures nears { Nears to_go session lists.old (ReadStatement.Open stmt alone) lists.new result.0 result.1 }
 {
     match lists.take_view(session) {
         Ok(()) => (ReadStatement::Viewed { stmt, alone }, Advance::Went),
@@ -89,55 +91,48 @@ fn view_first(
     }
 }
 
-/// Begins to walk by the view.
-pub fn step_viewed(
+/// Begins to search by the view.
+pub fn step_viewed<L: SharedLists>(
     alloc: Global,
     stmt: Stmt,
     alone: bool,
     session: u32,
-    lists: &mut SqlLists,
+    lists: &mut SqlLists<L>,
 ) -> (ReadStatement, Advance)
     requires joined { session < length lists.old.names }
     requires running { IsRunning lists.old session (ReadStatement.Viewed stmt alone) }
     ensures steps { Steps IsRunning session lists.old lists.new result.0 result.1 }
-    ensures nears { Nears to_go session lists.old.past (ReadStatement.Viewed stmt alone) lists.new.past result.0 result.1 }
+    ensures nears { Nears to_go session lists.old (ReadStatement.Viewed stmt alone) lists.new result.0 result.1 }
 {
-    let _ = lists.lists();
-    (walk(alloc, stmt, alone, session, lists), Advance::Went)
-}
-
-/// A walk before its first place.
-fn walk(alloc: Global, stmt: Stmt, alone: bool, session: u32, lists: &SqlLists) -> ReadStatement
-    requires early { IsEarly lists.now.past session stmt alone }
-    requires is_open { IsOpen session lists.now.past }
-    requires gathers { (table : ℕ) → IsOfView lists.now.past session (at_start table) }
-    ensures running { IsRunning lists.now session result }
-    ensures nears { IsBelow (to_go session lists.now.past result) (left 6 0 0) }
-{
-    let lists = lists.lists();
-    match table_of(lists.schemas(), &stmt) {
-        Some(table) => ReadStatement::Walking(Read {
-            stmt,
-            alone,
-            left: u64::MAX,
-            gathering: Gathering::new(alloc, table),
-        }),
-        // Its table was there before, and tables stay.
-        None => ReadStatement::Failed { alone },
+    match plan_search(alloc, &stmt, lists) {
+        Ok(planned) => begin_search(planned, stmt, alone, session, lists),
+        Err(_) => (ReadStatement::Failed { alone }, Advance::NoMemory),
     }
 }
 
-/// The table that a SELECT names.
-pub fn table_of(schemas: &Listed<Schema>, stmt: &Stmt) -> Option<u8>
-    requires few { length schemas.now ≤ MOST_TABLES }
-    requires plain { is_plain_select stmt.now ≡ true }
-    ensures { result ≡ table_read schemas.now stmt.now }
+/// Begins a search as it is planned.
+fn begin_search<L: SharedLists>(
+    planned: Planned,
+    stmt: Stmt,
+    alone: bool,
+    session: u32,
+    lists: &mut SqlLists<L>,
+) -> (ReadStatement, Advance)
+    requires joined { session < length lists.old.names }
+    requires running { IsRunning lists.old session (ReadStatement.Viewed stmt alone) }
+    requires planned { IsPlanned (created lists.old.past) stmt planned.table planned.plan }
+    ensures steps { Steps IsRunning session lists.old lists.new result.0 result.1 }
+    ensures nears { Nears to_go session lists.old (ReadStatement.Viewed stmt alone) lists.new result.0 result.1 }
 {
-    match stmt {
-        Stmt::Select { table, .. } => match place_of_table(schemas, table) {
-            Some(place) => Some(place as u8),
-            None => None,
-        },
-        _ => None,
+    let Planned { table, plan } = planned;
+    match lists.begin_search(session, table, plan, Reading::View) {
+        Ok(()) => {
+            let left = u64::MAX;
+            (
+                ReadStatement::Searching(Read { stmt, alone, left }),
+                Advance::Went,
+            )
+        }
+        Err(_) => (ReadStatement::Failed { alone }, Advance::NoMemory),
     }
 }

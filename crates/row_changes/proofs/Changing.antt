@@ -136,6 +136,7 @@ readied_in_pages s before after old new there readied is =
     let sessions = ap (λ (state : WorldState). state.sessions) is in
     record {
       pairs = λ index. subst (λ (state : WorldState). AreKept (old.indexes index).pairs (state.indexes index).pairs) (sym is) (same_pairs (old.indexes index).pairs);
+      places = λ index. ap (λ (state : WorldState). (state.indexes index).place) is;
       versions = subst (λ (state : WorldState). Stays old.versions state.versions) (sym is) (same_versions old.versions);
       before = before;
       after = after;
@@ -158,7 +159,7 @@ room_made s old new change p at ready =
     goes_on s old new change Find p aside (record { entry = can_change; leads = ready.leads; undo = omega arith }) (subst (λ stage. 3 < record_steps stage) (sym at) (omega arith))
 
 pub unchanged_stays : (old new : WorldState) → IsUnchanged old new → RowsStay old new
-unchanged_stays old new same = record { pairs = λ index. (same.indexes index).pairs; versions = same.versions; rest = same.rest }
+unchanged_stays old new same = record { pairs = λ index. (same.indexes index).pairs; places = λ index. (same.indexes index).place; versions = same.versions; rest = same.rest }
 
 -- room for an undo record was not made
 pub no_room_stays : (s bytes : ℕ) (old new : WorldState) (why : Move) → MakesRoom s bytes old new why → why ≢ moves.Done → RowsStay old new
@@ -204,7 +205,7 @@ spoiled schema key bytes index moves.TooDeep s new there h = absurd h
 spoiled schema key bytes index moves.Failed s new there h = absurd h
 
 pub same_rows : (state : WorldState) → RowsStay state state
-same_rows state = record { pairs = λ index. same_pairs (state.indexes index).pairs; versions = same_versions state.versions; rest = refl }
+same_rows state = record { pairs = λ index. same_pairs (state.indexes index).pairs; places = λ index. refl; versions = same_versions state.versions; rest = refl }
 
 pub awaited : (s : ℕ) (old new : WorldState) (change : RecordChange) (p : IsChangingRecord s old change) → change.stage ≡ Next → RowsStay old new → GoesOnWithRecord s old new change (record change { stage = Insert })
 awaited s old new change p at stay =
@@ -264,10 +265,10 @@ same_schemas : (table : ℕ) (schema : Schema) (old new : WorldState) → RowsSt
 same_schemas table schema old new stay there = ap (λ (state : WorldState). slice_get state.schemas table) stay.rest ∙ there
 
 pub read_one : (s index : ℕ) (key read : List ℕ) (old new : WorldState) → Calls index (λ before after. Fetches s key read before after moves.Done) old new → RowsStay old new × Told (λ pairs. value_of key pairs ≡ Some read) (old.indexes index)
-read_one s index key read old new c = (stays_if c c.index_is.here.1.pairs, c.index_is.here.0)
+read_one s index key read old new c = (stays_if c (c.index_is.here.1.pairs, c.index_is.here.1.place), c.index_is.here.0)
 
 pub read_none : (s index : ℕ) (key read : List ℕ) (old new : WorldState) → Calls index (λ before after. Fetches s key read before after moves.End) old new → RowsStay old new × Told (λ pairs. value_of key pairs ≡ None) (old.indexes index)
-read_none s index key read old new c = (stays_if c c.index_is.here.1.pairs, c.index_is.here.0)
+read_none s index key read old new c = (stays_if c (c.index_is.here.1.pairs, c.index_is.here.1.place), c.index_is.here.0)
 
 pub looked_up : (s : ℕ) (old new : WorldState) (change : RecordChange) (before : Version) (read : List ℕ) (p : IsChangingRecord s old change) → change.stage ≡ Find
     → Calls (clustered_index change.table) (λ b a. Fetches s change.key read b a moves.Done) old new

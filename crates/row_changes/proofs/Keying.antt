@@ -1,5 +1,5 @@
 -- What stays known while the keys of a table take over a change of a row.
-use Rattle.std.proofs.Common.{◌≡◌, ◌⊎◌, inl, inr, ◌∙◌, sym, ap, subst, refl, ℕ, ◌+◌, ◌-◌, ◌*◌, ◌<◌, ◌≤◌, false, List, [], ◌∷◌, length, Option, None, Some, slice_get, get_or, arith}
+use Rattle.std.proofs.Common.{◌≡◌, ◌≢◌, ◌⊎◌, inl, inr, ◌∙◌, sym, ap, subst, refl, ℕ, ◌+◌, ◌-◌, ◌*◌, ◌<◌, ◌≤◌, false, List, [], ◌∷◌, length, Option, None, Some, slice_get, get_or, arith}
 use Rattle.std.proofs.lemmas.Option.{slice_get_cases, slice_get_within, get_or_from_slice_get}
 use Rattle.inno_types.specs.declared.value.Column.{Column}
 use Rattle.fitting_rows.specs.Records.{IsEntryOf}
@@ -21,7 +21,7 @@ use Rattle.fitting_rows.specs.Storable.{IsStorable}
 use Rattle.row_versions.specs.declared.place.Place.{Place}
 use Rattle.row_versions.specs.declared.version.Version.{Version}
 use Rattle.row_versions.specs.Chains.{Chains}
-use Rattle.coded_rows.specs.Edits.{key_index}
+use Rattle.coded_rows.specs.Edits.{clustered_index, key_index}
 use Rattle.coded_rows.specs.Records.{shown}
 use Rattle.world.specs.State.{WorldState}
 use Rattle.row_changes.specs.declared.entry_put.EntryPut.{EntryPut}
@@ -32,9 +32,10 @@ use Rattle.row_changes.specs.declared.key_entries.KeyEntries.{KeyEntries}
 use Rattle.row_changes.specs.declared.reached.Reached.TheVariants.{Done, Hindered}
 use Rattle.row_changes.specs.Pairs.{RowsStay, PutsPair, Hinders}
 use Rattle.row_changes.specs.Entries.{unmarked, marked, put_steps, GoesOnPutting, HindersEntry, PutsEntry}
+use Rattle.coded_rows.proofs.Pairs.{no_key}
 use Rattle.row_changes.specs.Edits.{IsRowFor, IsKeyAt}
 use Rattle.row_changes.specs.Records.{IsTable}
-use Rattle.row_changes.specs.Told.{pairs_of, IsTold}
+use Rattle.world.specs.Told.{pairs_of, IsTold}
 use Rattle.row_changes.specs.KeyEntries.{value_stays, StayBetween, IsEntryIn, IsEntryFor, AreEntries}
 use Rattle.row_changes.specs.Keys.{gone, without_row, said_next, HasRowsSoFar, IsEntering, IsChangingKeys, keys_steps, keys_next, StaysBesideKeys, GoesOnWithKeys, ChangesKeys}
 use Rattle.row_changes.proofs.Changing.{same_rows}
@@ -103,11 +104,27 @@ changing_kept chains old new change p stay entering =
     changing_next chains old new change change.which change.put p (ap (λ (state : WorldState). state.schemas) stay.rest) (stays_told old new stay) p.within entering
     (so_far_kept chains (record { table = change.table; key = p.value }) change.which (said_next change.put change.before p.older) p.older old new stay p.rows)
 
-beside_stay : (old new : WorldState) → RowsStay old new → StaysBesideKeys old new
-beside_stay old new stay = record { versions = stay.versions; rest = stay.rest }
+pub beside_stay : (old new : WorldState) → RowsStay old new → StaysBesideKeys old new
+beside_stay old new stay = record {
+  told = stays_told old new stay;
+  records = λ table. stay.pairs (clustered_index table);
+  places = stay.places;
+  versions = stay.versions;
+  rest = stay.rest;
+}
 
-beside_put : (index : ℕ) (key : List ℕ) (value : Option (List ℕ)) (old new : WorldState) → PutsPair index key value old new → StaysBesideKeys old new
-beside_put index key value old new puts = record { versions = puts.versions; rest = puts.rest }
+beside_put : (index : ℕ) (key : List ℕ) (value : Option (List ℕ)) (old new : WorldState) → ((table : ℕ) → clustered_index table ≢ index) → PutsPair index key value old new → StaysBesideKeys old new
+beside_put index key value old new no_rows puts = record {
+  told = put_told index key value old new puts;
+  records = λ table. puts.elsewhere (clustered_index table) (no_rows table);
+  places = puts.places;
+  versions = puts.versions;
+  rest = puts.rest;
+}
+
+-- the index of a key holds no records
+no_rows_in : (table which index : ℕ) → which < 4 → index ≡ key_index table which → (other : ℕ) → clustered_index other ≢ index
+no_rows_in table which index few is other same = no_key other table which few (sym (same ∙ is))
 
 -- no entry is being put
 pub none_put : (P : EntryPut → Type 0) (put : Option EntryPut) → put ≡ None → IfSome put P
@@ -229,6 +246,9 @@ marked_on chains old new change p index entries entry none is all old_is puts =
     same : new.schemas ≡ old.schemas
     same = ap (λ (state : WorldState). state.schemas) puts.rest
 
+    no_rows : (table : ℕ) → clustered_index table ≢ index
+    no_rows = no_rows_in change.table entries.which index (let f = few_keys p.schema entries.which p.table.storable all.within in omega arith) is
+
     old_entry : IsEntryFor p.schema entries.which change.before change.key (Some entry)
     old_entry = subst (λ (e : Option (List ℕ)). IsEntryFor p.schema entries.which change.before change.key e) old_is all.old_is
 
@@ -255,13 +275,13 @@ marked_on chains old new change p index entries entry none is all old_is puts =
         let done : HasRowsSoFar chains (record { table = change.table; key = p.value }) (entries.which + 1) p.older p.older new = λ told. key_done new.schemas new.versions.kept_at chains (record { table = change.table; key = p.value }) p.older p.schema (ap (λ (s : List Schema). slice_get s change.table) same ∙ p.table.there) (pairs_of new) entries.which (p.pushed.version ∷ p.older) (sym p.pushed.versions) (rows told) in
         let within = all.within in
         let from = all.first.from_there in
-        goes_on chains old new change (entries.which + 1) None p (beside_put index entry (Some marked) old new puts)
+        goes_on chains old new change (entries.which + 1) None p (beside_put index entry (Some marked) old new no_rows puts)
         (changing_next chains old new change (entries.which + 1) None p same (put_told index entry (Some marked) old new puts) (omega arith) (record {}) done)
         (fewer_next (length p.schema.keys) change.which entries.which change.put waiting from within)
     go (Some row) None (Some e) was now next_is = absurd (subst (λ (o : Option (List Value)). IsEntryFor p.schema entries.which o change.key (Some e)) now (subst (λ (x : Option (List ℕ)). IsEntryFor p.schema entries.which change.after change.key x) next_is all.new_is))
     go (Some row) (Some later) None was now next_is = absurd (subst (λ (o : Option (List Value)). IsEntryFor p.schema entries.which o change.key None) now (subst (λ (x : Option (List ℕ)). IsEntryFor p.schema entries.which change.after change.key x) next_is all.new_is))
     go (Some row) (Some later) (Some e) was now next_is =
-        put_next chains old new change p index entries e none is all next_is same (put_told index entry (Some marked) old new puts) (beside_put index entry (Some marked) old new puts)
+        put_next chains old new change p index entries e none is all next_is same (put_told index entry (Some marked) old new puts) (beside_put index entry (Some marked) old new no_rows puts)
         (subst (λ (o : Option (List Value)). HasRowsSoFar chains (record { table = change.table; key = p.value }) entries.which (without_row o p.older) p.older new) (sym was) (gone_now row was gone refl))
 
 -- there is no old entry
@@ -283,7 +303,7 @@ nothing_marked chains state change p index entries none is all old_is = go chang
     go (Some row) next was next_is = absurd (subst (λ (o : Option (List Value)). IsEntryFor p.schema entries.which o change.key None) was old_entry)
     go None None was next_is = absurd (after_none change.after was refl (subst (λ (x : Option (List ℕ)). IsEntryFor p.schema entries.which change.after change.key x) next_is all.new_is))
     go None (Some e) was next_is =
-        put_next chains state state change p index entries e none is all next_is refl (λ told. told) (record { versions = (same_rows state).versions; rest = refl })
+        put_next chains state state change p index entries e none is all next_is refl (λ told. told) (beside_stay state state (same_rows state))
         (subst (λ (o : Option (List Value)). HasRowsSoFar chains (record { table = change.table; key = p.value }) entries.which (without_row o p.older) p.older state) (sym was) (rows_passed chains state change p entries.which none all.first.from_there all.first.stay))
 
 -- ---- the new entry
@@ -318,7 +338,7 @@ entered_key chains old new change put p puts =
     let e = p.put in
     let within = e.within in
     let same : new.schemas ≡ old.schemas = ap (λ (state : WorldState). state.schemas) puts.rest in
-    goes_on chains old new (record change { put = Some put }) (change.which + 1) None p (beside_put put.index put.entry (Some unmarked) old new puts)
+    goes_on chains old new (record change { put = Some put }) (change.which + 1) None p (beside_put put.index put.entry (Some unmarked) old new (no_rows_in change.table change.which put.index (let f = few_keys p.schema change.which p.table.storable within in omega arith) e.index_is) puts)
     (changing_next chains old new (record change { put = Some put }) (change.which + 1) None p same (put_told put.index put.entry (Some unmarked) old new puts) (omega arith) (record {}) (rows change.before change.after refl refl))
     (fewer_done (length p.schema.keys) change.which (put_steps put.phase) within (some_step put.phase))
   where

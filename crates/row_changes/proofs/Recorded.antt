@@ -13,7 +13,7 @@ use Rattle.store_api.specs.declared.answers.Undo.{Undo}
 use Rattle.entries.specs.declared.answers.Move.{Move}
 use Rattle.entries.specs.declared.answers.Move.TheVariants as moves
 use Rattle.entries.specs.Index.{Index, Goes, AreKept}
-use Rattle.entries.specs.Calls.{is_done, Inserts}
+use Rattle.entries.specs.Calls.{is_done}
 use Rattle.row_codec.specs.Rows.{version_code}
 use Rattle.fitting_rows.proofs.Coding.{short_key, short_value}
 use Rattle.coded_rows.specs.Edits.{clustered_index, with_value}
@@ -42,7 +42,7 @@ use Rattle.row_changes.specs.Pairs.{Hinders}
 use Rattle.row_changes.proofs.Sessions.{one_session, set_here, set_other}
 use Rattle.row_changes.proofs.Ids.{one_work}
 use Rattle.row_changes.proofs.Changing.{stage_at, hindered, told_only}
-use Rattle.row_changes.proofs.Worlds.{stays_if, insert_keeps, insert_hinders, replace_keeps, replace_hinders}
+use Rattle.row_changes.proofs.Worlds.{HasStayed, places_if, stays_if, insert_keeps, insert_hinders, replace_keeps, replace_hinders}
 
 -- ---- what the call asks
 
@@ -142,12 +142,14 @@ pub recorded : (s : ℕ) (change : Change) (rows table : ℕ) (key bytes : List 
     → Enters s change rows (logged_session logged.next logged.session logged.work undo) (logged_work logged.session logged.work undo) mid new
     → Goes (λ before after. after ≡ with_value key (Some bytes) before) (old.indexes (clustered_index table)).pairs (mid.indexes (clustered_index table)).pairs
     → ((other : ℕ) → other ≢ clustered_index table → AreKept (old.indexes other).pairs (mid.indexes other).pairs)
+    → ((index : ℕ) → (mid.indexes index).place ≡ (old.indexes index).place)
     → Records s change rows table key bytes undo old new
-recorded s change rows table key bytes undo old mid new logged enters here elsewhere =
+recorded s change rows table key bytes undo old mid new logged enters here elsewhere places =
     let indexes = ap (λ (state : WorldState). state.indexes) enters.rest in
     record {
       here = subst (λ i. Goes (λ before after. after ≡ with_value key (Some bytes) before) (old.indexes (clustered_index table)).pairs (i (clustered_index table)).pairs) (sym indexes) here;
       elsewhere = λ other differs. subst (λ i. AreKept (old.indexes other).pairs (i other).pairs) (sym indexes) (elsewhere other differs);
+      places = λ index. ap (λ (i : ℕ → Index). (i index).place) indexes ∙ places index;
       work = works_changed s change rows undo old mid new logged enters;
       rest = join_rests old new (Changed s change) rows
           (ap (λ (state : WorldState). state.names) enters.rest ∙ ap (λ (state : WorldState). state.names) logged.rest)
@@ -195,7 +197,7 @@ pub inserted : (s : ℕ) (old mid new : WorldState) (change : RecordChange) (p :
     → ChangesRecord s old new change (Recorded None)
 inserted s old mid new change p value undo at value_is undo_is c enters =
     let logged = inserted_logs s (clustered_index change.table) change.key value undo old mid c in
-    let all = recorded s (change_of change.table change.edit) (rows_put change.edit) change.table change.key value undo old mid new logged (enters _ _ (logged_here s undo old mid logged)) c.index_is.here.2.pairs (λ other differs. (c.index_is.elsewhere other differs).pairs) in (
+    let all = recorded s (change_of change.table change.edit) (rows_put change.edit) change.table change.key value undo old mid new logged (enters _ _ (logged_here s undo old mid logged)) c.index_is.here.2.pairs (λ other differs. (c.index_is.elsewhere other differs).pairs) (places_if c.index_is c.index_is.here.2.place) in (
       p.schema,
       p.table,
       inl (
@@ -226,8 +228,8 @@ not_brought actor undo moves.Failed old new differs h = h
 not_brought actor undo (moves.Bad page rule) old new differs h = h
 not_brought actor undo moves.NoMemory old new differs h = h
 
-insert_with_keeps : (undo : Undo) (s : ℕ) (key value : List ℕ) (old new : Index) (move : Move) → InsertsWith (Some undo) s key value old new move → move ≢ moves.Done → AreKept old.pairs new.pairs
-insert_with_keeps undo s key value old new moves.NoMemory h differs = h.pairs
+insert_with_keeps : (undo : Undo) (s : ℕ) (key value : List ℕ) (old new : Index) (move : Move) → InsertsWith (Some undo) s key value old new move → move ≢ moves.Done → HasStayed old new
+insert_with_keeps undo s key value old new moves.NoMemory h differs = (h.pairs, h.place)
 insert_with_keeps undo s key value old new moves.Done h differs = insert_keeps s key value old new moves.Done h differs
 insert_with_keeps undo s key value old new (moves.At there kept) h differs = insert_keeps s key value old new (moves.At there kept) h differs
 insert_with_keeps undo s key value old new (moves.Latch by) h differs = insert_keeps s key value old new (moves.Latch by) h differs
@@ -292,7 +294,7 @@ pub replaced : (s : ℕ) (old mid new : WorldState) (change : RecordChange) (p :
     → ChangesRecord s old new change (Recorded found)
 replaced s old mid new change p before bytes value undo found at value_is undo_is found_is small c enters =
     let logged = replaced_logs s (clustered_index change.table) change.key value undo old mid c in
-    let all = recorded s (change_of change.table change.edit) (rows_put change.edit) change.table change.key value undo old mid new logged (enters _ _ (logged_here s undo old mid logged)) c.index_is.here.1.pairs (λ other differs. (c.index_is.elsewhere other differs).pairs) in (
+    let all = recorded s (change_of change.table change.edit) (rows_put change.edit) change.table change.key value undo old mid new logged (enters _ _ (logged_here s undo old mid logged)) c.index_is.here.1.pairs (λ other differs. (c.index_is.elsewhere other differs).pairs) (places_if c.index_is c.index_is.here.1.place) in (
       p.schema,
       p.table,
       inr (
@@ -313,8 +315,8 @@ replaced s old mid new change p before bytes value undo found at value_is undo_i
       ),
     )
 
-replace_with_keeps : (undo : Undo) (s : ℕ) (key value : List ℕ) (old new : Index) (move : Move) → ReplacesWith (Some undo) s key value old new move → move ≢ moves.Done → AreKept old.pairs new.pairs
-replace_with_keeps undo s key value old new moves.NoMemory h differs = h.pairs
+replace_with_keeps : (undo : Undo) (s : ℕ) (key value : List ℕ) (old new : Index) (move : Move) → ReplacesWith (Some undo) s key value old new move → move ≢ moves.Done → HasStayed old new
+replace_with_keeps undo s key value old new moves.NoMemory h differs = (h.pairs, h.place)
 replace_with_keeps undo s key value old new moves.Done h differs = absurd (differs refl)
 replace_with_keeps undo s key value old new moves.End h differs = replace_keeps s key value old new moves.End h differs
 replace_with_keeps undo s key value old new moves.Step h differs = replace_keeps s key value old new moves.Step h differs

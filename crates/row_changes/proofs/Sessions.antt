@@ -37,6 +37,7 @@ abbrev pub readied_alone : (s : ℕ) (before after : Session) (old : WorldState)
 readied_alone s before after old there readied =
     record {
       pairs = λ index. same_pairs (old.indexes index).pairs;
+      places = λ index. refl;
       versions = same_versions old.versions;
       before = before;
       after = after;
@@ -53,6 +54,7 @@ abbrev pub aside_of_stay : {s : ℕ} {session : Session} {old new : WorldState} 
 aside_of_stay {s} {session} {old} {new} there stay =
     record {
       pairs = stay.pairs;
+      places = stay.places;
       versions = stay.versions;
       before = session;
       after = session;

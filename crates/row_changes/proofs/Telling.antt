@@ -12,7 +12,8 @@ use Rattle.coded_rows.specs.Edits.{with_value, Puts}
 use Rattle.coded_rows.specs.Tables.{Said, AreCodedAs}
 use Rattle.world.specs.State.{WorldState}
 use Rattle.row_changes.specs.Pairs.{RowsStay, PutsPair}
-use Rattle.row_changes.specs.Told.{pairs_in, pairs_of, IsTold, AreRowsAs}
+use Rattle.world.specs.Told.{pairs_in, pairs_of, IsTold}
+use Rattle.row_changes.specs.Told.{AreRowsAs}
 
 -- what is told was told before
 pub told_before : (step : List Pair → List Pair → Type 0) (old new : Option (List Pair)) → Goes step old new → IsSome new → IsSome old

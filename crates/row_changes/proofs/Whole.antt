@@ -29,7 +29,8 @@ use Rattle.row_changes.specs.declared.reached.Reached.TheVariants.{Went, Hindere
 use Rattle.row_changes.specs.Asides.{StepsAside}
 use Rattle.row_changes.specs.Edits.{IsRowFor, IsKeyAt, version_by}
 use Rattle.row_codec.specs.Rows.{version_code}
-use Rattle.row_changes.specs.Told.{pairs_of, IsTold, HasRows}
+use Rattle.world.specs.Told.{pairs_of, IsTold}
+use Rattle.row_changes.specs.Told.{HasRows}
 use Rattle.row_changes.specs.Records.{IsChangingRecord, GoesOnWithRecord, ChangesRecord, record_steps, id_for, PutsFirst, PutsOver, PutsVersion, RecordsEdit, undo_of_new, undo_of_former}
 use Rattle.row_changes.specs.Keys.{IsChangingKeys, ChangesKeys}
 use Rattle.row_changes.specs.Rows.{row_after, primary_of, PushesEdit, IsChangingRow, ChangesRow}
@@ -196,7 +197,7 @@ module _ (s : ℕ) (chains pushed : Chains) (old new : WorldState) (change : Rec
 pub record_stands : (s : ℕ) (chains : Chains) (old new : WorldState) (change : RecordChange) (key : List ℕ) (before after : Option (List Value)) → IsChangingRow s chains old (Record change key after) → ChangesRecord s old new change (records.Recorded before)
     → ChangesRow s chains old new (Record change key after) (Went (Keys (record { table = change.table; key = key; before = before; after = after; which = 0; put = None })))
 record_stands s chains old new change key before after p h =
-    ((h, λ pushed push. recorded_keys s chains pushed old new change p.0 p.1 push before after key p.2 p.3 h), λ schema there. let some = some_record_step change.stage in omega arith)
+    ((h, λ pushed push. recorded_keys s chains pushed old new change p.0 p.1 push before after key p.2 p.3 h, refl, p.2), λ schema there. let some = some_record_step change.stage in omega arith)
 
 pub record_hindered : (s : ℕ) (chains : Chains) (old new : WorldState) (change same : RecordChange) (key : List ℕ) (after : Option (List Value)) (why : Move) → IsChangingRow s chains old (Record change key after) → ChangesRecord s old new change (records.Hindered same why)
     → ChangesRow s chains old new (Record change key after) (Hindered (Record same key after) why)

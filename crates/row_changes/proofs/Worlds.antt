@@ -5,30 +5,40 @@ use Rattle.entries.specs.declared.answers.Move.{Move}
 use Rattle.entries.specs.declared.answers.Move.TheVariants.{At, End, Done, Step, Latch, Again, Full, TooDeep, Failed, Bad, NoMemory}
 use Rattle.entries.specs.Pairs.{Pair, value_of}
 use Rattle.std.specs.Prelude.{IfSome, is_some}
-use Rattle.entries.specs.Index.{Index, Told, Goes, AreKept}
+use Rattle.entries.specs.Index.{Index, Told, AreKept, HasGone}
 use Rattle.entries.specs.Calls.{Delays, Fetches, NextKeys, Inserts, Replaces, Removes}
 use Rattle.world.specs.State.{WorldState}
-use Rattle.world.specs.Indexes.{Calls, Changes}
+use Rattle.world.specs.Indexes.{InIndex, Calls, Changes}
 use Rattle.coded_rows.specs.Edits.{with_value}
 use Rattle.row_changes.specs.Entries.{IsThere, HindersEntry}
 use Rattle.row_changes.specs.Pairs.{RowsStay, PutsPair, Hinders}
 
--- where the call has kept the pairs of its index, no pair has changed anywhere
-pub stays_if : {index : ℕ} {call : Index → Index → Type 0} {old new : WorldState} → Calls index call old new → AreKept (old.indexes index).pairs (new.indexes index).pairs → RowsStay old new
+-- the pairs are kept, and each actor's place
+abbrev pub HasStayed : Index → Index → Type 0
+HasStayed old new = AreKept old.pairs new.pairs × (new.place ≡ old.place)
+
+-- where a step in one index has kept the places there, no place has changed anywhere
+pub places_if : {index : ℕ} {step : Index → Index → Type 0} {old new : WorldState} → InIndex index step old new → (new.indexes index).place ≡ (old.indexes index).place → (i : ℕ) → (new.indexes i).place ≡ (old.indexes i).place
+places_if {index} {step} {old} {new} is kept i =
+    ⊎_elim (λ e. subst (λ k. (new.indexes k).place ≡ (old.indexes k).place) (sym e) kept) (λ other. (is.elsewhere i other).place) (cases_eq i index)
+
+-- where a step in one index has kept the pairs there, no pair has changed anywhere
+pub pairs_if : {index : ℕ} {step : Index → Index → Type 0} {old new : WorldState} → InIndex index step old new → AreKept (old.indexes index).pairs (new.indexes index).pairs → (i : ℕ) → AreKept (old.indexes i).pairs (new.indexes i).pairs
+pairs_if {index} {step} {old} {new} is kept i =
+    ⊎_elim (λ e. subst (λ k. AreKept (old.indexes k).pairs (new.indexes k).pairs) (sym e) kept) (λ other. (is.elsewhere i other).pairs) (cases_eq i index)
+
+-- where the call has kept its index, no pair has changed anywhere, and no place
+pub stays_if : {index : ℕ} {call : Index → Index → Type 0} {old new : WorldState} → Calls index call old new → HasStayed (old.indexes index) (new.indexes index) → RowsStay old new
 stays_if {index} {call} {old} {new} c kept =
-    record {
-      pairs = λ i. ⊎_elim (λ e. subst (λ k. AreKept (old.indexes k).pairs (new.indexes k).pairs) (sym e) kept) (λ other. (c.index_is.elsewhere i other).pairs) (cases_eq i index);
-      versions = c.beside.versions;
-      rest = c.beside.rest;
-    }
+    record { pairs = pairs_if c.index_is kept.0; places = places_if c.index_is kept.1; versions = c.beside.versions; rest = c.beside.rest }
 
 -- what a delay leaves
-pub delay_keeps : (actor : ℕ) (old new : Index) (move : Move) → Delays actor old new move → AreKept old.pairs new.pairs
-delay_keeps actor old new Step h = h.all.pairs
-delay_keeps actor old new (Latch by) h = h.all.pairs
-delay_keeps actor old new Again h = h.all.pairs
-delay_keeps actor old new Failed h = h.pairs
-delay_keeps actor old new (Bad page rule) h = h.all.pairs
+pub delay_keeps : (actor : ℕ) (old new : Index) (move : Move) → Delays actor old new move → HasStayed old new
+delay_keeps actor old new Step h = (h.all.pairs, h.all.place)
+delay_keeps actor old new (Latch by) h = (h.all.pairs, h.all.place)
+delay_keeps actor old new Again h = (h.all.pairs, h.all.place)
+delay_keeps actor old new Failed h = (h.pairs, h.place)
+delay_keeps actor old new (Bad page rule) h = (h.all.pairs, h.all.place)
 delay_keeps actor old new (At key value) h = absurd h
 delay_keeps actor old new End h = absurd h
 delay_keeps actor old new Done h = absurd h
@@ -65,14 +75,14 @@ fetch_delays actor key read old new (Full need free) h not_done not_end = h
 fetch_delays actor key read old new TooDeep h not_done not_end = h
 fetch_delays actor key read old new NoMemory h not_done not_end = h
 
-pub fetch_keeps : (actor : ℕ) (key read : List ℕ) (old new : Index) (move : Move) → Fetches actor key read old new move → AreKept old.pairs new.pairs
-fetch_keeps actor key read old new Done h = h.1.pairs
-fetch_keeps actor key read old new End h = h.1.pairs
-fetch_keeps actor key read old new Step h = h.all.pairs
-fetch_keeps actor key read old new (Latch by) h = h.all.pairs
-fetch_keeps actor key read old new Again h = h.all.pairs
-fetch_keeps actor key read old new Failed h = h.pairs
-fetch_keeps actor key read old new (Bad page rule) h = h.all.pairs
+pub fetch_keeps : (actor : ℕ) (key read : List ℕ) (old new : Index) (move : Move) → Fetches actor key read old new move → HasStayed old new
+fetch_keeps actor key read old new Done h = (h.1.pairs, h.1.place)
+fetch_keeps actor key read old new End h = (h.1.pairs, h.1.place)
+fetch_keeps actor key read old new Step h = (h.all.pairs, h.all.place)
+fetch_keeps actor key read old new (Latch by) h = (h.all.pairs, h.all.place)
+fetch_keeps actor key read old new Again h = (h.all.pairs, h.all.place)
+fetch_keeps actor key read old new Failed h = (h.pairs, h.place)
+fetch_keeps actor key read old new (Bad page rule) h = (h.all.pairs, h.all.place)
 fetch_keeps actor key read old new (At k value) h = absurd h
 fetch_keeps actor key read old new (Full need free) h = absurd h
 fetch_keeps actor key read old new TooDeep h = absurd h
@@ -80,14 +90,14 @@ fetch_keeps actor key read old new NoMemory h = absurd h
 
 -- ---- next_key
 
-pub next_key_keeps : (actor : ℕ) (key read : List ℕ) (old new : Index) (move : Move) → NextKeys actor key read old new move → AreKept old.pairs new.pairs
-next_key_keeps actor key read old new Done h = h.2.pairs
-next_key_keeps actor key read old new End h = h.2.pairs
-next_key_keeps actor key read old new (Latch by) h = ⊎_elim (λ off. off.all.pairs) (λ delay. delay.all.pairs) h
-next_key_keeps actor key read old new Step h = h.all.pairs
-next_key_keeps actor key read old new Again h = h.all.pairs
-next_key_keeps actor key read old new Failed h = h.pairs
-next_key_keeps actor key read old new (Bad page rule) h = h.all.pairs
+pub next_key_keeps : (actor : ℕ) (key read : List ℕ) (old new : Index) (move : Move) → NextKeys actor key read old new move → HasStayed old new
+next_key_keeps actor key read old new Done h = (h.2.pairs, h.2.place)
+next_key_keeps actor key read old new End h = (h.2.pairs, h.2.place)
+next_key_keeps actor key read old new (Latch by) h = ⊎_elim (λ off. (off.all.pairs, off.all.place)) (λ delay. (delay.all.pairs, delay.all.place)) h
+next_key_keeps actor key read old new Step h = (h.all.pairs, h.all.place)
+next_key_keeps actor key read old new Again h = (h.all.pairs, h.all.place)
+next_key_keeps actor key read old new Failed h = (h.pairs, h.place)
+next_key_keeps actor key read old new (Bad page rule) h = (h.all.pairs, h.all.place)
 next_key_keeps actor key read old new (At k value) h = absurd h
 next_key_keeps actor key read old new (Full need free) h = absurd h
 next_key_keeps actor key read old new TooDeep h = absurd h
@@ -109,18 +119,20 @@ next_key_hinders actor key read old new NoMemory h not_done not_end = absurd h
 -- ---- changes
 
 -- a change that brings no undo record
-pub puts_if : {index actor : ℕ} {call : Index → Index → Move → Type 0} {old new : WorldState} {answer : Move} (key : List ℕ) (value : Option (List ℕ)) → Changes index actor None call old new answer
-    → Goes (λ before after. after ≡ with_value key value before) (old.indexes index).pairs (new.indexes index).pairs → PutsPair index key value old new
+pub puts_if : {index actor : ℕ} {call : Index → Index → Move → Type 0} {old new : WorldState} {answer : Move} {holder : Option ℕ} (key : List ℕ) (value : Option (List ℕ)) → Changes index actor None call old new answer
+    → HasGone (λ before after. after ≡ with_value key value before) holder (old.indexes index) (new.indexes index) → PutsPair index key value old new
 puts_if key value c here =
-    record { here = here; elsewhere = λ other differs. (c.index_is.elsewhere other differs).pairs; versions = c.beside.versions; rest = c.beside.rest }
-
-pub change_stays_if : {index actor : ℕ} {call : Index → Index → Move → Type 0} {old new : WorldState} {answer : Move} → Changes index actor None call old new answer → AreKept (old.indexes index).pairs (new.indexes index).pairs → RowsStay old new
-change_stays_if {index} {actor} {call} {old} {new} c kept =
     record {
-      pairs = λ i. ⊎_elim (λ e. subst (λ k. AreKept (old.indexes k).pairs (new.indexes k).pairs) (sym e) kept) (λ other. (c.index_is.elsewhere i other).pairs) (cases_eq i index);
+      here = here.pairs;
+      elsewhere = λ other differs. (c.index_is.elsewhere other differs).pairs;
+      places = places_if c.index_is here.place;
       versions = c.beside.versions;
       rest = c.beside.rest;
     }
+
+pub change_stays_if : {index actor : ℕ} {call : Index → Index → Move → Type 0} {old new : WorldState} {answer : Move} → Changes index actor None call old new answer → HasStayed (old.indexes index) (new.indexes index) → RowsStay old new
+change_stays_if {index} {actor} {call} {old} {new} c kept =
+    record { pairs = pairs_if c.index_is kept.0; places = places_if c.index_is kept.1; versions = c.beside.versions; rest = c.beside.rest }
 
 -- what is known of the key and what was answered contradict each other, so the pairs aren't told
 there_and_not : (entry : List ℕ) (index : Index) → IsThere true entry index → Told (λ pairs. value_of entry pairs ≡ None) index → index.pairs ≡ None
@@ -139,17 +151,17 @@ none_and_some entry kept index there none = go index.pairs there none
 
 -- ---- insert
 
-pub insert_keeps : (actor : ℕ) (key value : List ℕ) (old new : Index) (move : Move) → Inserts actor key value old new move → move ≢ Done → AreKept old.pairs new.pairs
+pub insert_keeps : (actor : ℕ) (key value : List ℕ) (old new : Index) (move : Move) → Inserts actor key value old new move → move ≢ Done → HasStayed old new
 insert_keeps actor key value old new Done h not_done = absurd (not_done refl)
-insert_keeps actor key value old new (At there kept) h not_done = h.3.pairs
-insert_keeps actor key value old new (Latch by) h not_done = ⊎_elim (λ off. off.all.pairs) (λ delay. delay.all.pairs) h
-insert_keeps actor key value old new NoMemory h not_done = h.1.pairs
-insert_keeps actor key value old new (Full need free) h not_done = h.all.pairs
-insert_keeps actor key value old new TooDeep h not_done = h.all.pairs
-insert_keeps actor key value old new Step h not_done = h.all.pairs
-insert_keeps actor key value old new Again h not_done = h.all.pairs
-insert_keeps actor key value old new Failed h not_done = h.pairs
-insert_keeps actor key value old new (Bad page rule) h not_done = h.all.pairs
+insert_keeps actor key value old new (At there kept) h not_done = (h.3.pairs, h.3.place)
+insert_keeps actor key value old new (Latch by) h not_done = ⊎_elim (λ off. (off.all.pairs, off.all.place)) (λ delay. (delay.all.pairs, delay.all.place)) h
+insert_keeps actor key value old new NoMemory h not_done = (h.1.pairs, h.1.place)
+insert_keeps actor key value old new (Full need free) h not_done = (h.all.pairs, h.all.place)
+insert_keeps actor key value old new TooDeep h not_done = (h.all.pairs, h.all.place)
+insert_keeps actor key value old new Step h not_done = (h.all.pairs, h.all.place)
+insert_keeps actor key value old new Again h not_done = (h.all.pairs, h.all.place)
+insert_keeps actor key value old new Failed h not_done = (h.pairs, h.place)
+insert_keeps actor key value old new (Bad page rule) h not_done = (h.all.pairs, h.all.place)
 insert_keeps actor key value old new End h not_done = absurd h
 
 -- where the key was not there
@@ -168,17 +180,17 @@ insert_hinders actor key value old new End absent h not_done = absurd h
 
 -- ---- replace
 
-pub replace_keeps : (actor : ℕ) (key value : List ℕ) (old new : Index) (move : Move) → Replaces actor key value old new move → move ≢ Done → AreKept old.pairs new.pairs
+pub replace_keeps : (actor : ℕ) (key value : List ℕ) (old new : Index) (move : Move) → Replaces actor key value old new move → move ≢ Done → HasStayed old new
 replace_keeps actor key value old new Done h not_done = absurd (not_done refl)
-replace_keeps actor key value old new End h not_done = h.1.pairs
-replace_keeps actor key value old new (Latch by) h not_done = h.all.pairs
-replace_keeps actor key value old new NoMemory h not_done = h.1.pairs
-replace_keeps actor key value old new (Full need free) h not_done = h.1.all.pairs
-replace_keeps actor key value old new TooDeep h not_done = h.1.all.pairs
-replace_keeps actor key value old new Step h not_done = h.all.pairs
-replace_keeps actor key value old new Again h not_done = h.all.pairs
-replace_keeps actor key value old new Failed h not_done = h.pairs
-replace_keeps actor key value old new (Bad page rule) h not_done = h.all.pairs
+replace_keeps actor key value old new End h not_done = (h.1.pairs, h.1.place)
+replace_keeps actor key value old new (Latch by) h not_done = (h.all.pairs, h.all.place)
+replace_keeps actor key value old new NoMemory h not_done = (h.1.pairs, h.1.place)
+replace_keeps actor key value old new (Full need free) h not_done = (h.1.all.pairs, h.1.all.place)
+replace_keeps actor key value old new TooDeep h not_done = (h.1.all.pairs, h.1.all.place)
+replace_keeps actor key value old new Step h not_done = (h.all.pairs, h.all.place)
+replace_keeps actor key value old new Again h not_done = (h.all.pairs, h.all.place)
+replace_keeps actor key value old new Failed h not_done = (h.pairs, h.place)
+replace_keeps actor key value old new (Bad page rule) h not_done = (h.all.pairs, h.all.place)
 replace_keeps actor key value old new (At k v) h not_done = absurd h
 
 -- where the key was there
@@ -197,14 +209,14 @@ replace_hinders actor key value old new (At k v) there h not_done = absurd h
 
 -- ---- remove
 
-pub remove_keeps : (actor : ℕ) (key : List ℕ) (old new : Index) (move : Move) → Removes actor key old new move → move ≢ Done → AreKept old.pairs new.pairs
+pub remove_keeps : (actor : ℕ) (key : List ℕ) (old new : Index) (move : Move) → Removes actor key old new move → move ≢ Done → HasStayed old new
 remove_keeps actor key old new Done h not_done = absurd (not_done refl)
-remove_keeps actor key old new End h not_done = h.2.pairs
-remove_keeps actor key old new (Latch by) h not_done = ⊎_elim (λ off. off.all.pairs) (λ delay. delay.all.pairs) h
-remove_keeps actor key old new Step h not_done = h.all.pairs
-remove_keeps actor key old new Again h not_done = h.all.pairs
-remove_keeps actor key old new Failed h not_done = h.pairs
-remove_keeps actor key old new (Bad page rule) h not_done = h.all.pairs
+remove_keeps actor key old new End h not_done = (h.2.pairs, h.2.place)
+remove_keeps actor key old new (Latch by) h not_done = ⊎_elim (λ off. (off.all.pairs, off.all.place)) (λ delay. (delay.all.pairs, delay.all.place)) h
+remove_keeps actor key old new Step h not_done = (h.all.pairs, h.all.place)
+remove_keeps actor key old new Again h not_done = (h.all.pairs, h.all.place)
+remove_keeps actor key old new Failed h not_done = (h.pairs, h.place)
+remove_keeps actor key old new (Bad page rule) h not_done = (h.all.pairs, h.all.place)
 remove_keeps actor key old new NoMemory h not_done = absurd h
 remove_keeps actor key old new (Full need free) h not_done = absurd h
 remove_keeps actor key old new TooDeep h not_done = absurd h

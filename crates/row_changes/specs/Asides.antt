@@ -11,9 +11,10 @@ pub record IsReadied (before after : Session) : Type 0 where
   pub can_reply : after.can_reply ≡ before.can_reply
   pub can_ack : after.can_ack ≡ before.can_ack
 
--- No pair has changed, and of sessions only the rooms of this one.
+-- No pair has changed, no actor's place, and of sessions only the rooms of this one.
 pub record StepsAside (s : ℕ) (old new : WorldState) : Type 0 where
   pub pairs : (index : ℕ) → AreKept (old.indexes index).pairs (new.indexes index).pairs
+  pub places : (index : ℕ) → (new.indexes index).place ≡ (old.indexes index).place
   pub versions : Stays old.versions new.versions
   pub before : Session
   pub after : Session

@@ -3,11 +3,12 @@ use Rattle.std.specs.Prelude.{◌≡◌, ℕ, ◌+◌, ◌-◌, ◌*◌, ◌^◌
 use Rattle.inno_types.specs.declared.value.Value.{Value}
 use Rattle.inno_types.specs.declared.value.Schema.{Schema}
 use Rattle.entries.specs.declared.answers.Move.{Move}
+use Rattle.entries.specs.Index.{AreKept}
 use Rattle.chain.specs.Versions.{Stays}
 use Rattle.row_versions.specs.declared.place.Place.{Place}
 use Rattle.row_versions.specs.declared.version.Version.{Version}
 use Rattle.row_versions.specs.Chains.{Chains, versions_at, newest}
-use Rattle.coded_rows.specs.Edits.{key_index}
+use Rattle.coded_rows.specs.Edits.{clustered_index, key_index}
 use Rattle.coded_rows.specs.Tables.{Said, LagAt}
 use Rattle.world.specs.State.{WorldState}
 use Rattle.row_changes.specs.declared.entry_put.EntryPut.{EntryPut}
@@ -20,7 +21,8 @@ use Rattle.row_changes.specs.Entries.{IsPutting, put_steps, HindersEntry}
 use Rattle.row_changes.specs.Edits.{IsRowFor, IsKeyAt}
 use Rattle.row_changes.specs.Records.{IsTable}
 use Rattle.row_changes.specs.KeyEntries.{IsEntryFor}
-use Rattle.row_changes.specs.Told.{IsTold, AreRowsAs, HasRows}
+use Rattle.world.specs.Told.{IsTold}
+use Rattle.row_changes.specs.Told.{AreRowsAs, HasRows}
 
 -- ---- what keys say meanwhile
 
@@ -88,8 +90,11 @@ abbrev pub keys_steps : ℕ → Option EntryPut → ℕ
 keys_steps keys None = 4 * keys
 keys_steps keys (Some put) = 4 * (keys - 1) + put_steps put.phase
 
--- entries alone have changed
+-- Entries alone have changed: no record, and no actor's place.
 pub record StaysBesideKeys (old new : WorldState) : Type 0 where
+  pub told : IsTold new → IsTold old
+  pub records : (table : ℕ) → AreKept (old.indexes (clustered_index table)).pairs (new.indexes (clustered_index table)).pairs
+  pub places : (index : ℕ) → (new.indexes index).place ≡ (old.indexes index).place
   pub versions : Stays old.versions new.versions
   pub rest : new ≡ record old { indexes = new.indexes; versions = new.versions; paged = new.paged }
 

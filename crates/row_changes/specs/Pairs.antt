@@ -8,16 +8,18 @@ use Rattle.chain.specs.Versions.{Stays}
 use Rattle.coded_rows.specs.Edits.{with_value}
 use Rattle.world.specs.State.{WorldState}
 
--- no pair has changed anywhere
+-- no pair has changed anywhere, and no actor's place
 pub record RowsStay (old new : WorldState) : Type 0 where
   pub pairs : (index : ℕ) → AreKept (old.indexes index).pairs (new.indexes index).pairs
+  pub places : (index : ℕ) → (new.indexes index).place ≡ (old.indexes index).place
   pub versions : Stays old.versions new.versions
   pub rest : new ≡ record old { indexes = new.indexes; versions = new.versions; paged = new.paged }
 
--- At one index the key has this value now, or none; no other pair has changed.
+-- At one index the key has this value now, or none; no other pair has changed, and no actor's place.
 pub record PutsPair (index : ℕ) (key : List ℕ) (value : Option (List ℕ)) (old new : WorldState) : Type 0 where
   pub here : Goes (λ before after. after ≡ with_value key value before) (old.indexes index).pairs (new.indexes index).pairs
   pub elsewhere : (other : ℕ) → other ≢ index → AreKept (old.indexes other).pairs (new.indexes other).pairs
+  pub places : (index : ℕ) → (new.indexes index).place ≡ (old.indexes index).place
   pub versions : Stays old.versions new.versions
   pub rest : new ≡ record old { indexes = new.indexes; versions = new.versions; paged = new.paged }
 

@@ -130,10 +130,12 @@ pub record ChangesWork (s : ℕ) (logged_undo : Undo) (old new : WorldState) : T
   pub txns : new.txns ≡ txns_with_id work old.txns
   pub versions : KeepsIf (logged_undo.kind == 2) old.schemas session.next_pointer logged_undo old.versions new.versions
 
--- A version is the newest of its row now: its record stands, what it replaced is kept, and the history says so.
+-- A version is the newest of its row now: its record stands, what it replaced is kept, and the history says so. No actor's
+-- place has changed.
 pub record Records (s : ℕ) (change : Change) (rows : ℕ) (table : ℕ) (key bytes : List ℕ) (undo : Undo) (old new : WorldState) : Type 0 where
   pub here : Goes (λ before after. after ≡ with_value key (Some bytes) before) (old.indexes (clustered_index table)).pairs (new.indexes (clustered_index table)).pairs
   pub elsewhere : (other : ℕ) → other ≢ clustered_index table → AreKept (old.indexes other).pairs (new.indexes other).pairs
+  pub places : (index : ℕ) → (new.indexes index).place ≡ (old.indexes index).place
   pub work : ChangesWork s undo old new
   pub rest : new ≡ record old { past = Changed s change ∷ old.past; rows = old.rows + rows; indexes = new.indexes; versions = new.versions; paged = new.paged; sessions = new.sessions; txns = new.txns }
 

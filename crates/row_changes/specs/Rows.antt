@@ -58,7 +58,7 @@ row_steps keys (Keys change) = keys_steps (keys - change.which) change.put
 abbrev pub GoesOnWithRow : ℕ → Chains → WorldState → WorldState → RowChange → RowChange → Type 0
 GoesOnWithRow s chains old new (Record change key after) (Record next key' after') = GoesOnWithRecord s old new change next × IsChangingRow s chains new (Record next key' after')
 GoesOnWithRow s chains old new (Record change key after) (Keys next) =
-    ChangesRecord s old new change (records.Recorded next.before) × ((pushed : Chains) → PushesEdit s change old chains pushed → IsChangingKeys pushed new next)
+    ChangesRecord s old new change (records.Recorded next.before) × ((pushed : Chains) → PushesEdit s change old chains pushed → IsChangingKeys pushed new next) × (next.table ≡ change.table) × (next.key ≡ change.key)
 GoesOnWithRow s chains old new (Keys change) (Record next key after) = ⊥
 GoesOnWithRow s chains old new (Keys change) (Keys next) = GoesOnWithKeys chains old new change next
 

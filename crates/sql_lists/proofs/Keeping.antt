@@ -1,5 +1,5 @@
 -- Each entry keeps the history legal, and what is kept beside it in agreement.
-use Rattle.std.proofs.Common.{◌≡◌, ◌≢◌, ℕ, zero, suc, ◌+◌, ◌-◌, ◌<◌, ◌≤◌, true, false, cond, eqb, Option, Some, None, List, [], ◌∷◌, ◌++◌, length, get_or, set, refl, sym, ap, subst, ◌∙◌, inl, inr, arith}
+use Rattle.std.proofs.Common.{◌≡◌, ◌≢◌, ℕ, ◌+◌, ◌-◌, ◌<◌, ◌≤◌, true, false, cond, eqb, Option, Some, None, List, [], ◌∷◌, ◌++◌, length, get_or, set, refl, sym, ap, subst, ◌∙◌, inl, inr, arith}
 use Rattle.std.proofs.lemmas.Bool.Decides.{nat_tests, eqb_tells}
 use Rattle.std.proofs.lemmas.List.{length-set, length-append}
 use Rattle.std.proofs.lemmas.List.Sums.{sum_by-cons}
@@ -27,10 +27,20 @@ use Rattle.sql_history.specs.Items.{Asks}
 use Rattle.sql_history.specs.Settings.{Setting, HasSet, at_first, at_begin, at_end, saved, set_by}
 use Rattle.sql_history.specs.Counts.{has_stopped, last_moment, rows_of_entry, rows_kept, rows_of_reply, most_rows}
 use Rattle.sql_history.specs.Legal.{MayFollow, PaysCommit, MayBegin, MayView, MayChange, MayUndo, MayCommit, MayRollBack, is_leaving, IsWithin, EndsBy, owed_by, owes_commit}
-use Rattle.table_lists.specs.State.{State, Adds, Closes}
-use Rattle.table_lists.specs.Order.{created, is_creation, IsTabled, IsUndoable, MayCome}
+use Rattle.table_lists.specs.Order.{created, is_creation, IsOfRow, IsTabled, IsUndoable, MayCome}
 use Rattle.table_lists.proofs.Ids.{ids_of}
-use Rattle.sql_lists.specs.Kept.{IsKept, MayReply, OwesAck, SetsQuietly, AreStanding, IsInOrder, made}
+use Rattle.sql_plan.specs.declared.choice.Plan.{Plan}
+use Rattle.shared_lists.specs.declared.answers.Reading.{Reading}
+use Rattle.shared_lists.specs.declared.answers.Searched.{Searched}
+use Rattle.shared_lists.specs.declared.answers.Searched.TheVariants as searched
+use Rattle.shared_lists.specs.declared.answers.Changed.{Changed}
+use Rattle.shared_lists.specs.declared.answers.Changed.TheVariants as made
+use Rattle.shared_lists.specs.declared.answers.Undone.{Undone}
+use Rattle.shared_lists.specs.declared.answers.Undone.TheVariants as undone
+use Rattle.shared_lists.specs.Tasks.{Task, Idle, asked, left_by}
+use Rattle.shared_lists.specs.State.{State, Lists, IsNow, Adds, Closes, Turns, Stays, task_of, writer_without}
+use Rattle.shared_lists.specs.Steps.{Searches, Changes, TakesBack, rows_of_change, rows_entered}
+use Rattle.sql_lists.specs.Kept.{IsKept, MayReply, OwesAck, SetsQuietly, AreStanding, IsInOrder, made as tables_made}
 use Rattle.sql_lists.proofs.Settings.{AllSet, set_other, sets_one, sets_none, sets_joined, set_at_begin, set_at_commit, set_at_rollback, set_at_end, set_at_done}
 use Rattle.sql_lists.proofs.Ordered.{same_seen, ordered_changed, ordered_undone, ordered_committed}
 use Rattle.sql_lists.proofs.Standing.{schemas_after, committed_is, stands_plain, stands_row, stands_begun, stands_rolled_back, stands_undone, stands_committed, stands_created}
@@ -72,7 +82,7 @@ module _ (names : List (List ℕ)) (h : List Event) (settings : List Setting) (r
       }
 
   -- the tables that a session sees that alone has changes
-  tabled_now : (s : ℕ) (change : Change) → ((other : ℕ) → other ≢ s → own other h ≡ []) → IsTabled (length (created h)) change → IsTabled (length ((opening h).schemas ++ made (own s h ++ committed (commits h) h))) change
+  tabled_now : (s : ℕ) (change : Change) → ((other : ℕ) → other ≢ s → own other h ≡ []) → IsTabled (length (created h)) change → IsTabled (length ((opening h).schemas ++ tables_made (own s h ++ committed (commits h) h))) change
   tabled_now s change alone tabled =
       subst (λ (schemas : List Schema). IsTabled (length schemas) change)
       (kept.stands.tables s (λ other ne. ap (list_any is_creation) (alone other ne)) ∙ schemas_after (opening h) (own s h ++ committed (commits h) h)) tabled
@@ -226,52 +236,126 @@ module _ (names : List (List ℕ)) (h : List Event) (settings : List Setting) (r
         ordered = kept.ordered;
       }
 
-  pub kept_wait : IsKept names h (settings ++ at_first ∷ []) rows
-  kept_wait =
-      record {
-        legal = kept.legal;
-        opened = kept.opened;
-        sound = kept.sound;
-        set = sets_joined h settings kept.set;
-        enough = rw (length-append settings (at_first ∷ [])) (omega (arith, kept.enough));
-        counted = kept.counted;
-        few = kept.few;
-        runs = kept.runs;
-        timeless = kept.timeless;
-        paid = kept.paid;
-        stands = kept.stands;
-        ordered = kept.ordered;
-      }
+-- ---- from the clauses of what keeps the lists
 
--- ---- from the lists' own clauses
+-- the invariant
+abbrev pub AreKept : Lists → Type 0
+AreKept lists = IsKept lists.state.names lists.state.past lists.settings lists.rows
 
-pub by_adding : (e : Event) (old new : State) (settings : List Setting) (rows : ℕ) → Adds e old new → IsKept old.names (e ∷ old.past) settings rows → IsKept new.names new.past settings rows
-by_adding e old new settings rows is after = subst (λ (state : State). IsKept state.names state.past settings rows) (sym is) after
+pub by_now : (past : List Event) (s : ℕ) (task : Task) (writer : Option ℕ) (old new : Lists) (settings : List Setting) (rows : ℕ)
+    → IsNow past s task writer old.state new.state → new.settings ≡ settings → new.rows ≡ rows → IsKept old.state.names past settings rows → AreKept new
+by_now past s task writer old new settings rows now sets counts kept =
+    subst (λ names. IsKept names new.state.past new.settings new.rows) (sym now.names_are)
+    (subst (λ h. IsKept old.state.names h new.settings new.rows) (sym now.past_is)
+    (subst (λ x. IsKept old.state.names past x new.rows) (sym sets)
+    (subst (λ n. IsKept old.state.names past settings n) (sym counts) kept)))
 
-pub by_closing : (e : Event) (s : ℕ) (old new : State) (settings : List Setting) (rows : ℕ) → Closes e s old new → IsKept old.names (e ∷ old.past) settings rows → IsKept new.names new.past settings rows
-by_closing e s old new settings rows is after = subst (λ (state : State). IsKept state.names state.past settings rows) (sym is) after
+-- nothing changes but what a session has under way
+pub by_turning : (s : ℕ) (task : Task) (old new : Lists) → Turns s task old.state new.state → new.settings ≡ old.settings → new.rows ≡ old.rows → AreKept old → AreKept new
+by_turning s task old new turns sets counts kept = by_now old.state.past s task old.state.writer old new old.settings old.rows turns sets counts kept
 
-pub by_result : {X Y : Type 0} (result : Result X Y) (e : Event) (old new : State) (settings : List Setting) (rows : ℕ) → OnOk result (Adds e old new) → OnErr result (new ≡ old) → IsKept old.names old.past settings rows → IsKept old.names (e ∷ old.past) settings rows → IsKept new.names new.past settings rows
-by_result (Ok x) e old new settings rows ok err before after = by_adding e old new settings rows ok after
-by_result (Err x) e old new settings rows ok err before after = subst (λ (state : State). IsKept state.names state.past settings rows) (sym err) before
+pub by_adding : (e : Event) (s : ℕ) (old new : Lists) (settings : List Setting) (rows : ℕ)
+    → Adds e s old.state new.state → new.settings ≡ settings → new.rows ≡ rows → IsKept old.state.names (e ∷ old.state.past) settings rows → AreKept new
+by_adding e s old new settings rows adds sets counts after = by_now (e ∷ old.state.past) s (task_of s old.state) old.state.writer old new settings rows adds sets counts after
 
-pub by_join : {X Y : Type 0} (result : Result X Y) (name : List ℕ) (old new : State) (settings : List Setting) (rows : ℕ) → OnOk result (new ≡ record old { names = old.names ++ name ∷ [] }) → OnErr result (new ≡ old) → IsKept old.names old.past settings rows → IsKept new.names new.past (settings ++ at_first ∷ []) rows
-by_join (Ok x) name old new settings rows ok err before = subst (λ (state : State). IsKept state.names state.past (settings ++ at_first ∷ []) rows) (sym ok) (kept_join old.names old.past settings rows before name)
-by_join (Err x) name old new settings rows ok err before = subst (λ (state : State). IsKept state.names state.past (settings ++ at_first ∷ []) rows) (sym err) (kept_wait old.names old.past settings rows before)
+pub by_closing : (e : Event) (s : ℕ) (old new : Lists) (settings : List Setting)
+    → Closes e s old.state new.state → new.settings ≡ settings → new.rows ≡ old.rows → IsKept old.state.names (e ∷ old.state.past) settings old.rows → AreKept new
+by_closing e s old new settings closes sets counts after = by_now (e ∷ old.state.past) s (task_of s old.state) (writer_without old.state.writer s) old new settings old.rows closes sets counts after
 
--- within a list no default is taken
-pub at_any : (settings : List Setting) (i : ℕ) (x y : Setting) → i < length settings → get_or settings i x ≡ get_or settings i y
-at_any [] i x y lt = absurd (omega (arith, lt))
-at_any (z ∷ settings) zero x y lt = refl
-at_any (z ∷ settings) (suc i) x y lt = at_any settings i x y (omega (arith, lt))
+-- an entry that may want memory
+pub by_result : {X Y : Type 0} (result : Result X Y) (e : Event) (s : ℕ) (old new : Lists)
+    → OnOk result (Adds e s old.state new.state) → OnErr result (Stays s old.state new.state) → new.settings ≡ old.settings → new.rows ≡ old.rows
+    → AreKept old → IsKept old.state.names (e ∷ old.state.past) old.settings old.rows → AreKept new
+by_result (Ok x) e s old new ok err sets counts before after = by_adding e s old new old.settings old.rows ok sets counts after
+by_result (Err x) e s old new ok err sets counts before after = by_turning s (task_of s old.state) old new err sets counts before
+
+-- a transaction that is opened
+pub by_begin : {X Y : Type 0} (result : Result X Y) (e : Event) (s : ℕ) (old new : Lists) (settings : List Setting)
+    → OnOk result (Adds e s old.state new.state) → OnErr result (Stays s old.state new.state) → OnOk result (new.settings ≡ settings) → OnErr result (new.settings ≡ old.settings) → new.rows ≡ old.rows
+    → AreKept old → IsKept old.state.names (e ∷ old.state.past) settings old.rows → AreKept new
+by_begin (Ok x) e s old new settings ok err sets unset counts before after = by_adding e s old new settings old.rows ok sets counts after
+by_begin (Err x) e s old new settings ok err sets unset counts before after = by_turning s (task_of s old.state) old new err unset counts before
+
+-- a search, or a change, that is begun or not
+pub by_turn : {X Y : Type 0} (result : Result X Y) (s : ℕ) (task : Task) (old new : Lists)
+    → OnOk result (Turns s task old.state new.state) → OnErr result (Stays s old.state new.state) → new.settings ≡ old.settings → new.rows ≡ old.rows → AreKept old → AreKept new
+by_turn (Ok x) s task old new ok err sets counts before = by_turning s task old new ok sets counts before
+by_turn (Err x) s task old new ok err sets counts before = by_turning s (task_of s old.state) old new err sets counts before
+
+pub by_join : {X Y : Type 0} (result : Result X Y) (name : List ℕ) (old new : Lists)
+    → OnOk result (new.state.names ≡ old.state.names ++ name ∷ []) → new.state.past ≡ old.state.past → OnOk result (new.settings ≡ old.settings ++ at_first ∷ []) → new.rows ≡ old.rows
+    → OnErr result ((new.state.names ≡ old.state.names) × (new.settings ≡ old.settings)) → AreKept old → AreKept new
+by_join {X} {Y} result name old new names past sets counts err before =
+    subst (λ h. IsKept new.state.names h new.settings new.rows) (sym past)
+    (subst (λ n. IsKept new.state.names old.state.past new.settings n) (sym counts) (go result names sets err)) where
+      go : (r : Result X Y) → OnOk r (new.state.names ≡ old.state.names ++ name ∷ []) → OnOk r (new.settings ≡ old.settings ++ at_first ∷ []) → OnErr r ((new.state.names ≡ old.state.names) × (new.settings ≡ old.settings)) → IsKept new.state.names old.state.past new.settings old.rows
+      go (Ok x) names sets err =
+          subst (λ ns. IsKept ns old.state.past new.settings old.rows) (sym names)
+          (subst (λ xs. IsKept (old.state.names ++ name ∷ []) old.state.past xs old.rows) (sym sets) (kept_join old.state.names old.state.past old.settings old.rows before name))
+      go (Err x) names sets err =
+          subst (λ ns. IsKept ns old.state.past new.settings old.rows) (sym err.0)
+          (subst (λ xs. IsKept old.state.names old.state.past xs old.rows) (sym err.1) before)
+
+-- the session's change makes a step
+pub by_change : (s : ℕ) (old new : Lists) (answer : Changed) → ((other : ℕ) → other ≢ s → own other old.state.past ≡ [])
+    → ((change : Change) → asked (task_of s old.state) ≡ Some change → MayChange Spells s change old.state.past × IsTabled (length (created old.state.past)) change × IsOfRow change)
+    → Changes s old.state new.state answer → new.settings ≡ old.settings → new.rows ≡ old.rows + rows_entered answer (task_of s old.state) → AreKept old → AreKept new
+by_change s old new made.Went alone may changes sets counts kept = by_turning s (task_of s new.state) old new changes.turns sets (counts ∙ omega arith) kept
+by_change s old new made.Done alone may changes sets counts kept = by_turning s Idle old new changes.1 sets (counts ∙ omega arith) kept
+by_change s old new made.NoMemory alone may changes sets counts kept = by_turning s (left_by (asked (task_of s old.state))) old new changes sets (counts ∙ omega arith) kept
+by_change s old new made.Entered alone may changes sets counts kept = go changes.change (may changes.change changes.asked_was) changes.now (counts ∙ ap (λ change. old.rows + rows_of_change change) changes.asked_was) where
+  go : (change : Change) → MayChange Spells s change old.state.past × IsTabled (length (created old.state.past)) change × IsOfRow change
+      → IsNow (events.Changed s change ∷ old.state.past) s (task_of s new.state) old.state.writer old.state new.state → new.rows ≡ old.rows + rows_of_change (Some change) → AreKept new
+  go (Create schema) may now more = absurd may.2
+  go (Put table row) may now more =
+      by_now (events.Changed s (Put table row) ∷ old.state.past) s (task_of s new.state) old.state.writer old new old.settings (old.rows + 1) now sets more
+      (kept_put old.state.names old.state.past old.settings old.rows kept s table row may.0 may.1 alone)
+  go (Remove table key) may now more =
+      by_now (events.Changed s (Remove table key) ∷ old.state.past) s (task_of s new.state) old.state.writer old new old.settings old.rows now sets (more ∙ omega arith)
+      (kept_remove old.state.names old.state.past old.settings old.rows kept s table key may.0 may.1 alone)
+
+-- the session's newest change is taken back by a step
+pub by_undo : (s : ℕ) (old new : Lists) (answer : Undone) → MayUndo Spells s (length (own s old.state.past) - 1) old.state.past → IsUndoable (length (own s old.state.past) - 1) (own s old.state.past)
+    → TakesBack s (length (own s old.state.past) - 1) old.state new.state answer → new.settings ≡ old.settings → new.rows ≡ old.rows → AreKept old → AreKept new
+by_undo s old new undone.Went may undoable takes sets counts kept = by_turning s (task_of s new.state) old new takes.0 sets counts kept
+by_undo s old new undone.NoMemory may undoable takes sets counts kept = by_turning s (task_of s old.state) old new takes sets counts kept
+by_undo s old new undone.Undone may undoable takes sets counts kept =
+    by_now (events.Undone s (length (own s old.state.past) - 1) ∷ old.state.past) s Idle old.state.writer old new old.settings old.rows takes sets counts
+    (kept_undo old.state.names old.state.past old.settings old.rows kept s may undoable)
+
+-- the session's search makes a step
+pub by_search : (s table : ℕ) (plan : Plan) (reading : Reading) (old new : Lists) (answer : Searched)
+    → Searches table plan reading s old.state new.state answer → new.settings ≡ old.settings → new.rows ≡ old.rows → AreKept old → AreKept new
+by_search s table plan reading old new searched.Went searches sets counts kept = by_turning s (task_of s old.state) old new searches sets counts kept
+by_search s table plan reading old new (searched.Found rows) searches sets counts kept = by_turning s Idle old new searches.0 sets counts kept
+by_search s table plan reading old new searched.NoMemory searches sets counts kept = by_turning s Idle old new searches sets counts kept
+
+-- an item ends, after what it set was set
+pub ends_after : (s : ℕ) (reply : Reply) (old mid new : State) → Stays s old mid → Adds (events.Ended s (started s mid.past) reply) s mid new → Adds (events.Ended s (started s old.past) reply) s old new
+ends_after s reply old mid new stays adds =
+    record {
+      names_are = adds.names_are ∙ stays.names_are;
+      past_is = adds.past_is ∙ ap (λ h. events.Ended s (started s h) reply ∷ h) stays.past_is;
+      writer_is = adds.writer_is ∙ stays.writer_is;
+      task_is = adds.task_is ∙ stays.task_is;
+      others = λ t ne. adds.others t ne ∙ stays.others t ne;
+    }
+
+pub by_setting : (s : ℕ) (stmt : Stmt) (x : Setting) (old mid new : Lists) → s < length old.state.names → MayReply s replies.Done old.state.past → Asks Spells s stmt old.state.past
+    → x ≡ set_by stmt (length (own s old.state.past)) (is_some (level s old.state.past)) (get_or old.settings s at_first)
+    → Stays s old.state mid.state → mid.settings ≡ set old.settings s x → mid.rows ≡ old.rows
+    → Adds (events.Ended s (started s mid.state.past) replies.Done) s mid.state new.state → new.settings ≡ mid.settings → new.rows ≡ mid.rows + 0 → AreKept old → AreKept new
+by_setting s stmt x old mid new joined may asks is stays sets counts adds later_sets later_counts kept =
+    by_adding (events.Ended s (started s old.state.past) replies.Done) s old new (set old.settings s x) old.rows (ends_after s replies.Done old.state mid.state new.state stays adds) (later_sets ∙ sets) (later_counts ∙ (omega arith ∙ counts))
+    (kept_done old.state.names old.state.past old.settings old.rows kept s stmt x joined may asks is)
 
 -- a statement that keeps no savepoint sets the same with and without a transaction
-pub sets_quietly : (stmt : Stmt) (s made : ℕ) (h : List Event) (x : Setting) → SetsQuietly stmt s h → set_by stmt made false x ≡ set_by stmt made (is_some (level s h)) x
+pub sets_quietly : (stmt : Stmt) (s made : ℕ) (h : List Event) (x : Setting) → SetsQuietly stmt s h → set_by stmt 0 false x ≡ set_by stmt made (is_some (level s h)) x
 sets_quietly (stmts.Savepoint name) s made h x quiet = ap (λ l. set_by (stmts.Savepoint name) made (is_some l) x) (sym quiet)
 sets_quietly (stmts.SetLevel Session l) s made h x quiet = refl
 sets_quietly (stmts.SetLevel NextTransaction l) s made h x quiet = refl
 sets_quietly other s made h x quiet = refl
 
 -- the savepoint of an open transaction
-pub saves_as : (name given : List ℕ) (made counted : ℕ) (l : Option Level) (x y : Setting) → given ≡ name → counted ≡ made → is_some l ≡ true → x ≡ y → record x { saves = saved given counted true x.saves } ≡ set_by (stmts.Savepoint name) made (is_some l) y
-saves_as name given made counted l x y given-is counted-is is_open same = rw (given-is, counted-is, is_open, same) refl
+pub saves_as : (name : List ℕ) (made : ℕ) (l : Option Level) (x : Setting) → is_some l ≡ true → record x { saves = saved name made true x.saves } ≡ set_by (stmts.Savepoint name) made (is_some l) x
+saves_as name made l x is_open = rw is_open refl

@@ -1,4 +1,5 @@
 pub mod Staying
+pub mod Moving
 mod Settings
 mod Standing
 mod Ordered

@@ -11,7 +11,7 @@ use Rattle.inno_model.specs.Loose.{starts}
 use Rattle.sql_grammar.specs.Grammar.{Spells}
 use Rattle.sql_history.specs.Items.{of_turn, is_over, point, before_turn, own_before, base}
 use Rattle.sql_history.specs.Legal.{Takes}
-use Rattle.table_lists.specs.State.{State}
+use Rattle.shared_lists.specs.State.{State}
 use Rattle.sql_lists.specs.Steps.{changes_rows, Adding}
 
 -- an entry of one session is no other's

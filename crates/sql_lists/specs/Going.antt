@@ -2,6 +2,8 @@
 use Rattle.std.specs.Prelude.{◌≡◌, ℕ, ◌<◌, ◌⊎◌, if◌then◌else◌, is_some, List, [], ◌∷◌, length}
 use Rattle.inno_model.specs.declared.event.Event.{Event}
 use Rattle.inno_model.specs.Past.{level, own, view_of}
+use Rattle.shared_lists.specs.Tasks.{undo_to_go}
+use Rattle.shared_lists.specs.State.{State, task_of}
 use Rattle.sql_lists.specs.declared.advance.Advance.{Advance}
 use Rattle.sql_lists.specs.declared.advance.Advance.TheVariants as advance
 
@@ -11,8 +13,8 @@ IsBelow (a ∷ later) (b ∷ others) = (a < b) ⊎ ((a ≡ b) × IsBelow later o
 IsBelow list other = ⊥
 
 -- fifteen numbers: how many phases are left, and what is left of this one. (Who drives a statement puts one before them.)
-abbrev pub left : ℕ → ℕ → ℕ → List ℕ
-left phases first second = phases ∷ first ∷ second ∷ 0 ∷ 0 ∷ 0 ∷ 0 ∷ 0 ∷ 0 ∷ 0 ∷ 0 ∷ 0 ∷ 0 ∷ 0 ∷ 0 ∷ []
+abbrev pub left : ℕ → ℕ → ℕ → ℕ → List ℕ
+left phases first second third = phases ∷ first ∷ second ∷ third ∷ 0 ∷ 0 ∷ 0 ∷ 0 ∷ 0 ∷ 0 ∷ 0 ∷ 0 ∷ 0 ∷ 0 ∷ 0 ∷ []
 
 -- a transaction that is yet to be opened
 abbrev pub to_open : ℕ → List Event → ℕ
@@ -26,12 +28,13 @@ to_close s past = if is_some (level s past) then 1 else 0
 abbrev pub to_view : ℕ → List Event → ℕ
 to_view s past = if is_some (view_of s past) then 0 else 1
 
--- what a rollback has before it: the changes to be put back, and then its transaction's end
-abbrev pub to_roll_back : ℕ → List Event → List ℕ
-to_roll_back s past = left 1 (to_close s past) (length (own s past))
+-- what a rollback has before it: its transaction's end, the changes to be taken back, and what is left of the one that is
+-- being taken back
+abbrev pub to_roll_back : ℕ → State → List ℕ
+to_roll_back s state = left 1 (to_close s state.past) (length (own s state.past)) (undo_to_go (task_of s state))
 
--- A step from one past and statement to another, by its answer, where so much is left of each: one that went is nearer
+-- A step from one state and statement to another, by its answer, where so much is left of each: one that went is nearer
 -- to the end.
-abbrev pub Nears : {M : Type 0} → (ℕ → List Event → M → List ℕ) → ℕ → List Event → M → List Event → M → Advance → Type 0
+abbrev pub Nears : {M : Type 0} → (ℕ → State → M → List ℕ) → ℕ → State → M → State → M → Advance → Type 0
 Nears to_go s old before new after advance.Went = IsBelow (to_go s new after) (to_go s old before)
 Nears to_go s old before new after other = Unit {0}

@@ -12,8 +12,9 @@ use Rattle.inno_model.specs.Past.{is_of, started, of_item, own, level, txn}
 use Rattle.sql_grammar.specs.Grammar.{Spells}
 use Rattle.sql_history.specs.Endings.{IsOpen}
 use Rattle.sql_history.specs.Legal.{Takes}
-use Rattle.table_lists.specs.State.{State}
 use Rattle.table_lists.specs.Order.{IsOfRow}
+use Rattle.shared_lists.specs.Tasks.{Idle}
+use Rattle.shared_lists.specs.State.{State, task_of, Stays}
 use Rattle.sql_lists.specs.declared.advance.Advance.{Advance}
 use Rattle.sql_lists.specs.declared.advance.Advance.TheVariants as advance
 
@@ -41,6 +42,7 @@ pub record Moves (t : ℕ) (old new : State) : Type 0 where
   pub names_stay : new.names ≡ old.names
   pub adding : Adding t old new
   pub writer_stays : (s : ℕ) → s ≢ t → old.writer ≡ Some s → new.writer ≡ Some s
+  pub tasks_stay : (s : ℕ) → s ≢ t → task_of s new ≡ task_of s old
 
 -- the edge of a wait for the one plain lock
 abbrev pub plain_edge : ℕ → ℕ → Edge
@@ -60,11 +62,11 @@ pub record WaitsFor (s by : ℕ) (blockers : List Edge) (state : State) : Type 0
 -- What a step does, by its answer: a statement that goes on has what holds of it between its steps.
 abbrev pub Steps : {M : Type 0} → (State → ℕ → M → Type 0) → ℕ → State → State → M → Advance → Type 0
 Steps IsRunning s old new statement advance.Went = Moves s old new × IsRunning new s statement × (started s new.past ≡ started s old.past)
-Steps IsRunning s old new statement (advance.Waiting by blockers) = (new ≡ old) × IsRunning new s statement × WaitsFor s by blockers old
+Steps IsRunning s old new statement (advance.Waiting by blockers) = Stays s old new × IsRunning new s statement × WaitsFor s by blockers old
 Steps IsRunning s old new statement advance.NoMemory = Moves s old new × IsRunning new s statement × (new.past ≡ old.past)
-Steps IsRunning s old new statement (advance.Done reply) = Moves s old new × (new.past ≡ Ended s (started s old.past) reply ∷ old.past) × HasRowsAlone s old.past
+Steps IsRunning s old new statement (advance.Done reply) = Moves s old new × (new.past ≡ Ended s (started s old.past) reply ∷ old.past) × HasRowsAlone s old.past × (task_of s new ≡ Idle)
 
 -- A step of another session, or one that joins, leaves what holds of a statement between its steps.
 abbrev pub StaysRunning : {M : Type 0} → (State → ℕ → M → Type 0) → Type 0
 StaysRunning {M} IsRunning =
-    (old new : State) (t s : ℕ) (statement : M) → t ≢ s → Adding t old new → (old.writer ≡ Some s → new.writer ≡ Some s) → IsRunning old s statement → IsRunning new s statement
+    (old new : State) (t s : ℕ) (statement : M) → t ≢ s → Adding t old new → (old.writer ≡ Some s → new.writer ≡ Some s) → task_of s new ≡ task_of s old → IsRunning old s statement → IsRunning new s statement

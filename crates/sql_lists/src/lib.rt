@@ -1,5 +1,5 @@
-//! The lists of the engine with what each session has set, and how many rows the history holds. Each entry that is added
-//! may follow by the rules of SQL: the history is legal, which is the invariant. Statements work on these.
+//! The lists that all sessions share, whatever keeps them, by the rules of SQL. Each entry that is added may follow by
+//! these: the history is legal, which is the invariant. Statements work on these.
 #![tactic(auto)]
 
 mod advance;

@@ -1,49 +1,52 @@
 //! The lists themselves, and the entries that statements add.
 
-ghost use Rattle.std.specs.Prelude.{◌≡◌, ◌≢◌, ℕ, ◌+◌, ◌-◌, ◌<◌, ◌≤◌, ◌^◌, [], ◌∷◌, ◌++◌, length, false, OnOk, OnErr, IfOk, IfSome, IfNone, Some, None};
+ghost use Rattle.std.specs.Prelude.{◌≡◌, ◌≢◌, ℕ, ◌+◌, ◌-◌, ◌<◌, ◌≤◌, ◌^◌, [], ◌∷◌, ◌++◌, length, true, false, is_some, OnOk, OnErr, IfOk, IfSome, IfNone, Some, None, slice_get};
 ghost use Rattle.inno_db.specs.declared.limits.TheConstants.{MOST_TABLES};
-ghost use Rattle.inno_db.specs.declared.change.Change.TheVariants.{Create, Put, Remove};
+ghost use Rattle.inno_db.specs.declared.change.Change.TheVariants.{Create};
+ghost use Rattle.inno_types.specs.declared.value.Schema.{Schema};
 ghost use Rattle.inno_types.specs.declared.reply.Reply.TheVariants.{Done};
 ghost use Rattle.inno_types.specs.declared.stmt.Stmt.TheVariants.{Savepoint as SavepointStmt};
 ghost use Rattle.inno_types.specs.declared.lock.Level.TheVariants.{Serializable};
-ghost use Rattle.inno_model.specs.declared.event.Event.TheVariants.{Begin, Started, View, Changed, Undone, Ended, Committed, Acked, RolledBack};
-ghost use Rattle.inno_model.specs.Past.{under_way, level, own, started, begins, txn};
+ghost use Rattle.inno_model.specs.declared.event.Event.TheVariants.{Begin, Started, View, Changed as ChangedEvent, Ended, Committed, Acked, RolledBack};
+ghost use Rattle.inno_model.specs.Past.{under_way, level, own, started, begins, view_of, txn};
 ghost use Rattle.inno_model.specs.Legal.{IsOpen};
 ghost use Rattle.sql_grammar.specs.Grammar.{Spells};
 ghost use Rattle.sql_history.specs.Items.{Asks};
 ghost use Rattle.sql_history.specs.Settings.{HasSet};
 ghost use Rattle.sql_history.specs.Counts.{rows_kept, rows_of_reply, most_rows};
 ghost use Rattle.sql_history.specs.Legal.{IsLegal, MayBegin, MayView, MayChange, MayUndo, MayCommit, MayRollBack, is_leaving};
-ghost use Rattle.table_lists.specs.State.{Adds, Closes, IsFirst, writer_without};
-ghost use Rattle.table_lists.specs.Order.{created, IsTabled, IsUndoable};
+ghost use Rattle.fitting_rows.specs.Storable.{IsStorable};
+ghost use Rattle.table_lists.specs.Order.{created, IsOfRow, IsTabled, IsUndoable};
 ghost use Rattle.table_lists.specs.Agreement.{IsSound};
+ghost use Rattle.shared_lists.specs.Fitting.{FitsWell, FitsThen};
+ghost use Rattle.shared_lists.specs.Tasks.{Idle, Searching, is_changing, asked, steps_left, MayTakeBack};
+ghost use Rattle.shared_lists.specs.State.{IsFirst, IsNow, Adds, Closes, Turns, Stays, task_of, writer_without};
+ghost use Rattle.shared_lists.specs.Steps.{Searches, AreNewestRows, Changes, TakesBack};
 ghost use Rattle.sql_lists.specs.Kept.{MayReply, OwesAck, SetsQuietly, IsOnlyMaker, AreStanding, IsInOrder};
 ghost use Rattle.sql_lists.specs.Steps.{open_txn, plain_edge};
 
 use crate::advance::plain_edge;
+use inno_db::Change;
 use inno_model::History;
-use inno_types::{Bytes, Edges, Item, Level, Reply, Row, Schema, Stmt, Value};
+use inno_types::{Bytes, Edges, Item, Level, Reply, Rows, Schema, Stmt};
 use session_settings::SessionSettings;
+use shared_lists::{Changed, Reading, Searched, SharedLists, Undone};
+use sql_plan::Plan;
 use std::alloc::Global;
 use std::marker::Model;
 use store_api::NoMemory;
-use table_lists::Lists;
 
 /// How many rows a history may hold.
 const MOST_ROWS: u64 = 1_000_000;
 
 #[derive(Drop)]
-pub struct SqlLists {
+pub struct SqlLists<L: SharedLists> {
     alloc: Global,
-    lists: Lists,
-    /// By the numbers of the sessions.
-    settings: Vec<SessionSettings>,
-    /// How many rows the history holds.
-    rows: u64,
+    lists: L,
 }
 
-impl Model for SqlLists {
-    ghost use Rattle.table_lists.specs.State.{State, state_code};
+impl<L: SharedLists> Model for SqlLists<L> {
+    ghost use Rattle.shared_lists.specs.State.{State, state_code};
 
     ghost Value = { State };
 
@@ -51,32 +54,31 @@ impl Model for SqlLists {
 
     ghost use Rattle.sql_lists.specs.Kept.{IsKept};
 
-    ghost view = { λ l. l.lists };
+    ghost view = { λ l. (L.lists l.lists).state };
 
-    ghost invariant = { λ l. IsKept l.lists.names l.lists.past l.settings.items l.rows };
+    ghost invariant = { λ l. IsKept (L.lists l.lists).state.names (L.lists l.lists).state.past (L.lists l.lists).settings (L.lists l.lists).rows };
 }
 
-impl SqlLists {
-    /// The lists of a database without tables. Nobody has joined.
-    pub fn new(alloc: Global) -> Result<Self, NoMemory>
-        ensures { IfOk result IsFirst }
+impl<L: SharedLists> SqlLists<L> {
+    /// Lists of a database without tables, whatever keeps them. Nobody has joined.
+    pub fn new(alloc: Global, lists: L) -> Self
+        requires first { IsFirst (L.lists lists) }
+        ensures same { result ≡ (L.lists lists).state }
     {
-        Ok(SqlLists {
-            alloc,
-            lists: Lists::new(alloc)?,
-            settings: Vec::new(alloc),
-            rows: 0,
-        })
+        SqlLists { alloc, lists }
     }
 
-    /// The lists, to be read.
-    pub fn lists(&self) -> &Lists
-        ensures same { result.now ≡ self.now }
+    /// What keeps the lists, to be read.
+    pub fn lists(&self) -> &L
+        ensures same { (L.lists result.now).state ≡ self.now }
         ensures tables { AreStanding self.now.past }
         ensures ordered { IsInOrder self.now.past }
         ensures sound { IsSound self.now.past }
         ensures legal { IsLegal Spells self.now.past }
+        ensures fits { FitsThen self.now.past }
     {
+        // that each change fitted its tables is what the lists say of their history
+        let _ = self.lists.history();
         &self.lists
     }
 
@@ -86,6 +88,7 @@ impl SqlLists {
         ensures past { result.now.past ≡ self.now.past }
         ensures legal { IsLegal Spells self.now.past }
         ensures sound { IsSound self.now.past }
+        ensures fits { FitsThen self.now.past }
     {
         self.lists.history()
     }
@@ -105,7 +108,7 @@ impl SqlLists {
         requires { session < length self.now.names }
         ensures { HasSet Spells session self.now.past result.now }
     {
-        &self.settings[session as usize]
+        self.lists.setting(session)
     }
 
     /// How many rows the history would hold with so many more, where these are too many.
@@ -114,7 +117,7 @@ impl SqlLists {
         ensures fits { IfNone result (rows_kept self.now.past + more ≤ most_rows) }
         ensures many { IfSome result (λ rows. (most_rows < rows) × (rows ≡ rows_kept self.now.past + more)) }
     {
-        let rows = self.rows + more;
+        let rows = self.lists.rows() + more;
         if rows > MOST_ROWS { Some(rows) } else { None }
     }
 
@@ -152,20 +155,23 @@ impl SqlLists {
     pub fn join(&mut self, name: Bytes) -> Result<u32, NoMemory>
         requires { length self.old.names < 2 ^ 32 }
         ensures number { IfOk result (λ session. session ≡ length self.old.names) }
-        ensures ok { OnOk result (self.new ≡ record self.old { names = self.old.names ++ name ∷ [] }) }
-        ensures err { OnErr result (self.new ≡ self.old) }
+        ensures names { OnOk result (self.new.names ≡ self.old.names ++ name ∷ []) }
+        ensures past { self.new.past ≡ self.old.past }
+        ensures writer { self.new.writer ≡ self.old.writer }
+        ensures tasks { (s : ℕ) → task_of s self.new ≡ task_of s self.old }
+        ensures err { OnErr result (self.new.names ≡ self.old.names) }
     {
-        self.settings.push(SessionSettings::new(self.alloc))?;
         self.lists.join(name)
     }
 
-    /// Starts the session's next item.
+    /// Starts the session's next item. An `Err` changes nothing.
     pub fn start(&mut self, session: u32, item: Item) -> Result<(), NoMemory>
         requires joined { session < length self.old.names }
         requires idle { under_way session self.old.past ≡ None }
         requires stays { is_leaving session self.old.past ≡ false }
-        ensures ok { OnOk result (Adds (Started session (started session self.old.past + 1) item) self.old self.new) }
-        ensures err { OnErr result (self.new ≡ self.old) }
+        requires at_rest { task_of session self.old ≡ Idle }
+        ensures ok { OnOk result (Adds (Started session (started session self.old.past + 1) item) session self.old self.new) }
+        ensures err { OnErr result (Stays session self.old self.new) }
     {
         self.lists.start(session, item)
     }
@@ -175,9 +181,9 @@ impl SqlLists {
         requires joined { session < length self.old.names }
         requires may { MayReply session reply self.old.past }
         requires not_done { reply ≢ Done }
-        ensures { Adds (Ended session (started session self.old.past) reply) self.old self.new }
+        requires idle { task_of session self.old ≡ Idle }
+        ensures { Adds (Ended session (started session self.old.past) reply) session self.old self.new }
     {
-        self.rows += rows_of(&reply);
         self.lists.end(session, reply);
     }
 
@@ -188,9 +194,10 @@ impl SqlLists {
         requires may { MayReply session Done self.old.past }
         requires asked { Asks Spells session stmt.now self.old.past }
         requires quiet { SetsQuietly stmt.now session self.old.past }
-        ensures { Adds (Ended session (started session self.old.past) Done) self.old self.new }
+        requires idle { task_of session self.old ≡ Idle }
+        ensures { Adds (Ended session (started session self.old.past) Done) session self.old self.new }
     {
-        self.settings[session as usize].set_by(stmt);
+        self.lists.set(session, stmt);
         self.lists.end(session, Reply::Done);
     }
 
@@ -200,36 +207,35 @@ impl SqlLists {
         requires may { MayReply session Done self.old.past }
         requires asked { Asks Spells session (SavepointStmt name.now) self.old.past }
         requires is_open { IsOpen session self.old.past }
-        ensures ok { OnOk result (Adds (Ended session (started session self.old.past) Done) self.old self.new) }
-        ensures err { OnErr result (self.new ≡ self.old) }
+        requires idle { task_of session self.old ≡ Idle }
+        ensures ok { OnOk result (Adds (Ended session (started session self.old.past) Done) session self.old self.new) }
+        ensures err { OnErr result (Stays session self.old self.new) }
     {
-        let made = self.lists.change_count(session) as u64;
-        let name = name.copied()?;
-        self.settings[session as usize].save(name, made)?;
+        self.lists.save(session, name)?;
         self.lists.end(session, Reply::Done);
         Ok(())
     }
 
-    /// Opens a transaction of this level.
+    /// Opens a transaction of this level. An `Err` changes nothing.
     pub fn begin(&mut self, session: u32, level: Level) -> Result<(), NoMemory>
         requires joined { session < length self.old.names }
         requires may { MayBegin Spells session (begins self.old.past + 1) level self.old.past }
-        ensures ok { OnOk result (Adds (Begin session (begins self.old.past + 1) level) self.old self.new) }
-        ensures err { OnErr result (self.new ≡ self.old) }
+        requires idle { task_of session self.old ≡ Idle }
+        ensures ok { OnOk result (Adds (Begin session (begins self.old.past + 1) level) session self.old self.new) }
+        ensures err { OnErr result (Stays session self.old self.new) }
     {
-        self.lists.begin(session, level)?;
-        self.settings[session as usize].begin();
-        Ok(())
+        self.lists.begin(session, level)
     }
 
-    /// Takes a read view for the session's transaction.
+    /// Takes a read view for the session's transaction. An `Err` changes nothing.
     pub fn take_view(&mut self, session: u32) -> Result<(), NoMemory>
         requires joined { session < length self.old.names }
         requires may { MayView Spells session self.old.past }
         requires is_open { IsOpen session self.old.past }
         requires unlocked { level session self.old.past ≢ Some Serializable }
-        ensures ok { OnOk result (Adds (View session) self.old self.new) }
-        ensures err { OnErr result (self.new ≡ self.old) }
+        requires idle { task_of session self.old ≡ Idle }
+        ensures ok { OnOk result (Adds (View session) session self.old self.new) }
+        ensures err { OnErr result (Stays session self.old self.new) }
     {
         self.lists.take_view(session)
     }
@@ -238,73 +244,130 @@ impl SqlLists {
     pub fn lock(&mut self, session: u32) -> Option<u32>
         requires joined { session < length self.old.names }
         requires is_open { IsOpen session self.old.past }
+        requires idle { task_of session self.old ≡ Idle }
         ensures free { result ≡ writer_without self.old.writer session }
-        ensures locked { IfNone result (self.new ≡ record self.old { writer = Some session }) }
+        ensures locked { IfNone result (IsNow self.old.past session (task_of session self.old) (Some session) self.old self.new) }
         ensures alone { IfNone result ((other : ℕ) → other ≢ session → own other self.old.past ≡ []) }
         ensures sound { IsSound self.old.past }
-        ensures held { IfSome result (λ other. (self.old.writer ≡ Some other) × (other ≢ session) × IsOpen other self.old.past × (other < length self.old.names) × (self.new ≡ self.old)) }
+        ensures held { IfSome result (λ other. (self.old.writer ≡ Some other) × (other ≢ session) × IsOpen other self.old.past × (other < length self.old.names) × Stays session self.old self.new) }
     {
         self.lists.lock(session)
     }
 
-    /// Puts a row at its key, by the session that may write. An `Err` changes nothing.
-    pub fn put(&mut self, session: u32, table: u8, row: Row) -> Result<(), NoMemory>
-        requires joined { session < length self.old.names }
-        requires may { MayChange Spells session (Put table row) self.old.past }
-        requires tabled { IsTabled (length (created self.old.past)) (Put table row) }
-        requires locked { self.old.writer ≡ Some session }
-        requires alone { (other : ℕ) → other ≢ session → own other self.old.past ≡ [] }
-        ensures ok { OnOk result (Adds (Changed session (Put table row)) self.old self.new) }
-        ensures err { OnErr result (self.new ≡ self.old) }
-    {
-        self.lists.put(session, table, row)?;
-        self.rows += 1;
-        Ok(())
-    }
-
-    /// Removes the row of a key, by the session that may write. An `Err` changes nothing.
-    pub fn remove(&mut self, session: u32, table: u8, key: Value) -> Result<(), NoMemory>
-        requires joined { session < length self.old.names }
-        requires may { MayChange Spells session (Remove table key) self.old.past }
-        requires tabled { IsTabled (length (created self.old.past)) (Remove table key) }
-        requires locked { self.old.writer ≡ Some session }
-        requires alone { (other : ℕ) → other ≢ session → own other self.old.past ≡ [] }
-        ensures ok { OnOk result (Adds (Changed session (Remove table key)) self.old self.new) }
-        ensures err { OnErr result (self.new ≡ self.old) }
-    {
-        self.lists.remove(session, table, key)
-    }
-
-    /// Makes a table, by the session that may write. An `Err` changes nothing.
+    /// Makes a table, by the session that may write. It is the first change of its transaction. An `Err` changes nothing.
     pub fn create(&mut self, session: u32, schema: Schema) -> Result<(), NoMemory>
         requires joined { session < length self.old.names }
         requires may { MayChange Spells session (Create schema) self.old.past }
         requires locked { self.old.writer ≡ Some session }
         requires alone { (other : ℕ) → other ≢ session → own other self.old.past ≡ [] }
         requires few { length (created self.old.past) < MOST_TABLES }
-        ensures ok { OnOk result (Adds (Changed session (Create schema)) self.old self.new) }
-        ensures err { OnErr result (self.new ≡ self.old) }
+        requires idle { task_of session self.old ≡ Idle }
+        requires first { own session self.old.past ≡ [] }
+        requires storable { IsStorable schema }
+        ensures ok { OnOk result (Adds (ChangedEvent session (Create schema)) session self.old self.new) }
+        ensures err { OnErr result (Stays session self.old self.new) }
     {
         self.lists.create(session, schema)
     }
 
-    /// Takes the newest change of the session's transaction back, which is one of a row.
-    pub fn undo(&mut self, session: u32)
+    /// Begins a search of a table, in the index and the range of a plan. An `Err` changes nothing.
+    pub fn begin_search(
+        &mut self,
+        session: u32,
+        table: u8,
+        plan: Plan,
+        reading: Reading,
+    ) -> Result<(), NoMemory>
+        requires joined { session < length self.old.names }
+        requires is_open { IsOpen session self.old.past }
+        requires idle { task_of session self.old ≡ Idle }
+        requires there { (schema : Schema) × (slice_get (created self.old.past) table ≡ Some schema) × (plan.which ≤ length schema.keys) }
+        requires view { reading ≡ Reading.View → is_some (view_of session self.old.past) ≡ true }
+        requires newest { reading ≡ Reading.Newest → self.old.writer ≡ Some session }
+        ensures ok { OnOk result (Turns session (Searching table plan reading) self.old self.new) }
+        ensures err { OnErr result (Stays session self.old self.new) }
+    {
+        self.lists.begin_search(session, table, plan, reading)
+    }
+
+    /// Makes one step of the session's search.
+    pub fn search(&mut self, session: u32) -> Searched
+        requires joined { session < length self.old.names }
+        requires searching { (table : ℕ) × (plan : _) × (reading : _) × (task_of session self.old ≡ Searching table plan reading) }
+        ensures searches { (table : ℕ) (plan : _) (reading : _) → task_of session self.old ≡ Searching table plan reading → Searches table plan reading session self.old self.new result }
+    {
+        self.lists.search(session)
+    }
+
+    /// Gives the session's search up.
+    pub fn stop_search(&mut self, session: u32)
+        requires joined { session < length self.old.names }
+        requires searching { (table : ℕ) × (plan : _) × (reading : _) × (task_of session self.old ≡ Searching table plan reading) }
+        ensures stops { Turns session Idle self.old self.new }
+    {
+        self.lists.stop_search(session);
+    }
+
+    /// The newest rows of a table, committed or not, as they are at this moment: by the index and the range of a plan, or
+    /// of the whole clustered index while the keys of some change lag.
+    pub fn read_newest(&mut self, session: u32, table: u8, plan: Plan) -> Result<Rows, NoMemory>
+        requires joined { session < length self.old.names }
+        requires idle { task_of session self.old ≡ Idle }
+        requires there { (schema : Schema) × (slice_get (created self.old.past) table ≡ Some schema) × (plan.which ≤ length schema.keys) }
+        ensures same { Stays session self.old self.new }
+        ensures found { IfOk result (λ rows. (writer : ℕ) → ((other : ℕ) → other ≢ writer → own other self.old.past ≡ []) → AreNewestRows table plan self.old.past writer rows) }
+    {
+        self.lists.read_newest(session, table, plan)
+    }
+
+    /// Begins a change of a row, by the session that may write. An `Err` changes nothing.
+    pub fn begin_change(&mut self, session: u32, change: Change) -> Result<(), NoMemory>
+        requires joined { session < length self.old.names }
+        requires is_open { IsOpen session self.old.past }
+        requires locked { self.old.writer ≡ Some session }
+        requires idle { task_of session self.old ≡ Idle }
+        requires of_row { IsOfRow change }
+        requires fits { FitsWell (created self.old.past) change }
+        ensures ok { OnOk result (Turns session (task_of session self.new) self.old self.new) }
+        ensures changing { OnOk result (is_changing (task_of session self.new) ≡ true) }
+        ensures asked { OnOk result (asked (task_of session self.new) ≡ Some change) }
+        ensures few { OnOk result (steps_left (task_of session self.new) < 2 ^ 70) }
+        ensures err { OnErr result (Stays session self.old self.new) }
+    {
+        self.lists.begin_change(session, change)
+    }
+
+    /// Makes one step of the session's change, by the session that may write. The change may come by the rules of SQL
+    /// until the history tells it.
+    pub fn change(&mut self, session: u32) -> Changed
+        requires joined { session < length self.old.names }
+        requires locked { self.old.writer ≡ Some session }
+        requires changing { is_changing (task_of session self.old) ≡ true }
+        requires alone { (other : ℕ) → other ≢ session → own other self.old.past ≡ [] }
+        requires may { (change : _) → asked (task_of session self.old) ≡ Some change → MayChange Spells session change self.old.past × IsTabled (length (created self.old.past)) change × IsOfRow change }
+        ensures changes { Changes session self.old self.new result }
+    {
+        self.lists.change(session)
+    }
+
+    /// Makes one step by which the session's newest change is taken back, which is one of a row.
+    pub fn undo(&mut self, session: u32) -> Undone
         requires joined { session < length self.old.names }
         requires may { MayUndo Spells session (length (own session self.old.past) - 1) self.old.past }
         requires of_row { IsUndoable (length (own session self.old.past) - 1) (own session self.old.past) }
-        ensures { Adds (Undone session (length (own session self.old.past) - 1)) self.old self.new }
+        requires task { MayTakeBack (task_of session self.old) }
+        ensures takes { TakesBack session (length (own session self.old.past) - 1) self.old self.new result }
     {
-        self.lists.undo(session);
+        self.lists.undo(session)
     }
 
     /// Commits the session's transaction, which may write no longer.
     pub fn commit(&mut self, session: u32)
         requires joined { session < length self.old.names }
         requires may { MayCommit Spells session self.old.past }
+        requires idle { task_of session self.old ≡ Idle }
         ensures { Closes (Committed session) session self.old self.new }
     {
-        self.settings[session as usize].end();
         self.lists.commit(session);
     }
 
@@ -312,28 +375,19 @@ impl SqlLists {
     pub fn ack(&mut self, session: u32)
         requires joined { session < length self.old.names }
         requires may { OwesAck session self.old.past }
-        ensures { Adds (Acked session 0) self.old self.new }
+        requires idle { task_of session self.old ≡ Idle }
+        ensures { Adds (Acked session 0) session self.old self.new }
     {
-        self.lists.ack(session, 0);
+        self.lists.ack(session);
     }
 
     /// Ends the rollback of the session's transaction, which may write no longer.
     pub fn roll_back(&mut self, session: u32)
         requires joined { session < length self.old.names }
         requires may { MayRollBack Spells session self.old.past }
+        requires idle { task_of session self.old ≡ Idle }
         ensures { Closes (RolledBack session) session self.old self.new }
     {
-        self.settings[session as usize].end();
         self.lists.roll_back(session);
-    }
-}
-
-/// How many rows a reply has.
-fn rows_of(reply: &Reply) -> u64
-    ensures { result ≡ rows_of_reply reply.now }
-{
-    match reply {
-        Reply::Rows(rows) => rows.len() as u64,
-        _ => 0,
     }
 }

@@ -1,5 +1,5 @@
 -- An entry of another session leaves what a statement knows.
-use Rattle.std.proofs.Common.{◌≡◌, ◌≢◌, ◌⊎◌, ℕ, Bool, true, false, None, List, ◌∷◌, refl, sym, ap, subst, ◌∙◌, inl, inr}
+use Rattle.std.proofs.Common.{◌≡◌, ◌≢◌, ◌⊎◌, ℕ, Bool, true, false, None, List, ◌∷◌, refl, sym, ap, subst, ◌∙◌, inl, inr, length}
 use Rattle.std.specs.Prelude.{is_some}
 use Rattle.std.specs.List.{AllByRecursion, list_any}
 use Rattle.inno_types.specs.declared.stmt.Stmt.{Stmt}
@@ -13,8 +13,8 @@ use Rattle.sql_history.specs.Settings.{Setting, HasSet}
 use Rattle.sql_history.specs.Waiting.{is_victim}
 use Rattle.sql_history.specs.Endings.{IsClosed, StaysIn}
 use Rattle.sql_history.specs.Legal.{Takes, CommittedFirst, LeavesIt, MayLeaveOpen}
-use Rattle.table_lists.specs.State.{State}
 use Rattle.table_lists.specs.Order.{IsOfRow}
+use Rattle.shared_lists.specs.State.{State, task_of}
 use Rattle.sql_lists.specs.Kept.{SetsQuietly}
 use Rattle.sql_lists.specs.Steps.{Adding, HasRowsAlone}
 use Rattle.sql_lists.proofs.Staying.{other_of, within_of_other}
@@ -22,7 +22,7 @@ use Rattle.transaction_statements.specs.declared.statement.TransactionStatement.
 use Rattle.transaction_statements.specs.declared.statement.TransactionStatement.TheVariants as statements
 use Rattle.transaction_statements.specs.Committing.{stmt_of, Fits, SetsAlone}
 use Rattle.transaction_statements.specs.Knowing.{IsAt, IsEmptied, HasOpened, SavesIn, IsGoingBack, IsMissing, IsGivingUp}
-use Rattle.transaction_statements.specs.Running.{RunsBy, IsRunning}
+use Rattle.transaction_statements.specs.Running.{RunsBy, HasTask, IsRunning}
 use Rattle.transaction_statements.proofs.Staying.{takes_on, at_on, made_untouched}
 
 module _ (e : Event) (h : List Event) (s : ℕ) (other : is_of s e ≡ false) where
@@ -147,24 +147,26 @@ module _ (e : Event) (h : List Event) (s : ℕ) (other : is_of s e ≡ false) wh
   runs_on (statements.Saving name opened) r = (at_other _ _ r.0, saves_on opened r.1)
   runs_on statements.Failed r = gives_up_on r
 
-pub stays_running : (old new : State) (t s : ℕ) (m : TransactionStatement) → t ≢ s → Adding t old new → IsRunning old s m → IsRunning new s m
-stays_running old new t s m differ adding r =
+pub stays_running : (old new : State) (t s : ℕ) (m : TransactionStatement) → t ≢ s → Adding t old new → task_of s new ≡ task_of s old → IsRunning old s m → IsRunning new s m
+stays_running old new t s m differ adding same_task r =
     elim adding [
-      | inl same ↦ subst (λ past. RunsBy past s m) (sym same) r
-      | inr added ↦ subst (λ past. RunsBy past s m) (sym added.2) (runs_on added.0 old.past s (other_of added.0 t s added.1 (λ is. differ (sym is))) m r)
-    ]
+      | inl same_past ↦ at_past old.past same_past r.0 r.1
+      | inr added ↦ (let other : is_of s added.0 ≡ false = other_of added.0 t s added.1 (λ is. differ (sym is)) in at_past (added.0 ∷ old.past) added.2 (runs_on added.0 old.past s other m r.0) (subst (λ changes. HasTask m (length changes) (task_of s old)) (sym (same added.0 old.past s other).own_is) r.1))
+    ] where
+      at_past : (past : List Event) → new.past ≡ past → RunsBy past s m → HasTask m (length (own s past)) (task_of s old) → IsRunning new s m
+      at_past past past-is runs has = subst (λ h. RunsBy h s m × HasTask m (length (own s h)) (task_of s new)) (sym past-is) (runs, subst (HasTask m (length (own s past))) (sym same_task) has)
 
 -- a running statement has an item under way
 pub has_item : (state : State) (s : ℕ) (m : TransactionStatement) → IsRunning state s m → under_way s state.past ≢ None
-has_item state s (statements.Quiet statement) r none = (let x = r.0.takes.asks.1 in cc)
-has_item state s (statements.Missing name) r none = (let x = r.asks.1 in cc)
-has_item state s (statements.Committing c) r none = (let x = r.0.takes.asks.1 in cc)
-has_item state s (statements.Unacked c) r none = (let x = r.0.takes.asks.1 in cc)
-has_item state s (statements.Closed c) r none = (let x = r.0.takes.asks.1 in cc)
-has_item state s statements.Viewing r none = (let x = r.0.takes.asks.1 in cc)
-has_item state s (statements.Begun snapshot) r none = (let x = r.0.takes.asks.1 in cc)
-has_item state s statements.Rollback r none = (let x = r.0.takes.asks.1 in cc)
-has_item state s (statements.RollbackTo name made) r none = (let x = r.0.takes.asks.1 in cc)
-has_item state s (statements.Opening name l) r none = (let x = r.0.takes.asks.1 in cc)
-has_item state s (statements.Saving name opened) r none = (let x = r.0.takes.asks.1 in cc)
-has_item state s statements.Failed r none = (let x = r.item in cc)
+has_item state s (statements.Quiet statement) r none = (let x = r.0.0.takes.asks.1 in cc)
+has_item state s (statements.Missing name) r none = (let x = r.0.asks.1 in cc)
+has_item state s (statements.Committing c) r none = (let x = r.0.0.takes.asks.1 in cc)
+has_item state s (statements.Unacked c) r none = (let x = r.0.0.takes.asks.1 in cc)
+has_item state s (statements.Closed c) r none = (let x = r.0.0.takes.asks.1 in cc)
+has_item state s statements.Viewing r none = (let x = r.0.0.takes.asks.1 in cc)
+has_item state s (statements.Begun snapshot) r none = (let x = r.0.0.takes.asks.1 in cc)
+has_item state s statements.Rollback r none = (let x = r.0.0.takes.asks.1 in cc)
+has_item state s (statements.RollbackTo name made) r none = (let x = r.0.0.takes.asks.1 in cc)
+has_item state s (statements.Opening name l) r none = (let x = r.0.0.takes.asks.1 in cc)
+has_item state s (statements.Saving name opened) r none = (let x = r.0.0.takes.asks.1 in cc)
+has_item state s statements.Failed r none = (let x = r.0.item in cc)

@@ -1,7 +1,6 @@
 -- What one entry of its own makes of a statement, and how a statement begins.
-use Rattle.std.proofs.Common.{◌≡◌, ℕ, ◌<◌, ◌≤◌, true, false, eqb, Option, Some, None, List, [], ◌∷◌, refl, sym, ap, subst, ◌∙◌, inl, inr, arith, length, suc}
+use Rattle.std.proofs.Common.{◌≡◌, ℕ, ◌<◌, ◌≤◌, true, false, Option, Some, None, List, [], ◌∷◌, refl, sym, ap, subst, ◌∙◌, inl, inr, arith, length, suc}
 use Rattle.std.proofs.lemmas.Bool.Decides.{nat_tests}
-use Rattle.std.proofs.lemmas.Bool.{false≢true}
 use Rattle.std.specs.Prelude.{◌-◌, is_some}
 use Rattle.std.specs.List.{AllByRecursion, list_any}
 use Rattle.inno_types.specs.declared.lock.Level.{Level}
@@ -12,7 +11,7 @@ use Rattle.inno_model.specs.declared.event.Event.{Event}
 use Rattle.inno_model.specs.declared.event.Event.TheVariants as events
 use Rattle.inno_model.specs.Legal.{awaits_ack}
 use Rattle.inno_model.specs.Loose.{Sometime}
-use Rattle.inno_model.specs.Past.{is_of, of_item, did, begins_txn, commits_txn, rolls_back_txn, closes, level, own, oldest}
+use Rattle.inno_model.specs.Past.{of_item, did, begins_txn, commits_txn, rolls_back_txn, closes, level, own, oldest}
 use Rattle.sql_grammar.specs.Grammar.{Spells}
 use Rattle.sql_history.specs.Items.{own_before, of_turn, is_over}
 use Rattle.sql_history.specs.Settings.{Setting, HasSet, made_at}
@@ -20,9 +19,9 @@ use Rattle.sql_history.specs.Statements.{refused_at_once}
 use Rattle.sql_history.specs.Endings.{IsOpen}
 use Rattle.sql_history.specs.Waiting.{is_victim}
 use Rattle.sql_history.specs.Legal.{MayCommit, CommitsBy}
-use Rattle.table_lists.specs.State.{State, Adds, Closes, writer_without}
 use Rattle.table_lists.specs.Order.{IsOfRow, IsUndoable}
-use Rattle.sql_lists.specs.Steps.{Moves, changes_rows, HasRowsAlone, IsTaken}
+use Rattle.shared_lists.specs.State.{State}
+use Rattle.sql_lists.specs.Steps.{HasRowsAlone, IsTaken}
 use Rattle.sql_lists.proofs.Staying.{point_now, point_before}
 use Rattle.transaction_statements.specs.declared.committer.Committer.{Committer}
 use Rattle.transaction_statements.specs.declared.committer.Committer.TheVariants as committers
@@ -30,29 +29,6 @@ use Rattle.transaction_statements.specs.Committing.{stmt_of, Fits}
 use Rattle.transaction_statements.specs.Knowing.{IsAt, HasMadeNone, IsEmptied, HasOpened, IsGoingBack, IsMissing}
 use Rattle.transaction_statements.specs.Running.{Nothing}
 use Rattle.transaction_statements.proofs.Staying.{at_on, made_on, still, made_still, set_before}
-
--- ---- moves
-
-pub moves_none : (t : ℕ) (state : State) → Moves t state state
-moves_none t state = record { names_stay = refl; adding = inl refl; writer_stays = λ s differ is. is }
-
-pub moves_adds : (t : ℕ) (e : Event) (old new : State) → is_of t e ≡ true → changes_rows e ≡ false → Adds e old new → Moves t old new
-moves_adds t e old new mine spares adds =
-    record {
-      names_stay = ap (λ (x : State). x.names) adds;
-      adding = inr (e, mine, ap (λ (x : State). x.past) adds, λ is. absurd (false≢true (sym spares ∙ is)));
-      writer_stays = λ s differ is. ap (λ (x : State). x.writer) adds ∙ is;
-    }
-
-pub moves_closes : (t : ℕ) (e : Event) (old new : State) → is_of t e ≡ true → changes_rows e ≡ false → Closes e t old new → Moves t old new
-moves_closes t e old new mine spares closes-it =
-    record {
-      names_stay = ap (λ (x : State). x.names) closes-it;
-      adding = inr (e, mine, ap (λ (x : State). x.past) closes-it, λ is. absurd (false≢true (sym spares ∙ is)));
-      writer_stays = λ s differ is.
-          let other : eqb s t ≡ false = grind (arith, nat_tests, differ) in
-          ap (λ (x : State). x.writer) closes-it ∙ (ap (λ w. writer_without w t) is ∙ rw other refl);
-    }
 
 -- ---- what the lists say of a transaction
 
@@ -91,10 +67,6 @@ oldest_same made [] more = absurd (omega (arith, more))
 oldest_same made (c ∷ cs) more =
     let one-more : length (c ∷ cs) - made ≡ suc (length cs - made) = omega (arith, more) in
     ap (oldest made) (oldest_tail c cs) ∙ sym (rw one-more refl)
-
-fewer : (changes : List Change) → 0 < length changes → length (oldest (length changes - 1) changes) < length changes
-fewer [] some = absurd (omega (arith, some))
-fewer (c ∷ cs) some = rw (oldest_tail c cs) (omega arith)
 
 module _ (s : ℕ) (h : List Event) where
   -- ---- a commit
@@ -195,9 +167,6 @@ module _ (s : ℕ) (h : List Event) where
 
   pub at_undone : (statement : Stmt) (Knows : Setting → Type 0) → IsAt s statement Knows h → IsAt s statement Knows (undone ∷ h)
   at_undone statement Knows at = at_on s statement Knows undone h refl (subst (AllByRecursion IsOfRow) (sym own_undone) (rows_left (own s h) at.rows_alone)) (grind (arith, nat_tests, at.no_victim)) at
-
-  pub fewer_undone : 0 < length (own s h) → length (own s (undone ∷ h)) < length (own s h)
-  fewer_undone some = rw own_undone (fewer (own s h) some)
 
   pub back_undone : (made : ℕ) → made < length (own s h) → IsGoingBack s made h → IsGoingBack s made (undone ∷ h)
   back_undone made more back =

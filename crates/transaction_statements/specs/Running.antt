@@ -1,5 +1,5 @@
--- What a statement on transactions knows of the past between its steps.
-use Rattle.std.specs.Prelude.{◌≡◌, ℕ, true, false, List, [], None, Some}
+-- What a statement on transactions knows of the past between its steps, and what it has under way.
+use Rattle.std.specs.Prelude.{◌≡◌, ℕ, ◌<◌, true, false, List, [], None, Some, length}
 use Rattle.inno_types.specs.declared.lock.Level.TheVariants.{RepeatableRead}
 use Rattle.inno_types.specs.declared.stmt.Stmt.TheVariants as stmt
 use Rattle.inno_model.specs.declared.event.Event.{Event}
@@ -7,7 +7,8 @@ use Rattle.inno_model.specs.Legal.{awaits_ack}
 use Rattle.inno_model.specs.Past.{of_item, did, takes_view, commits_txn, level, own, view_of}
 use Rattle.sql_history.specs.Settings.{Setting, next_level, made_at}
 use Rattle.sql_history.specs.Endings.{IsClosed}
-use Rattle.table_lists.specs.State.{State}
+use Rattle.shared_lists.specs.Tasks.{Task, Idle, Undoing}
+use Rattle.shared_lists.specs.State.{State, task_of}
 use Rattle.sql_lists.specs.Kept.{SetsQuietly}
 use Rattle.transaction_statements.specs.declared.statement.TransactionStatement.{TransactionStatement}
 use Rattle.transaction_statements.specs.declared.statement.TransactionStatement.TheVariants as statements
@@ -33,5 +34,17 @@ RunsBy past s (statements.Opening name l) = IsAt s (stmt.Savepoint name) (λ set
 RunsBy past s (statements.Saving name opened) = IsAt s (stmt.Savepoint name) (λ setting. opened ≡ true → setting.autocommit ≡ false) past × SavesIn opened s past
 RunsBy past s statements.Failed = IsGivingUp s past
 
+-- nothing is under way with rows, or the newest change is being taken back, while more stand than are to be kept
+abbrev pub TakesBackTo : ℕ → ℕ → Task → Type 0
+TakesBackTo keep stand Idle = Unit {0}
+TakesBackTo keep stand (Undoing left) = keep < stand
+TakesBackTo keep stand other = ⊥
+
+-- what the session has under way with rows, where so many of its changes stand: only a rollback has something
+abbrev pub HasTask : TransactionStatement → ℕ → Task → Type 0
+HasTask statements.Rollback stand task = TakesBackTo 0 stand task
+HasTask (statements.RollbackTo name made) stand task = TakesBackTo made stand task
+HasTask other stand task = task ≡ Idle
+
 abbrev pub IsRunning : State → ℕ → TransactionStatement → Type 0
-IsRunning state s statement = RunsBy state.past s statement
+IsRunning state s statement = RunsBy state.past s statement × HasTask statement (length (own s state.past)) (task_of s state)

@@ -10,18 +10,19 @@ use crate::committer::Committer;
 use crate::endings::finish;
 use crate::statement::TransactionStatement;
 use inno_types::{Level, Stmt};
+use shared_lists::SharedLists;
 use sql_lists::{Advance, SqlLists};
 
 /// Commits what is open.
-pub fn step_committing(
+pub fn step_committing<L: SharedLists>(
     committer: Committer,
     session: u32,
-    lists: &mut SqlLists,
+    lists: &mut SqlLists<L>,
 ) -> (TransactionStatement, Advance)
     requires joined { session < length lists.old.names }
     requires running { IsRunning lists.old session (TransactionStatement.Committing committer) }
     ensures steps { Steps IsRunning session lists.old lists.new result.0 result.1 }
-    ensures nears { Nears to_go session lists.old.past (TransactionStatement.Committing committer) lists.new.past result.0 result.1 }
+    ensures nears { Nears to_go session lists.old (TransactionStatement.Committing committer) lists.new result.0 result.1 }
 {
     if lists.lists().level(session).is_none() {
         return (TransactionStatement::Closed { committer }, Advance::Went);
@@ -30,30 +31,30 @@ pub fn step_committing(
     (TransactionStatement::Unacked { committer }, Advance::Went)
 }
 
-pub fn step_unacked(
+pub fn step_unacked<L: SharedLists>(
     committer: Committer,
     session: u32,
-    lists: &mut SqlLists,
+    lists: &mut SqlLists<L>,
 ) -> (TransactionStatement, Advance)
     requires joined { session < length lists.old.names }
     requires running { IsRunning lists.old session (TransactionStatement.Unacked committer) }
     ensures steps { Steps IsRunning session lists.old lists.new result.0 result.1 }
-    ensures nears { Nears to_go session lists.old.past (TransactionStatement.Unacked committer) lists.new.past result.0 result.1 }
+    ensures nears { Nears to_go session lists.old (TransactionStatement.Unacked committer) lists.new result.0 result.1 }
 {
     lists.ack(session);
     (TransactionStatement::Closed { committer }, Advance::Went)
 }
 
 /// Nothing is open: BEGIN opens its transaction, and the others are done.
-pub fn step_closed(
+pub fn step_closed<L: SharedLists>(
     committer: Committer,
     session: u32,
-    lists: &mut SqlLists,
+    lists: &mut SqlLists<L>,
 ) -> (TransactionStatement, Advance)
     requires joined { session < length lists.old.names }
     requires running { IsRunning lists.old session (TransactionStatement.Closed committer) }
     ensures steps { Steps IsRunning session lists.old lists.new result.0 result.1 }
-    ensures nears { Nears to_go session lists.old.past (TransactionStatement.Closed committer) lists.new.past result.0 result.1 }
+    ensures nears { Nears to_go session lists.old (TransactionStatement.Closed committer) lists.new result.0 result.1 }
 {
     match committer {
         Committer::Commit => finish(Stmt::Commit, session, lists),
@@ -63,16 +64,16 @@ pub fn step_closed(
 }
 
 /// Opens the transaction of BEGIN.
-fn open_new(
+fn open_new<L: SharedLists>(
     snapshot: bool,
     level: Level,
     session: u32,
-    lists: &mut SqlLists,
+    lists: &mut SqlLists<L>,
 ) -> (TransactionStatement, Advance)
     requires joined { session < length lists.old.names }
     requires running { IsRunning lists.old session (TransactionStatement.Closed (Committer.Begin snapshot level)) }
     ensures steps { Steps IsRunning session lists.old lists.new result.0 result.1 }
-    ensures nears { Nears to_go session lists.old.past (TransactionStatement.Closed (Committer.Begin snapshot level)) lists.new.past result.0 result.1 }
+    ensures nears { Nears to_go session lists.old (TransactionStatement.Closed (Committer.Begin snapshot level)) lists.new result.0 result.1 }
 {
     if lists.begin(session, level).is_err() {
         return (TransactionStatement::Failed, Advance::NoMemory);
@@ -90,11 +91,14 @@ fn is_repeatable_read(level: Level) -> bool
 }
 
 /// Takes the view of WITH CONSISTENT SNAPSHOT.
-pub fn step_viewing(session: u32, lists: &mut SqlLists) -> (TransactionStatement, Advance)
+pub fn step_viewing<L: SharedLists>(
+    session: u32,
+    lists: &mut SqlLists<L>,
+) -> (TransactionStatement, Advance)
     requires joined { session < length lists.old.names }
     requires running { IsRunning lists.old session TransactionStatement.Viewing }
     ensures steps { Steps IsRunning session lists.old lists.new result.0 result.1 }
-    ensures nears { Nears to_go session lists.old.past TransactionStatement.Viewing lists.new.past result.0 result.1 }
+    ensures nears { Nears to_go session lists.old TransactionStatement.Viewing lists.new result.0 result.1 }
 {
     match lists.take_view(session) {
         Ok(()) => (
@@ -105,15 +109,15 @@ pub fn step_viewing(session: u32, lists: &mut SqlLists) -> (TransactionStatement
     }
 }
 
-pub fn step_begun(
+pub fn step_begun<L: SharedLists>(
     snapshot: bool,
     session: u32,
-    lists: &mut SqlLists,
+    lists: &mut SqlLists<L>,
 ) -> (TransactionStatement, Advance)
     requires joined { session < length lists.old.names }
     requires running { IsRunning lists.old session (TransactionStatement.Begun snapshot) }
     ensures steps { Steps IsRunning session lists.old lists.new result.0 result.1 }
-    ensures nears { Nears to_go session lists.old.past (TransactionStatement.Begun snapshot) lists.new.past result.0 result.1 }
+    ensures nears { Nears to_go session lists.old (TransactionStatement.Begun snapshot) lists.new result.0 result.1 }
 {
     finish(Stmt::Begin { snapshot }, session, lists)
 }

@@ -2,6 +2,8 @@
 
 ghost use Rattle.std.specs.Prelude.{◌≡◌, ◌<◌, length};
 ghost use Rattle.inno_types.specs.declared.reply.Reply.TheVariants.{Done as DoneReply};
+ghost use Rattle.shared_lists.specs.Tasks.{Idle};
+ghost use Rattle.shared_lists.specs.State.{task_of};
 ghost use Rattle.sql_lists.specs.Steps.{Steps};
 ghost use Rattle.sql_lists.specs.Going.{Nears};
 ghost use Rattle.transaction_statements.specs.Knowing.{IsFinished};
@@ -10,12 +12,18 @@ ghost use Rattle.transaction_statements.specs.Going.{to_go};
 
 use crate::statement::TransactionStatement;
 use inno_types::{Bytes, Reply, SqlError, Stmt};
+use shared_lists::SharedLists;
 use sql_lists::{Advance, SqlLists};
 
 /// Ends the item of a statement that was done.
-pub fn finish(stmt: Stmt, session: u32, lists: &mut SqlLists) -> (TransactionStatement, Advance)
+pub fn finish<L: SharedLists>(
+    stmt: Stmt,
+    session: u32,
+    lists: &mut SqlLists<L>,
+) -> (TransactionStatement, Advance)
     requires joined { session < length lists.old.names }
     requires finished { IsFinished session stmt lists.old.past }
+    requires idle { task_of session lists.old ≡ Idle }
     ensures steps { Steps IsRunning session lists.old lists.new result.0 result.1 }
     ensures over { result.1 ≡ Advance.Done DoneReply }
 {
@@ -23,25 +31,29 @@ pub fn finish(stmt: Stmt, session: u32, lists: &mut SqlLists) -> (TransactionSta
     (TransactionStatement::Failed, Advance::Done(Reply::Done))
 }
 
-pub fn step_quiet(stmt: Stmt, session: u32, lists: &mut SqlLists) -> (TransactionStatement, Advance)
+pub fn step_quiet<L: SharedLists>(
+    stmt: Stmt,
+    session: u32,
+    lists: &mut SqlLists<L>,
+) -> (TransactionStatement, Advance)
     requires joined { session < length lists.old.names }
     requires running { IsRunning lists.old session (TransactionStatement.Quiet stmt) }
     ensures steps { Steps IsRunning session lists.old lists.new result.0 result.1 }
-    ensures nears { Nears to_go session lists.old.past (TransactionStatement.Quiet stmt) lists.new.past result.0 result.1 }
+    ensures nears { Nears to_go session lists.old (TransactionStatement.Quiet stmt) lists.new result.0 result.1 }
 {
     finish(stmt, session, lists)
 }
 
 /// A savepoint that is not there refuses its statement.
-pub fn step_missing(
+pub fn step_missing<L: SharedLists>(
     savepoint: Bytes,
     session: u32,
-    lists: &mut SqlLists,
+    lists: &mut SqlLists<L>,
 ) -> (TransactionStatement, Advance)
     requires joined { session < length lists.old.names }
     requires running { IsRunning lists.old session (TransactionStatement.Missing savepoint) }
     ensures steps { Steps IsRunning session lists.old lists.new result.0 result.1 }
-    ensures nears { Nears to_go session lists.old.past (TransactionStatement.Missing savepoint) lists.new.past result.0 result.1 }
+    ensures nears { Nears to_go session lists.old (TransactionStatement.Missing savepoint) lists.new result.0 result.1 }
 {
     lists.end(session, Reply::Fail(SqlError::NoSavepoint));
     let given = Reply::Fail(SqlError::NoSavepoint);
@@ -49,11 +61,14 @@ pub fn step_missing(
 }
 
 /// A statement that found no memory ends, and leaves what it may.
-pub fn step_failed(session: u32, lists: &mut SqlLists) -> (TransactionStatement, Advance)
+pub fn step_failed<L: SharedLists>(
+    session: u32,
+    lists: &mut SqlLists<L>,
+) -> (TransactionStatement, Advance)
     requires joined { session < length lists.old.names }
     requires running { IsRunning lists.old session TransactionStatement.Failed }
     ensures steps { Steps IsRunning session lists.old lists.new result.0 result.1 }
-    ensures nears { Nears to_go session lists.old.past TransactionStatement.Failed lists.new.past result.0 result.1 }
+    ensures nears { Nears to_go session lists.old TransactionStatement.Failed lists.new result.0 result.1 }
 {
     lists.end(session, Reply::NoMemory);
     (TransactionStatement::Failed, Advance::Done(Reply::NoMemory))

@@ -1,6 +1,8 @@
 //! A statement on transactions under way, its beginning and its steps.
 
-ghost use Rattle.std.specs.Prelude.{◌<◌, length};
+ghost use Rattle.std.specs.Prelude.{◌≡◌, ◌<◌, length};
+ghost use Rattle.shared_lists.specs.Tasks.{Idle};
+ghost use Rattle.shared_lists.specs.State.{task_of};
 ghost use Rattle.sql_lists.specs.Steps.{IsTaken, Steps, StaysRunning};
 ghost use Rattle.sql_lists.specs.Going.{Nears};
 ghost use Rattle.transaction_statements.specs.Committing.{IsOnTransactions};
@@ -13,6 +15,7 @@ use crate::endings::{step_failed, step_missing, step_quiet};
 use crate::rollbacks::{new_rollback_to, step_rollback, step_rollback_to};
 use crate::savepoints::{new_savepoint, step_opening, step_saving};
 use inno_types::{Bytes, Level, Stmt};
+use shared_lists::SharedLists;
 use sql_lists::{Advance, SqlLists};
 use std::alloc::Global;
 
@@ -44,10 +47,11 @@ pub enum TransactionStatement {
 
 impl TransactionStatement {
     /// The statement of an item that has done nothing yet.
-    pub fn new(stmt: Stmt, session: u32, lists: &SqlLists) -> Self
+    pub fn new<L: SharedLists>(stmt: Stmt, session: u32, lists: &SqlLists<L>) -> Self
         requires joined { session < length lists.now.names }
         requires kind { IsOnTransactions stmt }
         requires taken { IsTaken session stmt lists.now.past }
+        requires idle { task_of session lists.now ≡ Idle }
         ensures { IsRunning lists.now session result }
     {
         let setting = lists.setting(session);
@@ -73,11 +77,16 @@ impl TransactionStatement {
     }
 
     /// One step of the session's statement.
-    pub fn step(self, _alloc: Global, session: u32, lists: &mut SqlLists) -> (Self, Advance)
+    pub fn step<L: SharedLists>(
+        self,
+        _alloc: Global,
+        session: u32,
+        lists: &mut SqlLists<L>,
+    ) -> (Self, Advance)
         requires joined { session < length lists.old.names }
         requires running { IsRunning lists.old session self }
         ensures steps { Steps IsRunning session lists.old lists.new result.0 result.1 }
-        ensures nears { Nears to_go session lists.old.past self lists.new.past result.0 result.1 }
+        ensures nears { Nears to_go session lists.old self lists.new result.0 result.1 }
     {
         match self {
             TransactionStatement::Quiet { stmt } => step_quiet(stmt, session, lists),
@@ -110,9 +119,14 @@ impl TransactionStatement {
 }
 
 /// SET autocommit commits an open transaction where it turns autocommit on.
-fn new_autocommit(on: bool, session: u32, lists: &SqlLists) -> TransactionStatement
+fn new_autocommit<L: SharedLists>(
+    on: bool,
+    session: u32,
+    lists: &SqlLists<L>,
+) -> TransactionStatement
     requires joined { session < length lists.now.names }
     requires taken { IsTaken session (Stmt.SetAutocommit on) lists.now.past }
+    requires idle { task_of session lists.now ≡ Idle }
     ensures { IsRunning lists.now session result }
 {
     if on && !lists.setting(session).autocommit() {

@@ -1,6 +1,6 @@
 -- Why a call of an index has not done what it was asked, where all is told.
-use Rattle.std.proofs.Common.{◌≡◌, ◌≢◌, inr, ℕ, true, false, List, [], Option, Some, None, refl, sym, ap, ◌∙◌, length}
-use Rattle.std.specs.Prelude.{IsSome, IfSome, unwrap_or, is_some}
+use Rattle.std.proofs.Common.{◌≡◌, ◌≢◌, inr, ℕ, true, false, List, Option, Some, None, refl, sym, ap, ◌∙◌, length}
+use Rattle.std.specs.Prelude.{IsSome, IfSome, is_some}
 use Rattle.std.proofs.lemmas.Bool.{true≢false, eq-eqb}
 use Rattle.entries.specs.declared.answers.Move.{Move}
 use Rattle.entries.specs.declared.answers.Move.TheVariants.{At, End, Done, Step, Latch, Again, Full, TooDeep, Failed, Bad, NoMemory}
@@ -8,10 +8,11 @@ use Rattle.entries.specs.Pairs.{Pair, value_of}
 use Rattle.entries.specs.Index.{Told}
 use Rattle.entries.specs.Calls.{Fetches, NextKeys, Replaces, Removes, IsResized, is_as_long}
 use Rattle.world.specs.State.{WorldState}
-use Rattle.undo_apply.specs.Told.{IsTold, rows_of}
+use Rattle.world.specs.Told.{pairs_in, IsTold}
+use Rattle.undo_apply.specs.Told.{rows_of}
 use Rattle.undo_apply.specs.Stages.{Stops}
 
-told_pairs : (P : List Pair → Type 0) (pairs : Option (List Pair)) → IsSome pairs → IfSome pairs P → P (unwrap_or pairs [])
+told_pairs : (P : List Pair → Type 0) (pairs : Option (List Pair)) → IsSome pairs → IfSome pairs P → P (pairs_in pairs)
 told_pairs P None some holds = absurd cc
 told_pairs P (Some pairs) some holds = holds
 

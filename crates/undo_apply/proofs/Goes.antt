@@ -14,7 +14,8 @@ use Rattle.row_changes.specs.Pairs.{RowsStay}
 use Rattle.undo_apply.specs.declared.work_room.WorkRoom.{WorkRoom}
 use Rattle.undo_apply.specs.declared.work_room.Stage.{Stage}
 use Rattle.undo_apply.specs.Rooms.{IsWhole}
-use Rattle.undo_apply.specs.Told.{IsTold, Rows, rows_of, LeavesRows}
+use Rattle.world.specs.Told.{IsTold, LeavesRows}
+use Rattle.undo_apply.specs.Told.{Rows, rows_of}
 use Rattle.undo_apply.specs.Standing.{TellsOf}
 use Rattle.undo_apply.specs.Stages.{FitsKeys, StageHolds, IsPuttingBack, ChangesOneEntry, Nears, StopsAt, IsHindered, PutsBack}
 use Rattle.undo_apply.proofs.Telling.{schemas_stay, told_before, rows_stay, leaves_told, leaves_rows}
@@ -26,10 +27,10 @@ same_pairs None = record {}
 same_pairs (Some pairs) = refl
 
 pub stays_same : (state : WorldState) → RowsStay state state
-stays_same state = record { pairs = λ index. same_pairs (state.indexes index).pairs; versions = record { told = λ h. h; kept = λ h. refl }; rest = refl }
+stays_same state = record { pairs = λ index. same_pairs (state.indexes index).pairs; places = λ index. refl; versions = record { told = λ h. h; kept = λ h. refl }; rest = refl }
 
 pub unchanged_stays : (old new : WorldState) → IsUnchanged old new → RowsStay old new
-unchanged_stays old new same = record { pairs = λ index. (same.indexes index).pairs; versions = same.versions; rest = same.rest }
+unchanged_stays old new same = record { pairs = λ index. (same.indexes index).pairs; places = λ index. (same.indexes index).place; versions = same.versions; rest = same.rest }
 
 -- ---- what is known after a step
 

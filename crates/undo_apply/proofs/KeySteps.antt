@@ -9,7 +9,7 @@ use Rattle.store_api.specs.declared.answers.Version.{Version as Coded}
 use Rattle.entries.specs.declared.answers.Move.{Move}
 use Rattle.entries.specs.declared.answers.Move.TheVariants.{At, End, Done, Step, Latch, Again, Full, TooDeep, Failed, Bad, NoMemory}
 use Rattle.entries.specs.Pairs.{Pair, value_of}
-use Rattle.entries.specs.Index.{Index, Goes}
+use Rattle.entries.specs.Index.{Index, HasGone}
 use Rattle.entries.specs.Calls.{NextKeys, Removes}
 use Rattle.row_codec.specs.Rows.{IsRecordOf, IsVersion}
 use Rattle.row_versions.specs.declared.place.Place.{Place}
@@ -22,12 +22,13 @@ use Rattle.coded_rows.specs.Records.{shown, IsCodeOf}
 use Rattle.world.specs.State.{WorldState}
 use Rattle.world.specs.Indexes.{Calls, Changes, ReplacesWith}
 use Rattle.row_changes.specs.Pairs.{RowsStay, PutsPair}
-use Rattle.row_changes.proofs.Worlds.{stays_if, next_key_keeps, puts_if, change_stays_if, replace_keeps, remove_keeps}
+use Rattle.row_changes.proofs.Worlds.{places_if, stays_if, next_key_keeps, puts_if, change_stays_if, replace_keeps, remove_keeps}
 use Rattle.undo_apply.specs.declared.work_room.WorkRoom.{WorkRoom}
 use Rattle.undo_apply.specs.declared.work_room.Stage.{Stage}
 use Rattle.undo_apply.specs.declared.work_room.Stage.TheVariants.{Key, Mark, Await, Remove, Unmark}
 use Rattle.undo_apply.specs.Rooms.{IsWhole, steps_left}
-use Rattle.undo_apply.specs.Told.{IsTold, Rows, rows_of}
+use Rattle.world.specs.Told.{IsTold}
+use Rattle.undo_apply.specs.Told.{Rows, rows_of}
 use Rattle.undo_apply.specs.Standing.{TellsOf, had_row, versions_before, IsCleared, IsUnderWay, column_of}
 use Rattle.undo_apply.specs.Moves.{WentOn, WentOnOrEnded, at_stage}
 use Rattle.undo_apply.specs.Stages.{FitsKeys, StageHolds, IsPuttingBack, PutsBack, ChangesOneEntry, Nears, StopsAt}
@@ -73,9 +74,15 @@ Writes state undo which value entry result =
 
 -- ---- pairs
 
-pub removed_if : {index : ℕ} {call : Index → Index → Type 0} {old new : WorldState} (key : List ℕ) → Calls index call old new
-    → Goes (λ before after. after ≡ with_value key None before) (old.indexes index).pairs (new.indexes index).pairs → PutsPair index key None old new
-removed_if key c here = record { here = here; elsewhere = λ other differs. (c.index_is.elsewhere other differs).pairs; versions = c.beside.versions; rest = c.beside.rest }
+pub removed_if : {index : ℕ} {call : Index → Index → Type 0} {old new : WorldState} {holder : Option ℕ} (key : List ℕ) → Calls index call old new
+    → HasGone (λ before after. after ≡ with_value key None before) holder (old.indexes index) (new.indexes index) → PutsPair index key None old new
+removed_if key c here = record {
+  here = here.pairs;
+  elsewhere = λ other differs. (c.index_is.elsewhere other differs).pairs;
+  places = places_if c.index_is here.place;
+  versions = c.beside.versions;
+  rest = c.beside.rest;
+}
 
 -- a key that isn't there is removed from the pairs of an index in vain
 pub unchanged_at : (index : ℕ) (key : List ℕ) (pairs : ℕ → List Pair) (other : ℕ) → value_of key (pairs index) ≡ None → pairs_after index key None pairs other ≡ pairs other
@@ -242,7 +249,7 @@ module _ (chains : Chains) (place : Place) (actor : ℕ) (undo : Undo) (room : W
   mark_done : room.stage ≡ Mark which → (entry : List ℕ) (result : Bool) → Writes old undo which room.newest.items entry result → (new : WorldState) → Changing entry room.marked new Done → PutsBack chains place actor undo room (at_stage following (record room { entries = entry })) old new Step
   mark_done at entry result writes new changes =
       let within = fitting (Mark which) at in
-      let puts : PutsPair (key_index undo.table which) entry (Some room.marked) old new = puts_if entry (Some room.marked) changes changes.index_is.here.1.pairs in
+      let puts : PutsPair (key_index undo.table which) entry (Some room.marked) old new = puts_if entry (Some room.marked) changes changes.index_is.here.1 in
       went_to (record room { entries = entry }) (written_leaves entry) following new (schemas_after puts) (one_pair new entry (Some room.marked) within puts) (next_fits chains place undo is.schema which keys within (had_row undo) refl)
       (λ told.
       let h = held (Mark which) at (told_before_put puts told) in
@@ -329,7 +336,7 @@ module _ (chains : Chains) (place : Place) (actor : ℕ) (undo : Undo) (room : W
   remove_done : room.stage ≡ Remove which → (entry : List ℕ) (result : Bool) → Writes old undo which room.newest.items entry result → (new : WorldState) → Removing entry new Done → PutsBack chains place actor undo room (at_stage following (record room { entries = entry })) old new Step
   remove_done at entry result writes new calls =
       let within = fitting (Remove which) at in
-      let puts : PutsPair (key_index undo.table which) entry None old new = removed_if entry calls calls.index_is.here.2.pairs in
+      let puts : PutsPair (key_index undo.table which) entry None old new = removed_if entry calls calls.index_is.here.2 in
       went_to (record room { entries = entry }) (written_leaves entry) following new (schemas_after puts) (one_pair new entry None within puts) (next_fits chains place undo is.schema which keys within (had_row undo) refl)
       (λ told. remove_holds at entry result writes (told_before_put puts told) (rows_of new) (λ version same. rows_now new entry None None version puts same refl told))
       (follow_nears (Remove which) new at within (omega arith))
@@ -345,7 +352,7 @@ module _ (chains : Chains) (place : Place) (actor : ℕ) (undo : Undo) (room : W
   remove_ended : room.stage ≡ Remove which → (entry : List ℕ) (result : Bool) → Writes old undo which room.newest.items entry result → (new : WorldState) → Removing entry new End → PutsBack chains place actor undo room (at_stage following (record room { entries = entry })) old new Step
   remove_ended at entry result writes new calls =
       let within = fitting (Remove which) at in
-      let stays : RowsStay old new = stays_if calls calls.index_is.here.2.pairs in
+      let stays : RowsStay old new = stays_if calls (calls.index_is.here.2.pairs, calls.index_is.here.2.place) in
       went_to (record room { entries = entry }) (written_leaves entry) following new (schemas_stay stays) (inl stays) (next_fits chains place undo is.schema which keys within (had_row undo) refl)
       (λ told.
       let before_told = told_before stays told in
@@ -404,7 +411,7 @@ module _ (chains : Chains) (place : Place) (actor : ℕ) (undo : Undo) (room : W
   unmark_done : room.stage ≡ Unmark which → (entry : List ℕ) (result : Bool) → Writes old undo which undo.value entry result → (new : WorldState) → Changing entry room.unmarked new Done → PutsBack chains place actor undo room (at_stage (Key (which + 1)) (record room { entries = entry })) old new Step
   unmark_done at entry result writes new changes =
       let within = (fitting (Unmark which) at).0 in
-      let puts : PutsPair (key_index undo.table which) entry (Some room.unmarked) old new = puts_if entry (Some room.unmarked) changes changes.index_is.here.1.pairs in
+      let puts : PutsPair (key_index undo.table which) entry (Some room.unmarked) old new = puts_if entry (Some room.unmarked) changes changes.index_is.here.1 in
       went_to (record room { entries = entry }) (written_leaves entry) (Key (which + 1)) new (schemas_after puts) (one_pair new entry (Some room.unmarked) within puts) (omega (arith, within))
       (λ told.
       let before_told = told_before_put puts told in

@@ -23,7 +23,8 @@ use Rattle.undo_apply.specs.declared.work_room.WorkRoom.{WorkRoom}
 use Rattle.undo_apply.specs.declared.work_room.Stage.{Stage}
 use Rattle.undo_apply.specs.declared.work_room.Stage.TheVariants.{Key, Walk, Mark, Await, Unmark, AwaitRecords, Record}
 use Rattle.undo_apply.specs.Rooms.{IsWhole, steps_left}
-use Rattle.undo_apply.specs.Told.{IsTold, TellsTogether, Rows, rows_of}
+use Rattle.world.specs.Told.{IsTold, TellsTogether}
+use Rattle.undo_apply.specs.Told.{Rows, rows_of}
 use Rattle.undo_apply.specs.Standing.{had_row, versions_before, HasWalked, some_has}
 use Rattle.undo_apply.specs.Moves.{at_stage, LooksAt, LooksOn}
 use Rattle.undo_apply.specs.Stages.{FitsKeys, StageHolds, LagsAt, IsPuttingBack, Nears, PutsBack, StopsAt, StopsWalk}
@@ -208,7 +209,7 @@ module _ (chains : Chains) (place : Place) (actor : ℕ) (undo : Undo) (room : W
           let read = read_at told in
           let past = passed_here is.schema undo.key which is.tells.storable within room.newest.items mid.older.items h.0 read.version h.1.newest.code_is read.code_is on.1 read.rest in
           let walked : HasWalked is.schema undo.key (rows_of old).kept which read.version.pointer h.0 before
-          = record { left = read.rest; leads = read.leads; passed = h.3.passed ∙ (ap (some_has is.schema which h.0) read.left_is ∙ past) } in
+          = record { left = read.rest; leads = read.leads; fewer = (let all = ap length read.left_is in omega (arith, all, h.3.fewer)); passed = h.3.passed ∙ (ap (some_has is.schema which h.0) read.left_is ∙ past) } in
           subst (λ (s : Stage). StageHolds chains place undo is.schema (rows_of old) room.newest.items s) (sym on.0) (h.0, h.1, h.2, walked)
 
       fits_by : (after.stage ≡ Mark which) ⊎ ((behind : ℕ) × (after.stage ≡ Walk which behind)) → FitsKeys keys undo after.stage

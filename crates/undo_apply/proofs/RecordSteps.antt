@@ -26,7 +26,8 @@ use Rattle.undo_apply.specs.declared.work_room.WorkRoom.{WorkRoom}
 use Rattle.undo_apply.specs.declared.work_room.Stage.{Stage}
 use Rattle.undo_apply.specs.declared.work_room.Stage.TheVariants.{Find, Key, AwaitRecords, Record}
 use Rattle.undo_apply.specs.Rooms.{IsWhole, steps_left}
-use Rattle.undo_apply.specs.Told.{IsTold, Rows, rows_of}
+use Rattle.world.specs.Told.{IsTold}
+use Rattle.undo_apply.specs.Told.{Rows, rows_of}
 use Rattle.undo_apply.specs.Standing.{LeadsBack, was_before, versions_before, IsLagging, IsUnderWay, IsTakenBack}
 use Rattle.undo_apply.specs.Moves.{WentOnOrEnded, Ended, at_stage}
 use Rattle.undo_apply.specs.Stages.{StageHolds, IsPuttingBack, PutsBack, StopsAt}
@@ -203,7 +204,7 @@ module _ (chains : Chains) (place : Place) (actor : ℕ) (undo : Undo) (room : W
     there told = ap is_some (hold Record at told).1.newest.there
 
     gone : Calls index (λ b a. Removes actor undo.key b a Done) old new → PutsPair index undo.key (was_before undo) old new
-    gone c = subst (λ (v : Option (List ℕ)). PutsPair index undo.key v old new) (sym (before_new undo kind)) (removed_if undo.key c c.index_is.here.2.pairs)
+    gone c = subst (λ (v : Option (List ℕ)). PutsPair index undo.key v old new) (sym (before_new undo kind)) (removed_if undo.key c c.index_is.here.2)
 
     by_answer : (answer ≡ Done) ⊎ (answer ≢ Done) → (answer ≡ End) ⊎ (answer ≢ End) → PutsBack chains place actor undo room after old new reached
     by_answer (inl done) is_end =
@@ -232,7 +233,7 @@ module _ (chains : Chains) (place : Place) (actor : ℕ) (undo : Undo) (room : W
         (room.newest.items, h.1.newest.there, as_long undo is.schema (rows_of old).kept room.newest.items h.0 (versions_before chains place) h.1.newest.code_is read.1 h.1.newest.before kind)
 
     put : Changes index actor None (λ b a ans. ReplacesWith None actor undo.key undo.value b a ans) old new Done → PutsPair index undo.key (was_before undo) old new
-    put c = subst (λ (v : Option (List ℕ)). PutsPair index undo.key v old new) (sym (not_new undo kind)) (puts_if undo.key (Some undo.value) c c.index_is.here.1.pairs)
+    put c = subst (λ (v : Option (List ℕ)). PutsPair index undo.key v old new) (sym (not_new undo kind)) (puts_if undo.key (Some undo.value) c c.index_is.here.1)
 
     by_answer : (answer ≡ Done) ⊎ (answer ≢ Done) → PutsBack chains place actor undo room after old new reached
     by_answer (inl done) =

@@ -1,20 +1,21 @@
 -- What a step of the world leaves of the rows that it tells.
-use Rattle.std.proofs.Common.{◌≡◌, ◌≢◌, ◌⊎◌, inl, inr, ⊎_elim, ℕ, cond, List, [], Option, Some, None, refl, sym, ap, subst, ◌∙◌}
-use Rattle.std.specs.Prelude.{IsSome, unwrap_or, ◌==◌}
+use Rattle.std.proofs.Common.{◌≡◌, ◌≢◌, ◌⊎◌, inl, inr, ⊎_elim, ℕ, cond, List, Option, Some, None, refl, sym, ap, subst, ◌∙◌}
+use Rattle.std.specs.Prelude.{IsSome, ◌==◌}
 use Rattle.std.proofs.lemmas.Bool.{cases_eq, cond-true, cond-false, eq-eqb, ne_eqb}
 use Rattle.entries.specs.Pairs.{Pair}
 use Rattle.entries.specs.Index.{Goes}
 use Rattle.coded_rows.specs.Edits.{with_value, Puts}
 use Rattle.world.specs.State.{WorldState}
 use Rattle.row_changes.specs.Pairs.{RowsStay, PutsPair}
-use Rattle.undo_apply.specs.Told.{IsTold, rows_of, LeavesRows}
+use Rattle.world.specs.Told.{pairs_in, pairs_of, IsTold, LeavesRows}
+use Rattle.undo_apply.specs.Told.{rows_of}
 
 told_from : (step : List Pair → List Pair → Type 0) (old new : Option (List Pair)) → Goes step old new → IsSome new → IsSome old
 told_from step old None goes some = absurd cc
 told_from step None (Some new) goes some = absurd goes
 told_from step (Some old) (Some new) goes some = refl
 
-goes_from : (step : List Pair → List Pair → Type 0) (old new : Option (List Pair)) → Goes step old new → IsSome new → step (unwrap_or old []) (unwrap_or new [])
+goes_from : (step : List Pair → List Pair → Type 0) (old new : Option (List Pair)) → Goes step old new → IsSome new → step (pairs_in old) (pairs_in new)
 goes_from step old None goes some = absurd cc
 goes_from step None (Some new) goes some = absurd goes
 goes_from step (Some old) (Some new) goes some = goes
@@ -35,7 +36,7 @@ leaves_told {old} {new} leaves told = record {
 
 pub leaves_rows : {old new : WorldState} → LeavesRows old new → IsTold new → rows_of new ≡ rows_of old
 leaves_rows {old} {new} leaves told =
-    let pairs : (index : ℕ) → unwrap_or (new.indexes index).pairs [] ≡ unwrap_or (old.indexes index).pairs []
+    let pairs : (index : ℕ) → pairs_of new index ≡ pairs_of old index
     = λ index. goes_from same (old.indexes index).pairs (new.indexes index).pairs (leaves.pairs index) (told.pairs index) in
     let kept = leaves.versions.kept told.versions in
     λ i. record { schemas = leaves.schemas i; pairs = λ index. pairs index i; kept = kept i }
@@ -74,9 +75,9 @@ told_before_put {index} {key} {value} {old} {new} puts told = record {
 }
 
 put_at : (index : ℕ) (key : List ℕ) (value : Option (List ℕ)) (old new : WorldState) (puts : PutsPair index key value old new) (told : IsTold new) (other : ℕ) → (other ≡ index) ⊎ (other ≢ index)
-    → unwrap_or (new.indexes other).pairs [] ≡ pairs_after index key value (rows_of old).pairs other
+    → pairs_of new other ≡ pairs_after index key value (rows_of old).pairs other
 put_at index key value old new puts told other (inl one) =
-    let At : ℕ → Type 0 = λ k. unwrap_or (new.indexes k).pairs [] ≡ pairs_after index key value (rows_of old).pairs k in
+    let At : ℕ → Type 0 = λ k. pairs_of new k ≡ pairs_after index key value (rows_of old).pairs k in
     subst At (sym one)
     (goes_from (now_at key value) (old.indexes index).pairs (new.indexes index).pairs puts.here (told.pairs index)
     ∙ sym (cond-true (index == index) (with_value key value ((rows_of old).pairs index)) ((rows_of old).pairs index) (eq-eqb index index refl)))
@@ -87,7 +88,7 @@ put_at index key value old new puts told other (inr differs) =
 pub rows_after : {index : ℕ} {key : List ℕ} {value : Option (List ℕ)} {old new : WorldState} → PutsPair index key value old new → IsTold new → rows_of new ≡ record (rows_of old) { pairs = pairs_after index key value (rows_of old).pairs }
 rows_after {index} {key} {value} {old} {new} puts told =
     let schemas = schemas_after puts in
-    let pairs : (other : ℕ) → unwrap_or (new.indexes other).pairs [] ≡ pairs_after index key value (rows_of old).pairs other
+    let pairs : (other : ℕ) → pairs_of new other ≡ pairs_after index key value (rows_of old).pairs other
     = λ other. put_at index key value old new puts told other (cases_eq other index) in
     let kept = puts.versions.kept told.versions in
     λ i. record { schemas = schemas i; pairs = λ index. pairs index i; kept = kept i }

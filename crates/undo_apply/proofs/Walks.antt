@@ -99,7 +99,7 @@ module _ (schema : Schema) (key : List ℕ) (which : ℕ) (storable : IsStorable
 -- ---- the walk
 
 pub walk_begins : (schema : Schema) (key : List ℕ) (kept : ℕ → Option Kept) (which : ℕ) (coded : Coded) (before : List Version) → LeadTo schema key kept coded.pointer before → HasWalked schema key kept which coded.pointer coded before
-walk_begins schema key kept which coded before leads_on = record { left = before; leads = leads_on; passed = refl }
+walk_begins schema key kept which coded before leads_on = record { left = before; leads = leads_on; fewer = omega arith; passed = refl }
 
 pub walk_ends : (schema : Schema) (key : List ℕ) (kept : ℕ → Option Kept) (which pointer : ℕ) (coded : Coded) (before : List Version) → HasWalked schema key kept which pointer coded before → pointer ≡ 0 → some_has schema which coded before ≡ false
 walk_ends schema key kept which pointer coded before walked zero_is =

@@ -19,7 +19,8 @@ use Rattle.undo_apply.specs.declared.work_room.WorkRoom.{WorkRoom}
 use Rattle.undo_apply.specs.declared.work_room.Stage.{Stage}
 use Rattle.undo_apply.specs.declared.work_room.Stage.TheVariants.{Find, Key, Walk, Mark, Await, Remove, Unmark, AwaitRecords, Record}
 use Rattle.undo_apply.specs.Rooms.{IsWhole, steps_left}
-use Rattle.undo_apply.specs.Told.{IsTold, Rows, rows_of}
+use Rattle.world.specs.Told.{IsTold}
+use Rattle.undo_apply.specs.Told.{Rows, rows_of}
 use Rattle.undo_apply.specs.Standing.{TellsOf, was_before, had_row, versions_before, IsCleared, IsLagging, IsUnderWay, IsTakenBack, some_has, HasWalked}
 
 -- the key of a stage is one of the table's

@@ -1,5 +1,5 @@
 -- A change that stands as the newest version of its place, and what keys say of the place while it is taken back.
-use Rattle.std.specs.Prelude.{◌≡◌, ◌≢◌, ◌⊎◌, ℕ, ◌<◌, ◌==◌, Bool, false, if◌then◌else◌, List, ◌∷◌, slice_get, slice_index_or, Option, None, Some}
+use Rattle.std.specs.Prelude.{◌≡◌, ◌≢◌, ◌⊎◌, ℕ, ◌<◌, ◌≤◌, ◌==◌, Bool, false, if◌then◌else◌, List, ◌∷◌, length, slice_get, slice_index_or, Option, None, Some}
 use Rattle.std.specs.List.{list_any}
 use Rattle.inno_types.specs.declared.value.Column.{Column}
 use Rattle.inno_types.specs.declared.value.Schema.{Schema}
@@ -99,8 +99,10 @@ column_of schema which = place_if (slice_get schema.keys which)
 abbrev pub some_has : Schema → ℕ → Coded → List Version → Bool
 some_has schema which coded versions = list_any (λ version. has_value (column_of schema which) (value_in (column_of schema which) coded.row) version.row) versions
 
--- The walk has come to this pointer, and none of the versions that it passed has the value.
+-- The walk has come to this pointer, and none of the versions that it passed has the value. Those that are left are among
+-- the versions before the change.
 pub record HasWalked (schema : Schema) (key : List ℕ) (kept : ℕ → Option Kept) (which pointer : ℕ) (coded : Coded) (before : List Version) : Type 0 where
   pub left : List Version
   pub leads : LeadTo schema key kept pointer left
+  pub fewer : length left ≤ length before
   pub passed : some_has schema which coded before ≡ some_has schema which coded left

@@ -10,7 +10,7 @@ ghost use Rattle.row_versions.specs.Chains.{Chains};
 ghost use Rattle.secondary.specs.Entries.{entry_of};
 ghost use Rattle.undo_apply.specs.Moves.{HasKeyAt, LooksOn};
 ghost use Rattle.undo_apply.specs.Standing.{had_row as row_was_there};
-ghost use Rattle.undo_apply.specs.Told.{TellsTogether};
+ghost use Rattle.world.specs.Told.{TellsTogether};
 ghost use Rattle.undo_apply.specs.Stages.{IsPuttingBack, PutsBack};
 
 use crate::entry_room::EntryRoom;

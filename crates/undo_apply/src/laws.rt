@@ -7,7 +7,7 @@ ghost use Rattle.row_versions.specs.declared.place.Place.{Place};
 ghost use Rattle.row_versions.specs.Chains.{Chains};
 ghost use Rattle.world.specs.State.{WorldState};
 ghost use Rattle.undo_apply.specs.declared.work_room.WorkRoom.{WorkRoom};
-ghost use Rattle.undo_apply.specs.Told.{LeavesRows};
+ghost use Rattle.world.specs.Told.{LeavesRows};
 ghost use Rattle.undo_apply.specs.Stages.{IsPuttingBack};
 
 /// Steps of others that change no row may come between.

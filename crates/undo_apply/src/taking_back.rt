@@ -3,7 +3,7 @@
 ghost use Rattle.std.specs.Prelude.{◌≡◌};
 ghost use Rattle.row_versions.specs.declared.place.Place.{Place};
 ghost use Rattle.row_versions.specs.Chains.{Chains};
-ghost use Rattle.undo_apply.specs.Told.{TellsTogether};
+ghost use Rattle.world.specs.Told.{TellsTogether};
 ghost use Rattle.undo_apply.specs.Stages.{IsPuttingBack, PutsBack};
 
 use crate::key_steps::{await_entries, look_at_key, mark, remove_entry, unmark, walk};

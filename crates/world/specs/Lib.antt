@@ -2,3 +2,4 @@ pub mod State
 pub mod Indexes
 pub mod Undoing
 pub mod Sessions
+pub mod Told

@@ -78,6 +78,8 @@ pub record IsCutBack (slot : ℕ) (old new : WorldState) : Type 0 where
   pub log_is : work.log ≡ gone ∷ log
   pub told : IsTrue new.versions.told → IsTrue old.versions.told
   pub kept : (pointer : ℕ) → pointer ≢ gone.pointer → IsTrue new.versions.told → new.versions.kept_at pointer ≡ old.versions.kept_at pointer
+  -- a record of kind 1 keeps no version
+  pub behind_new : gone.undo.kind ≡ 1 → IsTrue new.versions.told → new.versions.kept_at gone.pointer ≡ old.versions.kept_at gone.pointer
   pub next : ℕ
   pub rest : new ≡ record (with_work slot (record session { undo_room = 0; next_pointer = next }) (record work { log = log }) old) { versions = new.versions; paged = new.paged }
 

@@ -1,5 +1,5 @@
 -- A statement that is answered by a count ends, or commits its own transaction first.
-use Rattle.std.proofs.Common.{◌≡◌, ℕ, true, false, eqb, Some, None, List, [], ◌∷◌, ◌++◌, length, reverse, refl, sym, ap, subst, ◌∙◌, inl, inr, arith}
+use Rattle.std.proofs.Common.{◌≡◌, ℕ, true, false, eqb, Some, None, List, [], ◌∷◌, ◌++◌, length, reverse, refl, sym, ap, subst, ◌∙◌, inl, inr, arith, Option}
 use Rattle.std.proofs.lemmas.Bool.Decides.{nat_tests}
 use Rattle.std.proofs.lemmas.Bool.{false≢true}
 use Rattle.std.proofs.lemmas.List.{append-nil, take_all}
@@ -21,8 +21,9 @@ use Rattle.sql_history.specs.Answers.{MakesFor}
 use Rattle.sql_history.specs.Endings.{IsClosed, Commits, Goes, BacksOut}
 use Rattle.sql_history.specs.Legal.{IsSettled, CommitsBy, MayCommit, is_alone}
 use Rattle.sql_history.specs.Waiting.{is_victim}
-use Rattle.table_lists.specs.State.{State, Adds, Closes}
 use Rattle.table_lists.specs.Order.{IsOfRow}
+use Rattle.shared_lists.specs.Tasks.{Idle}
+use Rattle.shared_lists.specs.State.{State, Adds, Closes, task_of}
 use Rattle.sql_lists.specs.Kept.{MayReply}
 use Rattle.sql_lists.specs.Steps.{Moves}
 use Rattle.sql_lists.proofs.Staying.{point_now, point_stays}
@@ -30,11 +31,11 @@ use Rattle.write_statement.specs.declared.machine.Work.{Work}
 use Rattle.write_statement.specs.Settling.{IsPlain}
 use Rattle.write_statement.specs.Running.{InTxn, IsChanging, is_count, is_refusal, MayAnswer, HasReply, IsClosing}
 use Rattle.write_statement.proofs.Writing.{of_writing, some_of, sees_base}
-use Rattle.write_statement.proofs.Moving.{moves_adds, moves_closes}
+use Rattle.sql_lists.proofs.Moving.{moves_adds, moves_closes}
 use Rattle.write_statement.proofs.Replies.{reply_stays}
 use Rattle.write_statement.proofs.Ends.{rolls_back_on, txn_ends_on}
 use Rattle.write_statement.proofs.Own.{acked_of, did_same, did_now, over_now, over_still, entries_are, some_on, takes_own, reply_closed}
-use Rattle.write_statement.proofs.Answering.{may_reply, not_done}
+use Rattle.write_statement.proofs.MayReply.{may_reply, not_done}
 
 count_of : (kept : Reply) → IsPlain kept → is_refusal kept ≡ false → (n : ℕ) × (kept ≡ replies.Count n)
 count_of (replies.Count n) plain is = (n, refl)
@@ -47,10 +48,7 @@ makes_all s n kept changes at is made = subst (λ (reply : Reply). MakesFor repl
 never_refused : (n : ℕ) (kept : Reply) (error : SqlError) → kept ≡ replies.Count n → kept ≡ replies.Fail error → ⊥
 never_refused n kept error is refused = cc
 
-module _ (state : State) (s : ℕ) (work : Work) (r : IsChanging state s work []) (accepted : is_refusal work.kept ≡ false) where
-  abbrev h : List Event
-  h = state.past
-
+module _ (h : List Event) (writer : Option ℕ) (s : ℕ) (work : Work) (r : IsChanging h writer s work []) (accepted : is_refusal work.kept ≡ false) where
   mine : eqb s s ≡ true
   mine = grind (arith, nat_tests)
 
@@ -89,9 +87,6 @@ module _ (state : State) (s : ℕ) (work : Work) (r : IsChanging state s work []
 
   is_counted : is_count work.kept ≡ true
   is_counted = ap is_count counted.1
-
-  pub answer_not_done : work.kept ≡ replies.Done → ⊥
-  answer_not_done is = not_done s r.statement h work.kept reply is
 
   -- ---- in a transaction that stays open
 
@@ -164,8 +159,8 @@ module _ (state : State) (s : ℕ) (work : Work) (r : IsChanging state s work []
         let here : Goes None true s after = (commits, did_same (events.Committed s) h s mine refl refl begins_txn refl ∙ txn.0.begun, did_same (events.Committed s) h s mine refl refl undoes refl ∙ r.goes_on.not_undone) in
         subst (λ l. Goes l r.working.takes.setting.autocommit s after) (sym txn.0.was_closed) (subst (λ autocommit. Goes None autocommit s after) (sym txn.1) here)
 
-    closing_then : IsClosing s work.kept work.given after
-    closing_then =
+    closing : IsClosing s work.kept work.given after
+    closing =
         record {
           same = r.same;
           statement = r.statement;
@@ -179,19 +174,21 @@ module _ (state : State) (s : ℕ) (work : Work) (r : IsChanging state s work []
           leaves = λ no-count. absurd (false≢true (sym no-count ∙ is_counted));
         }
 
-    pub committed : (new : State) → Closes (events.Committed s) s state new → Moves s state new × (IsClosing s work.kept work.given new.past × (awaits_ack (of_item s new.past) ≡ true) × IsClosed s new.past) × (started s new.past ≡ started s h)
-    committed new closes-it = (
-      moves_closes s (events.Committed s) state new mine refl closes-it,
-      subst (λ (st : State). IsClosing s work.kept work.given st.past × (awaits_ack (of_item s st.past) ≡ true) × IsClosed s st.past) (sym closes-it) (closing_then, ap awaits_ack (entries_are (events.Committed s) h s mine refl refl), commits.closed),
-      ap (λ (st : State). started s st.past) closes-it,
+    pub closing_then : IsClosing s work.kept work.given after × (awaits_ack (of_item s after) ≡ true) × IsClosed s after
+    closing_then = (closing, ap awaits_ack (entries_are (events.Committed s) h s mine refl refl), commits.closed)
+
+pub committed : (old new : State) (s : ℕ) (work : Work) (r : IsChanging old.past old.writer s work []) (accepted : is_refusal work.kept ≡ false) (its-own : work.alone ≡ true) → task_of s old ≡ Idle → Closes (events.Committed s) s old new
+    → Moves s old new × (IsClosing s work.kept work.given new.past × (awaits_ack (of_item s new.past) ≡ true) × IsClosed s new.past × (task_of s new ≡ Idle)) × (started s new.past ≡ started s old.past)
+committed old new s work r accepted its-own idle closes-it =
+    let then = subst (λ h. IsClosing s work.kept work.given h × (awaits_ack (of_item s h) ≡ true) × IsClosed s h) (sym closes-it.past_is) (closing_then old.past old.writer s work r accepted its-own) in (
+      moves_closes s (events.Committed s) old new (grind (arith, nat_tests)) refl closes-it,
+      (then.0, then.1, then.2, closes-it.task_is ∙ idle),
+      ap (started s) closes-it.past_is,
     )
 
 -- ---- a transaction of its own that has ended
 
-module _ (state : State) (s : ℕ) (kept given : Reply) (c : IsClosing s kept given state.past) where
-  abbrev past : List Event
-  past = state.past
-
+module _ (past : List Event) (s : ℕ) (kept given : Reply) (c : IsClosing s kept given past) where
   its : eqb s s ≡ true
   its = grind (arith, nat_tests)
 
@@ -214,15 +211,20 @@ module _ (state : State) (s : ℕ) (kept given : Reply) (c : IsClosing s kept gi
         leaves = λ no-count. rolls_back_on past acked s refl refl refl (did_same e past s its refl refl begins_txn refl) (did_same e past s its refl refl commits_txn refl) (did_same e past s its refl refl rolls_back_txn refl) (did_same e past s its refl refl undoes refl) (c.leaves no-count);
       }
 
-  pub acknowledged : (new : State) → Adds (events.Acked s 0) state new → Moves s state new × (IsClosing s kept given new.past × (awaits_ack (of_item s new.past) ≡ false)) × (started s new.past ≡ started s past)
-  acknowledged new adds = (
-    moves_adds s (events.Acked s 0) state new its (λ writes. absurd (false≢true writes)) adds,
-    subst (λ (st : State). IsClosing s kept given st.past × (awaits_ack (of_item s st.past) ≡ false)) (sym adds) (closing_acked, ap awaits_ack (entries_are (events.Acked s 0) past s its refl refl)),
-    ap (λ (st : State). started s st.past) adds,
-  )
+  pub acknowledged_then : IsClosing s kept given acked × (awaits_ack (of_item s acked) ≡ false)
+  acknowledged_then = (closing_acked, ap awaits_ack (entries_are (events.Acked s 0) past s its refl refl))
 
   pub closing_ends : awaits_ack (of_item s past) ≡ false → MayReply s kept past
   closing_ends acks = may_reply s c.statement past c.takes c.writes c.no_victim kept c.reply c.ends (λ no-count. inl (c.leaves no-count)) acks
 
   pub closing_not_done : kept ≡ replies.Done → ⊥
   closing_not_done is = not_done s c.statement past kept c.reply is
+
+pub acknowledged : (old new : State) (s : ℕ) (kept given : Reply) → IsClosing s kept given old.past → task_of s old ≡ Idle → Adds (events.Acked s 0) s old new
+    → Moves s old new × (IsClosing s kept given new.past × (awaits_ack (of_item s new.past) ≡ false) × (task_of s new ≡ Idle)) × (started s new.past ≡ started s old.past)
+acknowledged old new s kept given c idle adds =
+    let then = subst (λ h. IsClosing s kept given h × (awaits_ack (of_item s h) ≡ false)) (sym adds.past_is) (acknowledged_then old.past s kept given c) in (
+      moves_adds s (events.Acked s 0) old new (grind (arith, nat_tests)) (λ writes. absurd (false≢true writes)) adds,
+      (then.0, then.1, adds.task_is ∙ idle),
+      ap (started s) adds.past_is,
+    )

@@ -1,5 +1,5 @@
 -- A statement that is given up: it takes its changes back, and its own transaction with them.
-use Rattle.std.proofs.Common.{◌≡◌, ℕ, ◌+◌, ◌-◌, ◌<◌, ◌≤◌, Bool, true, false, eqb, Some, None, List, [], ◌∷◌, ◌++◌, length, take, drop, zero, suc, reverse, refl, sym, ap, subst, ◌∙◌, inl, inr, arith}
+use Rattle.std.proofs.Common.{◌≡◌, ℕ, ◌+◌, ◌-◌, ◌<◌, ◌≤◌, ◌≢◌, Bool, true, false, eqb, Option, Some, None, List, [], ◌∷◌, ◌++◌, length, take, drop, zero, suc, reverse, refl, sym, ap, subst, ◌∙◌, ◌⊎◌, inl, inr, arith}
 use Rattle.std.proofs.lemmas.Bool.Decides.{nat_tests}
 use Rattle.std.proofs.lemmas.Bool.{false≢true}
 use Rattle.std.proofs.lemmas.List.{length-append}
@@ -26,26 +26,33 @@ use Rattle.sql_history.specs.Endings.{IsOpen, Goes, BacksOut, RollsBack}
 use Rattle.sql_history.specs.Legal.{IsWriting, UndoesBy, MayUndo, RollsBackBy, MayRollBack, LeavesIt, MayLeaveOpen, is_alone}
 use Rattle.sql_history.specs.Waiting.{is_victim}
 use Rattle.sql_history.specs.Counts.{rows_kept, most_rows}
-use Rattle.table_lists.specs.State.{State, Adds, Closes}
 use Rattle.table_lists.specs.Order.{IsOfRow, IsUndoable}
+use Rattle.shared_lists.specs.declared.answers.Undone.{Undone}
+use Rattle.shared_lists.specs.declared.answers.Undone.TheVariants as undone
+use Rattle.shared_lists.specs.Tasks.{Task, Idle, MayTakeBack}
+use Rattle.shared_lists.specs.State.{State, Closes, task_of}
+use Rattle.shared_lists.specs.Steps.{TakesBack}
 use Rattle.sql_lists.specs.Kept.{MayReply}
-use Rattle.sql_lists.specs.Steps.{Moves}
+use Rattle.sql_lists.specs.Steps.{Moves, Steps}
+use Rattle.sql_lists.specs.Going.{IsBelow}
+use Rattle.sql_lists.specs.declared.advance.Advance.TheVariants as advance
 use Rattle.sql_lists.proofs.Staying.{point_now}
 use Rattle.write_statement.specs.declared.machine.Work.{Work}
-use Rattle.write_statement.specs.Running.{InTxn, IsWorking, IsEarly, IsChanging, is_count, is_refusal, PutsRows, MayAnswer, IsBackingOut, IsClosing}
+use Rattle.write_statement.specs.declared.machine.WriteStatement.TheVariants.{BackingOut}
+use Rattle.write_statement.specs.Going.{to_go}
+use Rattle.write_statement.specs.Running.{InTxn, IsWorking, IsEarly, IsChanging, is_count, is_refusal, PutsRows, MayAnswer, IsBackingOut, MayGoBack, IsClosing, IsRunning, given_up}
 use Rattle.write_statement.proofs.Writing.{of_writing, some_of}
-use Rattle.write_statement.proofs.Moving.{moves_adds, moves_closes}
+use Rattle.sql_lists.proofs.Moving.{moves_closes, moves_takes_back, below_first, below_second, fewer_stand}
 use Rattle.write_statement.proofs.Own.{acked_of, did_same, did_now, over_now, entries_are, takes_own, reply_closed, working_own}
-use Rattle.write_statement.proofs.Answering.{may_reply, not_done}
-use Rattle.write_statement.proofs.Making.{taken, parts_are}
+use Rattle.write_statement.proofs.MayReply.{may_reply, not_done}
+use Rattle.write_statement.proofs.Changes.{taken, parts_are}
 use Rattle.write_statement.proofs.Removing.{RemovesAlone, no_put, removes}
 
 -- ---- from where it is given up
 
 -- it has changed nothing yet, and finds no memory
-pub early_given_up : (state : State) (s : ℕ) (statement : Stmt) (work : Work) → IsEarly s statement work.alone state.past → work.before ≡ length (own s state.past) → work.kept ≡ replies.NoMemory → work.given ≡ replies.NoMemory → IsBackingOut state s work
-early_given_up state s statement work early before-is kept-is given-is =
-    let h = state.past in
+early_given_up : (h : List Event) (writer : Option ℕ) (s : ℕ) (statement : Stmt) (work : Work) → IsEarly s statement work.alone h → work.before ≡ length (own s h) → work.kept ≡ replies.NoMemory → work.given ≡ replies.NoMemory → IsBackingOut h writer s work
+early_given_up h writer s statement work early before-is kept-is given-is =
     let now = point_now h s early.goes_on.not_over in
     record {
       statement = statement;
@@ -64,15 +71,12 @@ early_given_up state s statement work early before-is kept-is given-is =
       own_is = early.unchanged;
     }
 
-module _ (state : State) (s : ℕ) (work : Work) (todo : List Change) (r : IsChanging state s work todo) where
-  abbrev g : List Event
-  g = state.past
-
+module _ (g : List Event) (writer : Option ℕ) (s : ℕ) (work : Work) (todo : List Change) (r : IsChanging g writer s work todo) where
   made_now : HasMade (length r.made) s (outcome r.statement (base s g)).changes g
   made_now = r.own_is ∙ ap (λ changes. reverse changes ++ own_before s g) (sym (ap (take (length r.made)) r.parts ∙ taken r.made (reverse todo)))
 
   -- with another reply, for which it may be given up
-  pub gives_up : (other : Work) → other.alone ≡ work.alone → other.before ≡ work.before → other.given ≡ other.kept → is_count other.kept ≡ false → MayAnswer s r.statement (length r.made) other.kept g → IsBackingOut state s other
+  pub gives_up : (other : Work) → other.alone ≡ work.alone → other.before ≡ work.before → other.given ≡ other.kept → is_count other.kept ≡ false → MayAnswer s r.statement (length r.made) other.kept g → IsBackingOut g writer s other
   gives_up other same-alone same-before same no-count answers =
       let now = point_now g s r.goes_on.not_over in
       record {
@@ -87,7 +91,7 @@ module _ (state : State) (s : ℕ) (work : Work) (todo : List Change) (r : IsCha
           made = subst (λ p. HasMade (length r.made) s (outcome r.statement (base s p)).changes p) (sym now) made_now;
           answers = answers;
         };
-        moves = inr (record { not_over = r.goes_on.not_over; stays = inr r.steady });
+        moves = inr (record { not_over = r.goes_on.not_over; stays = inr r.right });
         rest = reverse r.made;
         own_is = r.own_is;
       }
@@ -100,7 +104,7 @@ module _ (state : State) (s : ℕ) (work : Work) (todo : List Change) (r : IsCha
   refused_answers other is answer = absurd (false≢true is)
 
   -- the interpreter refused it
-  pub refused : is_refusal work.kept ≡ true → IsBackingOut state s work
+  pub refused : is_refusal work.kept ≡ true → IsBackingOut g writer s work
   refused is = let answers = refused_answers work.kept is answer_now in gives_up work refl refl r.same answers.0 answers.1
 
 -- at this moment
@@ -128,10 +132,6 @@ popped : (rest had : List Change) → length had < length (rest ++ had) → (lat
 popped [] had lt = absurd (omega (arith, lt))
 popped (change ∷ rest) had lt = (rest, newest_dropped change (rest ++ had))
 
-oldest_fewer : (changes : List Change) → 0 < length changes → length (oldest (length changes - 1) changes) < length changes
-oldest_fewer [] lt = lt
-oldest_fewer (change ∷ before) lt = subst (λ (changes : List Change). length changes < length (change ∷ before)) (sym (newest_dropped change before)) (omega arith)
-
 rows_after : (n : ℕ) (changes : List Change) → AllByRecursion IsOfRow changes → AllByRecursion IsOfRow (oldest n changes)
 rows_after n changes all = dropped (length changes - n) changes all where
   dropped : (k : ℕ) (xs : List Change) → AllByRecursion IsOfRow xs → AllByRecursion IsOfRow (drop k xs)
@@ -142,10 +142,7 @@ rows_after n changes all = dropped (length changes - n) changes all where
 may_leave_open : (setting : Setting) → setting.autocommit ≡ false → (statement : Stmt) → IsWriting statement → MayLeaveOpen setting statement
 may_leave_open setting off = of_writing (λ statement. MayLeaveOpen setting statement) (λ table columns tuples. off) (λ table sets condition. off) (λ table condition. off)
 
-module _ (state : State) (s : ℕ) (work : Work) (r : IsBackingOut state s work) where
-  abbrev h : List Event
-  h = state.past
-
+module _ (h : List Event) (writer : Option ℕ) (s : ℕ) (work : Work) (r : IsBackingOut h writer s work) where
   mine : eqb s s ≡ true
   mine = grind (arith, nat_tests)
 
@@ -176,7 +173,7 @@ module _ (state : State) (s : ℕ) (work : Work) (r : IsBackingOut state s work)
     left_over : (later : List Change) × (oldest keep (own s h) ≡ later ++ own_before s h)
     left_over = subst (λ (changes : List Change). (later : List Change) × (oldest (length changes - 1) changes ≡ later ++ own_before s h)) (sym r.own_is) (popped r.rest (own_before s h) (subst (λ (changes : List Change). length (own_before s h) < length changes) r.own_is had_fewer))
 
-    backing_then : IsBackingOut (record state { past = after }) s work
+    pub backing_then : IsBackingOut after writer s work
     backing_then =
         record {
           statement = r.statement;
@@ -189,18 +186,6 @@ module _ (state : State) (s : ℕ) (work : Work) (r : IsBackingOut state s work)
           rest = left_over.0;
           own_is = own_now ∙ left_over.1;
         }
-
-    pub undone : (new : State) → Adds (events.Undone s keep) state new → Moves s state new × IsBackingOut new s work × (started s new.past ≡ started s h)
-    undone new adds = (
-      moves_adds s (events.Undone s keep) state new mine (λ writes. absurd (false≢true writes)) adds,
-      subst (λ (st : State). IsBackingOut st s work) (sym adds) backing_then,
-      ap (λ (st : State). started s st.past) adds,
-    )
-
-    pub fewer : (new : State) → Adds (events.Undone s keep) state new → length (own s new.past) < length (own s h)
-    fewer new adds =
-        let now : length (own s after) < length (own s h) = subst (λ (changes : List Change). length changes < length (own s h)) (sym own_now) (oldest_fewer (own s h) (omega (arith, had_fewer))) in
-        subst (λ (st : State). length (own s st.past) < length (own s h)) (sym adds) now
 
   none_left : (rest had : List Change) → length (rest ++ had) ≤ length had → rest ++ had ≡ had
   none_left [] had le = refl
@@ -265,12 +250,8 @@ module _ (state : State) (s : ℕ) (work : Work) (r : IsBackingOut state s work)
             leaves = λ no-count. rolled_back;
           }
 
-      pub rolled : (new : State) → Closes (events.RolledBack s) s state new → Moves s state new × (IsClosing s work.kept work.given new.past × (awaits_ack (of_item s new.past) ≡ false)) × (started s new.past ≡ started s h)
-      rolled new closes-it = (
-        moves_closes s (events.RolledBack s) state new mine refl closes-it,
-        subst (λ (st : State). IsClosing s work.kept work.given st.past × (awaits_ack (of_item s st.past) ≡ false)) (sym closes-it) (closing_then, ap awaits_ack (entries_are (events.RolledBack s) h s mine refl refl)),
-        ap (λ (st : State). started s st.past) closes-it,
-      )
+      pub rolled_then : IsClosing s work.kept work.given gone × (awaits_ack (of_item s gone) ≡ false)
+      rolled_then = (closing_then, ap awaits_ack (entries_are (events.RolledBack s) h s mine refl refl))
 
     -- of one that stays open
     module _ (not-own : work.alone ≡ false) where
@@ -309,15 +290,74 @@ module _ (state : State) (s : ℕ) (work : Work) (r : IsBackingOut state s work)
   pub ends_not_done : work.kept ≡ replies.Done → ⊥
   ends_not_done is = not_done s r.statement h work.kept r.reply is
 
+pub rolled : (old new : State) (s : ℕ) (work : Work) (r : IsBackingOut old.past old.writer s work) (undone-all : own s old.past ≡ own_before s old.past) (its-own : work.alone ≡ true) → task_of s old ≡ Idle → Closes (events.RolledBack s) s old new
+    → Moves s old new × (IsClosing s work.kept work.given new.past × (awaits_ack (of_item s new.past) ≡ false) × (task_of s new ≡ Idle)) × (started s new.past ≡ started s old.past)
+rolled old new s work r undone-all its-own idle closes-it =
+    let then = subst (λ h. IsClosing s work.kept work.given h × (awaits_ack (of_item s h) ≡ false)) (sym closes-it.past_is) (rolled_then old.past old.writer s work r undone-all its-own) in (
+      moves_closes s (events.RolledBack s) old new (grind (arith, nat_tests)) refl closes-it,
+      (then.0, then.1, closes-it.task_is ∙ idle),
+      ap (started s) closes-it.past_is,
+    )
+
+-- ---- the steps of taking back
+
+-- what is under way may be taken back
+pub may_take_back : (before s : ℕ) (past : List Event) (task : Task) → MayGoBack before s past task → MayTakeBack task
+may_take_back before s past task back = elim back [ inl idle ↦ subst MayTakeBack (sym idle) tt | inr under ↦ under.0 ]
+
+-- once none stands that is to be taken back, nothing is under way
+pub rests : (before s : ℕ) (past : List Event) (task : Task) → length (own s past) ≤ before → MayGoBack before s past task → task ≡ Idle
+rests before s past task few back = elim back [ inl idle ↦ idle | inr under ↦ absurd (omega (arith, few, under.1)) ]
+
+pub made_a_step : (answer : Undone) → (answer ≡ undone.Went) ⊎ (answer ≡ undone.Undone) → answer ≢ undone.NoMemory
+made_a_step answer made is = elim made [
+  | inl went ↦ (let e : undone.Went ≡ undone.NoMemory = sym went ∙ is in cc)
+  | inr back ↦ (let e : undone.Undone ≡ undone.NoMemory = sym back ∙ is in cc)
+]
+
+module _ (old new : State) (s : ℕ) (work : Work) (r : IsBackingOut old.past old.writer s work) (back : MayGoBack work.before s old.past (task_of s old)) (more : work.before < length (own s old.past)) where
+  -- it is taken back
+  abbrev Backs : Type 0
+  Backs = IsBackingOut new.past new.writer s work × MayGoBack work.before s new.past (task_of s new)
+
+  unchanged : new.past ≡ old.past → new.writer ≡ old.writer → MayGoBack work.before s old.past (task_of s new) → Backs
+  unchanged same-past same-writer goes =
+      subst (λ h. IsBackingOut h new.writer s work × MayGoBack work.before s h (task_of s new)) (sym same-past)
+      (subst (λ w. IsBackingOut old.past w s work) (sym same-writer) r, goes)
+
+  pub backs_on : (answer : Undone) → TakesBack s (length (own s old.past) - 1) old new answer → Backs
+  backs_on undone.Went takes = unchanged takes.0.past_is takes.0.writer_is (inr (subst MayTakeBack (sym takes.1.1) tt, more))
+  backs_on undone.Undone takes = (
+    subst (λ h. IsBackingOut h new.writer s work) (sym takes.past_is)
+        (subst (λ w. IsBackingOut (events.Undone s (length (own s old.past) - 1) ∷ old.past) w s work) (sym takes.writer_is) (backing_then old.past old.writer s work r more)),
+    inl takes.task_is,
+  )
+  backs_on undone.NoMemory takes = unchanged takes.past_is takes.writer_is (subst (MayGoBack work.before s old.past) (sym takes.task_is) back)
+
+  pub went_back : (answer : Undone) → answer ≢ undone.NoMemory → TakesBack s (length (own s old.past) - 1) old new answer → Steps IsRunning s old new (BackingOut work) advance.Went
+  went_back answer went takes = (moves_takes_back s (length (own s old.past) - 1) old new answer takes, backs_on answer takes, starts_no_item answer takes) where
+    starts_no_item : (answer : Undone) → TakesBack s (length (own s old.past) - 1) old new answer → started s new.past ≡ started s old.past
+    starts_no_item undone.Went takes = ap (started s) takes.0.past_is
+    starts_no_item undone.Undone takes = ap (started s) takes.past_is
+    starts_no_item undone.NoMemory takes = ap (started s) takes.past_is
+
+  pub stood_still : TakesBack s (length (own s old.past) - 1) old new undone.NoMemory → Steps IsRunning s old new (BackingOut work) advance.NoMemory
+  stood_still takes = (moves_takes_back s (length (own s old.past) - 1) old new undone.NoMemory takes, backs_on undone.NoMemory takes, takes.past_is)
+
+  pub nearer : (answer : Undone) → answer ≢ undone.NoMemory → TakesBack s (length (own s old.past) - 1) old new answer → IsBelow (to_go s new (BackingOut work)) (to_go s old (BackingOut work))
+  nearer undone.Went went takes = below_second 3 _ _ _ _ _ _ (ap (λ h. length (own s h)) takes.0.past_is) takes.2
+  nearer undone.Undone went takes =
+      below_first 3 _ _ _ _ _ _ (subst (λ (h : List Event). length (own s h) < length (own s old.past)) (sym takes.past_is) (fewer_stand s old.past (omega (arith, more))))
+  nearer undone.NoMemory went takes = absurd (went refl)
+
 -- ---- for want of memory
 
-pub early_no_memory : (state : State) (s : ℕ) (statement : Stmt) (alone : Bool) (before : ℕ) (work : Work) → work ≡ record { alone = alone; before = before; kept = replies.NoMemory; given = replies.NoMemory } → IsEarly s statement alone state.past → before ≡ length (own s state.past) → IsBackingOut state s work
-early_no_memory state s statement alone before work is early before-is =
-    subst (λ (w : Work). IsBackingOut state s w) (sym is) (early_given_up state s statement (record { alone = alone; before = before; kept = replies.NoMemory; given = replies.NoMemory }) early before-is refl refl)
+-- nothing is changed yet
+pub early_no_memory : (past : List Event) (writer : Option ℕ) (task : Task) (s : ℕ) (statement : Stmt) (alone : Bool) (before : ℕ) → IsEarly s statement alone past → before ≡ length (own s past) → task ≡ Idle → IsBackingOut past writer s (given_up alone before) × MayGoBack before s past task
+early_no_memory past writer task s statement alone before early before-is idle = (early_given_up past writer s statement (given_up alone before) early before-is refl refl, inl idle)
 
-pub changing_no_memory : (state : State) (s : ℕ) (work other : Work) (todo : List Change) → other ≡ record { alone = work.alone; before = work.before; kept = replies.NoMemory; given = replies.NoMemory } → IsChanging state s work todo → IsBackingOut state s other
-changing_no_memory state s work other todo is r =
-    subst (λ (w : Work). IsBackingOut state s w) (sym is) (gives_up state s work todo r (record { alone = work.alone; before = work.before; kept = replies.NoMemory; given = replies.NoMemory }) refl refl refl refl tt)
+pub changing_no_memory : (past : List Event) (writer : Option ℕ) (s : ℕ) (work : Work) (todo : List Change) → IsChanging past writer s work todo → IsBackingOut past writer s (given_up work.alone work.before)
+changing_no_memory past writer s work todo r = gives_up past writer s work todo r (given_up work.alone work.before) refl refl refl refl tt
 
 -- ---- for want of rows
 
@@ -327,9 +367,11 @@ puts_rows db (stmt.Update name sets condition) before table row later writes is 
 puts_rows db (stmt.Delete name condition) before table row later writes is = absurd (no_put before table row later (subst RemovesAlone is (removes db name condition)))
 puts_rows db other before table row later writes is = absurd writes
 
-pub overfull : (state : State) (s : ℕ) (work other : Work) (todo : List Change) (table : ℕ) (row : List Value) (rows : ℕ) → IsChanging state s work (todo ++ Put table row ∷ []) → most_rows < rows → rows ≡ rows_kept state.past + 1 → other ≡ record { alone = work.alone; before = work.before; kept = replies.RunLimit rows; given = replies.RunLimit rows } → IsBackingOut state s other
-overfull state s work other todo table row rows r many count is =
-    let puts = puts_rows (base s state.past) r.statement r.made table row (reverse todo) r.working.writes (parts_are state s work todo (Put table row) r) in
-    subst (λ (w : Work). IsBackingOut state s w) (sym is)
-    (gives_up state s work (todo ++ Put table row ∷ []) r (record { alone = work.alone; before = work.before; kept = replies.RunLimit rows; given = replies.RunLimit rows }) refl refl refl refl
-    (many, puts, now_so (λ h. rows ≡ rows_kept h + 1) s state.past r.working.is_open count))
+abbrev pub broken_off : Work → ℕ → Work
+broken_off work rows = record { alone = work.alone; before = work.before; kept = replies.RunLimit rows; given = replies.RunLimit rows }
+
+pub overfull : (past : List Event) (writer : Option ℕ) (s : ℕ) (work : Work) (todo : List Change) (table : ℕ) (row : List Value) (rows : ℕ) → IsChanging past writer s work (todo ++ Put table row ∷ []) → most_rows < rows → rows ≡ rows_kept past + 1 → IsBackingOut past writer s (broken_off work rows)
+overfull past writer s work todo table row rows r many count =
+    let puts = puts_rows (base s past) r.statement r.made table row (reverse todo) r.working.writes (parts_are past writer s work todo (Put table row) r) in
+    gives_up past writer s work (todo ++ Put table row ∷ []) r (broken_off work rows) refl refl refl refl
+    (many, puts, now_so (λ h. rows ≡ rows_kept h + 1) s past r.working.is_open count)

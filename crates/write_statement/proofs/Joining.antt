@@ -21,14 +21,14 @@ use Rattle.sql_history.specs.Statements.{refused_at_once}
 use Rattle.sql_history.specs.Endings.{IsOpen, IsClosed}
 use Rattle.sql_history.specs.Legal.{Takes, IsWriting, MayBegin, BeginsBy, LeavesIt, WantsMemory}
 use Rattle.sql_history.specs.Waiting.{is_victim}
-use Rattle.table_lists.specs.State.{State, Adds}
 use Rattle.table_lists.specs.Order.{IsOfRow}
+use Rattle.shared_lists.specs.State.{State, Adds}
 use Rattle.sql_lists.specs.Steps.{IsTaken, Moves}
 use Rattle.sql_lists.specs.Kept.{MayReply}
 use Rattle.sql_lists.proofs.Staying.{at_work, point_now}
 use Rattle.write_statement.specs.Running.{HasOpened, InTxn, IsEarly}
 use Rattle.write_statement.proofs.Writing.{of_writing}
-use Rattle.write_statement.proofs.Moving.{moves_adds}
+use Rattle.sql_lists.proofs.Moving.{moves_adds}
 
 -- ---- an item that has done nothing
 
@@ -218,10 +218,10 @@ wants_memory s h none = record { leaves = inr (inr (inr (leaves_nothing s h none
 pub unopened_ends : (s : ℕ) (statement : Stmt) (h : List Event) → IsTaken s statement h → MayReply s NoMemory h
 unopened_ends s statement h taken = record { item = Sql taken.takes.asks.0; asked = taken.takes.asks.1; ends = (acked_none s h taken.nothing, inl refl, inr (inr (wants_memory s h taken.nothing))) }
 
-pub opened : (s n : ℕ) (l : Level) (statement : Stmt) (alone : Bool) (x : Setting) (old new : State) → IsWriting statement → IsTaken s statement old.past → HasSet Spells s old.past x → IsClosed s old.past → own s old.past ≡ [] → x.autocommit ≡ alone → Adds (events.Begin s n l) old new
+pub opened : (s n : ℕ) (l : Level) (statement : Stmt) (alone : Bool) (x : Setting) (old new : State) → IsWriting statement → IsTaken s statement old.past → HasSet Spells s old.past x → IsClosed s old.past → own s old.past ≡ [] → x.autocommit ≡ alone → Adds (events.Begin s n l) s old new
     → Moves s old new × IsEarly s statement alone new.past × (started s new.past ≡ started s old.past)
 opened s n l statement alone x old new writes taken held closed none is adds = (
   moves_adds s (events.Begin s n l) old new (grind (arith, nat_tests)) (λ changes. absurd (false≢true changes)) adds,
-  subst (λ (st : State). IsEarly s statement alone st.past) (sym adds) (opened_early s n l statement old.past x writes taken held closed none alone is),
-  ap (λ (st : State). started s st.past) adds,
+  subst (IsEarly s statement alone) (sym adds.past_is) (opened_early s n l statement old.past x writes taken held closed none alone is),
+  ap (started s) adds.past_is,
 )

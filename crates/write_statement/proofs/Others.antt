@@ -1,6 +1,6 @@
 -- An entry of another session leaves what the machine knows.
-use Rattle.std.proofs.Common.{◌≡◌, ◌≢◌, ℕ, Bool, true, false, Some, None, List, ◌∷◌, ◌++◌, length, take, reverse, refl, sym, ap, subst, ◌∙◌, ◌⊎◌, inl, inr}
-use Rattle.std.specs.Prelude.{is_some}
+use Rattle.std.proofs.Common.{◌≡◌, ◌≢◌, ◌<◌, ℕ, Bool, true, false, Some, None, List, [], ◌∷◌, ◌++◌, length, take, reverse, refl, sym, ap, subst, ◌∙◌, ◌⊎◌, inl, inr}
+use Rattle.std.specs.Prelude.{is_some, slice_get}
 use Rattle.std.specs.List.{AllByRecursion, list_any}
 use Rattle.inno_types.specs.declared.stmt.Stmt.{Stmt}
 use Rattle.inno_types.specs.declared.reply.Reply.{Reply}
@@ -10,28 +10,26 @@ use Rattle.inno_db.specs.declared.change.Change.{Change}
 use Rattle.inno_db.proofs.Outcomes.{table_read}
 use Rattle.inno_model.specs.declared.event.Event.{Event}
 use Rattle.inno_model.specs.declared.event.Event.TheVariants as events
-use Rattle.inno_model.specs.Past.{is_of, under_way, before_item, of_item, did, begins_txn, commits_txn, rolls_back_txn, level, own, commits, committed}
+use Rattle.inno_model.specs.Past.{is_of, under_way, before_item, of_item, did, begins_txn, commits_txn, rolls_back_txn, level, own}
 use Rattle.inno_model.specs.Legal.{awaits_ack}
 use Rattle.inno_model.specs.Loose.{Sometime}
 use Rattle.inno_model.proofs.Untouched.{untouched}
-use Rattle.row_versions.specs.declared.place.Place.{Place}
 use Rattle.sql_grammar.specs.Grammar.{Spells}
 use Rattle.sql_history.specs.Items.{is_over, own_before, base, point, HasMade, undoes}
 use Rattle.sql_history.specs.Settings.{Setting, HasSet}
 use Rattle.sql_history.specs.Statements.{refused_at_once}
 use Rattle.sql_history.specs.Legal.{Takes}
 use Rattle.sql_history.specs.Waiting.{is_victim}
-use Rattle.table_lists.specs.State.{State}
+use Rattle.shared_lists.specs.Tasks.{Idle, is_changing, asked, MayTakeBack}
+use Rattle.shared_lists.specs.State.{State, task_of}
 use Rattle.table_lists.specs.Order.{created, IsOfRow}
-use Rattle.table_lists.specs.Rows.{is_at, row_at, row_seen}
-use Rattle.gathering.specs.Walk.{at_key}
 use Rattle.sql_lists.specs.Steps.{Adding, IsTaken, StaysRunning, changes_rows}
-use Rattle.sql_lists.proofs.Staying.{other_of, not_starting, at_work, point_now, point_stays, IsSteady, committed_all, steady_on, base_on}
+use Rattle.sql_lists.proofs.Staying.{other_of, not_starting, at_work, point_now, point_stays, IsSteady, steady_on, base_on}
 use Rattle.write_statement.specs.declared.machine.Search.{Search}
 use Rattle.write_statement.specs.declared.machine.Work.{Work}
 use Rattle.write_statement.specs.declared.machine.WriteStatement.{WriteStatement}
 use Rattle.write_statement.specs.declared.machine.WriteStatement.TheVariants as machine
-use Rattle.write_statement.specs.Running.{Joins, HasOpened, InTxn, IsWorking, GoesOn, IsEarly, IsSearching, IsChanging, HasReply, MovesOn, IsBackingOut, MayAnswer, EndsTxn, IsClosing, IsRunning}
+use Rattle.write_statement.specs.Running.{Joins, HasOpened, InTxn, IsWorking, GoesOn, IsEarly, IsChanging, HasReply, HasRight, IsReading, IsMaking, IsFinishing, MovesOn, IsBackingOut, MayGoBack, MayAnswer, EndsTxn, IsClosing, IsRunning}
 use Rattle.write_statement.proofs.Replies.{reply_stays, reply_goes_on}
 use Rattle.write_statement.proofs.Ends.{rolls_back_on, txn_ends_on}
 
@@ -47,7 +45,7 @@ no_table_more (events.Opened db) h t mine spares = cc
 no_table_more (events.Changed u change) h t mine spares = cc
 no_table_more e h t mine spares = refl
 
-module _ (old new : State) (t s : ℕ) (differ : t ≢ s) (adding : Adding t old new) (keeps : old.writer ≡ Some s → new.writer ≡ Some s) where
+module _ (old new : State) (t s : ℕ) (differ : t ≢ s) (adding : Adding t old new) (keeps : old.writer ≡ Some s → new.writer ≡ Some s) (task-is : task_of s new ≡ task_of s old) where
   other : (e : Event) → is_of t e ≡ true → is_of s e ≡ false
   other e mine = other_of e t s mine (λ is. differ (sym is))
 
@@ -85,24 +83,21 @@ module _ (old new : State) (t s : ℕ) (differ : t ≢ s) (adding : Adding t old
 
   -- ---- what all share, while the session alone may write
 
-  module _ (steady : IsSteady old s) where
+  module _ (right : HasRight s old.past old.writer) where
+    steady : IsSteady old s
+    steady = record { locked = right.locked; alone = right.alone }
+
+    right_on : HasRight s new.past new.writer
+    right_on = let still = steady_on old new t s differ adding keeps steady in record { locked = still.locked; alone = still.alone }
+
     base_is : base s new.past ≡ base s old.past
     base_is = base_on old new t s differ adding keeps steady
 
     spares : (e : Event) → (changes_rows e ≡ true → new.writer ≡ Some t) → changes_rows e ≡ false
-    spares e writes = not_true (changes_rows e) (λ is. differ (same_session t s (sym (writes is) ∙ keeps steady.locked)))
+    spares e writes = not_true (changes_rows e) (λ is. differ (same_session t s (sym (writes is) ∙ keeps right.locked)))
 
     tables_are : created new.past ≡ created old.past
     tables_are = elim adding [ inl same ↦ ap created same | inr a ↦ ap created a.2 ∙ no_table_more a.0 old.past t a.1 (spares a.0 a.3) ]
-
-    committed_are : committed (commits new.past) new.past ≡ committed (commits old.past) old.past
-    committed_are = elim adding [ inl same ↦ ap (λ h. committed (commits h) h) same | inr a ↦ ap (λ h. committed (commits h) h) a.2 ∙ committed_all a.0 old.past t a.1 (steady.alone t differ) ]
-
-    row_is : (place : Place) → row_seen old.past s (commits old.past) place ≡ row_seen new.past s (commits new.past) place
-    row_is place =
-        ap (λ schemas. row_at (is_at schemas place) (own s old.past ++ committed (commits old.past) old.past)) (sym tables_are)
-        ∙ (ap (λ changes. row_at (is_at (created new.past) place) (changes ++ committed (commits old.past) old.past)) (sym own_is)
-        ∙ ap (λ changes. row_at (is_at (created new.past) place) (own s new.past ++ changes)) (sym committed_are))
 
   -- ---- its transaction
 
@@ -156,36 +151,63 @@ module _ (old new : State) (t s : ℕ) (differ : t ≢ s) (adding : Adding t old
 
   -- ---- its states
 
-  searching_on : (search : Search) → IsSearching old s search → IsSearching new s search
-  searching_on search r =
+  abbrev reading_on : (search : Search) → IsReading old.past old.writer s search → IsReading new.past new.writer s search
+  reading_on search r =
       record {
         early = early_on search.stmt search.alone r.early;
-        steady = steady_on old new t s differ adding keeps r.steady;
+        right = right_on r.right;
         before_is = r.before_is ∙ ap length (sym own_is);
-        table_is = λ n is. r.table_is n (ap (λ schemas. table_read schemas search.stmt) (sym (tables_are r.steady)) ∙ is);
-        rows = record { rising = r.rows.rising; reached = r.rows.reached; each = λ key reached. r.rows.each key reached ∙ row_is r.steady (at_key search.gathering.table key) };
+        table = r.table;
+        table_is = ap (λ schemas. table_read schemas search.stmt) (tables_are r.right) ∙ r.table_is;
+        schema = r.schema;
+        there = ap (λ schemas. slice_get schemas r.table) (tables_are r.right) ∙ r.there;
+        plan = r.plan;
+        enough = r.enough;
       }
 
-  changing_on : (work : Work) (todo : List Change) → IsChanging old s work todo → IsChanging new s work todo
+  changing_on : (work : Work) (todo : List Change) → IsChanging old.past old.writer s work todo → IsChanging new.past new.writer s work todo
   changing_on work todo r =
-      let same = base_is r.steady in
+      let same = base_is r.right in
       record {
         statement = r.statement;
         working = working_on r.statement work.alone r.working;
         goes_on = goes_on r.goes_on;
-        steady = steady_on old new t s differ adding keeps r.steady;
+        right = right_on r.right;
         before_is = r.before_is ∙ ap length (sym had_is);
         same = r.same;
         plain = r.plain;
         answer = r.answer ∙ ap (λ db. (outcome r.statement db).reply) (sym same);
-        tables = tables_are r.steady ∙ (r.tables ∙ ap (λ (db : Database). db.schemas) (sym same));
+        tables = tables_are r.right ∙ (r.tables ∙ ap (λ (db : Database). db.schemas) (sym same));
         made = r.made;
         parts = ap (λ db. (outcome r.statement db).changes) same ∙ r.parts;
         own_is = own_is ∙ (r.own_is ∙ ap (λ changes. reverse r.made ++ changes) (sym had_is));
       }
 
-  module _ (work : Work) (r : IsBackingOut old s work) where
-    backing_with : (reply : HasReply s r.statement work.kept new.past) → (is_over s new.past ≡ true) ⊎ MovesOn reply.count work.kept new s → IsBackingOut new s work
+  making_on : (work : Work) (todo : List Change) (rows : ℕ) → IsMaking old.past old.writer (task_of s old) s work todo rows → IsMaking new.past new.writer (task_of s new) s work todo rows
+  making_on work todo rows r =
+      record {
+        change = r.change;
+        of_row = r.of_row;
+        rows_are = r.rows_are;
+        changing = changing_on work (todo ++ r.change ∷ []) r.changing;
+        under_way = ap is_changing task-is ∙ r.under_way;
+        asked_is = ap asked task-is ∙ r.asked_is;
+      }
+
+  finishing_on : (work : Work) (todo : List Change) → IsFinishing old.past old.writer (task_of s old) s work todo → IsFinishing new.past new.writer (task_of s new) s work todo
+  finishing_on work todo r =
+      record {
+        changing = changing_on work todo r.changing;
+        under_way = ap is_changing task-is ∙ r.under_way;
+        told = ap asked task-is ∙ r.told;
+        stands = subst (λ (changes : List Change). work.before < length changes) (sym own_is) r.stands;
+      }
+
+  back_on : (before : ℕ) → MayGoBack before s old.past (task_of s old) → MayGoBack before s new.past (task_of s new)
+  back_on before back = subst (λ (changes : List Change). (task_of s new ≡ Idle) ⊎ (MayTakeBack (task_of s new) × (before < length changes))) (sym own_is) (subst (MayGoBack before s old.past) (sym task-is) back)
+
+  module _ (work : Work) (r : IsBackingOut old.past old.writer s work) where
+    backing_with : (reply : HasReply s r.statement work.kept new.past) → (is_over s new.past ≡ true) ⊎ MovesOn reply.count work.kept new.past new.writer s → IsBackingOut new.past new.writer s work
     backing_with reply moves =
         record {
           statement = r.statement;
@@ -205,7 +227,7 @@ module _ (old new : State) (t s : ℕ) (differ : t ≢ s) (adding : Adding t old
         let was : HasMade r.reply.count s (outcome r.statement (base s old.past)).changes old.past = subst (λ p. HasMade r.reply.count s (outcome r.statement (base s p)).changes p) (point_now old.past s not-over) r.reply.made in
         own_is ∙ (was ∙ ap (λ changes. reverse (take r.reply.count (outcome r.statement (base s old.past)).changes) ++ changes) (sym had_is))
 
-    moves_on : MovesOn r.reply.count work.kept old s → IsBackingOut new s work
+    moves_on : MovesOn r.reply.count work.kept old.past old.writer s → IsBackingOut new.past new.writer s work
     moves_on m =
         let not-over = over_is ∙ m.not_over in
         let is-open = ap is_some level_is ∙ r.working.is_open in
@@ -219,16 +241,16 @@ module _ (old new : State) (t s : ℕ) (differ : t ≢ s) (adding : Adding t old
                 answers = subst (λ (kept : Reply). MayAnswer s r.statement 0 kept new.past) (sym none.0) tt;
               } in
               backing_with reply (inr (record { not_over = not-over; stays = inl (none.0, refl) }))
-          | inr steady ↦
-              backing_with (reply_goes_on s old.past new.past some_on (point_now old.past s m.not_over) (point_now new.past s not-over) (base_is steady) is-open r.statement work.kept r.reply (made_on m.not_over))
-              (inr (record { not_over = not-over; stays = inr (steady_on old new t s differ adding keeps steady) }))
+          | inr right ↦
+              backing_with (reply_goes_on s old.past new.past some_on (point_now old.past s m.not_over) (point_now new.past s not-over) (base_is right) is-open r.statement work.kept r.reply (made_on m.not_over))
+              (inr (record { not_over = not-over; stays = inr (right_on right) }))
         ] where
           nothing_made : r.reply.count ≡ 0 → own s old.past ≡ own_before s old.past
           nothing_made none =
               let was : HasMade r.reply.count s (outcome r.statement (base s old.past)).changes old.past = subst (λ p. HasMade r.reply.count s (outcome r.statement (base s p)).changes p) (point_now old.past s m.not_over) r.reply.made in
               subst (λ n. HasMade n s (outcome r.statement (base s old.past)).changes old.past) none was
 
-    backing_on : IsBackingOut new s work
+    backing_on : IsBackingOut new.past new.writer s work
     backing_on = elim r.moves [
       | inl over ↦ backing_with (reply_stays s old.past new.past some_on (point_is over) r.statement work.kept r.reply) (inl (over_is ∙ over))
       | inr m ↦ moves_on m
@@ -259,14 +281,16 @@ module _ (old new : State) (t s : ℕ) (differ : t ≢ s) (adding : Adding t old
 
   -- all that the machine knows
   running_on : (m : WriteStatement) → IsRunning old s m → IsRunning new s m
-  running_on (machine.Fresh statement) r = (taken_on statement r.0, r.1)
-  running_on machine.Unopened r = record { statement = r.statement; taken = taken_on r.statement r.taken }
-  running_on (machine.Locking statement alone) r = early_on statement alone r
-  running_on (machine.Searching search) r = searching_on search r
-  running_on (machine.Changing work todo) r = changing_on work todo.items r
-  running_on (machine.BackingOut work) r = backing_on work r
-  running_on (machine.Unacked kept given) r = (closing_on kept given r.0, acks_are ∙ r.1, level_is ∙ r.2)
-  running_on (machine.Ending kept given) r = (closing_on kept given r.0, acks_are ∙ r.1)
+  running_on (machine.Fresh statement) r = (taken_on statement r.0, r.1, task-is ∙ r.2)
+  running_on machine.Unopened r = (record { statement = r.0.statement; taken = taken_on r.0.statement r.0.taken }, task-is ∙ r.1)
+  running_on (machine.Locking statement alone) r = (early_on statement alone r.0, task-is ∙ r.1)
+  running_on (machine.Searching search) r = record { reading = reading_on search r.reading; task_is = task-is ∙ r.task_is }
+  running_on (machine.Changing work todo) r = (changing_on work todo.items r.0, task-is ∙ r.1)
+  running_on (machine.Making work todo rows) r = making_on work todo.items rows r
+  running_on (machine.Finishing work todo) r = finishing_on work todo.items r
+  running_on (machine.BackingOut work) r = (backing_on work r.0, back_on work.before r.1)
+  running_on (machine.Unacked kept given) r = (closing_on kept given r.0, acks_are ∙ r.1, level_is ∙ r.2, task-is ∙ r.3)
+  running_on (machine.Ending kept given) r = (closing_on kept given r.0, acks_are ∙ r.1, task-is ∙ r.2)
 
 pub stays_running : StaysRunning IsRunning
-stays_running old new t s m differ adding keeps running = running_on old new t s differ adding keeps m running
+stays_running old new t s m differ adding keeps task-is running = running_on old new t s differ adding keeps task-is m running

@@ -1,3 +1,4 @@
+pub mod Planning
 pub mod Settling
 pub mod Running
 pub mod Going

@@ -1,13 +1,17 @@
--- What the machine knows between its steps, of the past and of who may write.
-use Rattle.std.specs.Prelude.{◌≡◌, ℕ, ◌+◌, ◌<◌, ◌⊎◌, Bool, true, false, Some, List, [], ◌++◌, length, reverse}
+-- What the machine knows between its steps: of the past, of who may write, and of what the session has under way.
+use Rattle.std.specs.Prelude.{◌≡◌, ◌≢◌, ℕ, ◌+◌, ◌<◌, ◌⊎◌, Bool, true, false, Option, Some, None, List, [], ◌∷◌, ◌++◌, length, reverse, slice_get}
+use Rattle.inno_types.specs.declared.value.Value.{Value}
+use Rattle.inno_types.specs.declared.value.Schema.{Schema}
 use Rattle.inno_types.specs.declared.stmt.Stmt.{Stmt}
 use Rattle.inno_types.specs.declared.stmt.Stmt.TheVariants as stmt
 use Rattle.inno_types.specs.declared.reply.Reply.{Reply}
 use Rattle.inno_types.specs.declared.reply.Reply.TheVariants as replies
 use Rattle.inno_db.specs.declared.change.Change.{Change}
+use Rattle.inno_db.specs.Database.{Database}
 use Rattle.inno_db.specs.Outcome.{outcome}
 use Rattle.inno_db.proofs.Outcomes.{table_read}
 use Rattle.inno_model.specs.declared.event.Event.{Event}
+use Rattle.inno_model.specs.declared.event.Event.TheVariants.{Changed}
 use Rattle.inno_model.specs.Loose.{Sometime}
 use Rattle.inno_model.specs.Legal.{awaits_ack}
 use Rattle.inno_model.specs.Past.{before_item, of_item, did, begins_txn, commits_txn, rolls_back_txn, level, own, commits}
@@ -17,13 +21,16 @@ use Rattle.sql_history.specs.Settings.{Setting, Either}
 use Rattle.sql_history.specs.Endings.{IsOpen, IsClosed, RollsBack, Goes, BacksOut}
 use Rattle.sql_history.specs.Legal.{Takes, IsWriting}
 use Rattle.sql_history.specs.Waiting.{is_victim}
-use Rattle.sql_history.specs.Counts.{rows_kept, most_rows}
-use Rattle.table_lists.specs.State.{State}
-use Rattle.table_lists.specs.Order.{created}
-use Rattle.table_lists.specs.Rows.{row_seen}
-use Rattle.gathering.specs.Walk.{AreRowsSoFar, at_key}
+use Rattle.sql_history.specs.Counts.{rows_of_entry, rows_kept, most_rows}
+use Rattle.table_lists.specs.Order.{created, IsOfRow}
+use Rattle.plain_sql.specs.Finding.{IsReadFrom}
+use Rattle.shared_lists.specs.declared.answers.Reading.TheVariants.{Newest}
+use Rattle.shared_lists.specs.Tasks.{Task, Idle, Searching, is_changing, asked, MayTakeBack}
+use Rattle.shared_lists.specs.State.{State, task_of}
+use Rattle.shared_lists.specs.Steps.{AreRowsSeen}
+use Rattle.sql_plan.specs.declared.choice.Plan.{Plan}
 use Rattle.sql_lists.specs.Steps.{HasRowsAlone, IsTaken}
-use Rattle.sql_lists.proofs.Staying.{IsSteady}
+use Rattle.write_statement.specs.Planning.{HoldsMatches}
 use Rattle.write_statement.specs.declared.machine.Search.{Search}
 use Rattle.write_statement.specs.declared.machine.Work.{Work}
 use Rattle.write_statement.specs.declared.machine.WriteStatement.{WriteStatement}
@@ -71,31 +78,75 @@ pub record IsEarly (s : ℕ) (statement : Stmt) (alone : Bool) (past : List Even
   pub goes_on : GoesOn s past
   pub unchanged : own s past ≡ own_before s past
 
--- ---- gathering
+-- the session alone may write, and no other one has changes
+pub record HasRight (s : ℕ) (past : List Event) (writer : Option ℕ) : Type 0 where
+  pub locked : writer ≡ Some s
+  pub alone : (other : ℕ) → other ≢ s → own other past ≡ []
 
-pub record IsSearching (state : State) (s : ℕ) (search : Search) : Type 0 where
-  pub early : IsEarly s search.stmt search.alone state.past
-  pub steady : IsSteady state s
-  pub before_is : search.before ≡ length (own s state.past)
-  pub table_is : (n : ℕ) → table_read (created state.past) search.stmt ≡ Some n → n ≡ search.gathering.table
-  pub rows : AreRowsSoFar search.gathering (λ key row. row ≡ row_seen state.past s (commits state.past) (at_key search.gathering.table key))
+-- ---- searching
+
+-- Its table is there, and the plan of its search leaves out no row that its outcome depends on.
+pub record IsReading (past : List Event) (writer : Option ℕ) (s : ℕ) (search : Search) : Type 0 where
+  pub early : IsEarly s search.stmt search.alone past
+  pub right : HasRight s past writer
+  pub before_is : search.before ≡ length (own s past)
+  pub table : ℕ
+  pub table_is : table_read (created past) search.stmt ≡ Some table
+  pub schema : Schema
+  pub there : slice_get (created past) table ≡ Some schema
+  pub plan : Plan
+  pub enough : HoldsMatches schema search.stmt plan
+
+pub record IsSearching (past : List Event) (writer : Option ℕ) (task : Task) (s : ℕ) (search : Search) : Type 0 where
+  pub reading : IsReading past writer s search
+  pub task_is : task ≡ Searching reading.table reading.plan Newest
+
+-- its search is over, with these rows
+pub record IsFound (state : State) (s : ℕ) (search : Search) (rows : List (List Value)) : Type 0 where
+  pub reading : IsReading state.past state.writer s search
+  pub idle : task_of s state ≡ Idle
+  pub found : AreRowsSeen reading.table reading.plan state.past s (commits state.past) rows
+
+-- These rows of its table are enough: over some database where the table has them, the statement has the outcome that it
+-- has over the latest rows.
+pub record AreEnough (s : ℕ) (statement : Stmt) (rows : List (List Value)) (past : List Event) : Type 0 where
+  pub tables : created past ≡ (base s past).schemas
+  pub db : Database
+  pub read : IsReadFrom (created past) rows statement db
+  pub same : outcome statement db ≡ outcome statement (base s past)
 
 -- ---- changing
 
-pub record IsChanging (state : State) (s : ℕ) (work : Work) (todo : List Change) : Type 0 where
+pub record IsChanging (past : List Event) (writer : Option ℕ) (s : ℕ) (work : Work) (todo : List Change) : Type 0 where
   pub statement : Stmt
-  pub working : IsWorking s statement work.alone state.past
-  pub goes_on : GoesOn s state.past
-  pub steady : IsSteady state s
-  pub before_is : work.before ≡ length (own_before s state.past)
+  pub working : IsWorking s statement work.alone past
+  pub goes_on : GoesOn s past
+  pub right : HasRight s past writer
+  pub before_is : work.before ≡ length (own_before s past)
   pub same : work.given ≡ work.kept
   pub plain : IsPlain work.kept
-  pub answer : work.kept ≡ (outcome statement (base s state.past)).reply
-  pub tables : created state.past ≡ (base s state.past).schemas
+  pub answer : work.kept ≡ (outcome statement (base s past)).reply
+  pub tables : created past ≡ (base s past).schemas
   -- the changes that are made, and those that are not
   pub made : List Change
-  pub parts : (outcome statement (base s state.past)).changes ≡ made ++ reverse todo
-  pub own_is : own s state.past ≡ reverse made ++ own_before s state.past
+  pub parts : (outcome statement (base s past)).changes ≡ made ++ reverse todo
+  pub own_is : own s past ≡ reverse made ++ own_before s past
+
+-- the next change is under way, which the history doesn't tell yet
+pub record IsMaking (past : List Event) (writer : Option ℕ) (task : Task) (s : ℕ) (work : Work) (todo : List Change) (rows : ℕ) : Type 0 where
+  pub change : Change
+  pub of_row : IsOfRow change
+  pub rows_are : rows ≡ rows_of_entry (Changed s change)
+  pub changing : IsChanging past writer s work (todo ++ change ∷ [])
+  pub under_way : is_changing task ≡ true
+  pub asked_is : asked task ≡ Some change
+
+-- the change under way is the newest that stands
+pub record IsFinishing (past : List Event) (writer : Option ℕ) (task : Task) (s : ℕ) (work : Work) (todo : List Change) : Type 0 where
+  pub changing : IsChanging past writer s work todo
+  pub under_way : is_changing task ≡ true
+  pub told : asked task ≡ None
+  pub stands : work.before < length (own s past)
 
 abbrev pub is_refusal : Reply → Bool
 is_refusal (replies.Fail error) = true
@@ -135,21 +186,29 @@ pub record HasReply (s : ℕ) (statement : Stmt) (kept : Reply) (past : List Eve
   pub answers : MayAnswer s statement count kept past
 
 -- the point of a statement that is not over is its past, which stays what it is
-pub record MovesOn (count : ℕ) (kept : Reply) (state : State) (s : ℕ) : Type 0 where
-  pub not_over : is_over s state.past ≡ false
-  pub stays : ((kept ≡ replies.NoMemory) × (count ≡ 0)) ⊎ IsSteady state s
+pub record MovesOn (count : ℕ) (kept : Reply) (past : List Event) (writer : Option ℕ) (s : ℕ) : Type 0 where
+  pub not_over : is_over s past ≡ false
+  pub stays : ((kept ≡ replies.NoMemory) × (count ≡ 0)) ⊎ HasRight s past writer
 
-pub record IsBackingOut (state : State) (s : ℕ) (work : Work) : Type 0 where
+pub record IsBackingOut (past : List Event) (writer : Option ℕ) (s : ℕ) (work : Work) : Type 0 where
   pub statement : Stmt
-  pub working : IsWorking s statement work.alone state.past
-  pub before_is : work.before ≡ length (own_before s state.past)
+  pub working : IsWorking s statement work.alone past
+  pub before_is : work.before ≡ length (own_before s past)
   pub same : work.given ≡ work.kept
   pub backs : is_count work.kept ≡ false
-  pub reply : HasReply s statement work.kept state.past
-  pub moves : (is_over s state.past ≡ true) ⊎ MovesOn reply.count work.kept state s
+  pub reply : HasReply s statement work.kept past
+  pub moves : (is_over s past ≡ true) ⊎ MovesOn reply.count work.kept past writer s
   -- its changes that stand
   pub rest : List Change
-  pub own_is : own s state.past ≡ rest ++ own_before s state.past
+  pub own_is : own s past ≡ rest ++ own_before s past
+
+-- Nothing is under way; or the newest change is to be taken back, or is being so, and is none of the first so many.
+abbrev pub MayGoBack : ℕ → ℕ → List Event → Task → Type 0
+MayGoBack before s past task = (task ≡ Idle) ⊎ (MayTakeBack task × (before < length (own s past)))
+
+-- a statement that is given up for want of memory
+abbrev pub given_up : Bool → ℕ → Work
+given_up alone before = record { alone = alone; before = before; kept = replies.NoMemory; given = replies.NoMemory }
 
 -- Its own transaction has ended.
 pub record IsClosing (s : ℕ) (kept given : Reply) (past : List Event) : Type 0 where
@@ -170,11 +229,13 @@ pub record IsUnopened (s : ℕ) (past : List Event) : Type 0 where
   pub taken : IsTaken s statement past
 
 abbrev pub IsRunning : State → ℕ → WriteStatement → Type 0
-IsRunning state s (machine.Fresh stmt) = IsTaken s stmt state.past × IsWriting stmt
-IsRunning state s machine.Unopened = IsUnopened s state.past
-IsRunning state s (machine.Locking stmt alone) = IsEarly s stmt alone state.past
-IsRunning state s (machine.Searching search) = IsSearching state s search
-IsRunning state s (machine.Changing work todo) = IsChanging state s work todo.items
-IsRunning state s (machine.BackingOut work) = IsBackingOut state s work
-IsRunning state s (machine.Unacked kept given) = IsClosing s kept given state.past × (awaits_ack (of_item s state.past) ≡ true) × IsClosed s state.past
-IsRunning state s (machine.Ending kept given) = IsClosing s kept given state.past × (awaits_ack (of_item s state.past) ≡ false)
+IsRunning state s (machine.Fresh stmt) = IsTaken s stmt state.past × IsWriting stmt × (task_of s state ≡ Idle)
+IsRunning state s machine.Unopened = IsUnopened s state.past × (task_of s state ≡ Idle)
+IsRunning state s (machine.Locking stmt alone) = IsEarly s stmt alone state.past × (task_of s state ≡ Idle)
+IsRunning state s (machine.Searching search) = IsSearching state.past state.writer (task_of s state) s search
+IsRunning state s (machine.Changing work todo) = IsChanging state.past state.writer s work todo.items × (task_of s state ≡ Idle)
+IsRunning state s (machine.Making work todo rows) = IsMaking state.past state.writer (task_of s state) s work todo.items rows
+IsRunning state s (machine.Finishing work todo) = IsFinishing state.past state.writer (task_of s state) s work todo.items
+IsRunning state s (machine.BackingOut work) = IsBackingOut state.past state.writer s work × MayGoBack work.before s state.past (task_of s state)
+IsRunning state s (machine.Unacked kept given) = IsClosing s kept given state.past × (awaits_ack (of_item s state.past) ≡ true) × IsClosed s state.past × (task_of s state ≡ Idle)
+IsRunning state s (machine.Ending kept given) = IsClosing s kept given state.past × (awaits_ack (of_item s state.past) ≡ false) × (task_of s state ≡ Idle)

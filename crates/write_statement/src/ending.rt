@@ -1,6 +1,8 @@
 //! How the item of a statement ends.
 
 ghost use Rattle.std.specs.Prelude.{◌≡◌, ◌≢◌, ◌<◌, length};
+ghost use Rattle.shared_lists.specs.Tasks.{Idle};
+ghost use Rattle.shared_lists.specs.State.{task_of};
 ghost use Rattle.sql_lists.specs.Kept.{MayReply};
 ghost use Rattle.sql_lists.specs.Steps.{Steps, HasRowsAlone};
 ghost use Rattle.sql_lists.specs.Going.{Nears};
@@ -9,20 +11,22 @@ ghost use Rattle.write_statement.specs.Running.{IsRunning};
 
 use crate::machine::WriteStatement;
 use inno_types::Reply;
+use shared_lists::SharedLists;
 use sql_lists::{Advance, SqlLists};
 
 /// Ends the item.
-pub fn end(
+pub fn end<L: SharedLists>(
     kept: Reply,
     given: Reply,
     session: u32,
-    lists: &mut SqlLists,
+    lists: &mut SqlLists<L>,
 ) -> (WriteStatement, Advance)
     requires joined { session < length lists.old.names }
     requires may { MayReply session kept lists.old.past }
     requires not_done { kept ≢ Reply.Done }
     requires same { given ≡ kept }
     requires rows_alone { HasRowsAlone session lists.old.past }
+    requires idle { task_of session lists.old ≡ Idle }
     ensures steps { Steps IsRunning session lists.old lists.new result.0 result.1 }
     ensures done { result.1 ≡ Advance.Done given }
 {
@@ -31,40 +35,43 @@ pub fn end(
 }
 
 /// Without a transaction nothing was begun.
-pub fn step_unopened(session: u32, lists: &mut SqlLists) -> (WriteStatement, Advance)
+pub fn step_unopened<L: SharedLists>(
+    session: u32,
+    lists: &mut SqlLists<L>,
+) -> (WriteStatement, Advance)
     requires joined { session < length lists.old.names }
     requires running { IsRunning lists.old session WriteStatement.Unopened }
     ensures steps { Steps IsRunning session lists.old lists.new result.0 result.1 }
-    ensures nears { Nears to_go session lists.old.past WriteStatement.Unopened lists.new.past result.0 result.1 }
+    ensures nears { Nears to_go session lists.old WriteStatement.Unopened lists.new result.0 result.1 }
 {
     end(Reply::NoMemory, Reply::NoMemory, session, lists)
 }
 
-pub fn step_unacked(
+pub fn step_unacked<L: SharedLists>(
     kept: Reply,
     given: Reply,
     session: u32,
-    lists: &mut SqlLists,
+    lists: &mut SqlLists<L>,
 ) -> (WriteStatement, Advance)
     requires joined { session < length lists.old.names }
     requires running { IsRunning lists.old session (WriteStatement.Unacked kept given) }
     ensures steps { Steps IsRunning session lists.old lists.new result.0 result.1 }
-    ensures nears { Nears to_go session lists.old.past (WriteStatement.Unacked kept given) lists.new.past result.0 result.1 }
+    ensures nears { Nears to_go session lists.old (WriteStatement.Unacked kept given) lists.new result.0 result.1 }
 {
     lists.ack(session);
     (WriteStatement::Ending { kept, given }, Advance::Went)
 }
 
-pub fn step_ending(
+pub fn step_ending<L: SharedLists>(
     kept: Reply,
     given: Reply,
     session: u32,
-    lists: &mut SqlLists,
+    lists: &mut SqlLists<L>,
 ) -> (WriteStatement, Advance)
     requires joined { session < length lists.old.names }
     requires running { IsRunning lists.old session (WriteStatement.Ending kept given) }
     ensures steps { Steps IsRunning session lists.old lists.new result.0 result.1 }
-    ensures nears { Nears to_go session lists.old.past (WriteStatement.Ending kept given) lists.new.past result.0 result.1 }
+    ensures nears { Nears to_go session lists.old (WriteStatement.Ending kept given) lists.new result.0 result.1 }
 {
     end(kept, given, session, lists)
 }

@@ -1,13 +1,16 @@
-//! INSERT, UPDATE and DELETE as a machine: each step visits one row or adds one entry, and steps of other sessions may
-//! come between. It takes the right to write, gathers the rows of its table, asks the plain interpreter what it does to
-//! them, and makes these changes, or takes back what it made.
+//! INSERT, UPDATE and DELETE as a machine: each step makes one step of what the lists keep under way for the session, or adds
+//! one entry, and steps of other sessions may come between. It takes the right to write, searches its table, asks the plain
+//! interpreter what it does to the rows that were found, and makes these changes, or takes back what it made.
 #![tactic(auto)]
 
+mod answering;
 mod backing;
 mod changing;
 mod ending;
 mod machine;
+mod making;
 mod opening;
+mod planning;
 mod searching;
 mod settling;
 

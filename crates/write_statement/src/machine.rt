@@ -1,6 +1,8 @@
 //! The states of the machine, and its step.
 
 ghost use Rattle.std.specs.Prelude.{◌≡◌, ◌<◌, length};
+ghost use Rattle.shared_lists.specs.Tasks.{Idle};
+ghost use Rattle.shared_lists.specs.State.{task_of};
 ghost use Rattle.sql_history.specs.Legal.{IsWriting};
 ghost use Rattle.sql_lists.specs.Steps.{Steps, IsTaken, StaysRunning};
 ghost use Rattle.sql_lists.specs.Going.{Nears};
@@ -10,11 +12,12 @@ ghost use Rattle.write_statement.specs.Running.{IsRunning};
 use crate::backing::step_backing;
 use crate::changing::step_changing;
 use crate::ending::{step_ending, step_unacked, step_unopened};
+use crate::making::{step_finishing, step_making};
 use crate::opening::{step_fresh, step_locking};
 use crate::searching::step_searching;
-use gathering::Gathering;
 use inno_db::Change;
 use inno_types::{Reply, Stmt};
+use shared_lists::SharedLists;
 use sql_lists::{Advance, SqlLists};
 use std::alloc::Global;
 
@@ -22,29 +25,53 @@ use std::alloc::Global;
 #[derive(Drop)]
 pub enum WriteStatement {
     /// It has made no step.
-    Fresh { stmt: Stmt },
+    Fresh {
+        stmt: Stmt,
+    },
     /// No transaction could be opened for it.
     Unopened,
     /// It has a transaction, and is yet to take the right to write. `alone` says that the transaction is its own.
-    Locking { stmt: Stmt, alone: bool },
+    Locking {
+        stmt: Stmt,
+        alone: bool,
+    },
     Searching(Search),
     /// It knows its reply and makes its changes, of which the next one stands last.
-    Changing { work: Work, todo: Vec<Change> },
+    Changing {
+        work: Work,
+        todo: Vec<Change>,
+    },
+    /// It makes one, which the history doesn't tell yet, and by which it will hold so many rows more.
+    Making {
+        work: Work,
+        todo: Vec<Change>,
+        rows: u64,
+    },
+    /// The history tells that change, and keys are yet to take it over.
+    Finishing {
+        work: Work,
+        todo: Vec<Change>,
+    },
     /// It takes its changes back.
     BackingOut(Work),
     /// Its own transaction is committed.
-    Unacked { kept: Reply, given: Reply },
-    Ending { kept: Reply, given: Reply },
+    Unacked {
+        kept: Reply,
+        given: Reply,
+    },
+    Ending {
+        kept: Reply,
+        given: Reply,
+    },
 }
 
-/// A statement that gathers the rows of its table. Its transaction had made so many changes before.
+/// A statement that searches its table. Its transaction had made so many changes before.
 #[derive(Drop)]
 pub struct Search {
     pub stmt: Stmt,
     pub alone: bool,
     pub before: usize,
     pub visited: u64,
-    pub gathering: Gathering,
 }
 
 /// A statement whose reply is known. Its transaction had made so many changes before.
@@ -72,25 +99,26 @@ impl Work {
 
 impl WriteStatement {
     /// A statement that nothing refused at once.
-    pub fn new(stmt: Stmt, session: u32, lists: &SqlLists) -> Self
+    pub fn new<L: SharedLists>(stmt: Stmt, session: u32, lists: &SqlLists<L>) -> Self
         requires taken { IsTaken session stmt lists.now.past }
         requires writes { IsWriting stmt }
+        requires idle { task_of session lists.now ≡ Idle }
         ensures { IsRunning lists.now session result }
     {
         WriteStatement::Fresh { stmt }
     }
 
     /// One step of the session's statement.
-    pub fn step(
+    pub fn step<L: SharedLists>(
         self,
         alloc: Global,
         session: u32,
-        lists: &mut SqlLists,
+        lists: &mut SqlLists<L>,
     ) -> (WriteStatement, Advance)
         requires joined { session < length lists.old.names }
         requires running { IsRunning lists.old session self }
         ensures steps { Steps IsRunning session lists.old lists.new result.0 result.1 }
-        ensures nears { Nears to_go session lists.old.past self lists.new.past result.0 result.1 }
+        ensures nears { Nears to_go session lists.old self lists.new result.0 result.1 }
     {
         match self {
             WriteStatement::Fresh { stmt } => step_fresh(stmt, session, lists),
@@ -100,6 +128,10 @@ impl WriteStatement {
             ),
             WriteStatement::Searching(search) => step_searching(alloc, search, session, lists),
             WriteStatement::Changing { work, todo } => step_changing(work, todo, session, lists),
+            WriteStatement::Making { work, todo, rows } => {
+                step_making(work, todo, rows, session, lists)
+            }
+            WriteStatement::Finishing { work, todo } => step_finishing(work, todo, session, lists),
             WriteStatement::BackingOut(work) => step_backing(work, session, lists),
             WriteStatement::Unacked { kept, given } => step_unacked(kept, given, session, lists),
             WriteStatement::Ending { kept, given } => step_ending(kept, given, session, lists),

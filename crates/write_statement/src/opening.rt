@@ -1,29 +1,42 @@
-//! A statement opens a transaction where none is open, and takes the right to write.
+//! A statement opens a transaction where none is open, takes the right to write, and begins to search its table.
 
-ghost use Rattle.std.specs.Prelude.{◌≡◌, ◌≢◌, ◌<◌, ◌≤◌, ℕ, [], length, Some, None, option_copied};
+ghost use Rattle.std.specs.Prelude.{◌≡◌, ◌≢◌, ◌<◌, ◌≤◌, IfOk, [], length, Some, None, slice_get, option_copied};
 ghost use Rattle.inno_db.proofs.Outcomes.{table_read};
 ghost use Rattle.inno_db.specs.declared.limits.TheConstants.{MOST_TABLES};
+ghost use Rattle.inno_types.specs.declared.value.Schema.{Schema};
 ghost use Rattle.inno_model.specs.Past.{own};
 ghost use Rattle.sql_history.specs.Endings.{IsOpen, IsClosed};
+ghost use Rattle.table_lists.specs.Order.{created};
+ghost use Rattle.fitting_rows.specs.Storable.{AreStorable};
+ghost use Rattle.shared_lists.specs.Tasks.{Idle};
+ghost use Rattle.shared_lists.specs.State.{task_of};
 ghost use Rattle.sql_lists.specs.Steps.{Steps};
 ghost use Rattle.sql_lists.specs.Going.{Nears};
-ghost use Rattle.sql_lists.proofs.Staying.{IsSteady};
 ghost use Rattle.write_statement.specs.Going.{to_go};
-ghost use Rattle.write_statement.specs.Running.{IsRunning};
+ghost use Rattle.write_statement.specs.Planning.{IsPlanFor};
+ghost use Rattle.write_statement.specs.Running.{IsEarly, HasRight, IsRunning};
 ghost use Rattle.write_statement.specs.Settling.{IsTableNamed};
 
-use crate::machine::{Search, Work, WriteStatement};
-use gathering::Gathering;
-use inno_types::{Bytes, Listed, Schema, Stmt};
+use crate::answering::{answer, give_up};
+use crate::machine::{Search, WriteStatement};
+use crate::planning::plan_for;
+use inno_types::{Bytes, Listed, Rows, Schema, Stmt};
+use shared_lists::{Reading, SharedLists};
 use sql_lists::{Advance, SqlLists};
+use sql_plan::Plan;
 use sql_values::place_of_table;
 use std::alloc::Global;
+use store_api::NoMemory;
 
-pub fn step_fresh(stmt: Stmt, session: u32, lists: &mut SqlLists) -> (WriteStatement, Advance)
+pub fn step_fresh<L: SharedLists>(
+    stmt: Stmt,
+    session: u32,
+    lists: &mut SqlLists<L>,
+) -> (WriteStatement, Advance)
     requires joined { session < length lists.old.names }
     requires running { IsRunning lists.old session (WriteStatement.Fresh stmt) }
     ensures steps { Steps IsRunning session lists.old lists.new result.0 result.1 }
-    ensures nears { Nears to_go session lists.old.past (WriteStatement.Fresh stmt) lists.new.past result.0 result.1 }
+    ensures nears { Nears to_go session lists.old (WriteStatement.Fresh stmt) lists.new result.0 result.1 }
 {
     if lists.lists().level(session).is_some() {
         return (
@@ -35,13 +48,17 @@ pub fn step_fresh(stmt: Stmt, session: u32, lists: &mut SqlLists) -> (WriteState
 }
 
 /// Opens a transaction, with autocommit one for the statement alone.
-fn open(stmt: Stmt, session: u32, lists: &mut SqlLists) -> (WriteStatement, Advance)
+fn open<L: SharedLists>(
+    stmt: Stmt,
+    session: u32,
+    lists: &mut SqlLists<L>,
+) -> (WriteStatement, Advance)
     requires joined { session < length lists.old.names }
     requires running { IsRunning lists.old session (WriteStatement.Fresh stmt) }
     requires closed { IsClosed session lists.old.past }
     requires none { own session lists.old.past ≡ [] }
     ensures steps { Steps IsRunning session lists.old lists.new result.0 result.1 }
-    ensures nears { Nears to_go session lists.old.past (WriteStatement.Fresh stmt) lists.new.past result.0 result.1 }
+    ensures nears { Nears to_go session lists.old (WriteStatement.Fresh stmt) lists.new result.0 result.1 }
 {
     let setting = lists.setting(session);
     let alone = setting.autocommit();
@@ -52,17 +69,17 @@ fn open(stmt: Stmt, session: u32, lists: &mut SqlLists) -> (WriteStatement, Adva
     }
 }
 
-pub fn step_locking(
+pub fn step_locking<L: SharedLists>(
     alloc: Global,
     stmt: Stmt,
     alone: bool,
     session: u32,
-    lists: &mut SqlLists,
+    lists: &mut SqlLists<L>,
 ) -> (WriteStatement, Advance)
     requires joined { session < length lists.old.names }
     requires running { IsRunning lists.old session (WriteStatement.Locking stmt alone) }
     ensures steps { Steps IsRunning session lists.old lists.new result.0 result.1 }
-    ensures nears { Nears to_go session lists.old.past (WriteStatement.Locking stmt alone) lists.new.past result.0 result.1 }
+    ensures nears { Nears to_go session lists.old (WriteStatement.Locking stmt alone) lists.new result.0 result.1 }
 {
     match lists.lock(session) {
         Some(by) => wait_for(by, stmt, alone, session, lists),
@@ -71,72 +88,111 @@ pub fn step_locking(
 }
 
 /// Another session may write: the statement waits for its transaction.
-fn wait_for(
+fn wait_for<L: SharedLists>(
     by: u32,
     stmt: Stmt,
     alone: bool,
     session: u32,
-    lists: &mut SqlLists,
+    lists: &SqlLists<L>,
 ) -> (WriteStatement, Advance)
-    requires joined { (session < length lists.old.names) × (by < length lists.old.names) }
-    requires running { IsRunning lists.old session (WriteStatement.Locking stmt alone) }
-    requires held { (lists.old.writer ≡ Some by) × (by ≢ session) × IsOpen by lists.old.past }
-    ensures steps { Steps IsRunning session lists.old lists.new result.0 result.1 }
-    ensures nears { Nears to_go session lists.old.past (WriteStatement.Locking stmt alone) lists.new.past result.0 result.1 }
+    requires joined { (session < length lists.now.names) × (by < length lists.now.names) }
+    requires running { IsRunning lists.now session (WriteStatement.Locking stmt alone) }
+    requires held { (lists.now.writer ≡ Some by) × (by ≢ session) × IsOpen by lists.now.past }
+    ensures steps { Steps IsRunning session lists.now lists.now result.0 result.1 }
+    ensures waits { result.1 ≢ Advance.Went }
 {
     match lists.edge_to(session, by) {
         Ok(blockers) => (
             WriteStatement::Locking { stmt, alone },
             Advance::Waiting { by, blockers },
         ),
-        Err(_) => {
-            let before = lists.lists().change_count(session);
-            let work = Work::given_up(alone, before);
-            (WriteStatement::BackingOut(work), Advance::NoMemory)
-        }
+        Err(_) => give_up(alone, lists.lists().change_count(session)),
     }
 }
 
-/// The statement may write: it begins to search its table.
-fn begin_search(
+/// The statement may write. Over a table that isn't there it answers at once.
+fn begin_search<L: SharedLists>(
     alloc: Global,
     stmt: Stmt,
     alone: bool,
     session: u32,
-    lists: &mut SqlLists,
+    lists: &mut SqlLists<L>,
 ) -> (WriteStatement, Advance)
     requires joined { session < length lists.old.names }
     requires running { IsRunning lists.old session (WriteStatement.Locking stmt alone) }
-    requires steady { IsSteady lists.old session }
+    requires right { HasRight session lists.old.past lists.old.writer }
     ensures steps { Steps IsRunning session lists.old lists.new result.0 result.1 }
-    ensures nears { Nears to_go session lists.old.past (WriteStatement.Locking stmt alone) lists.new.past result.0 result.1 }
+    ensures nears { Nears to_go session lists.old (WriteStatement.Locking stmt alone) lists.new result.0 result.1 }
 {
     let tables = lists.lists();
     let before = tables.change_count(session);
-    let table = table_number(tables.schemas(), &stmt);
-    let gathering = Gathering::new(alloc, table);
-    let search = Search {
-        stmt,
-        alone,
-        before,
-        visited: 0,
-        gathering,
+    match table_number(tables.schemas(), &stmt) {
+        Some(table) => search_table(alloc, table, stmt, alone, before, session, lists),
+        None => {
+            let rows = Rows::new(alloc);
+            answer(alloc, &stmt, alone, before, &rows, session, lists)
+        }
+    }
+}
+
+/// Begins to search the table of this number.
+fn search_table<L: SharedLists>(
+    alloc: Global,
+    table: u8,
+    stmt: Stmt,
+    alone: bool,
+    before: usize,
+    session: u32,
+    lists: &mut SqlLists<L>,
+) -> (WriteStatement, Advance)
+    requires joined { session < length lists.old.names }
+    requires running { IsRunning lists.old session (WriteStatement.Locking stmt alone) }
+    requires right { HasRight session lists.old.past lists.old.writer }
+    requires before_is { before ≡ length (own session lists.old.past) }
+    requires table_is { table_read (created lists.old.past) stmt ≡ Some table }
+    ensures steps { Steps IsRunning session lists.old lists.new result.0 result.1 }
+    ensures nears { Nears to_go session lists.old (WriteStatement.Locking stmt alone) lists.new result.0 result.1 }
+{
+    let Ok(plan) = plan_in(alloc, lists.lists().schemas(), table, &stmt) else {
+        return give_up(alone, before);
     };
-    (WriteStatement::Searching(search), Advance::Went)
+    match lists.begin_search(session, table, plan, Reading::Newest) {
+        Ok(()) => {
+            let search = Search {
+                stmt,
+                alone,
+                before,
+                visited: 0,
+            };
+            (WriteStatement::Searching(search), Advance::Went)
+        }
+        Err(_) => give_up(alone, before),
+    }
+}
+
+/// By which index and range the statement searches this table.
+fn plan_in(
+    alloc: Global,
+    schemas: &Listed<Schema>,
+    table: u8,
+    stmt: &Stmt,
+) -> Result<Plan, NoMemory>
+    requires storable { AreStorable schemas.now }
+    ensures { IfOk result (IsPlanFor schemas.now table stmt.now) }
+{
+    match schemas.as_slice().get(usize::from(table)) {
+        Some(schema) => plan_for(alloc, schema, stmt),
+        None => Err(NoMemory),
+    }
 }
 
 /// The table of a statement, by number.
-fn table_number(schemas: &Listed<Schema>, stmt: &Stmt) -> u8
+fn table_number(schemas: &Listed<Schema>, stmt: &Stmt) -> Option<u8>
     requires { length schemas.now ≤ MOST_TABLES }
-    ensures { (n : ℕ) → table_read schemas.now stmt.now ≡ Some n → n ≡ result }
+    ensures { result ≡ table_read schemas.now stmt.now }
 {
-    match table_of(stmt) {
-        Some(name) => match place_of_table(schemas, name) {
-            Some(place) => place as u8,
-            None => 0,
-        },
-        None => 0,
-    }
+    let place = place_of_table(schemas, table_of(stmt)?)?;
+    Some(place as u8)
 }
 
 /// The name of the table that a statement reads.

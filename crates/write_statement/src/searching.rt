@@ -1,82 +1,74 @@
-//! A statement gathers the rows of its table, one place a step, and then asks what it does to them.
+//! A statement searches its table, and then asks what it does to the rows that it found.
 
-ghost use Rattle.std.specs.Prelude.{◌≡◌, ◌<◌, length};
+ghost use Rattle.std.specs.Prelude.{◌≡◌, ◌<◌, ◌+◌, length};
 ghost use Rattle.sql_lists.specs.Steps.{Steps};
 ghost use Rattle.sql_lists.specs.Going.{Nears};
-ghost use Rattle.gathering.specs.Walk.{IsOver};
 ghost use Rattle.write_statement.specs.Going.{to_go};
-ghost use Rattle.write_statement.specs.Running.{IsRunning};
+ghost use Rattle.write_statement.specs.Running.{IsRunning, IsFound};
 
-use crate::machine::{Search, Work, WriteStatement};
-use crate::settling::{Settled, settle};
-use gathering::Sight;
+use crate::answering::{answer, give_up};
+use crate::machine::{Search, WriteStatement};
+use inno_types::Rows;
+use shared_lists::{Searched, SharedLists};
 use sql_lists::{Advance, SqlLists};
 use std::alloc::Global;
 
-pub fn step_searching(
+pub fn step_searching<L: SharedLists>(
     alloc: Global,
-    mut search: Search,
+    search: Search,
     session: u32,
-    lists: &mut SqlLists,
+    lists: &mut SqlLists<L>,
 ) -> (WriteStatement, Advance)
     requires joined { session < length lists.old.names }
     requires running { IsRunning lists.old session (WriteStatement.Searching search) }
     ensures steps { Steps IsRunning session lists.old lists.new result.0 result.1 }
-    ensures nears { Nears to_go session lists.old.past (WriteStatement.Searching search) lists.new.past result.0 result.1 }
+    ensures nears { Nears to_go session lists.old (WriteStatement.Searching search) lists.new result.0 result.1 }
 {
-    let visited = search.visited;
-    if visited == u64::MAX {
-        return give_up(search, session, lists);
+    if search.visited == u64::MAX {
+        lists.stop_search(session);
+        return give_up(search.alone, search.before);
     }
-    match search.gathering.step(lists.lists(), session, Sight::Newest) {
-        Ok(true) => {
-            search.visited = visited + 1;
-            (WriteStatement::Searching(search), Advance::Went)
-        }
-        Ok(false) => answer(alloc, search, session, lists),
-        Err(_) => give_up(search, session, lists),
+    match lists.search(session) {
+        Searched::Went => went_on(search),
+        Searched::Found(rows) => answer_found(alloc, search, rows, session, lists),
+        Searched::NoMemory => give_up(search.alone, search.before),
     }
 }
 
-fn give_up(search: Search, session: u32, lists: &mut SqlLists) -> (WriteStatement, Advance)
-    requires running { IsRunning lists.old session (WriteStatement.Searching search) }
-    ensures steps { Steps IsRunning session lists.old lists.new result.0 result.1 }
-    ensures nears { Nears to_go session lists.old.past (WriteStatement.Searching search) lists.new.past result.0 result.1 }
+/// One step more was made.
+fn went_on(search: Search) -> (WriteStatement, Advance)
+    requires { search.visited < 18446744073709551615 }
+    ensures state { result.0 ≡ WriteStatement.Searching (record search { visited = search.visited + 1 }) }
+    ensures answer { result.1 ≡ Advance.Went }
 {
-    let work = Work::given_up(search.alone, search.before);
-    (WriteStatement::BackingOut(work), Advance::NoMemory)
+    let visited = search.visited + 1;
+    (
+        WriteStatement::Searching(Search { visited, ..search }),
+        Advance::Went,
+    )
 }
 
-/// All rows are gathered: the statement knows its reply and its changes.
-fn answer(
+/// All rows are found.
+fn answer_found<L: SharedLists>(
     alloc: Global,
     search: Search,
+    rows: Rows,
     session: u32,
-    lists: &mut SqlLists,
+    lists: &mut SqlLists<L>,
 ) -> (WriteStatement, Advance)
-    requires running { IsRunning lists.old session (WriteStatement.Searching search) }
-    requires over { IsOver lists.old.past search.gathering.table search.gathering.last }
+    requires found { IsFound lists.old session search rows }
     ensures steps { Steps IsRunning session lists.old lists.new result.0 result.1 }
-    ensures nears { Nears to_go session lists.old.past (WriteStatement.Searching search) lists.new.past result.0 result.1 }
+    ensures nears { Nears to_go session lists.old (WriteStatement.Searching search) lists.new result.0 result.1 }
 {
-    let tables = lists.lists();
-    let settled = settle(
+    // that the rows are enough follows from what the lists say of their history
+    let _ = lists.lists();
+    answer(
         alloc,
-        tables.schemas(),
-        search.gathering.rows(),
         &search.stmt,
-    );
-    match settled {
-        Ok(settled) => {
-            let Settled { kept, given, todo } = settled;
-            let work = Work {
-                alone: search.alone,
-                before: search.before,
-                kept,
-                given,
-            };
-            (WriteStatement::Changing { work, todo }, Advance::Went)
-        }
-        Err(_) => give_up(search, session, lists),
-    }
+        search.alone,
+        search.before,
+        &rows,
+        session,
+        lists,
+    )
 }

@@ -1,14 +1,13 @@
-//! What a statement does to the rows that it gathered, by the plain interpreter.
+//! What a statement does to the rows that it found, by the plain interpreter.
 
 ghost use Rattle.std.specs.Prelude.{◌≡◌, ◌≤◌, IfOk, length, reverse};
 ghost use Rattle.inno_db.specs.Database.{Database};
 ghost use Rattle.inno_db.specs.declared.limits.TheConstants.{MOST_TABLES};
 ghost use Rattle.plain_sql.specs.Finding.{IsReadFrom, IsOnRows};
-ghost use Rattle.tables_as_db.specs.Tables.{rows_in};
 ghost use Rattle.write_statement.specs.Settling.{IsSettledBy, IsPlain};
 
 use inno_db::{Change, Outcome};
-use inno_types::{Listed, Reply, Row, Rows, Schema, Stmt, Value};
+use inno_types::{Listed, Reply, Rows, Schema, Stmt};
 use plain_sql::plain_on_rows;
 use std::alloc::Global;
 use store_api::NoMemory;
@@ -25,15 +24,14 @@ pub struct Settled {
 pub fn settle(
     alloc: Global,
     schemas: &Listed<Schema>,
-    rows: &[(Value, Row)],
+    rows: &Rows,
     stmt: &Stmt,
 ) -> Result<Settled, NoMemory>
     requires few { length schemas.now ≤ MOST_TABLES }
     requires on_rows { IsOnRows stmt.now }
-    ensures { IfOk result (λ settled. (db : Database) → IsReadFrom schemas.now (rows_in rows.now) stmt.now db → IsSettledBy stmt.now db settled) }
+    ensures { IfOk result (λ settled. (db : Database) → IsReadFrom schemas.now rows.now stmt.now db → IsSettledBy stmt.now db settled) }
 {
-    let rows = without_keys(alloc, rows)?;
-    let Outcome { reply, changes } = plain_on_rows(alloc, schemas, &rows, stmt)?;
+    let Outcome { reply, changes } = plain_on_rows(alloc, schemas, rows, stmt)?;
     let given = plain_copy(&reply)?;
     let mut todo = changes.into_vec();
     todo.reverse();
@@ -42,17 +40,6 @@ pub fn settle(
         given,
         todo,
     })
-}
-
-/// The rows alone.
-fn without_keys(alloc: Global, rows: &[(Value, Row)]) -> Result<Rows, NoMemory>
-    ensures { IfOk result (λ found. found ≡ rows_in rows.now) }
-{
-    let mut found = Rows::new(alloc);
-    for (_, row) in rows {
-        found.push(row.copied()?)?;
-    }
-    Ok(found)
 }
 
 /// A copy of a count or a refusal. A statement that changes rows has no other reply.

@@ -1,15 +1,15 @@
 use Rattle.std.proofs.Common.{sym, ap, ◌∙◌}
 use Rattle.sql_history.specs.Items.{base}
-use Rattle.table_lists.specs.State.{State}
 use Rattle.table_lists.specs.Order.{created}
+use Rattle.shared_lists.specs.State.{State}
 use Rattle.create_statement.proofs.Tables.{tables_met, makes_none}
 use Rattle.create_statement.proofs.asking.step_asked.Goals as goal
 
 pub skip-requires-clause-none : goal.skip-requires-clause-none
-skip-requires-clause-none c =
+skip-requires-clause-none g c =
     let s = c.args.session in
     let past = c.args.lists.now.past in
-    let r = c.requires.running in
+    let r = c.requires.running.0 in
     let met = tables_met s past c.lists.ensures.tables c.in_default.ensures.none r.2 r.0.at.rows_before in
     makes_none c.schemas.result.now c.args.stmt r.0.at.kind (sym c.is_there.ensures ∙ c.if-is_there.true) (base s past)
     (met ∙ sym (c.schemas.ensures ∙ ap (λ (x : State). created x.past) c.lists.ensures.same))

@@ -1,8 +1,8 @@
-use Rattle.std.proofs.Common.{◌≡◌, List, Some, refl, ap, ◌∙◌, sym, subst, arith}
-use Rattle.std.specs.Prelude.{ℕ, true, slice_get}
+use Rattle.std.proofs.Common.{◌≡◌, List, Some, ap, ◌∙◌, sym, subst, arith}
+use Rattle.std.specs.Prelude.{true, slice_get}
 use Rattle.inno_types.specs.declared.value.Schema.{Schema}
 use Rattle.std.proofs.lemmas.Option.{slice_get_within}
-use Rattle.world.specs.State.{WorldState, Session, Work, IsSession, IsIndex, HasWork}
+use Rattle.world.specs.State.{WorldState, Session, Work, IsSession, IsIndex}
 use Rattle.world.specs.Undoing.{IsReady}
 use Rattle.list_world.specs.Parts.{world_of}
 use Rattle.list_world.proofs.Places.{get_set_here}

@@ -1,4 +1,4 @@
-use Rattle.std.proofs.Common.{◌≡◌, ◌∷◌, ◌+◌, Some, refl, ap, ◌∙◌, arith}
+use Rattle.std.proofs.Common.{◌∷◌, ◌+◌, Some, refl, ap, ◌∙◌, arith}
 use Rattle.std.specs.Prelude.{slice_get, false}
 use Rattle.std.proofs.lemmas.Option.{slice_get_within}
 use Rattle.store_api.specs.declared.answers.Undo.{Undo}

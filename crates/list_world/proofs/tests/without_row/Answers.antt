@@ -1,10 +1,11 @@
-use Rattle.std.proofs.Common.{◌≡◌, ◌-◌, Some, refl, ap, sym, ◌∙◌, arith}
+use Rattle.std.proofs.Common.{◌-◌, Some, refl, ap, ◌∙◌, arith}
 use Rattle.std.specs.Prelude.{slice_get}
 use Rattle.std.proofs.lemmas.Option.{slice_get_within}
 use Rattle.world.specs.State.{WorldState, Session, Work, HasWork}
 use Rattle.world.specs.Undoing.{IsCutBack}
 use Rattle.list_world.specs.Parts.{world_of}
 use Rattle.list_world.proofs.Places.{get_set_here}
+use Rattle.list_world.proofs.InItem.{same_work}
 use Rattle.list_world.proofs.tests.without_row.Goals as goal
 
 abbrev cut_work : (old new : WorldState) → IsCutBack 0 old new → Work
@@ -19,23 +20,14 @@ has_cut old new is = record {
   work_is = refl;
 }
 
--- of two states of one session's work, the same number of changes stands
-own_of : (old : WorldState) (one other : Session) (work last : Work) → HasWork 0 one work old → HasWork 0 other last old → work.own ≡ last.own
-own_of old one other work last has also =
-    let e : Some one ≡ Some other = sym has.session_is ∙ also.session_is in
-    let same : one ≡ other = cc in
-    let f : Some work ≡ Some last = sym has.work_is ∙ (ap (λ (session : Session). session.work) same ∙ also.work_is) in
-    let w : work ≡ last = cc in
-    ap (λ (w : Work). w.own) w
-
 pub add_undone-requires : goal.add_undone-requires
 add_undone-requires c =
     let is = c.in-Done.ensures in
     let old = world_of c.in_ok-world.world in
     let new = world_of c.cut_back.new.self in
     let given = c.in_ok-world.ensures in
-    let own = own_of old given.0 is.session given.1 is.work given.2 is.has_work in
-    (cut_session old new is, cut_work old new is, has_cut old new is, omega (arith, own, given.4))
+    let same = same_work 0 given.0 is.session given.1 is.work old given.2 is.has_work in
+    (cut_session old new is, cut_work old new is, has_cut old new is, omega (arith, ap (λ (work : Work). work.own) same.1, given.4))
 
 pub returns : goal.returns
 returns c =

@@ -1,28 +1,28 @@
 use Rattle.std.proofs.Common.{◌≡◌, true, false, None, [], subst}
 use Rattle.std.specs.Prelude.{is_some}
 use Rattle.inno_model.specs.Past.{level, own}
-use Rattle.table_lists.specs.State.{State}
+use Rattle.shared_lists.specs.State.{State}
 use Rattle.read_statement.proofs.Items.{none_of}
-use Rattle.read_statement.proofs.Entries.{may_begin, stays_open, begun, fails, early_in, not_alone}
+use Rattle.read_statement.proofs.Entries.{may_begin, stays_open, begun, fails, rests, early_in, never}
 use Rattle.read_statement.proofs.opening.step_opening.Goals as goal
 
 pub returns-then-is_some-clause-steps : goal.returns-then-is_some-clause-steps
-returns-then-is_some-clause-steps c =
+returns-then-is_some-clause-steps g c =
     let is-open : is_some (level c.args.session c.args.lists.now.past) ≡ true = cc in
-    stays_open c.args.session c.args.lists.now c.args.asked c.requires.running is-open
+    stays_open c.args.session c.args.lists.now c.args.asked c.requires.running.0 is-open c.requires.running.1
 
 pub begin-requires-clause-may : goal.begin-requires-clause-may
-begin-requires-clause-may c =
+begin-requires-clause-may g c =
     let none : is_some (level c.args.session c.args.lists.now.past) ≡ false = cc in
-    may_begin c.args.session c.args.lists.now.past c.args.asked c.requires.running (none_of (level c.args.session c.args.lists.now.past) none)
+    may_begin c.args.session c.args.lists.now.past c.args.asked c.requires.running.0 (none_of (level c.args.session c.args.lists.now.past) none)
 
 pub returns-in-Ok-clause-steps : goal.returns-in-Ok-clause-steps
-returns-in-Ok-clause-steps c =
+returns-in-Ok-clause-steps g c =
     let none : is_some (level c.args.session c.args.lists.now.past) ≡ false = cc in
     let closed = none_of (level c.args.session c.args.lists.now.past) none in
     let no-own = subst (λ (x : State). level c.args.session x.past ≡ None → own c.args.session x.past ≡ []) c.lists.ensures.same c.level.ensures.closed closed in
-    begun c.args.session _ _ c.args.lists.now c.begin.new.self c.args.asked c.requires.running closed no-own c.in-Ok.ensures.ok
+    begun c.args.session _ _ c.args.lists.now c.begin.new.self c.args.asked c.requires.running.0 closed no-own c.requires.running.1 c.in-Ok.ensures.ok
 
 pub returns-in-Err-clause-steps : goal.returns-in-Err-clause-steps
-returns-in-Err-clause-steps c =
-    fails c.args.session c.args.lists.now c.begin.new.self c.args.asked.stmt false c.in-Err.ensures.err (early_in c.args.session c.args.lists.now.past c.args.asked c.requires.running) (λ is. not_alone is)
+returns-in-Err-clause-steps g c =
+    fails c.args.session c.args.lists.now c.begin.new.self c.args.asked.stmt false (rests c.args.session c.args.lists.now c.begin.new.self c.requires.running.1 c.in-Err.ensures.err) (early_in c.args.session c.args.lists.now.past c.args.asked c.requires.running.0) (λ is. never is)

@@ -8,24 +8,33 @@ use Rattle.transaction_statements.proofs.statement.new_autocommit.Goals.{else-on
 use Rattle.transaction_statements.proofs.statement.new_autocommit.Goals as goal
 
 pub returns-then-not-autocommit : goal.returns-then-not-autocommit
-returns-then-not-autocommit c =
+returns-then-not-autocommit g c =
     let taken : IsTaken c.args.session (stmt.SetAutocommit true) c.args.lists.now.past = subst (λ on. IsTaken c.args.session (stmt.SetAutocommit on) c.args.lists.now.past) c.if-on.true c.requires.taken in (
-      retaken c.args.session (stmt.SetAutocommit true) (Fits committers.TurnOn) c.args.lists.now.past c.setting.result.now taken c.setting.ensures (λ h found. found) (sym c.autocommit.ensures ∙ c.if-not-autocommit.true),
-      taken.nothing,
+      (
+        retaken c.args.session (stmt.SetAutocommit true) (Fits committers.TurnOn) c.args.lists.now.past c.setting.result.now taken c.setting.ensures (λ h found. found) (sym c.autocommit.ensures ∙ c.if-not-autocommit.true),
+        taken.nothing,
+      ),
+      c.requires.idle,
     )
 
 pub returns : goal.returns
-returns c =
+returns g c =
     elim c.else-on.branch [
       | else-on-via-then-on+else-not-autocommit w ↦ (
-        retaken c.args.session (stmt.SetAutocommit c.args.on) (SetsAlone (stmt.SetAutocommit c.args.on)) c.args.lists.now.past w.setting.result.now c.requires.taken w.setting.ensures (λ h found. found)
-            (inl (sym w.autocommit.ensures ∙ w.if-not-autocommit.false)),
-        c.requires.taken.nothing,
-        tt,
+        (
+          retaken c.args.session (stmt.SetAutocommit c.args.on) (SetsAlone (stmt.SetAutocommit c.args.on)) c.args.lists.now.past w.setting.result.now c.requires.taken w.setting.ensures (λ h found. found)
+              (inl (sym w.autocommit.ensures ∙ w.if-not-autocommit.false)),
+          c.requires.taken.nothing,
+          tt,
+        ),
+        c.requires.idle,
       )
       | else-on-via-else-on w ↦ (
-        taken_as c.args.session (stmt.SetAutocommit c.args.on) (SetsAlone (stmt.SetAutocommit c.args.on)) c.args.lists.now.past c.requires.taken (inr w.if-on.false),
-        c.requires.taken.nothing,
-        tt,
+        (
+          taken_as c.args.session (stmt.SetAutocommit c.args.on) (SetsAlone (stmt.SetAutocommit c.args.on)) c.args.lists.now.past c.requires.taken (inr w.if-on.false),
+          c.requires.taken.nothing,
+          tt,
+        ),
+        c.requires.idle,
       )
     ]

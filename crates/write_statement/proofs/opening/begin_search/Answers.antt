@@ -1,18 +1,18 @@
-use Rattle.std.proofs.Common.{length, refl, ap, ◌∙◌}
-use Rattle.table_lists.specs.State.{State}
-use Rattle.table_lists.specs.Order.{created}
+use Rattle.std.proofs.Common.{subst, sym, ap, ◌∙◌, arith}
 use Rattle.inno_db.proofs.Outcomes.{table_read}
-use Rattle.inno_model.specs.Past.{own}
-use Rattle.write_statement.proofs.Moving.{moves_none}
-use Rattle.write_statement.proofs.Gathered.{begins_search}
+use Rattle.table_lists.specs.Order.{created}
+use Rattle.shared_lists.specs.State.{State}
+use Rattle.write_statement.specs.declared.machine.WriteStatement.TheVariants.{Locking}
+use Rattle.write_statement.specs.Running.{AreEnough}
+use Rattle.write_statement.proofs.Moving.{nears_of}
+use Rattle.write_statement.proofs.Found.{none_enough}
 use Rattle.write_statement.proofs.opening.begin_search.Goals as goal
 
-pub returns-clause-steps : goal.returns-clause-steps
-returns-clause-steps c =
-    let same = c.lists-tables.ensures.same in
-    let tables = c.schemas.ensures ∙ ap (λ (st : State). created st.past) same in (
-      moves_none c.args.session c.args.lists.now,
-      begins_search c.args.lists.now c.args.session c.table_number-table.result (record { stmt = c.args.stmt; alone = c.args.alone; before = c.change_count-before.result; visited = 0; gathering = c.new-gathering.result }) c.requires.running c.requires.steady
-          (c.change_count-before.ensures ∙ ap (λ (st : State). length (own c.args.session st.past)) same) (λ n is. c.table_number-table.ensures n (ap (λ schemas. table_read schemas c.args.stmt) tables ∙ is)) c.new-gathering.ensures,
-      refl,
-    )
+pub answer-requires-clause-enough : goal.answer-requires-clause-enough
+answer-requires-clause-enough g c =
+    let none = ap (λ schemas. table_read schemas c.args.stmt) (sym (c.schemas.ensures ∙ ap (λ (st : State). created st.past) c.lists-tables.ensures.same)) ∙ (sym c.table_number.ensures ∙ c.in-None.is) in
+    subst (λ rows. AreEnough c.args.session c.args.stmt rows c.args.lists.now.past) (sym c.new-rows.ensures)
+    (none_enough c.args.lists.now.past c.args.lists.now.writer c.args.session c.args.stmt c.requires.right c.requires.running.0.unchanged c.lists-tables.ensures.tables none)
+
+pub returns-in-None-clause-nears : goal.returns-in-None-clause-nears
+returns-in-None-clause-nears g c = nears_of c.args.session c.args.lists.now (Locking c.args.stmt c.args.alone) c.args.lists.now c.answer.result.0 c.answer.result.1 (c.answer.ensures.nears 6 (omega arith) _ _)

@@ -1,7 +1,7 @@
 use Rattle.std.proofs.Common.{length, ◌<◌, ◌≡◌, subst, sym}
 use Rattle.engine.specs.declared.seats.Seat.TheVariants.{Idle}
 use Rattle.engine.specs.Seats.{seat_at}
-use Rattle.engine.proofs.Seating.{seats_started}
+use Rattle.engine.proofs.Seating.{seats_started, seats_same}
 use Rattle.engine.proofs.machine.Engine.seat.Goals as goal
 
 pub invariant_of-self-2 : goal.invariant_of-self-2
@@ -10,3 +10,6 @@ invariant_of-self-2 g c =
     let joined : c.args.s < length engine.lists.names = subst (λ st. c.args.s < length st.lists.names) (sym c.self.view_is) c.requires.joined in
     let idle : seat_at engine.seats c.args.s ≡ Idle = subst (λ st. seat_at st.seats c.args.s ≡ Idle) (sym c.self.view_is) c.requires.idle in
     rw c.replace.ensures.is (seats_started engine.lists c.start.new.self engine.seats c.args.s c.requires.reads.0 c.args.item c.args.statement c.self.invariant joined idle c.requires.reads.1 c.in_ok-start.ensures.ok c.requires.reads.2)
+
+pub invariant_of-self : goal.invariant_of-self
+invariant_of-self g c = seats_same c.self.inside.lists c.start.new.self c.self.inside.seats c.args.s c.in_err-start.ensures.err c.self.invariant

@@ -7,7 +7,6 @@ use Rattle.world.specs.State.{IsIndex}
 use Rattle.world.specs.Indexes.{InsertsWith, IsLogged}
 use Rattle.list_world.specs.Parts.{Parts, world_of}
 use Rattle.list_world.proofs.Indexed.{index_within, inserts_with, changes_none, changes_logged}
-use Rattle.list_world.proofs.list_world.ListWorld.insert_logged.Goals.{in-Some-1, in-None-1}
 use Rattle.list_world.proofs.list_world.ListWorld.insert_logged.Goals as goal
 
 pub returns-in-Done : goal.returns-in-Done
@@ -30,4 +29,4 @@ returns-in_default c =
     let there : slice_get l.indexes.items c.args.index ≡ Some c.index_mut.result.now = slice_get_read l.indexes.items (length l.indexes.items) c.args.index c.index_mut.result.now refl (index_within l.schemas c.args.index (length l.indexes.items) index c.self.invariant.numbered) c.index_mut.ensures.value in
     let parts : Parts = record { names = l.history.names; past = l.history.past; rows = l.rows; schemas = l.schemas; indexes = l.indexes.items; slots = l.slots; txns = l.txns; sessions = l.sessions.items } in
     let none = changes_none parts c.args.index c.args.actor c.args.undo.now c.index_mut.result.now c.insert-answer.new.self (λ before after answer. InsertsWith (Some c.args.undo.now) c.args.actor c.args.key.now c.args.value.now before after answer) c.insert-answer.result there c.in_default.not-Done (inserts_with c.args.undo.now c.args.actor c.args.key.now c.args.value.now (shown c.index_mut.result.now) (shown c.insert-answer.new.self) c.insert-answer.result c.insert-answer.ensures.answer) c.insert-answer.ensures.sound in
-    elim c.match-brought.branch [ in-Some-1 w ↦ rw (w.self-is, ← c.self.view_is) none | in-None-1 w ↦ rw (w.self-is, ← c.self.view_is) none ]
+    rw (← c.self.view_is) none

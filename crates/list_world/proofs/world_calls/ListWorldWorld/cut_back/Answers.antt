@@ -40,6 +40,7 @@ returns c =
       log_is = log.2;
       told = λ told. told;
       kept = λ pointer other told. rw (← c.self.view_is) refl;
+      behind_new = λ kind told. rw (← c.self.view_is) refl;
       next = session.next_pointer;
       rest = rw (← c.self.view_is, c.cut_back.ensures, here, has.work_is, cut) refl;
     }

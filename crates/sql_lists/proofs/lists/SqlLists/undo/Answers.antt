@@ -1,12 +1,18 @@
-use Rattle.std.proofs.Common.{◌-◌, length, subst, sym}
+use Rattle.std.proofs.Common.{◌-◌, length, sym, subst}
 use Rattle.inno_model.specs.Past.{own}
 use Rattle.sql_grammar.specs.Grammar.{Spells}
 use Rattle.sql_history.specs.Legal.{MayUndo}
-use Rattle.table_lists.specs.State.{State}
 use Rattle.table_lists.specs.Order.{IsUndoable}
-use Rattle.sql_lists.proofs.Keeping.{by_adding, kept_undo}
+use Rattle.shared_lists.specs.State.{State, Lists}
+use Rattle.shared_lists.specs.Steps.{TakesBack}
+use Rattle.sql_lists.proofs.Keeping.{by_undo}
 use Rattle.sql_lists.proofs.lists.SqlLists.undo.Goals as goal
 
 pub invariant_of-self : goal.invariant_of-self
-invariant_of-self c = by_adding _ c.self.inside.lists c.undo.new.self c.self.inside.settings.items c.self.inside.rows c.undo.ensures
-    (kept_undo c.self.inside.lists.names c.self.inside.lists.past c.self.inside.settings.items c.self.inside.rows c.self.invariant c.args.session (subst (λ (st : State). MayUndo Spells c.args.session (length (own c.args.session st.past) - 1) st.past) (sym c.self.view_is) c.requires.may) (subst (λ (st : State). IsUndoable (length (own c.args.session st.past) - 1) (own c.args.session st.past)) (sym c.self.view_is) c.requires.of_row))
+invariant_of-self g c =
+    let old : Lists = g.L.SharedLists.lists c.self.inside.lists in
+    by_undo c.args.session old (g.L.SharedLists.lists c.undo.new.self) c.undo.result (subst (λ (st : State). MayUndo Spells c.args.session (length (own c.args.session st.past) - 1) st.past) (sym c.self.view_is) c.requires.may) (subst (λ (st : State). IsUndoable (length (own c.args.session st.past) - 1) (own c.args.session st.past)) (sym c.self.view_is) c.requires.of_row) c.undo.ensures.takes c.undo.ensures.settings c.undo.ensures.rows c.self.invariant
+
+pub returns : goal.returns
+returns g c =
+    record { takes = subst (λ (st : State). TakesBack c.args.session (length (own c.args.session st.past) - 1) st (g.L.SharedLists.lists c.undo.new.self).state c.undo.result) c.self.view_is c.undo.ensures.takes }

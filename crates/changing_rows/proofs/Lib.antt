@@ -1,0 +1,5 @@
+pub mod Listed
+pub mod Staying
+pub mod Entering
+pub mod Leaving
+pub mod Readable

@@ -1,0 +1,161 @@
+-- What holds of the lists between calls.
+use Rattle.std.specs.Prelude.{◌≡◌, ◌≢◌, ℕ, ◌<◌, ◌≤◌, ◌==◌, Bool, true, false, List, [], ◌∷◌, length, slice_get, Option, None, Some, is_some}
+use Rattle.std.specs.List.{list_any}
+use Rattle.inno_db.specs.declared.change.Change.{Change}
+use Rattle.inno_model.specs.declared.event.Event.{Event}
+use Rattle.inno_model.specs.Past.{own, started, under_way, of_item}
+use Rattle.inno_model.specs.Legal.{awaits_ack}
+use Rattle.store_api.specs.declared.answers.Undo.{Undo}
+use Rattle.read_view.specs.Sight.{Sight as ReadSight}
+use Rattle.row_versions.specs.declared.place.Place.{Place}
+use Rattle.row_versions.specs.Chains.{Chains, versions_at}
+use Rattle.table_lists.specs.Order.{is_creation}
+use Rattle.table_lists.specs.Rows.{place_in}
+use Rattle.world.specs.State.{WorldState, Session, Work, Logged, Seen, IsSession, HasWork}
+use Rattle.world.specs.declared.undo_room.UndoRoom.{UndoRoom}
+use Rattle.world.specs.Undoing.{read_into}
+use Rattle.world_agreement.specs.Agreement.{Agrees, sight_of}
+use Rattle.row_changes.specs.Told.{HasRows}
+use Rattle.row_changes.specs.Rows.{IsChangingRow}
+use Rattle.row_changes.specs.declared.keys_change.KeysChange.{KeysChange}
+use Rattle.row_changes.specs.declared.row_change.RowChange.{RowChange}
+use Rattle.row_changes.specs.declared.row_change.RowChange.TheVariants.{Record, Keys}
+use Rattle.row_search.specs.declared.sight.Sight.{Sight}
+use Rattle.row_search.specs.declared.sight.Sight.TheVariants.{View, Newest}
+use Rattle.undo_apply.specs.declared.work_room.WorkRoom.{WorkRoom}
+use Rattle.undo_apply.specs.declared.work_room.Stage.TheVariants.{Find}
+use Rattle.undo_apply.specs.Rooms.{IsWhole}
+use Rattle.undo_apply.specs.Stages.{IsPuttingBack}
+use Rattle.shared_lists.specs.Fitting.{FitsThen}
+use Rattle.logged_changes.specs.Logs.{LogsAgree}
+use Rattle.found_rows.specs.Finding.{IsFinding, IsFindingAnew}
+use Rattle.engine_world.specs.Calls.{IsNew}
+use Rattle.desks.specs.declared.desk.Desk.{Desk}
+use Rattle.desks.specs.declared.desk.Doing.{Doing}
+use Rattle.desks.specs.declared.desk.Doing.TheVariants.{Nothing, Searching, Changing, Lagging, Undoing}
+use Rattle.desks.specs.declared.desk.TableSearch.{TableSearch}
+use Rattle.desks.specs.Desks.{desk_at, doing_at, is_quiet_doing}
+
+-- a world of a database without tables, which nobody has joined
+abbrev pub IsFresh : WorldState → Type 0
+IsFresh state = IsNew state
+
+-- The history has room for the entries by which items and transactions end.
+pub record HasRoom (state : WorldState) : Type 0 where
+  pub replies : (s : ℕ) (session : Session) → IsSession s session state → is_some (under_way s state.past) ≡ true → session.can_reply ≡ true
+  pub acks : (s : ℕ) (session : Session) → IsSession s session state → awaits_ack (of_item s state.past) ≡ true → session.can_ack ≡ true
+  pub ends : (s : ℕ) (session : Session) (work : Work) → HasWork s session work state → work.can_end ≡ true
+
+-- ---- rows, by what who may write has under way
+
+-- the newest change of the session is one of a row at this place, and this is its undo record
+pub record IsLast (state : WorldState) (w : ℕ) (logged : Logged) (place : Place) : Type 0 where
+  pub session : Session
+  pub work : Work
+  pub has_work : HasWork w session work state
+  pub log : List Logged
+  pub log_is : work.log ≡ logged ∷ log
+  pub change : Change
+  pub before : List Change
+  pub own_is : own w state.past ≡ change ∷ before
+  pub place_is : place_in state.schemas change ≡ Some place
+
+-- its keys lag
+pub record IsLagging (chains : Chains) (state : WorldState) (w : ℕ) : Type 0 where
+  pub change : KeysChange
+  pub changing : IsChangingRow w chains state (Keys change)
+  pub logged : Logged
+  pub place : Place
+  pub last : IsLast state w logged place
+  pub table_is : place.table ≡ change.table
+  pub key_is : logged.undo.key ≡ change.key
+
+-- The change that its keys take over is the newest one, and the newest undo record is of the same row.
+pub record IsLastOf (state : WorldState) (w : ℕ) (change : KeysChange) : Type 0 where
+  pub logged : Logged
+  pub place : Place
+  pub last : IsLast state w logged place
+  pub table_is : place.table ≡ change.table
+  pub key_is : logged.undo.key ≡ change.key
+
+-- the same of a change that the history tells
+abbrev pub IsLastIfTold : WorldState → ℕ → RowChange → Type 0
+IsLastIfTold state w (Record change key after) = Unit {0}
+IsLastIfTold state w (Keys change) = IsLastOf state w change
+
+-- it is being taken back
+pub record IsGoingBack (chains : Chains) (state : WorldState) (w : ℕ) (undo : Undo) (room : WorkRoom) : Type 0 where
+  pub logged : Logged
+  pub place : Place
+  pub last : IsLast state w logged place
+  pub undo_is : undo ≡ logged.undo
+  pub putting : IsPuttingBack chains place undo room state
+
+abbrev pub RowsHeld : Chains → WorldState → ℕ → Undo → WorkRoom → Doing → Type 0
+RowsHeld chains state w undo room Nothing = HasRows chains state × (room.stage ≡ Find)
+RowsHeld chains state w undo room (Searching on) = HasRows chains state × (room.stage ≡ Find)
+RowsHeld chains state w undo room (Changing change) = IsChangingRow w chains state change × (room.stage ≡ Find) × IsLastIfTold state w change
+RowsHeld chains state w undo room Lagging = IsLagging chains state w × (room.stage ≡ Find)
+RowsHeld chains state w undo room Undoing = IsGoingBack chains state w undo room
+
+abbrev pub RowsHeldBy : Option ℕ → Chains → WorldState → List Desk → Undo → WorkRoom → Type 0
+RowsHeldBy None chains state desks undo room = HasRows chains state × (room.stage ≡ Find)
+RowsHeldBy (Some w) chains state desks undo room = RowsHeld chains state w undo room (doing_at w desks)
+
+-- ---- searches
+
+-- the view is that of the session's transaction, and the reader's id its own
+pub record IsOwnView (state : WorldState) (s : ℕ) (view : ReadSight) (reader : ℕ) : Type 0 where
+  pub session : Session
+  pub work : Work
+  pub has_work : HasWork s session work state
+  pub seen : Seen
+  pub view_is : work.view ≡ Some seen
+  pub same : view ≡ sight_of seen
+  pub reader_is : reader ≡ work.id
+
+-- who reads by a view reads by that of its transaction; who reads the newest rows may write
+abbrev pub SightHolds : WorldState → Option ℕ → ℕ → Sight → Type 0
+SightHolds state writer s (View view reader) = IsOwnView state s view reader
+SightHolds state writer s Newest = writer ≡ Some s
+
+abbrev pub FindsSince : Bool → ℕ → WorldState → Chains → TableSearch → Type 0
+FindsSince true s state chains on = IsFinding s on.schema state chains on.search
+FindsSince false s state chains on = IsFindingAnew s on.schema state chains on.search
+
+-- the search has found what it came past; where older versions were dropped since, it comes to its pair anew
+pub record IsSearchHeld (chains : Chains) (state : WorldState) (writer : Option ℕ) (cuts s : ℕ) (on : TableSearch) : Type 0 where
+  pub there : slice_get state.schemas on.search.scan.table ≡ Some on.schema
+  pub which : on.search.scan.which ≤ length on.schema.keys
+  pub since : on.cuts ≤ cuts
+  pub finds : FindsSince (on.cuts == cuts) s state chains on
+  pub sight : SightHolds state writer s on.search.scan.sight
+
+abbrev pub SearchHeld : Chains → WorldState → Option ℕ → ℕ → ℕ → Doing → Type 0
+SearchHeld chains state writer cuts s (Searching on) = IsSearchHeld chains state writer cuts s on
+SearchHeld chains state writer cuts s other = Unit {0}
+
+-- ---- the whole
+
+-- whether the open transaction of who may write has made a table
+abbrev pub MakesTables : Option ℕ → Bool → List Event → Type 0
+MakesTables None made past = made ≡ false
+MakesTables (Some w) made past = made ≡ list_any is_creation (own w past)
+
+pub record IsHeld (state : WorldState) (writer : Option ℕ) (has_made_table : Bool) (desks : List Desk) (cuts : ℕ) (undo : UndoRoom) (room : WorkRoom) : Type 0 where
+  pub chains : Chains
+  pub agrees : Agrees chains writer state
+  pub fits : FitsThen state.past
+  pub rows : RowsHeldBy writer chains state desks (read_into undo) room
+  pub quiet : (s : ℕ) → writer ≢ Some s → is_quiet_doing (doing_at s desks) ≡ true
+  pub searches : (s : ℕ) → SearchHeld chains state writer cuts s (doing_at s desks)
+  pub logs : LogsAgree state
+  pub has_room : HasRoom state
+  pub started : (s : ℕ) → started s state.past ≡ (desk_at s desks).started
+  pub count : length desks ≡ length state.names
+  pub few : length state.names ≤ 68
+  pub makes : MakesTables writer has_made_table state.past
+  -- each older version was dropped by a change that was taken back
+  pub cut : cuts ≤ length state.past
+  pub short : (place : Place) → length (versions_at place chains) ≤ length state.past
+  pub whole : IsWhole room

@@ -1,0 +1,5 @@
+pub mod Desks
+pub mod Undoing
+pub mod Shown
+pub mod Holding
+pub mod Leaves

@@ -1,0 +1,48 @@
+-- What statements see of a world with its desks.
+use Rattle.std.specs.Prelude.{ℕ, List, Option, Some, None, map, slice_get}
+use Rattle.inno_types.specs.declared.value.Schema.{Schema}
+use Rattle.inno_db.specs.declared.change.Change.{Change}
+use Rattle.world.specs.State.{WorldState, Session}
+use Rattle.row_changes.specs.declared.row_change.RowChange.{RowChange}
+use Rattle.row_changes.specs.declared.row_change.RowChange.TheVariants.{Record, Keys}
+use Rattle.row_changes.specs.Edits.{change_of}
+use Rattle.row_changes.specs.Rows.{row_steps, table_of}
+use Rattle.row_search.specs.declared.sight.Sight.{Sight}
+use Rattle.row_search.specs.declared.sight.Sight.TheVariants as sights
+use Rattle.shared_lists.specs.declared.answers.Reading.{Reading}
+use Rattle.shared_lists.specs.declared.answers.Reading.TheVariants.{View, Newest}
+use Rattle.shared_lists.specs.Tasks.{Task}
+use Rattle.shared_lists.specs.Tasks as tasks
+use Rattle.shared_lists.specs.State.{State, Lists}
+use Rattle.desks.specs.declared.desk.Desk.{Desk}
+use Rattle.desks.specs.declared.desk.Doing.{Doing}
+use Rattle.desks.specs.declared.desk.Doing.TheVariants.{Nothing, Searching, Changing, Lagging, Undoing}
+use Rattle.desks.specs.Undoing.{keys_if}
+
+abbrev pub reading_of : Sight → Reading
+reading_of (sights.View view own) = View
+reading_of sights.Newest = Newest
+
+-- the change that the history doesn't tell yet
+abbrev pub change_in : RowChange → Option Change
+change_in (Record change key after) = Some (change_of change.table change.edit)
+change_in (Keys change) = None
+
+abbrev pub shown : List Schema → ℕ → Doing → Task
+shown schemas left Nothing = tasks.Idle
+shown schemas left (Searching on) = tasks.Searching on.search.scan.table (record { which = on.search.scan.which; range = on.search.scan.range; unique = on.unique }) (reading_of on.search.scan.sight)
+shown schemas left (Changing change) = tasks.Changing (change_in change) (row_steps (keys_if (slice_get schemas (table_of change))) change)
+shown schemas left Lagging = tasks.Lagging
+shown schemas left Undoing = tasks.Undoing left
+
+abbrev pub tasks_of : List Schema → ℕ → List Desk → List Task
+tasks_of schemas left desks = map (λ (desk : Desk). shown schemas left desk.doing) desks
+
+-- so much is left of the change that is being taken back, if one is
+abbrev pub lists_of : WorldState → Option ℕ → List Desk → ℕ → Lists
+lists_of state writer desks left =
+    record {
+      state = record { names = state.names; past = state.past; writer = writer; tasks = tasks_of state.schemas left desks };
+      settings = map (λ (session : Session). session.setting) state.sessions;
+      rows = state.rows;
+    }

@@ -1,0 +1,18 @@
+-- What a session leaves that awaits no keys any more.
+use Rattle.std.specs.Prelude.{◌≡◌, ◌≢◌, ℕ, Bool, true, false}
+use Rattle.entries.specs.Index.{AreKept}
+use Rattle.chain.specs.Versions.{Stays}
+use Rattle.world.specs.State.{WorldState}
+use Rattle.desks.specs.declared.desk.Doing.{Doing}
+use Rattle.desks.specs.declared.desk.Doing.TheVariants.{Searching}
+
+-- Its places in indexes are others, or it is awaited no longer. All else is as it was.
+pub record LeavesIndexes (s : ℕ) (old new : WorldState) : Type 0 where
+  pub pairs : (index : ℕ) → AreKept (old.indexes index).pairs (new.indexes index).pairs
+  pub others : (u index : ℕ) → u ≢ s → (new.indexes index).place u ≡ (old.indexes index).place u
+  pub versions : Stays old.versions new.versions
+  pub rest : new ≡ record old { indexes = new.indexes; versions = new.versions; paged = new.paged }
+
+abbrev pub is_searching : Doing → Bool
+is_searching (Searching on) = true
+is_searching other = false

@@ -1,0 +1,76 @@
+-- What a step of a change makes of a world with its desks.
+use Rattle.std.specs.Prelude.{◌≡◌, ℕ, ◌+◌, ◌<◌, Bool, List, ◌∷◌, map, slice_get, Some, None}
+use Rattle.inno_db.specs.declared.change.Change.{Change}
+use Rattle.inno_model.specs.declared.event.Event.TheVariants.{Changed}
+use Rattle.world.specs.State.{WorldState, Session}
+use Rattle.world.specs.declared.undo_room.UndoRoom.{UndoRoom}
+use Rattle.row_changes.specs.declared.row_change.RowChange.{RowChange}
+use Rattle.row_changes.specs.declared.row_change.RowChange.TheVariants.{Record, Keys}
+use Rattle.row_changes.specs.declared.reached.Reached.{Reached}
+use Rattle.row_changes.specs.declared.reached.Reached.TheVariants.{Went, Done, Hindered}
+use Rattle.row_changes.specs.Rows.{row_steps, table_of}
+use Rattle.undo_apply.specs.declared.work_room.WorkRoom.{WorkRoom}
+use Rattle.shared_lists.specs.Steps.{rows_of_change}
+use Rattle.desks.specs.declared.desk.Desk.{Desk}
+use Rattle.desks.specs.declared.desk.Doing.{Doing}
+use Rattle.desks.specs.declared.desk.Doing.TheVariants.{Nothing, Changing, Lagging}
+use Rattle.desks.specs.Desks.{with_doing}
+use Rattle.desks.specs.Shown.{change_in}
+use Rattle.desks.specs.Undoing.{keys_if}
+use Rattle.desks.specs.Holding.{IsHeld}
+
+-- what is left of a change that is given up: one that the history tells is to be taken back; one that it doesn't tell was
+-- never made
+abbrev pub given_up : RowChange → Doing
+given_up (Record change key after) = Nothing
+given_up (Keys change) = Lagging
+
+-- names, tables and settings are as they were
+pub record LeavesLists (old new : WorldState) : Type 0 where
+  pub names : new.names ≡ old.names
+  pub schemas : new.schemas ≡ old.schemas
+  pub settings : map (λ (session : Session). session.setting) new.sessions ≡ map (λ (session : Session). session.setting) old.sessions
+
+-- no entry has come
+pub record AddsNothing (old new : WorldState) : Type 0 where
+  pub past : new.past ≡ old.past
+  pub rows : new.rows ≡ old.rows
+
+-- the same part of the same change, some steps nearer
+pub record IsNearer (old new : WorldState) (change next : RowChange) : Type 0 where
+  pub adds : AddsNothing old new
+  pub change_is : change_in next ≡ change_in change
+  pub nears : row_steps (keys_if (slice_get new.schemas (table_of next))) next < row_steps (keys_if (slice_get old.schemas (table_of change))) change
+
+-- the history tells the change now
+pub record IsEntered (s : ℕ) (old new : WorldState) (change next : RowChange) : Type 0 where
+  pub entry : Change
+  pub was : change_in change ≡ Some entry
+  pub is : change_in next ≡ None
+  pub past : new.past ≡ Changed s entry ∷ old.past
+  pub rows : new.rows ≡ old.rows + rows_of_change (Some entry)
+
+-- the keys come after the record
+abbrev pub Nears : ℕ → WorldState → WorldState → RowChange → RowChange → Type 0
+Nears s old new (Record change key after) (Record next key' after') = IsNearer old new (Record change key after) (Record next key' after')
+Nears s old new (Record change key after) (Keys next) = IsEntered s old new (Record change key after) (Keys next)
+Nears s old new (Keys change) (Record next key after) = ⊥
+Nears s old new (Keys change) (Keys next) = IsNearer old new (Keys change) (Keys next)
+
+-- what is under way after a step that came so far
+abbrev pub doing_after : RowChange → Reached RowChange → Doing
+doing_after change (Went next) = Changing next
+doing_after change Done = Nothing
+doing_after change (Hindered same why) = given_up change
+
+-- how far a step came, for who keeps the change
+abbrev pub Comes : ℕ → WorldState → WorldState → RowChange → Reached RowChange → Type 0
+Comes s old new change (Went next) = Nears s old new change next
+Comes s old new change Done = AddsNothing old new × (change_in change ≡ None)
+Comes s old new change (Hindered same why) = AddsNothing old new × (same ≡ change)
+
+-- The lists hold with what is left of the change.
+pub record MakesChange (s : ℕ) (made : Bool) (desks : List Desk) (cuts : ℕ) (undo : UndoRoom) (room : WorkRoom) (old new : WorldState) (change : RowChange) (reached : Reached RowChange) : Type 0 where
+  pub held : IsHeld new (Some s) made (with_doing s (doing_after change reached) desks) cuts undo room
+  pub leaves : LeavesLists old new
+  pub comes : Comes s old new change reached

@@ -1,0 +1,10 @@
+pub mod Places
+pub mod AtDesks
+pub mod Staying
+pub mod Unseen
+pub mod Lagging
+pub mod Shows
+pub mod Stepping
+pub mod Begins
+pub mod AtOnce
+pub mod Callers

@@ -1,0 +1,4 @@
+pub mod Moving
+pub mod Begun
+pub mod TakenUp
+pub mod Newest

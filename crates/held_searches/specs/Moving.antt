@@ -1,0 +1,12 @@
+-- Steps that move places of one session in indexes.
+use Rattle.std.specs.Prelude.{◌≡◌, ◌≢◌, ℕ}
+use Rattle.entries.specs.Index.{AreKept}
+use Rattle.chain.specs.Versions.{Stays}
+use Rattle.world.specs.State.{WorldState}
+
+-- Nothing has changed but the session's places in indexes, and what is known of pages.
+pub record MovesPlaces (s : ℕ) (old new : WorldState) : Type 0 where
+  pub pairs : (index : ℕ) → AreKept (old.indexes index).pairs (new.indexes index).pairs
+  pub places : (other index : ℕ) → other ≢ s → (new.indexes index).place other ≡ (old.indexes index).place other
+  pub versions : Stays old.versions new.versions
+  pub rest : new ≡ record old { indexes = new.indexes; versions = new.versions; paged = new.paged }

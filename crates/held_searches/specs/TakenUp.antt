@@ -1,0 +1,47 @@
+-- The search of which a session's next step is one, and what callers see of it.
+use Rattle.std.specs.Prelude.{◌≡◌, ◌⊎◌, ℕ, List, Option}
+use Rattle.inno_types.specs.declared.value.Schema.{Schema}
+use Rattle.sql_plan.specs.declared.choice.Plan.{Plan}
+use Rattle.world.specs.State.{WorldState, IsIndex, index_of}
+use Rattle.row_search.specs.declared.search.RowSearch.{RowSearch}
+use Rattle.row_search.specs.Searches.{IsSearching}
+use Rattle.row_search.specs.Tables.{HoldsTable}
+use Rattle.row_search.specs.Others.{KeepsFound, KeepsSearching, NeedsNoVersion}
+use Rattle.undo_apply.specs.declared.work_room.Stage.{Stage}
+use Rattle.shared_lists.specs.declared.answers.Reading.{Reading}
+use Rattle.shared_lists.specs.State.{Lists}
+use Rattle.desks.specs.declared.desk.Desk.{Desk}
+use Rattle.desks.specs.declared.desk.Doing.{Doing}
+use Rattle.desks.specs.declared.desk.Doing.TheVariants.{Searching}
+use Rattle.desks.specs.declared.desk.TableSearch.{TableSearch}
+use Rattle.desks.specs.Shown.{lists_of, reading_of}
+use Rattle.desks.specs.Undoing.{undo_left_in}
+
+-- the search as it comes to its pair anew
+pub record ComesAnew (search anew : RowSearch) : Type 0 where
+  pub scan : anew.scan ≡ search.scan
+  pub finds : KeepsFound search anew
+  pub way : NeedsNoVersion anew
+  pub holds : KeepsSearching search anew
+
+-- The search itself, where no older version was dropped since its last step; or as it comes to its pair anew.
+abbrev pub IsTakenUp : ℕ → TableSearch → RowSearch → Type 0
+IsTakenUp cuts on search = ((on.cuts ≡ cuts) × (search ≡ on.search)) ⊎ ComesAnew on.search search
+
+-- what a step of the search asks for, and what it takes to give it up
+pub record MayStep (s : ℕ) (schema : Schema) (state : WorldState) (search : RowSearch) : Type 0 where
+  pub searching : IsSearching s schema state search
+  pub table : HoldsTable schema search.scan.table state
+  pub index : IsIndex state.schemas (index_of search.scan.table search.scan.which)
+
+-- the plan by which the session searches
+abbrev pub plan_of : TableSearch → Plan
+plan_of on = record { which = on.search.scan.which; range = on.search.scan.range; unique = on.unique }
+
+-- the session is at a search of this table, by this plan
+abbrev pub IsSearchOf : Doing → ℕ → Plan → Reading → Type 0
+IsSearchOf doing table plan reading = (on : TableSearch) × (doing ≡ Searching on) × (table ≡ on.search.scan.table) × (plan ≡ plan_of on) × (reading ≡ reading_of on.search.scan.sight)
+
+-- what callers see of a world and its desks, where a change of this table is being taken back so far
+abbrev pub lists_now : ℕ → Stage → WorldState → Option ℕ → List Desk → Lists
+lists_now table stage state writer desks = lists_of state writer desks (undo_left_in table stage state)

@@ -1,0 +1,11 @@
+pub mod Desks
+pub mod Left
+pub mod Memory
+pub mod Stepping
+pub mod Beside
+pub mod Popping
+pub mod Last
+pub mod Putting
+pub mod TakenBack
+pub mod Reading
+pub mod Showing

@@ -1,0 +1,32 @@
+use Rattle.std.proofs.Common.{◌≡◌, ◌+◌, ◌<◌, ◌^◌, false, length, Some, refl, ap, arith}
+use Rattle.std.specs.Prelude.{slice_get}
+use Rattle.world.specs.State.{Session}
+use Rattle.list_world.specs.Owed.{owed_of, bit}
+use Rattle.list_world.specs.Parts.{Parts}
+use Rattle.list_world.proofs.Sound.{there_of, read_of, part_le, sound_set, promised_same}
+use Rattle.list_world.proofs.Owing.{puts_few}
+use Rattle.list_world.proofs.engine_calls.ListWorldEngineWorld.end_item.Goals as goal
+
+pub add-requires : goal.add-requires
+add-requires c =
+    let l = c.self.inside in
+    let session = c.requires.may.0 in
+    let there : slice_get l.sessions.items c.args.s ≡ Some session = there_of c.args.s session c.self.view_is c.requires.may.1 in
+    let here : c.index_mut.result.now ≡ session = read_of c.args.s session c.index_mut.result.now c.self.view_is c.requires.may.1 c.index_mut.ensures.value in
+    omega (arith, part_le owed_of l.sessions.items c.args.s session there, ap (bit 1) c.requires.may.2, c.self.invariant.enough)
+
+pub invariant_of-self : goal.invariant_of-self
+invariant_of-self c =
+    let l = c.self.inside in
+    let session = c.requires.may.0 in
+    let there : slice_get l.sessions.items c.args.s ≡ Some session = there_of c.args.s session c.self.view_is c.requires.may.1 in
+    let here : c.index_mut.result.now ≡ session = read_of c.args.s session c.index_mut.result.now c.self.view_is c.requires.may.1 c.index_mut.ensures.value in
+    let few : l.rows + c.rows_of.result < 2 ^ 63 = omega (arith, c.requires.few, c.rows_of.ensures, ap (λ (p : Parts). p.rows) c.self.view_is) in
+    let new : Session = record session { can_reply = false } in
+    rw (c.let_reply.ensures, here) (sound_set l.history.room l.rows (length l.schemas) (length l.indexes.items) l.slots l.txns.begun l.sessions.items c.args.s session new c.add.new.self.room (l.rows + c.rows_of.result) l.slots c.self.invariant there (λ txn is. is) (promised_same l.slots l.sessions.items c.args.s session new c.self.invariant.promised there refl refl)
+    (omega (arith, c.add.ensures.room, ap (bit 1) c.requires.may.2, c.self.invariant.enough)) (omega (arith, c.self.invariant.small, ap (bit 1) c.requires.may.2)) (omega (arith, few, puts_few l.sessions.items, c.self.invariant.few)))
+
+pub returns : goal.returns
+returns c session is =
+    let here : c.index_mut.result.now ≡ session = read_of c.args.s session c.index_mut.result.now c.self.view_is is c.index_mut.ensures.value in
+    rw (← c.self.view_is, c.let_reply.ensures, here, c.add.ensures.past, c.add.ensures.names, c.rows_of.ensures) refl

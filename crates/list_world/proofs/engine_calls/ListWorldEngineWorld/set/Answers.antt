@@ -1,0 +1,21 @@
+use Rattle.std.proofs.Common.{◌≡◌, false, length, Some, refl, ap, arith}
+use Rattle.std.specs.Prelude.{slice_get}
+use Rattle.std.proofs.lemmas.Option.{slice_get_read}
+use Rattle.world.specs.State.{Session}
+use Rattle.list_world.specs.Parts.{Parts}
+use Rattle.list_world.proofs.Sound.{read_of, sound_quiet, promised_same}
+use Rattle.sql_history.specs.Settings.{set_by}
+use Rattle.list_world.proofs.engine_calls.ListWorldEngineWorld.set.Goals as goal
+
+pub invariant_of-self : goal.invariant_of-self
+invariant_of-self c =
+    let l = c.self.inside in
+    let session = c.index_mut.result.now in
+    let there : slice_get l.sessions.items c.args.s ≡ Some session = slice_get_read l.sessions.items (length l.sessions.items) c.args.s session refl (omega (arith, c.requires, ap (λ (p : Parts). length p.sessions) c.self.view_is)) c.index_mut.ensures.value in
+    let new : Session = record session { setting = set_by c.args.stmt.now 0 false session.setting } in
+    rw c.set.ensures (sound_quiet l.history.room l.rows (length l.schemas) (length l.indexes.items) l.slots l.txns.begun l.sessions.items c.args.s session new l.slots c.self.invariant there (λ txn is. is) (promised_same l.slots l.sessions.items c.args.s session new c.self.invariant.promised there refl refl) (omega arith) refl)
+
+pub returns : goal.returns
+returns c session is =
+    let here : c.index_mut.result.now ≡ session = read_of c.args.s session c.index_mut.result.now c.self.view_is is c.index_mut.ensures.value in
+    rw (← c.self.view_is, c.set.ensures, here) refl

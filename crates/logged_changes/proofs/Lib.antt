@@ -1,0 +1,11 @@
+pub mod Logs
+pub mod Leaving
+pub mod Lags
+pub mod Beginning
+pub mod Reaching
+pub mod Needs
+pub mod GoingOn
+pub mod TakenBack
+pub mod Cutting
+pub mod Logging
+pub mod Crossing

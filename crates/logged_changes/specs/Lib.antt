@@ -1,0 +1,4 @@
+pub mod Pointers
+pub mod Logs
+pub mod Steps
+pub mod Lagging

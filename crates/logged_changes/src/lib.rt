@@ -1,0 +1,15 @@
+//! Laws: when the undo log of a transaction is that of its changes (`IsLogOf`, `LogsAgree`, specs/Logs.antt), and that each
+//! step of a change, and of its taking back, keeps it. Each function has an empty body: its contract is the law. Nothing
+//! calls them; what drives changes and rollbacks stands on the lemmas behind them, in proofs/.
+#![tactic(auto)]
+
+mod changing;
+mod others;
+mod taking_back;
+
+pub use changing::{a_change_is_logged, a_log_begins, each_step_keeps_logs};
+pub use others::{others_leave_logs, sessions_stand_apart};
+pub use taking_back::{
+    a_change_is_taken_back, a_log_is_cut_back, a_taking_back_goes_on, a_taking_back_may_begin,
+    what_a_taking_back_leaves_to_readers,
+};

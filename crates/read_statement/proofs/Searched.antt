@@ -1,0 +1,103 @@
+-- What a search finds, and the reply that a SELECT gives by it.
+use Rattle.std.proofs.Common.{◌≡◌, ℕ, true, false, Some, List, ◌++◌, ◌∷◌, [], length, refl, sym, ap, subst, ◌∙◌}
+use Rattle.std.specs.Prelude.{All, IfOk, Result, Ok, Err, slice_get}
+use Rattle.std.specs.List.{AllByRecursion}
+use Rattle.inno_types.specs.declared.value.Schema.{Schema}
+use Rattle.inno_db.specs.declared.change.Change.{Change}
+use Rattle.inno_db.specs.declared.outcome.Outcome.{Outcome}
+use Rattle.inno_db.specs.Database.{Database, rows_of}
+use Rattle.inno_db.specs.Outcome.{outcome}
+use Rattle.inno_db.proofs.Outcomes.{table_read}
+use Rattle.inno_model.specs.declared.event.Event.{Event}
+use Rattle.inno_model.specs.declared.event.Event.TheVariants as events
+use Rattle.inno_model.specs.Past.{own, committed, opening, changed}
+use Rattle.sql_history.specs.Statements.{schemas_now}
+use Rattle.sql_history.specs.Answers.{MaySee, seen_by}
+use Rattle.table_lists.specs.Order.{created, IsTabled}
+use Rattle.table_lists.specs.Rows.{seen}
+use Rattle.table_lists.specs.Agreement.{IsSound}
+use Rattle.table_lists.proofs.Tables.{own_tabled, committed_tabled}
+use Rattle.tables_as_db.specs.Tables.{with_all_tables}
+use Rattle.plain_sql.specs.Finding.{IsReadFrom}
+use Rattle.fitting_rows.specs.Storable.{AreStorable}
+use Rattle.sql_plan.specs.Visits.{IsRowOf}
+use Rattle.shared_lists.specs.Fitting.{FitsThen}
+use Rattle.shared_lists.specs.Steps.{rows_in_range}
+use Rattle.sql_lists.specs.Kept.{IsOnlyMaker, AreStanding, made}
+use Rattle.fitting_history.specs.History.{FitsThen as HasFitted}
+use Rattle.fitting_history.proofs.Changes.{tables_storable}
+use Rattle.fitting_history.proofs.Databases.{seen_coded}
+use Rattle.found_rows.proofs.Fits.{fitting_rows_fit}
+use Rattle.read_statement.specs.declared.machine.Found.{Found}
+use Rattle.read_statement.specs.Running.{HasFound, IsSeen}
+use Rattle.read_statement.proofs.MoreTables.{schemas_after, got_before}
+use Rattle.read_statement.proofs.Planned.{by_plan}
+
+-- ---- what fits
+
+-- that each change fitted when it was made, as the lists say it and as the laws on such histories do
+has_fitted : (h : List Event) → FitsThen h → HasFitted h
+has_fitted [] fits = tt
+has_fitted (events.Opened db ∷ h) fits = fits
+has_fitted (events.Changed s change ∷ h) fits = (fits.0, has_fitted h fits.1)
+has_fitted (e ∷ h) fits = has_fitted h fits
+
+pub all_storable : (h : List Event) → FitsThen h → AreStorable (created h)
+all_storable h fits = tables_storable h (has_fitted h fits)
+
+-- the rows of a table that a session sees are of the table's columns
+pub rows_seen_fit : (h : List Event) (s n table : ℕ) (schema : Schema) → FitsThen h → IsSound h → slice_get (created h) table ≡ Some schema → All (IsRowOf schema.columns) (rows_of table (changed (with_all_tables h) (seen h s n)))
+rows_seen_fit h s n table schema fits sound there =
+    let db = changed (with_all_tables h) (seen h s n) in
+    let coded = seen_coded h s n (has_fitted h fits) sound in
+    let there_too : slice_get db.schemas table ≡ Some schema = subst (λ (l : List Schema). slice_get l table ≡ Some schema) (sym (schemas_after (with_all_tables h) (seen h s n))) (got_before (created h) (made (seen h s n)) table schema there) in
+    fitting_rows_fit db table schema coded.fitting coded.numbers there_too
+
+-- ---- the search is over
+
+all_joined : (P : Change → Type 0) (xs ys : List Change) → AllByRecursion P xs → AllByRecursion P ys → AllByRecursion P (xs ++ ys)
+all_joined P [] ys all other = other
+all_joined P (x ∷ xs) ys all other = (all.0, all_joined P xs ys all.1 other)
+
+pub seen_tabled : (h : List Event) (s n : ℕ) → IsSound h → AllByRecursion (IsTabled (length (created h))) (seen h s n)
+seen_tabled h s n sound = all_joined (IsTabled (length (created h))) (own s h) (committed n h) (own_tabled h sound.0 s) (committed_tabled h sound.0 n)
+
+-- ---- the reply
+
+module _ (h : List Event) (s : ℕ) (standing : AreStanding h) (only : IsOnlyMaker s h) where
+  tables : created h ≡ schemas_now s h
+  tables = standing.tables s only
+
+  -- the table has the same rows in the database that the view shows
+  same_rows : (n table : ℕ) → rows_of table (seen_by s n h) ≡ rows_of table (changed (with_all_tables h) (seen h s n))
+  same_rows n table = ap (λ (l : List Schema). rows_of table (changed (record (opening h) { schemas = l }) (seen h s n))) (sym tables)
+
+  pub seen_reply : (found : Found) → HasFound h s found → IsSound h → FitsThen h
+      → (answer : Outcome) → ((db : Database) → IsReadFrom (created h) found.rows found.stmt db → answer ≡ outcome found.stmt db) → IsSeen h h s found.stmt answer.reply
+  seen_reply found f sound fits answer answers =
+      let v = f.view in
+      let p = f.planned in
+      let db = seen_by s v.number h in
+      let there : slice_get db.schemas f.table ≡ Some p.schema = subst (λ (l : List Schema). slice_get l f.table ≡ Some p.schema) tables p.there in
+      let fit : All (IsRowOf p.schema.columns) (rows_of f.table db) = subst (All (IsRowOf p.schema.columns)) (sym (same_rows v.number f.table)) (rows_seen_fit h s v.number f.table p.schema fits sound p.there) in
+      let are : found.rows ≡ rows_in_range f.plan p.schema (rows_of f.table db) = f.rows p.schema p.there ∙ ap (rows_in_range f.plan p.schema) (sym (same_rows v.number f.table)) in
+      let reads : table_read db.schemas found.stmt ≡ Some f.table = subst (λ (l : List Schema). table_read l found.stmt ≡ Some f.table) tables p.table_is in
+      let answers_too : (other : Database) → IsReadFrom db.schemas found.rows found.stmt other → answer ≡ outcome found.stmt other = λ other from. answers other (subst (λ (l : List Schema). IsReadFrom l found.rows found.stmt other) (sym tables) from) in
+      let is : answer ≡ outcome found.stmt db = by_plan db f.table p.schema there p.indexable fit f.plan answer found.rows are found.stmt f.early.plain reads p.chosen answers_too in
+      record {
+        found = record {
+          l = v.l;
+          level_is = v.level_is;
+          alike = v.by_view true ∙ sym (v.by_view false);
+          db = db;
+          sees = subst (λ sight. MaySee sight s found.stmt db h) (sym (v.by_view false)) (v.number, v.view_is, refl);
+          answer = ap (λ (x : Outcome). x.reply) is;
+        };
+        viewed = v.viewed;
+      }
+
+  -- the same, of what a call gives that may find no memory
+  pub seen_outcome : {E : Type 0} (found : Found) → HasFound h s found → IsSound h → FitsThen h → (schemas : List Schema) → schemas ≡ created h
+      → (r : Result Outcome E) → IfOk r (λ answer. (db : Database) → IsReadFrom schemas found.rows found.stmt db → answer ≡ outcome found.stmt db) → IfOk r (λ answer. IsSeen h h s found.stmt answer.reply)
+  seen_outcome found f sound fits schemas same (Ok answer) is = seen_reply found f sound fits answer (λ db from. is db (subst (λ l. IsReadFrom l found.rows found.stmt db) (sym same) from))
+  seen_outcome found f sound fits schemas same (Err e) is = is

@@ -1,0 +1,45 @@
+//! How a SELECT searches its table by its view.
+
+ghost use Rattle.std.specs.Prelude.{◌≡◌, ◌<◌, length};
+ghost use Rattle.sql_lists.specs.Going.{Nears};
+ghost use Rattle.sql_lists.specs.Steps.{Steps};
+ghost use Rattle.read_statement.specs.Going.{to_go};
+ghost use Rattle.read_statement.specs.Running.{IsRunning};
+
+use crate::machine::{Found, Read, ReadStatement};
+use shared_lists::{Searched, SharedLists};
+use sql_lists::{Advance, SqlLists};
+
+/// Makes one step of the search, whose rows are kept when it is over.
+pub fn step_searching<L: SharedLists>(
+    mut read: Read,
+    session: u32,
+    lists: &mut SqlLists<L>,
+) -> (ReadStatement, Advance)
+    requires joined { session < length lists.old.names }
+    requires running { IsRunning lists.old session (ReadStatement.Searching read) }
+    ensures steps { Steps IsRunning session lists.old lists.new result.0 result.1 }
+    ensures nears { Nears to_go session lists.old (ReadStatement.Searching read) lists.new result.0 result.1 }
+{
+    let alone = read.alone;
+    if read.left == 0 {
+        lists.stop_search(session);
+        return (ReadStatement::Failed { alone }, Advance::NoMemory);
+    }
+    // each change is of a table that is there
+    let _ = lists.history();
+    match lists.search(session) {
+        Searched::Went => {
+            read.left -= 1;
+            (ReadStatement::Searching(read), Advance::Went)
+        }
+        Searched::Found(rows) => {
+            let Read { stmt, .. } = read;
+            (
+                ReadStatement::Found(Found { stmt, alone, rows }),
+                Advance::Went,
+            )
+        }
+        Searched::NoMemory => (ReadStatement::Failed { alone }, Advance::NoMemory),
+    }
+}

@@ -1,0 +1,4 @@
+pub mod Fitting
+pub mod Tasks
+pub mod State
+pub mod Steps

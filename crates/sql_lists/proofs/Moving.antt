@@ -1,0 +1,158 @@
+-- What the calls of the lists do to what all sessions share, as steps of statements say it.
+use Rattle.std.proofs.Common.{◌≡◌, ◌≢◌, ℕ, ◌<◌, ◌-◌, true, false, Option, Some, None, List, ◌∷◌, length, refl, sym, ap, subst, ◌∙◌, inl, inr, arith}
+use Rattle.std.proofs.lemmas.Bool.Decides.{nat_tests, eqb_tells}
+use Rattle.std.proofs.lemmas.Bool.{false≢true}
+use Rattle.std.proofs.lemmas.List.{length-drop}
+use Rattle.inno_model.specs.declared.event.Event.{Event}
+use Rattle.inno_model.specs.declared.event.Event.TheVariants as events
+use Rattle.inno_model.specs.Past.{is_of, own}
+use Rattle.sql_plan.specs.declared.choice.Plan.{Plan}
+use Rattle.shared_lists.specs.declared.answers.Reading.{Reading}
+use Rattle.shared_lists.specs.declared.answers.Searched.{Searched}
+use Rattle.shared_lists.specs.declared.answers.Searched.TheVariants as searched
+use Rattle.shared_lists.specs.declared.answers.Changed.{Changed}
+use Rattle.shared_lists.specs.declared.answers.Changed.TheVariants as made
+use Rattle.shared_lists.specs.declared.answers.Undone.{Undone}
+use Rattle.shared_lists.specs.declared.answers.Undone.TheVariants as undone
+use Rattle.shared_lists.specs.Tasks.{Task, Idle, asked, left_by}
+use Rattle.shared_lists.specs.State.{State, IsNow, Adds, Closes, Turns, Stays, task_of, writer_without}
+use Rattle.shared_lists.specs.Steps.{Searches, GoesOn, Enters, Changes, TakesBack}
+use Rattle.sql_lists.specs.Steps.{Moves, StaysRunning, changes_rows}
+use Rattle.sql_lists.specs.Going.{IsBelow, left, to_close, to_roll_back}
+
+-- ---- steps that add nothing
+
+pub moves_turns : (t : ℕ) (task : Task) (old new : State) → Turns t task old new → Moves t old new
+moves_turns t task old new turns =
+    record {
+      names_stay = turns.names_are;
+      adding = inl turns.past_is;
+      writer_stays = λ s differ held. turns.writer_is ∙ held;
+      tasks_stay = turns.others;
+    }
+
+pub moves_stays : (t : ℕ) (old new : State) → Stays t old new → Moves t old new
+moves_stays t old new stays = moves_turns t (task_of t old) old new stays
+
+pub stays_none : (t : ℕ) (state : State) → Stays t state state
+stays_none t state = record { names_are = refl; past_is = refl; writer_is = refl; task_is = refl; others = λ s differ. refl }
+
+pub moves_none : (t : ℕ) (state : State) → Moves t state state
+moves_none t state = moves_stays t state state (stays_none t state)
+
+-- what holds of the past, who may write and the session's task, still holds where nothing has changed
+pub carried : (P : List Event → Option ℕ → Task → Type 0) (t : ℕ) (old new : State) → Stays t old new → P old.past old.writer (task_of t old) → P new.past new.writer (task_of t new)
+carried P t old new stays before =
+    subst (λ h. P h new.writer (task_of t new)) (sym stays.past_is)
+    (subst (λ w. P old.past w (task_of t new)) (sym stays.writer_is)
+    (subst (λ task. P old.past old.writer task) (sym stays.task_is) before))
+
+-- the session takes the right to write
+pub moves_locked : (t : ℕ) (old new : State) → writer_without old.writer t ≡ None → IsNow old.past t (task_of t old) (Some t) old new → Moves t old new
+moves_locked t old new free now =
+    record {
+      names_stay = now.names_are;
+      adding = inl now.past_is;
+      writer_stays = λ s differ held. absurd (still_held s differ (ap (λ w. writer_without w t) (sym held) ∙ free));
+      tasks_stay = now.others;
+    } where
+      still_held : (s : ℕ) → s ≢ t → writer_without (Some s) t ≡ None → ⊥
+      still_held s differ none = elim (eqb_tells s t) [ inl same ↦ differ same.1 | inr other ↦ (let e : Some s ≡ None = sym (rw other.0 refl) ∙ none in cc) ]
+
+-- a step that adds nothing, and another one behind it
+pub moves_then : (t : ℕ) (old mid new : State) → mid.past ≡ old.past → Moves t old mid → Moves t mid new → Moves t old new
+moves_then t old mid new same first second =
+    record {
+      names_stay = second.names_stay ∙ first.names_stay;
+      adding = elim second.adding [ inl stays ↦ inl (stays ∙ same) | inr adds ↦ inr (adds.0, adds.1, adds.2 ∙ ap (λ h. adds.0 ∷ h) same, adds.3) ];
+      writer_stays = λ s differ held. second.writer_stays s differ (first.writer_stays s differ held);
+      tasks_stay = λ s differ. second.tasks_stay s differ ∙ first.tasks_stay s differ;
+    }
+
+-- ---- steps that add an entry
+
+-- whatever becomes of the session's task
+pub moves_entry : (t : ℕ) (e : Event) (task : Task) (old new : State) → is_of t e ≡ true → (changes_rows e ≡ true → old.writer ≡ Some t) → IsNow (e ∷ old.past) t task old.writer old new → Moves t old new
+moves_entry t e task old new mine locked now =
+    record {
+      names_stay = now.names_are;
+      adding = inr (e, mine, now.past_is, λ changes. now.writer_is ∙ locked changes);
+      writer_stays = λ s differ held. now.writer_is ∙ held;
+      tasks_stay = now.others;
+    }
+
+pub moves_adds : (t : ℕ) (e : Event) (old new : State) → is_of t e ≡ true → (changes_rows e ≡ true → old.writer ≡ Some t) → Adds e t old new → Moves t old new
+moves_adds t e old new mine locked adds = moves_entry t e (task_of t old) old new mine locked adds
+
+still_another : (w : Option ℕ) (t s : ℕ) → s ≢ t → w ≡ Some s → writer_without w t ≡ Some s
+still_another w t s differ held = ap (λ x. writer_without x t) held ∙ elim (eqb_tells s t) [ inl same ↦ absurd (differ same.1) | inr other ↦ rw other.0 refl ]
+
+pub moves_closes : (t : ℕ) (e : Event) (old new : State) → is_of t e ≡ true → changes_rows e ≡ false → Closes e t old new → Moves t old new
+moves_closes t e old new mine spares closes =
+    record {
+      names_stay = closes.names_are;
+      adding = inr (e, mine, closes.past_is, λ changes. absurd (false≢true (sym spares ∙ changes)));
+      writer_stays = λ s differ held. closes.writer_is ∙ still_another old.writer t s differ held;
+      tasks_stay = closes.others;
+    }
+
+-- ---- the steps of a session's task
+
+pub moves_searches : (t table : ℕ) (plan : Plan) (reading : Reading) (old new : State) (answer : Searched) → Searches table plan reading t old new answer → Moves t old new
+moves_searches t table plan reading old new searched.Went searches = moves_turns t (task_of t old) old new searches
+moves_searches t table plan reading old new (searched.Found rows) searches = moves_turns t Idle old new searches.0
+moves_searches t table plan reading old new searched.NoMemory searches = moves_turns t Idle old new searches
+
+pub moves_goes_on : (t : ℕ) (old new : State) → GoesOn t old new → Moves t old new
+moves_goes_on t old new goes = moves_turns t (task_of t new) old new goes.turns
+
+pub moves_enters : (t : ℕ) (old new : State) → old.writer ≡ Some t → Enters t old new → Moves t old new
+moves_enters t old new locked enters = moves_entry t (events.Changed t enters.change) (task_of t new) old new (grind (arith, nat_tests)) (λ changes. locked) enters.now
+
+pub moves_changes : (t : ℕ) (old new : State) (answer : Changed) → old.writer ≡ Some t → Changes t old new answer → Moves t old new
+moves_changes t old new made.Went locked changes = moves_goes_on t old new changes
+moves_changes t old new made.Entered locked changes = moves_enters t old new locked changes
+moves_changes t old new made.Done locked changes = moves_turns t Idle old new changes.1
+moves_changes t old new made.NoMemory locked changes = moves_turns t (left_by (asked (task_of t old))) old new changes
+
+pub moves_takes_back : (t keep : ℕ) (old new : State) (answer : Undone) → TakesBack t keep old new answer → Moves t old new
+moves_takes_back t keep old new undone.Went takes = moves_turns t (task_of t new) old new takes.0
+moves_takes_back t keep old new undone.Undone takes = moves_entry t (events.Undone t keep) Idle old new (grind (arith, nat_tests)) (λ changes. absurd (false≢true changes)) takes
+moves_takes_back t keep old new undone.NoMemory takes = moves_turns t (task_of t old) old new takes
+
+-- ---- the statements of others
+
+-- what a session's step leaves of another one's statement
+pub others_stay : {M : Type 0} (IsRunning : State → ℕ → M → Type 0) → StaysRunning IsRunning → (old new : State) (t s : ℕ) (statement : M) → t ≢ s → Moves t old new → IsRunning old s statement → IsRunning new s statement
+others_stay IsRunning stays old new t s statement differ moves running =
+    stays old new t s statement differ moves.adding (moves.writer_stays s (λ is. differ (sym is))) (moves.tasks_stay s (λ is. differ (sym is))) running
+
+-- ---- what is left of a rollback
+
+module _ (p a b c a' b' c' : ℕ) where
+  pub below_first : a' < a → IsBelow (left p a' b' c') (left p a b c)
+  below_first lt = inr (refl, inl lt)
+
+  pub below_second : a' ≡ a → b' < b → IsBelow (left p a' b' c') (left p a b c)
+  below_second first lt = inr (refl, inr (first, inl lt))
+
+  pub below_third : a' ≡ a → b' ≡ b → c' < c → IsBelow (left p a' b' c') (left p a b c)
+  below_third first second lt = inr (refl, inr (first, inr (second, inl lt)))
+
+pub below_phase : (p q a b c a' b' c' : ℕ) → q < p → IsBelow (left q a' b' c') (left p a b c)
+below_phase p q a b c a' b' c' lt = inl lt
+
+-- a change is taken back
+pub fewer_stand : (s : ℕ) (h : List Event) → 0 < length (own s h) → length (own s (events.Undone s (length (own s h) - 1) ∷ h)) < length (own s h)
+fewer_stand s h some = elim (eqb_tells s s) [
+  | inl same ↦ rw same.0 (omega (arith, some, length-drop (length (own s h) - (length (own s h) - 1)) (own s h)))
+  | inr differ ↦ absurd (differ.1 refl)
+]
+
+-- each step of taking back brings the rollback nearer to its end
+pub takes_back_nears : (s : ℕ) (old new : State) (answer : Undone) → answer ≢ undone.NoMemory → 0 < length (own s old.past) → TakesBack s (length (own s old.past) - 1) old new answer → IsBelow (to_roll_back s new) (to_roll_back s old)
+takes_back_nears s old new undone.Went went some takes =
+    below_third 1 _ _ _ _ _ _ (ap (to_close s) takes.0.past_is) (ap (λ h. length (own s h)) takes.0.past_is) takes.2
+takes_back_nears s old new undone.Undone went some takes =
+    below_second 1 _ _ _ _ _ _ (ap (to_close s) takes.past_is) (subst (λ (h : List Event). length (own s h) < length (own s old.past)) (sym takes.past_is) (fewer_stand s old.past some))
+takes_back_nears s old new undone.NoMemory went some takes = absurd (went refl)

@@ -1,0 +1,27 @@
+-- What a session's task says of what it has under way.
+use Rattle.std.proofs.Common.{◌≡◌, ℕ, List, Option, refl, sym, ap, ◌∙◌}
+use Rattle.inno_types.specs.declared.value.Schema.{Schema}
+use Rattle.world.specs.State.{WorldState}
+use Rattle.shared_lists.specs.Tasks as tasks
+use Rattle.shared_lists.specs.State.{task_of}
+use Rattle.desks.specs.declared.desk.Desk.{Desk}
+use Rattle.desks.specs.declared.desk.Doing.{Doing}
+use Rattle.desks.specs.declared.desk.Doing.TheVariants.{Nothing, Searching, Changing, Lagging, Undoing}
+use Rattle.desks.specs.Desks.{doing_at}
+use Rattle.desks.specs.Shown.{shown, lists_of}
+use Rattle.held_undoing.proofs.Showing.{task_is}
+
+nothing_shown : (schemas : List Schema) (left : ℕ) (doing : Doing) → shown schemas left doing ≡ tasks.Idle → doing ≡ Nothing
+nothing_shown schemas left Nothing is = refl
+nothing_shown schemas left (Searching on) is = absurd (cc)
+nothing_shown schemas left (Changing change) is = absurd (cc)
+nothing_shown schemas left Lagging is = absurd (cc)
+nothing_shown schemas left Undoing is = absurd (cc)
+
+module _ (state : WorldState) (writer : Option ℕ) (desks : List Desk) (left s : ℕ) where
+  pub nothing_if : task_of s (lists_of state writer desks left).state ≡ tasks.Idle → doing_at s desks ≡ Nothing
+  nothing_if is = nothing_shown state.schemas left (doing_at s desks) (sym (task_is state writer desks left s) ∙ is)
+
+  -- who takes a change back shows so
+  pub shows_undoing : doing_at s desks ≡ Undoing → task_of s (lists_of state writer desks left).state ≡ tasks.Undoing left
+  shows_undoing is = task_is state writer desks left s ∙ ap (shown state.schemas left) is

@@ -1,0 +1,13 @@
+pub mod Answering
+pub mod Strangers
+pub mod Standings
+pub mod Made
+pub mod Tabled
+pub mod SearchSteps
+pub mod SearchBegins
+pub mod SearchNewest
+pub mod ChangeTasks
+pub mod ChangeUndo
+pub mod ChangeSteps
+pub mod ChangeBegin
+pub mod ChangeGoesOn

@@ -1,0 +1,24 @@
+use Rattle.std.proofs.Common.{List, None, false, refl, sym, ap, subst}
+use Rattle.desks.specs.declared.desk.Desk.{Desk}
+use Rattle.desks.specs.Holding.{IsHeld}
+use Rattle.held_entries.proofs.Joining.{first_held}
+use Rattle.held_entries.specs.Seen.{settings_of}
+use Rattle.world_lists.proofs.lists.WorldLists.new.Goals as goal
+
+pub invariant_of-result : goal.invariant_of-result
+invariant_of-result g c =
+    subst (λ (desks : List Desk). IsHeld (g.W.World.state c.args.world) None false desks 0 c.in_ok-new.field-0 c.in_ok-new-2.field-0) (sym c.new.ensures.items)
+    (first_held (g.W.World.state c.args.world) c.in_ok-new.field-0 c.in_ok-new-2.field-0 c.requires c.in_ok-new-2.ensures.whole c.in_ok-new-2.ensures.stage)
+
+pub returns : goal.returns
+returns g c =
+    record {
+      db = c.requires.db;
+      no_tables = c.requires.no_tables;
+      no_rows = c.requires.no_rows;
+      past = c.requires.past;
+      names = c.requires.names;
+      writer = refl;
+      settings = ap settings_of c.requires.sessions;
+      rows = c.requires.rows;
+    }

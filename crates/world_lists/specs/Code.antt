@@ -1,0 +1,11 @@
+-- The lists as one value.
+use Rattle.std.specs.Prelude.{ℕ, List, refl}
+use Rattle.std.specs.Coded.{Coded, code_by, coded×, coded_list, coded_ℕ}
+use Rattle.sql_history.specs.Settings.{Setting}
+use Rattle.session_settings.specs.Named.{setting_code}
+use Rattle.shared_lists.specs.State.{State, Lists, state_code}
+
+abbrev pub lists_code : Coded Lists
+lists_code =
+    code_by (State × (List Setting × ℕ)) (coded× state_code (coded× (coded_list setting_code) coded_ℕ))
+    (λ l. (l.state, (l.settings, l.rows))) (λ p. record { state = p.0; settings = p.1.0; rows = p.1.1 }) (λ _. refl)

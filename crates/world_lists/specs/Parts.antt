@@ -1,0 +1,45 @@
+-- What the parts of a step do to a world.
+use Rattle.std.specs.Prelude.{◌≡◌, ℕ, ◌-◌, Bool, true, false}
+use Rattle.row_versions.specs.Chains.{Chains}
+use Rattle.world.specs.State.{WorldState, Session, Work, IsSession, HasWork, standing_of}
+use Rattle.world.specs.Sessions.{undone_added}
+use Rattle.world.specs.Undoing.{IsCutBack}
+use Rattle.row_changes.specs.declared.row_change.RowChange.{RowChange}
+use Rattle.row_changes.specs.declared.row_change.RowChange.TheVariants.{Record, Keys}
+use Rattle.row_changes.specs.declared.reached.Reached.{Reached}
+use Rattle.row_changes.specs.declared.reached.Reached.TheVariants as reached
+use Rattle.row_changes.specs.Rows.{IsChangingRow, ChangesRow}
+use Rattle.shared_lists.specs.declared.answers.Changed.{Changed}
+use Rattle.shared_lists.specs.declared.answers.Changed.TheVariants.{Went, Entered, Done, NoMemory}
+use Rattle.desks.specs.declared.desk.Doing.{Doing}
+use Rattle.held_changes.specs.Making.{doing_after}
+use Rattle.held_changes.specs.Leaving.{LeavesIndexes}
+
+-- whether the history tells the change
+abbrev pub is_told : RowChange → Bool
+is_told (Record change key after) = false
+is_told (Keys change) = true
+
+-- how far a change came
+abbrev pub answer_for : RowChange → Reached RowChange → Changed
+answer_for (Record change key after) (reached.Went (Keys next)) = Entered
+answer_for change (reached.Went next) = Went
+answer_for change reached.Done = Done
+answer_for change (reached.Hindered same why) = NoMemory
+
+-- The change has made a step; one that was hindered awaits no keys any more.
+pub record StepsChange (s : ℕ) (change : RowChange) (old new : WorldState) (doing : Doing) (answer : Changed) : Type 0 where
+  pub mid : WorldState
+  pub reached : Reached RowChange
+  pub made : (chains : Chains) → IsChangingRow s chains old change → ChangesRow s chains old mid change reached
+  pub left : LeavesIndexes s mid new
+  pub doing_is : doing ≡ doing_after change reached
+  pub answer_is : answer ≡ answer_for change reached
+
+-- The newest undo record of the session is gone, and the history tells that its change is taken back.
+pub record DropsNewest (s : ℕ) (old new : WorldState) : Type 0 where
+  pub session : Session
+  pub there : IsSession s session old
+  pub cut : WorldState
+  pub cuts : IsCutBack s old cut
+  pub added : (now : Session) (work : Work) → HasWork s now work cut → new ≡ undone_added s ((standing_of session).own - 1) now work cut

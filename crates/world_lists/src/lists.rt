@@ -1,0 +1,66 @@
+//! The lists themselves.
+
+ghost use Rattle.std.specs.Prelude.{◌≡◌, IfOk};
+ghost use Rattle.engine_world.specs.Calls.{IsNew};
+ghost use Rattle.shared_lists.specs.State.{IsFirst};
+
+use desks::Desk;
+use engine_world::EngineWorld;
+use std::alloc::Global;
+use std::marker::Model;
+use store_api::NoMemory;
+use undo_apply::WorkRoom;
+use world::UndoRoom;
+
+/// The lists over a world.
+#[derive(Drop)]
+pub struct WorldLists<W: EngineWorld> {
+    pub(crate) alloc: Global,
+    pub(crate) world: W,
+    /// The session that may write.
+    pub(crate) writer: Option<u32>,
+    /// Whether its open transaction has made a table.
+    pub(crate) has_made_table: bool,
+    /// By the numbers of the sessions.
+    pub(crate) desks: Vec<Desk>,
+    /// How many older versions were dropped.
+    pub(crate) cuts: u64,
+    /// The undo record of the change that is being taken back, and how far that has come. Who may write has one at most.
+    pub(crate) undo: UndoRoom,
+    pub(crate) room: WorkRoom,
+}
+
+impl<W: EngineWorld> Model for WorldLists<W> {
+    ghost use Rattle.shared_lists.specs.State.{Lists};
+    ghost use Rattle.world_lists.specs.Code.{lists_code};
+    ghost use Rattle.desks.specs.Holding.{IsHeld};
+    ghost use Rattle.desks.specs.Shown.{lists_of};
+    ghost use Rattle.desks.specs.Undoing.{undo_left_in};
+
+    ghost Value = { Lists };
+
+    ghost coded = { lists_code };
+
+    ghost view = { λ l. lists_of (W.state l.world) l.writer l.desks.items (undo_left_in l.undo.table l.room.stage (W.state l.world)) };
+
+    ghost invariant = { λ l. IsHeld (W.state l.world) l.writer l.has_made_table l.desks.items l.cuts l.undo l.room };
+}
+
+impl<W: EngineWorld> WorldLists<W> {
+    /// The lists of a new world: without tables, and nobody has joined.
+    pub fn new(alloc: Global, world: W) -> Result<Self, NoMemory>
+        requires { IsNew (W.state world) }
+        ensures { IfOk result IsFirst }
+    {
+        Ok(WorldLists {
+            alloc,
+            world,
+            writer: None,
+            has_made_table: false,
+            desks: Vec::new(alloc),
+            cuts: 0,
+            undo: UndoRoom::new(alloc)?,
+            room: WorkRoom::new(alloc)?,
+        })
+    }
+}

@@ -1,0 +1,121 @@
+//! The parts of searches: how a reader sees rows, and a whole search of the newest rows.
+
+ghost use Rattle.std.specs.Prelude.{◌≡◌, ◌≢◌, ℕ, ◌<◌, ◌≤◌, true, false, length, map, IfOk, IfSome, OnOk, Some};
+ghost use Rattle.row_versions.specs.Chains.{Chains};
+ghost use Rattle.world.specs.State.{Session, IsSession};
+ghost use Rattle.desks.specs.Desks.{is_quiet};
+ghost use Rattle.desks.specs.Holding.{IsOwnView};
+ghost use Rattle.held_searches.specs.Begun.{HasView};
+ghost use Rattle.held_searches.specs.Moving.{MovesPlaces};
+ghost use Rattle.held_searches.specs.Newest.{TellsTable, AreRead};
+ghost use Rattle.held_searches.specs.TakenUp.{MayStep, ComesAnew};
+
+use desks::{Desk, Doing};
+use engine_world::EngineWorld;
+use inno_types::{Ids, Rows, Schema};
+use read_view::ReadView;
+use row_search::{FoundRow, Reached, RowSearch, Sight};
+use shared_lists::Searched;
+use sql_plan::Plan;
+use std::alloc::Global;
+use store_api::NoMemory;
+
+/// Whether no change of a row is under way, so that all keys say what is there.
+pub fn is_quiet(writer: Option<u32>, desks: &[Desk]) -> bool
+    requires { IfSome writer (λ w. w < length desks.now) }
+    ensures { result ≡ is_quiet writer desks.now }
+{
+    match writer {
+        Some(w) => matches!(
+            &desks[w as usize].doing,
+            Doing::Nothing | Doing::Searching(_)
+        ),
+        None => true,
+    }
+}
+
+/// How a session sees rows by the view of its transaction.
+pub fn own_sight<W: EngineWorld>(alloc: Global, world: &W, session: u32) -> Result<Sight, NoMemory>
+    requires { HasView session (W.state world.now) }
+    ensures { IfOk result (λ sight. (view : _) × (reader : _) × (sight ≡ Sight.View view reader) × IsOwnView (W.state world.now) session view reader) }
+{
+    let mut active = Ids::new(alloc);
+    match world.view(session, &mut active)? {
+        // some id was the next one when it was taken
+        Some(next) if next > 0 => {
+            let view = ReadView::take(alloc, &active, 0, next)?;
+            let own = world.session(session).id;
+            Ok(Sight::View { view, own })
+        }
+        _ => Err(NoMemory),
+    }
+}
+
+/// The search, which comes to its pair anew where older versions were dropped.
+pub fn taken_up(search: RowSearch, is_anew: bool) -> RowSearch
+    ensures as_it_was { is_anew ≡ false → result ≡ search }
+    ensures anew { is_anew ≡ true → ComesAnew search result }
+{
+    if is_anew { search.anew() } else { search }
+}
+
+/// The rows that were found.
+pub fn rows_of(alloc: Global, found: Vec<FoundRow>) -> Result<Rows, NoMemory>
+    ensures { IfOk result (λ rows. rows ≡ map (λ f. f.row) found.items) }
+{
+    let mut rows = Vec::new(alloc);
+    for FoundRow { row, .. } in found {
+        rows.push(row)?;
+    }
+    Ok(Rows::from_vec(rows))
+}
+
+/// What a search that is over answers.
+pub fn found_rows(alloc: Global, found: Vec<FoundRow>) -> Searched
+    ensures rows { (rows : _) → result ≡ Searched.Found rows → rows ≡ map (λ f. f.row) found.items }
+    ensures over { result ≢ Searched.Went }
+{
+    match rows_of(alloc, found) {
+        Ok(rows) => Searched::Found(rows),
+        Err(_) => Searched::NoMemory,
+    }
+}
+
+/// A whole search of the newest rows of a table.
+pub fn newest_rows<W: EngineWorld>(
+    alloc: Global,
+    world: &mut W,
+    session: u32,
+    table: u8,
+    plan: Plan,
+    schema: &Schema,
+) -> Result<Vec<FoundRow>, NoMemory>
+    requires { (chains : Chains) × TellsTable chains table plan schema.now (W.state world.old) }
+    ensures moves { MovesPlaces session (W.state world.old) (W.state world.new) }
+    ensures found { IfOk result (λ rows. (chains : Chains) → TellsTable chains table plan schema.now (W.state world.old) → AreRead chains table plan schema.now (W.state world.old) rows.items) }
+{
+    let mut search = RowSearch::new(alloc, table, plan, Sight::Newest);
+    for _step in 0..u64::MAX {
+        match search.step(alloc, world, session, schema) {
+            Reached::Went(next) => search = next,
+            Reached::Done(found) => return Ok(found),
+            Reached::Hindered(stuck, _why) => return Err(give_up(world, session, stuck, schema)),
+            Reached::Malformed(stuck) => return Err(give_up(world, session, stuck, schema)),
+        }
+    }
+    Err(give_up(world, session, search, schema))
+}
+
+/// Leaves the index that was searched.
+fn give_up<W: EngineWorld>(
+    world: &mut W,
+    session: u32,
+    search: RowSearch,
+    schema: &Schema,
+) -> NoMemory
+    requires { MayStep session schema.now (W.state world.old) search }
+    ensures { MovesPlaces session (W.state world.old) (W.state world.new) }
+{
+    search.give_up(world, session, schema);
+    NoMemory
+}

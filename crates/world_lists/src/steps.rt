@@ -1,0 +1,393 @@
+//! The calls that statements make. Each ends with a look at the history, whose length is bounded.
+
+use crate::keys::{copy_schema, key_of_edit};
+use crate::lists::WorldLists;
+use crate::reading::{found_rows, is_quiet, newest_rows, own_sight, rows_of, taken_up};
+use crate::undoing::{edit_of, is_undoing, step_change, take_newest_back};
+use desks::{Desk, Doing, TableSearch, give_doing, take_doing};
+use engine_world::EngineWorld;
+use entries::Move;
+use inno_db::Change;
+use inno_model::History;
+use inno_types::{Bytes, Ids, Item, Level, Listed, Reply, Rows, Schema, Stmt};
+use row_changes::RowChange;
+use row_search::{Reached, RowSearch, Sight};
+use session_settings::SessionSettings;
+use shared_lists::{Changed, Reading, Searched, SharedLists, Undone};
+use sql_plan::Plan;
+use store_api::NoMemory;
+
+/// The most sessions.
+const MOST_SESSIONS: usize = 68;
+
+/// The longest key and the longest value of an undo record.
+const MOST_BYTES_OF_KEY: usize = 67;
+
+const MOST_BYTES_OF_VALUE: usize = 1024;
+
+impl<W: EngineWorld> SharedLists for WorldLists<W> {
+    ghost lists = { λ l. l };
+
+    fn history(&self) -> &History {
+        self.world.history()
+    }
+
+    fn into_history(self) -> History {
+        let WorldLists { world, .. } = self;
+        world.into_history()
+    }
+
+    fn schemas(&self) -> &Listed<Schema> {
+        self.world.tables()
+    }
+
+    fn setting(&self, session: u32) -> &SessionSettings {
+        self.world.settings(session)
+    }
+
+    fn rows(&self) -> u64 {
+        self.world.rows()
+    }
+
+    fn level(&self, session: u32) -> Option<Level> {
+        let standing = self.world.session(session);
+        match standing.txn {
+            Some(_) => Some(standing.level),
+            None => None,
+        }
+    }
+
+    fn txn_of(&self, session: u32) -> u64 {
+        match self.world.session(session).txn {
+            Some(txn) => txn,
+            None => unreachable!(),
+        }
+    }
+
+    fn has_view(&self, session: u32) -> bool {
+        self.world.has_view(session)
+    }
+
+    fn change_count(&self, session: u32) -> usize {
+        self.world.session(session).own as usize
+    }
+
+    fn makes_table(&self, session: u32) -> bool {
+        match self.writer {
+            Some(writer) if writer == session => self.has_made_table,
+            _ => false,
+        }
+    }
+
+    fn writer(&self) -> Option<u32> {
+        self.writer
+    }
+
+    fn join(&mut self, name: Bytes) -> Result<u32, NoMemory> {
+        if self.desks.len() >= MOST_SESSIONS {
+            return Err(NoMemory);
+        }
+        self.desks.reserve(1)?;
+        let session = self.world.join(name)?;
+        let desk = Desk {
+            started: 0,
+            doing: Doing::Nothing,
+        };
+        self.desks.push(desk).unwrap();
+        Ok(session)
+    }
+
+    fn start(&mut self, session: u32, item: Item) -> Result<(), NoMemory> {
+        let before = self.desks[session as usize].started;
+        if before == u32::MAX {
+            return Err(NoMemory);
+        }
+        self.world.start(session, before + 1, item)?;
+        self.desks[session as usize].started = before + 1;
+        let _few = self.world.history();
+        Ok(())
+    }
+
+    fn end(&mut self, session: u32, reply: Reply) {
+        let j = self.desks[session as usize].started;
+        self.world.end_item(session, j, reply);
+        let _few = self.world.history();
+    }
+
+    fn set(&mut self, session: u32, stmt: &Stmt) {
+        self.world.set(session, stmt);
+    }
+
+    fn save(&mut self, session: u32, name: &Bytes) -> Result<(), NoMemory> {
+        let made = self.world.session(session).own;
+        let txn = self.txn_of(session);
+        self.world.savepoint(txn, name, made)
+    }
+
+    fn begin(&mut self, session: u32, level: Level) -> Result<(), NoMemory> {
+        self.world.event_room(session)?;
+        let txn = self.world.begin(session, level)?;
+        self.world.add_begin(session, txn, level).unwrap();
+        let _few = self.world.history();
+        Ok(())
+    }
+
+    fn take_view(&mut self, session: u32) -> Result<(), NoMemory> {
+        let mut active = Ids::new(self.alloc);
+        self.world.active(&mut active)?;
+        let next = self.world.next_id();
+        self.world.add_view(session, &active, next)?;
+        let _few = self.world.history();
+        Ok(())
+    }
+
+    fn lock(&mut self, session: u32) -> Option<u32> {
+        match without(self.writer, session) {
+            Some(other) => Some(other),
+            None => {
+                self.writer = Some(session);
+                None
+            }
+        }
+    }
+
+    fn create(&mut self, session: u32, schema: Schema) -> Result<(), NoMemory> {
+        let txn = self.txn_of(session);
+        let id = self.world.session(session).id;
+        self.world.add_table(session, schema)?;
+        give_first_id(&mut self.world, txn, id);
+        self.has_made_table = true;
+        let _few = self.world.history();
+        Ok(())
+    }
+
+    fn commit(&mut self, session: u32) {
+        let txn = self.txn_of(session);
+        self.world.add_committed(session);
+        self.world.end(txn);
+        let makes = still_makes(self.writer, self.has_made_table, session);
+        self.has_made_table = makes;
+        self.writer = without(self.writer, session);
+        let _few = self.world.history();
+    }
+
+    fn ack(&mut self, session: u32) {
+        self.world.ack(session);
+        let _few = self.world.history();
+    }
+
+    fn roll_back(&mut self, session: u32) {
+        let txn = self.txn_of(session);
+        self.world.add_rolled_back(session);
+        self.world.end(txn);
+        let makes = still_makes(self.writer, self.has_made_table, session);
+        self.has_made_table = makes;
+        self.writer = without(self.writer, session);
+        let _few = self.world.history();
+    }
+
+    fn begin_search(
+        &mut self,
+        session: u32,
+        table: u8,
+        plan: Plan,
+        reading: Reading,
+    ) -> Result<(), NoMemory> {
+        let schema = copy_schema(self.alloc, &self.world.tables().as_slice()[table as usize])?;
+        let sight = match reading {
+            Reading::View => own_sight(self.alloc, &self.world, session)?,
+            Reading::Newest => Sight::Newest,
+        };
+        let unique = plan.unique;
+        let on = TableSearch {
+            search: RowSearch::new(self.alloc, table, plan, sight),
+            schema,
+            unique,
+            cuts: self.cuts,
+        };
+        give_doing(&mut self.desks, session, Doing::Searching(on));
+        Ok(())
+    }
+
+    fn search(&mut self, session: u32) -> Searched {
+        let Doing::Searching(on) = take_doing(&mut self.desks, session) else {
+            unreachable!()
+        };
+        let TableSearch {
+            search,
+            schema,
+            unique,
+            cuts,
+        } = on;
+        let search = taken_up(search, cuts != self.cuts);
+        match search.step(self.alloc, &mut self.world, session, &schema) {
+            Reached::Went(search) => {
+                let on = TableSearch {
+                    search,
+                    schema,
+                    unique,
+                    cuts: self.cuts,
+                };
+                give_doing(&mut self.desks, session, Doing::Searching(on));
+                Searched::Went
+            }
+            Reached::Done(found) => found_rows(self.alloc, found),
+            Reached::Hindered(search, _why) => {
+                search.give_up(&mut self.world, session, &schema);
+                Searched::NoMemory
+            }
+            Reached::Malformed(_search) => Searched::NoMemory,
+        }
+    }
+
+    fn stop_search(&mut self, session: u32) {
+        let Doing::Searching(on) = take_doing(&mut self.desks, session) else {
+            unreachable!()
+        };
+        let TableSearch {
+            search,
+            schema,
+            unique: _,
+            cuts,
+        } = on;
+        let search = taken_up(search, cuts != self.cuts);
+        search.give_up(&mut self.world, session, &schema);
+    }
+
+    fn read_newest(&mut self, session: u32, table: u8, plan: Plan) -> Result<Rows, NoMemory> {
+        let schema = copy_schema(self.alloc, &self.world.tables().as_slice()[table as usize])?;
+        let plan = plan_read(is_quiet(self.writer, &self.desks), plan);
+        let found = newest_rows(self.alloc, &mut self.world, session, table, plan, &schema)?;
+        rows_of(self.alloc, found)
+    }
+
+    fn begin_change(&mut self, session: u32, change: Change) -> Result<(), NoMemory> {
+        let Some((table, edit)) = edit_of(change) else {
+            unreachable!()
+        };
+        let schema = &self.world.tables().as_slice()[table as usize];
+        let key = key_of_edit(self.alloc, schema, &edit)?;
+        let change = RowChange::new(table, edit, key)?;
+        give_doing(&mut self.desks, session, Doing::Changing(change));
+        Ok(())
+    }
+
+    fn change(&mut self, session: u32) -> Changed {
+        let Doing::Changing(change) = take_doing(&mut self.desks, session) else {
+            unreachable!()
+        };
+        let (doing, changed) = step_change(self.alloc, &mut self.world, session, change);
+        give_doing(&mut self.desks, session, doing);
+        let _few = self.world.history();
+        changed
+    }
+
+    fn undo(&mut self, session: u32) -> Undone {
+        if is_undoing(&self.desks, session) {
+            self.take_back(session)
+        } else {
+            self.read_record(session)
+        }
+    }
+}
+
+impl<W: EngineWorld> WorldLists<W> {
+    ghost use Rattle.std.specs.Prelude.{◌≡◌, ℕ, ◌-◌, ◌<◌, length};
+    ghost use Rattle.inno_model.specs.declared.event.Event.TheVariants.{Undone as UndoneEvent};
+    ghost use Rattle.inno_model.specs.Past.{own};
+    ghost use Rattle.table_lists.specs.Order.{MayCome};
+    ghost use Rattle.shared_lists.specs.Tasks.{Undoing, MayTakeBack};
+    ghost use Rattle.shared_lists.specs.State.{task_of};
+    ghost use Rattle.held_undoing.specs.Seen.{TakesBackIn};
+
+    /// Reads the undo record of the session's newest change.
+    fn read_record(&mut self, session: u32) -> Undone
+        requires joined { session < length self.old.state.names }
+        requires may { MayCome self.old.state.past (UndoneEvent session (length (own session self.old.state.past) - 1)) }
+        requires task { MayTakeBack (task_of session self.old.state) }
+        requires waits { (left : ℕ) → task_of session self.old.state ≡ Undoing left → ⊥ }
+        ensures { TakesBackIn session (length (own session self.old.state.past) - 1) self.old self.new result }
+    {
+        if self.undo.key.capacity() < MOST_BYTES_OF_KEY
+            || self.undo.value.capacity() < MOST_BYTES_OF_VALUE
+        {
+            return Undone::NoMemory;
+        }
+        let mut there = false;
+        match self
+            .world
+            .last(session, session as u8, &mut self.undo, &mut there)
+        {
+            Move::Done => {
+                give_doing(&mut self.desks, session, Doing::Undoing);
+                Undone::Went
+            }
+            _ => unreachable!(),
+        }
+    }
+
+    /// Makes one step by which the session's newest change is taken back. After the last one the history tells it.
+    fn take_back(&mut self, session: u32) -> Undone
+        requires joined { session < length self.old.state.names }
+        requires may { MayCome self.old.state.past (UndoneEvent session (length (own session self.old.state.past) - 1)) }
+        requires task { (left : ℕ) × (task_of session self.old.state ≡ Undoing left) }
+        ensures { TakesBackIn session (length (own session self.old.state.past) - 1) self.old self.new result }
+    {
+        take_newest_back(
+            self.alloc,
+            &mut self.world,
+            session,
+            &mut self.desks,
+            &mut self.cuts,
+            &mut self.undo,
+            &mut self.room,
+        )
+    }
+}
+
+ghost use Rattle.std.specs.Prelude.{◌≡◌, ◌≢◌, ◌-◌, ◌<◌, ◌^◌, false, Some};
+ghost use Rattle.txn_table.specs.Txns.{is_there, id_at};
+ghost use Rattle.world.specs.Sessions.{identified};
+ghost use Rattle.shared_lists.specs.State.{writer_without};
+ghost use Rattle.held_searches.specs.Newest.{plan_read};
+
+/// Gives the transaction its id, where it has none.
+fn give_first_id<W: EngineWorld>(world: &mut W, txn: u64, id: u64)
+    requires there { is_there txn (W.state world.old).txns.open_txns }
+    requires id { id_at txn (W.state world.old).txns.open_txns ≡ id }
+    requires few { (W.state world.old).txns.next < 2 ^ 64 - 1 }
+    ensures first { id ≡ 0 → W.state world.new ≡ identified txn (W.state world.old) }
+    ensures later { id ≢ 0 → W.state world.new ≡ W.state world.old }
+{
+    if id == 0 {
+        let _id = world.give_id(txn);
+    }
+}
+
+/// The session that may write, where it is another one.
+fn without(writer: Option<u32>, session: u32) -> Option<u32>
+    ensures { result ≡ writer_without writer session }
+{
+    match writer {
+        Some(w) if w != session => Some(w),
+        _ => None,
+    }
+}
+
+/// Whether who may write has made a table, once the transaction of this session has ended.
+fn still_makes(writer: Option<u32>, made: bool, session: u32) -> bool
+    ensures mine { writer ≡ Some session → result ≡ false }
+    ensures theirs { writer ≢ Some session → result ≡ made }
+{
+    match writer {
+        Some(w) if w == session => false,
+        _ => made,
+    }
+}
+
+/// The plan by which the newest rows are read: all of the table while keys may lag.
+fn plan_read(quiet: bool, plan: Plan) -> Plan
+    ensures { result ≡ plan_read quiet plan }
+{
+    if quiet { plan } else { Plan::whole() }
+}

@@ -1,0 +1,221 @@
+-- The rows that a search found are enough: the statement has the outcome that it has over the latest rows.
+use Rattle.std.proofs.Common.{◌≡◌, ℕ, ◌<◌, Bool, true, false, Option, Some, None, List, [], ◌∷◌, ◌++◌, length, refl, sym, ap, subst, ◌∙◌, arith}
+use Rattle.std.proofs.lemmas.List.{append-nil, append_assoc, length-append}
+use Rattle.std.specs.FinMap.{insert, remove}
+use Rattle.std.specs.List.{list_any, list_all}
+use Rattle.std.specs.Prelude.{All, ◌&&◌, not, filter, slice_get}
+use Rattle.inno_types.specs.declared.value.Value.{Value}
+use Rattle.inno_types.specs.declared.value.Schema.{Schema}
+use Rattle.inno_types.specs.declared.stmt.Filter.{Filter}
+use Rattle.inno_types.specs.declared.stmt.Set.{Set}
+use Rattle.inno_types.specs.declared.stmt.Stmt.{Stmt}
+use Rattle.inno_types.specs.declared.stmt.Stmt.TheVariants as stmt
+use Rattle.inno_types.specs.declared.reply.SqlError.{SqlError}
+use Rattle.inno_types.specs.declared.reply.SqlError.TheVariants.{NoColumn, Syntax}
+use Rattle.inno_db.specs.declared.change.Change.{Change}
+use Rattle.inno_db.specs.declared.change.Change.TheVariants.{Create, Put, Remove}
+use Rattle.inno_db.specs.declared.outcome.Outcome.{Outcome}
+use Rattle.inno_db.specs.Database.{Database, RowMap, key_in, rows_of}
+use Rattle.inno_db.specs.Names.{table_place}
+use Rattle.inno_db.specs.Outcome.{outcome, answer_to, unless_refused}
+use Rattle.inno_db.specs.Refusals.{refusal, refused_if, on_table, schema_at, schema_named, update_refusal, delete_refusal}
+use Rattle.inno_db.specs.Typing.{filter_fits, set_fits, set_known, where_fits, where_known}
+use Rattle.inno_db.proofs.Outcomes.{table_read}
+use Rattle.inno_model.specs.declared.event.Event.{Event}
+use Rattle.inno_model.specs.Past.{own, commits, committed, opening, changed}
+use Rattle.table_lists.specs.Order.{created, is_creation}
+use Rattle.table_lists.specs.Rows.{seen}
+use Rattle.table_lists.specs.Agreement.{IsSound}
+use Rattle.table_lists.proofs.Tables.{key_stays}
+use Rattle.tables_as_db.specs.Tables.{with_all_tables}
+use Rattle.sql_history.specs.Items.{own_before, base}
+use Rattle.sql_history.specs.Legal.{IsWriting}
+use Rattle.fitting_history.proofs.Databases.{unchanged_coded}
+use Rattle.found_rows.specs.Plans.{SearchesFor, IsOpenRange}
+use Rattle.found_rows.proofs.Covered.{reads_enough, open_range}
+use Rattle.found_rows.proofs.Fits.{fitting_rows_fit}
+use Rattle.found_rows.proofs.Passing.{passing_map, rows_of-passing}
+use Rattle.shared_lists.specs.Fitting.{FitsThen}
+use Rattle.shared_lists.specs.State.{State}
+use Rattle.sql_plan.specs.declared.choice.Plan.{Plan}
+use Rattle.sql_plan.specs.Plans.{whole_index}
+use Rattle.sql_plan.specs.Visits.{is_within, index_key, IsRowOf}
+use Rattle.sql_lists.specs.Kept.{AreStanding, AreInOrder, IsInOrder, made}
+use Rattle.write_statement.specs.declared.machine.Search.{Search}
+use Rattle.write_statement.specs.declared.settling.Settled.{Settled}
+use Rattle.write_statement.specs.Planning.{Covers, HoldsMatches}
+use Rattle.write_statement.specs.Running.{IsEarly, HasRight, IsFound, AreEnough, IsChanging}
+use Rattle.write_statement.specs.Settling.{IsSettledBy}
+use Rattle.write_statement.proofs.Fitted.{fitted}
+
+-- ---- the same rows, whether later tables are there or not
+
+schemas_after : (db : Database) (changes : List Change) → (changed db changes).schemas ≡ db.schemas ++ made changes
+schemas_after db [] = sym (append-nil db.schemas)
+schemas_after db (Create schema ∷ changes) = ap (λ (schemas : List Schema). schemas ++ schema ∷ []) (schemas_after db changes) ∙ append_assoc db.schemas (made changes) (schema ∷ [])
+schemas_after db (Put table row ∷ changes) = schemas_after db changes
+schemas_after db (Remove table key ∷ changes) = schemas_after db changes
+
+module _ (db : Database) (tables : List Schema) where
+  key_same : (more : List Schema) (earlier : List Change) (table : ℕ) (row : List Value) → tables ≡ (db.schemas ++ made earlier) ++ more → table < length (db.schemas ++ made earlier)
+      → key_in (changed (record db { schemas = tables }) earlier).schemas table row ≡ key_in (changed db earlier).schemas table row
+  key_same more earlier table row is lt =
+      let within : table < length tables = omega (arith, lt, ap length is, length-append (db.schemas ++ made earlier) more) in
+      ap (λ (l : List Schema). key_in l table row) (schemas_after (record db { schemas = tables }) earlier)
+      ∙ (key_stays tables (made earlier) table row within
+      ∙ (ap (λ (l : List Schema). key_in l table row) is
+      ∙ (key_stays (db.schemas ++ made earlier) more table row lt
+      ∙ sym (ap (λ (l : List Schema). key_in l table row) (schemas_after db earlier)))))
+
+  rows_same : (more : List Schema) (changes : List Change) → tables ≡ (db.schemas ++ made changes) ++ more → AreInOrder db.schemas changes → (changed (record db { schemas = tables }) changes).rows ≡ (changed db changes).rows
+  rows_same more [] is in-order = refl
+  rows_same more (Create schema ∷ earlier) is in-order =
+      let later : tables ≡ (db.schemas ++ made earlier) ++ (schema ∷ more) = is ∙ (ap (λ (l : List Schema). l ++ more) (sym (append_assoc db.schemas (made earlier) (schema ∷ []))) ∙ append_assoc (db.schemas ++ made earlier) (schema ∷ []) more) in
+      rows_same (schema ∷ more) earlier later in-order.1
+  rows_same more (Put table row ∷ earlier) is in-order =
+      ap (λ (rows : RowMap). insert rows (table, key_in (changed (record db { schemas = tables }) earlier).schemas table row) row) (rows_same more earlier is in-order.1)
+      ∙ ap (λ (key : Value). insert (changed db earlier).rows (table, key) row) (key_same more earlier table row is in-order.0)
+  rows_same more (Remove table key ∷ earlier) is in-order = ap (λ (rows : RowMap). remove rows (table, key)) (rows_same more earlier is in-order.1)
+
+-- ---- the latest rows, before the statement changed any
+
+module _ (past : List Event) (writer : Option ℕ) (s : ℕ) (right : HasRight s past writer) (unchanged : own s past ≡ own_before s past) (stands : AreStanding past) where
+  base_seen : base s past ≡ changed (opening past) (seen past s (commits past))
+  base_seen = ap (λ changes. changed (opening past) (changes ++ committed (commits past) past)) (sym unchanged)
+
+  tables_now : created past ≡ (changed (opening past) (seen past s (commits past))).schemas
+  tables_now = stands.tables s (λ other ne. ap (list_any is_creation) (right.alone other ne))
+
+  tables_are : created past ≡ (base s past).schemas
+  tables_are = tables_now ∙ ap (λ (db : Database). db.schemas) (sym base_seen)
+
+  rows_are : IsInOrder past → (table : ℕ) → rows_of table (changed (with_all_tables past) (seen past s (commits past))) ≡ rows_of table (base s past)
+  rows_are in-order table =
+      let is : created past ≡ ((opening past).schemas ++ made (seen past s (commits past))) ++ [] = tables_now ∙ (schemas_after (opening past) (seen past s (commits past)) ∙ sym (append-nil ((opening past).schemas ++ made (seen past s (commits past))))) in
+      ap (λ (rows : RowMap). rows_of table (record { schemas = []; rows = rows })) (rows_same (opening past) (created past) [] (seen past s (commits past)) is (in-order s))
+      ∙ ap (λ (db : Database). rows_of table db) (sym base_seen)
+
+-- ---- what a statement reads by its plan
+
+passed_both : (a b : Bool) (error other : SqlError) → refused_if (not a) error (refused_if (not b) other None) ≡ None → b ≡ true
+passed_both true true error other is = refl
+passed_both true false error other is = cc
+passed_both false b error other is = cc
+
+and_right : (a b : Bool) → a && b ≡ true → b ≡ true
+and_right true b is = is
+and_right false b is = cc
+
+update_fits : (sets : List Set) (filter_by : Filter) (schema : Schema) → update_refusal sets (Some filter_by) schema ≡ None → filter_fits schema.columns filter_by ≡ true
+update_fits sets filter_by schema is =
+    and_right (list_all (set_fits schema) sets) (filter_fits schema.columns filter_by)
+    (passed_both (list_all (set_known schema.columns) sets && where_known schema.columns (Some filter_by)) (list_all (set_fits schema) sets && where_fits schema.columns (Some filter_by)) NoColumn (Syntax 0) is)
+
+delete_fits : (filter_by : Filter) (schema : Schema) → delete_refusal (Some filter_by) schema ≡ None → filter_fits schema.columns filter_by ≡ true
+delete_fits filter_by schema is = passed_both (where_known schema.columns (Some filter_by)) (where_fits schema.columns (Some filter_by)) NoColumn (Syntax 0) is
+
+module _ (db : Database) (n : ℕ) (schema : Schema) (plan : Plan) (there : slice_get db.schemas n ≡ Some schema) (fit : All (IsRowOf schema.columns) (rows_of n db)) where
+  abbrev in_range : List Value → Bool
+  in_range row = is_within plan.range (index_key schema plan.which row)
+
+  -- with the rows of its plan alone it has the same outcome
+  abbrev HasSameOutcome : Stmt → Type 0
+  HasSameOutcome statement = (rows : RowMap) × (rows_of n (record db { rows = rows }) ≡ filter in_range (rows_of n db)) × (outcome statement (record db { rows = rows }) ≡ outcome statement db)
+
+  -- what is refused reads no row
+  refused_anyway : (statement : Stmt) (error : SqlError) → refusal db.schemas statement ≡ Some error → HasSameOutcome statement
+  refused_anyway statement error is = (
+    passing_map in_range db.rows,
+    rows_of-passing in_range n db,
+    ap (λ o. unless_refused o (answer_to statement (record db { rows = passing_map in_range db.rows }))) is ∙ sym (ap (λ o. unless_refused o (answer_to statement db)) is),
+  )
+
+  by_condition : (statement : Stmt) (table : List ℕ) (filter_by : Filter) → SearchesFor statement table filter_by → table_place db.schemas table ≡ Some n
+      → (refusal db.schemas statement ≡ None → filter_fits schema.columns filter_by ≡ true) → Covers schema filter_by plan → HasSameOutcome statement
+  by_condition statement table filter_by searches at fits covers = go (refusal db.schemas statement) refl where
+    go : (o : Option SqlError) → refusal db.schemas statement ≡ o → HasSameOutcome statement
+    go (Some error) is = refused_anyway statement error is
+    go None is = reads_enough db table filter_by n schema plan at there fit (covers (fits is)) statement searches
+
+  all_read : (statement : Stmt) → plan ≡ whole_index → HasSameOutcome statement
+  all_read statement is =
+      let opens : IsOpenRange plan.range = subst (λ (p : Plan). IsOpenRange p.range) (sym is) (record { holds_some = refl; low = refl; high = refl }) in
+      (db.rows, sym (open_range schema plan (rows_of n db) opens), refl)
+
+  found_named : (table : List ℕ) → table_place db.schemas table ≡ Some n → schema_named db.schemas table ≡ Some schema
+  found_named table at = ap (schema_at db.schemas) at ∙ there
+
+  same_outcome : (statement : Stmt) → IsWriting statement → HoldsMatches schema statement plan → table_read db.schemas statement ≡ Some n → HasSameOutcome statement
+  same_outcome (stmt.Update table sets (Some filter_by)) writes holds at =
+      by_condition (stmt.Update table sets (Some filter_by)) table filter_by (refl, refl) at (λ is. update_fits sets filter_by schema (sym (ap (λ o. on_table o (update_refusal sets (Some filter_by))) (found_named table at)) ∙ is)) holds
+  same_outcome (stmt.Delete table (Some filter_by)) writes holds at =
+      by_condition (stmt.Delete table (Some filter_by)) table filter_by (refl, refl) at (λ is. delete_fits filter_by schema (sym (ap (λ o. on_table o (delete_refusal (Some filter_by))) (found_named table at)) ∙ is)) holds
+  same_outcome (stmt.Update table sets None) writes holds at = all_read (stmt.Update table sets None) holds
+  same_outcome (stmt.Delete table None) writes holds at = all_read (stmt.Delete table None) holds
+  same_outcome (stmt.Insert table columns tuples) writes holds at = all_read (stmt.Insert table columns tuples) holds
+  same_outcome other writes holds at = absurd writes
+
+-- ---- what was found
+
+same_number : (a b : ℕ) → Some a ≡ Some b → a ≡ b
+same_number a b is = cc
+
+never : {P : Type 0} (n : ℕ) (o : Option ℕ) → o ≡ None → o ≡ Some n → P
+never n o none some = cc
+
+pub found_enough : (state : State) (s : ℕ) (search : Search) (rows : List (List Value)) → IsFound state s search rows → AreStanding state.past → IsSound state.past → IsInOrder state.past → FitsThen state.past → AreEnough s search.stmt rows state.past
+found_enough state s search rows r stands sound in-order fits =
+    let past = state.past in
+    let read = r.reading in
+    let same = read.early.unchanged in
+    let db = base s past in
+    let tables = tables_are past state.writer s read.right same stands in
+    let coded = unchanged_coded past s (fitted past fits) sound in-order stands read.right.alone same in
+    let there : slice_get db.schemas read.table ≡ Some read.schema = ap (λ schemas. slice_get schemas read.table) (sym tables) ∙ read.there in
+    let at : table_read db.schemas search.stmt ≡ Some read.table = ap (λ schemas. table_read schemas search.stmt) (sym tables) ∙ read.table_is in
+    let fit = fitting_rows_fit db read.table read.schema coded.fitting coded.numbers there in
+    let known = same_outcome db read.table read.schema read.plan there fit search.stmt read.early.working.writes read.enough at in
+    let passes : List Value → Bool = λ row. is_within read.plan.range (index_key read.schema read.plan.which row) in
+    let rows-there : rows_of read.table (record db { rows = known.0 }) ≡ rows = known.1 ∙ (ap (filter passes) (sym (rows_are past state.writer s read.right same stands in-order read.table)) ∙ sym (r.found read.schema read.there)) in
+    record {
+      tables = tables;
+      db = record db { rows = known.0 };
+      read = record {
+        tables = sym tables;
+        each = λ n is. subst (λ m. rows_of m (record db { rows = known.0 }) ≡ rows) (same_number read.table n (sym at ∙ is)) rows-there;
+      };
+      same = known.2;
+    }
+
+-- a table that isn't there has no rows
+pub none_enough : (past : List Event) (writer : Option ℕ) (s : ℕ) (statement : Stmt) → HasRight s past writer → own s past ≡ own_before s past → AreStanding past → table_read (created past) statement ≡ None → AreEnough s statement [] past
+none_enough past writer s statement right unchanged stands none =
+    let tables = tables_are past writer s right unchanged stands in
+    record {
+      tables = tables;
+      db = base s past;
+      read = record {
+        tables = sym tables;
+        each = λ n is. never n (table_read (base s past).schemas statement) (ap (λ schemas. table_read schemas statement) (sym tables) ∙ none) is;
+      };
+      same = refl;
+    }
+
+-- its reply and its changes are those of the outcome over the latest rows
+pub settled : (past : List Event) (writer : Option ℕ) (s : ℕ) (statement : Stmt) (alone : Bool) (before : ℕ) (rows : List (List Value)) (found : Settled) → IsEarly s statement alone past → HasRight s past writer → before ≡ length (own s past)
+    → (enough : AreEnough s statement rows past) → IsSettledBy statement enough.db found → IsChanging past writer s (record { alone = alone; before = before; kept = found.kept; given = found.given }) found.todo.items
+settled past writer s statement alone before rows found early right before-is enough is =
+    record {
+      statement = statement;
+      working = early.working;
+      goes_on = early.goes_on;
+      right = right;
+      before_is = before-is ∙ ap length early.unchanged;
+      same = is.same;
+      plain = is.plain;
+      answer = is.answer ∙ ap (λ (o : Outcome). o.reply) enough.same;
+      tables = enough.tables;
+      made = [];
+      parts = ap (λ (o : Outcome). o.changes) (sym enough.same) ∙ is.changes;
+      own_is = early.unchanged;
+    }

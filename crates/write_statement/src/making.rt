@@ -1,0 +1,79 @@
+//! A statement makes the steps of one change.
+
+ghost use Rattle.std.specs.Prelude.{◌≡◌, ◌<◌, ◌≤◌, ◌+◌, length};
+ghost use Rattle.sql_history.specs.Counts.{rows_kept, most_rows};
+ghost use Rattle.sql_lists.specs.Steps.{Steps};
+ghost use Rattle.sql_lists.specs.Going.{Nears};
+ghost use Rattle.write_statement.specs.Going.{to_go};
+ghost use Rattle.write_statement.specs.Running.{IsRunning};
+
+use crate::answering::give_up;
+use crate::machine::{Work, WriteStatement};
+use inno_db::Change;
+use shared_lists::{Changed, SharedLists};
+use sql_lists::{Advance, SqlLists};
+
+pub fn step_making<L: SharedLists>(
+    work: Work,
+    todo: Vec<Change>,
+    rows: u64,
+    session: u32,
+    lists: &mut SqlLists<L>,
+) -> (WriteStatement, Advance)
+    requires joined { session < length lists.old.names }
+    requires running { IsRunning lists.old session (WriteStatement.Making work todo rows) }
+    ensures steps { Steps IsRunning session lists.old lists.new result.0 result.1 }
+    ensures nears { Nears to_go session lists.old (WriteStatement.Making work todo rows) lists.new result.0 result.1 }
+{
+    match lists.overfull(rows) {
+        // Since the change was begun, replies to others have filled the history.
+        Some(_) => (
+            WriteStatement::Making { work, todo, rows },
+            Advance::NoMemory,
+        ),
+        None => go_on(work, todo, rows, session, lists),
+    }
+}
+
+/// Makes a step of a change that the history may tell.
+fn go_on<L: SharedLists>(
+    work: Work,
+    todo: Vec<Change>,
+    rows: u64,
+    session: u32,
+    lists: &mut SqlLists<L>,
+) -> (WriteStatement, Advance)
+    requires joined { session < length lists.old.names }
+    requires running { IsRunning lists.old session (WriteStatement.Making work todo rows) }
+    requires within { rows_kept lists.old.past + rows ≤ most_rows }
+    ensures steps { Steps IsRunning session lists.old lists.new result.0 result.1 }
+    ensures nears { Nears to_go session lists.old (WriteStatement.Making work todo rows) lists.new result.0 result.1 }
+{
+    match lists.change(session) {
+        Changed::Went => (WriteStatement::Making { work, todo, rows }, Advance::Went),
+        Changed::Entered => (WriteStatement::Finishing { work, todo }, Advance::Went),
+        Changed::Done => (WriteStatement::Changing { work, todo }, Advance::Went),
+        Changed::NoMemory => give_up(work.alone, work.before),
+    }
+}
+
+/// Makes a step of a change that the history tells.
+pub fn step_finishing<L: SharedLists>(
+    work: Work,
+    todo: Vec<Change>,
+    session: u32,
+    lists: &mut SqlLists<L>,
+) -> (WriteStatement, Advance)
+    requires joined { session < length lists.old.names }
+    requires running { IsRunning lists.old session (WriteStatement.Finishing work todo) }
+    ensures steps { Steps IsRunning session lists.old lists.new result.0 result.1 }
+    ensures nears { Nears to_go session lists.old (WriteStatement.Finishing work todo) lists.new result.0 result.1 }
+{
+    match lists.change(session) {
+        Changed::Went | Changed::Entered => {
+            (WriteStatement::Finishing { work, todo }, Advance::Went)
+        }
+        Changed::Done => (WriteStatement::Changing { work, todo }, Advance::Went),
+        Changed::NoMemory => give_up(work.alone, work.before),
+    }
+}
