@@ -12,8 +12,8 @@ use Rattle.chain.specs.Versions.{Versions}
 use Rattle.row_versions.specs.declared.place.Place.{Place}
 use Rattle.row_versions.specs.declared.version.Version.{Version}
 use Rattle.row_versions.specs.Chains.{Chains, is_same_place, versions_at, Pushes}
-use Rattle.table_lists.specs.Rows.{place_in, row_of}
-use Rattle.table_lists.specs.Order.{IsOfRow, IsTabled}
+use Rattle.past_agreement.specs.Rows.{place_in, row_of}
+use Rattle.past_agreement.specs.Order.{IsOfRow, IsTabled}
 use Rattle.coded_rows.specs.Edits.{clustered_index}
 use Rattle.coded_rows.specs.Records.{KeepsMore}
 use Rattle.coded_rows.proofs.Values.{same_place, place_itself}

@@ -4,9 +4,9 @@ use Rattle.std.specs.Prelude.{is_some}
 use Rattle.inno_types.specs.declared.value.Schema.{Schema}
 use Rattle.txn_table.specs.Txns.{Txns}
 use Rattle.row_versions.specs.Chains.{Chains}
-use Rattle.table_lists.specs.Ids.{given}
-use Rattle.table_lists.proofs.Ids.{ids_of, given_few}
-use Rattle.table_lists.proofs.Opens.{opens_of}
+use Rattle.past_agreement.specs.Ids.{given}
+use Rattle.past_agreement.proofs.Ids.{ids_of, given_few}
+use Rattle.past_agreement.proofs.Opens.{opens_of}
 use Rattle.world.specs.State.{WorldState, Session, Work, HasWork}
 use Rattle.world_agreement.specs.Agreement.{Agrees}
 use Rattle.world_agreement.proofs.Ending.{work_of, one_session_of}

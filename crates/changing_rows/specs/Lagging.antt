@@ -1,20 +1,11 @@
 -- What keys may say while a change is under way.
-use Rattle.std.specs.Prelude.{◌≡◌, ◌⊎◌, ℕ, true, ◌∷◌}
-use Rattle.std.specs.List.{list_any}
-use Rattle.inno_types.specs.declared.value.Value.{Value}
+use Rattle.std.specs.Prelude.{◌≡◌, ◌⊎◌, ◌∷◌}
 use Rattle.row_versions.specs.declared.place.Place.{Place}
 use Rattle.row_versions.specs.declared.version.Version.{Version}
 use Rattle.row_versions.specs.Chains.{Chains, versions_at, older}
-use Rattle.coded_rows.specs.Entries.{has_value}
-use Rattle.coded_rows.specs.Tables.{Said, what_is_there, LagAt}
+use Rattle.coded_rows.specs.Tables.{Said, what_is_there, LagAt, TellsOfOlder}
 use Rattle.world.specs.State.{WorldState}
 use Rattle.row_changes.specs.Told.{AreRowsAs}
-
--- Each key has entries of the values that the place's versions have, but for the newest one.
-abbrev pub TellsOfOlder : Place → Chains → Said → Type 0
-TellsOfOlder place chains said =
-    (which column : ℕ) (value : Value) → list_any (λ (v : Version). has_value column value v.row) (older (versions_at place chains)) ≡ true
-    → list_any (λ (v : Version). has_value column value v.row) (said place.table which place.key) ≡ true
 
 -- Of one place, which has a newest version, the keys say something else than what is there; all but that version they know.
 pub record LagsAt (chains : Chains) (said : Said) : Type 0 where

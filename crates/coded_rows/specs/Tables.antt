@@ -1,5 +1,6 @@
 -- When indexes and kept versions are the rows of all tables, and what keys say of rows while changes are under way.
-use Rattle.std.specs.Prelude.{◌≡◌, ℕ, ◌<◌, ◌≤◌, ◌==◌, ◌&&◌, false, if◌then◌else◌, List, [], length, Option, None, Some, slice_get}
+use Rattle.std.specs.Prelude.{◌≡◌, ℕ, ◌<◌, ◌≤◌, ◌==◌, ◌&&◌, true, false, if◌then◌else◌, List, [], length, Option, None, Some, slice_get}
+use Rattle.std.specs.List.{list_any}
 use Rattle.inno_types.specs.declared.value.Value.{Value}
 use Rattle.inno_types.specs.declared.value.Column.{Column}
 use Rattle.inno_types.specs.declared.value.Key.{Key}
@@ -9,9 +10,9 @@ use Rattle.entries.specs.Pairs.{Pair}
 use Rattle.chain.specs.declared.kept.Kept.{Kept}
 use Rattle.row_versions.specs.declared.place.Place.{Place}
 use Rattle.row_versions.specs.declared.version.Version.{Version}
-use Rattle.row_versions.specs.Chains.{Chains, versions_at, is_same_place}
+use Rattle.row_versions.specs.Chains.{Chains, versions_at, is_same_place, older}
 use Rattle.coded_rows.specs.Edits.{clustered_index, key_index}
-use Rattle.coded_rows.specs.Entries.{HasEntries}
+use Rattle.coded_rows.specs.Entries.{HasEntries, has_value}
 use Rattle.coded_rows.specs.Records.{IsClustered}
 
 -- the place of a row in a table
@@ -67,6 +68,13 @@ AreCoded schemas indexes kept chains = AreCodedAs schemas indexes kept chains (w
 abbrev pub LagAt : Place → Chains → Said → Type 0
 LagAt place chains said =
     (table which : ℕ) (value : Value) → is_same_place place (record { table = table; key = value }) ≡ false → said table which value ≡ in_table table chains value
+
+-- Each key says of the place all values that its versions but the newest have.
+abbrev pub TellsOfOlder : Place → Chains → Said → Type 0
+TellsOfOlder place chains said =
+    (which column : ℕ) (value : Value)
+    → list_any (λ (version : Version). has_value column value version.row) (older (versions_at place chains)) ≡ true
+    → list_any (λ (version : Version). has_value column value version.row) (said place.table which place.key) ≡ true
 
 -- One key says something else of one place now.
 abbrev pub SaysNow : Said → Said → Place → ℕ → List Version → Type 0

@@ -21,7 +21,7 @@ use Rattle.sql_grammar.specs.Grammar.{Spells}
 use Rattle.sql_history.specs.Legal.{MayBegin}
 use Rattle.sql_history.specs.Items.{base}
 use Rattle.sql_history.specs.Endings.{IsOpen, IsClosed}
-use Rattle.table_lists.specs.Order.{created, is_creation}
+use Rattle.past_agreement.specs.Order.{created, is_creation}
 use Rattle.shared_lists.specs.Tasks.{Idle}
 use Rattle.shared_lists.specs.State.{State, IsNow, Adds, Closes, Stays, task_of, writer_without}
 use Rattle.sql_lists.specs.Kept.{AreStanding}

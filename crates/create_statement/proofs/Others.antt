@@ -16,7 +16,7 @@ use Rattle.sql_grammar.specs.Grammar.{Spells}
 use Rattle.sql_history.specs.Items.{own_before, base, point}
 use Rattle.sql_history.specs.Waiting.{is_victim}
 use Rattle.sql_history.specs.Legal.{CommittedFirst, LeavesIt, EndsCreate}
-use Rattle.table_lists.specs.Order.{IsOfRow, created}
+use Rattle.past_agreement.specs.Order.{IsOfRow, created}
 use Rattle.shared_lists.specs.State.{State}
 use Rattle.sql_lists.specs.Steps.{Adding, HasRowsAlone, StaysRunning, changes_rows}
 use Rattle.sql_lists.proofs.Staying.{StaysAtWork, at_work, other_of, within_of_other, point_stays, steady_on, base_on}

@@ -24,7 +24,7 @@ use Rattle.sql_history.specs.Counts.{rows_kept, most_rows}
 use Rattle.sql_history.specs.Endings.{IsOpen, IsClosed}
 use Rattle.sql_history.specs.Waiting.{is_victim}
 use Rattle.sql_history.specs.Legal.{IsCreation, EndsCreate, MayBegin, MayChange, MayCommit, MayRollBack}
-use Rattle.table_lists.specs.Order.{IsOfRow}
+use Rattle.past_agreement.specs.Order.{IsOfRow}
 use Rattle.shared_lists.specs.State.{State, IsNow, Adds, task_of}
 use Rattle.sql_lists.specs.Kept.{MayReply}
 use Rattle.sql_lists.specs.Steps.{Moves, changes_rows, HasRowsAlone, IsTaken}

@@ -28,7 +28,7 @@ use Rattle.fitting_rows.proofs.Declared.{declared-IsStorable}
 use Rattle.sql_history.specs.Items.{own_before, base}
 use Rattle.sql_history.specs.Statements.{schemas_now}
 use Rattle.sql_history.specs.Legal.{IsCreation}
-use Rattle.table_lists.specs.Order.{created, IsOfRow}
+use Rattle.past_agreement.specs.Order.{created, IsOfRow}
 use Rattle.sql_lists.specs.Kept.{IsOnlyMaker, AreStanding}
 use Rattle.sql_lists.specs.Steps.{HasRowsAlone}
 use Rattle.create_statement.specs.Making.{is_there, Makes}

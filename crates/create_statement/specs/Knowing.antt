@@ -18,7 +18,7 @@ use Rattle.sql_history.specs.Endings.{IsOpen, IsClosed}
 use Rattle.sql_history.specs.Waiting.{is_victim}
 use Rattle.sql_history.specs.Legal.{Takes, IsCreation, EndsCreate, LeavesIt, CommittedFirst}
 use Rattle.fitting_rows.specs.Storable.{IsStorable}
-use Rattle.table_lists.specs.Order.{IsOfRow, created}
+use Rattle.past_agreement.specs.Order.{IsOfRow, created}
 use Rattle.shared_lists.specs.State.{State}
 use Rattle.sql_lists.specs.Steps.{HasRowsAlone}
 use Rattle.sql_lists.proofs.Staying.{IsSteady}

@@ -5,7 +5,7 @@ ghost use Rattle.inno_db.specs.Outcome.{outcome};
 ghost use Rattle.inno_model.specs.Past.{own};
 ghost use Rattle.sql_history.specs.Items.{base};
 ghost use Rattle.sql_history.specs.Endings.{IsOpen};
-ghost use Rattle.table_lists.specs.Order.{created};
+ghost use Rattle.past_agreement.specs.Order.{created};
 ghost use Rattle.sql_lists.specs.Kept.{AreStanding};
 ghost use Rattle.sql_lists.specs.Steps.{Steps};
 ghost use Rattle.sql_lists.specs.Going.{Nears};

@@ -9,8 +9,8 @@ use Rattle.store_api.specs.declared.answers.Undo.{Undo}
 use Rattle.read_view.specs.Sight.{Sight as ReadSight}
 use Rattle.row_versions.specs.declared.place.Place.{Place}
 use Rattle.row_versions.specs.Chains.{Chains, versions_at}
-use Rattle.table_lists.specs.Order.{is_creation}
-use Rattle.table_lists.specs.Rows.{place_in}
+use Rattle.past_agreement.specs.Order.{is_creation}
+use Rattle.past_agreement.specs.Rows.{place_in}
 use Rattle.world.specs.State.{WorldState, Session, Work, Logged, Seen, IsSession, HasWork}
 use Rattle.world.specs.declared.undo_room.UndoRoom.{UndoRoom}
 use Rattle.world.specs.Undoing.{read_into}

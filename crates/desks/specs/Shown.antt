@@ -7,6 +7,7 @@ use Rattle.row_changes.specs.declared.row_change.RowChange.{RowChange}
 use Rattle.row_changes.specs.declared.row_change.RowChange.TheVariants.{Record, Keys}
 use Rattle.row_changes.specs.Edits.{change_of}
 use Rattle.row_changes.specs.Rows.{row_steps, table_of}
+use Rattle.undo_apply.specs.declared.work_room.Stage.{Stage}
 use Rattle.row_search.specs.declared.sight.Sight.{Sight}
 use Rattle.row_search.specs.declared.sight.Sight.TheVariants as sights
 use Rattle.shared_lists.specs.declared.answers.Reading.{Reading}
@@ -17,7 +18,7 @@ use Rattle.shared_lists.specs.State.{State, Lists}
 use Rattle.desks.specs.declared.desk.Desk.{Desk}
 use Rattle.desks.specs.declared.desk.Doing.{Doing}
 use Rattle.desks.specs.declared.desk.Doing.TheVariants.{Nothing, Searching, Changing, Lagging, Undoing}
-use Rattle.desks.specs.Undoing.{keys_if}
+use Rattle.desks.specs.Undoing.{keys_if, undo_left_in}
 
 abbrev pub reading_of : Sight → Reading
 reading_of (sights.View view own) = View
@@ -46,3 +47,7 @@ lists_of state writer desks left =
       settings = map (λ (session : Session). session.setting) state.sessions;
       rows = state.rows;
     }
+
+-- what callers see where a change of this table is being taken back so far
+abbrev pub seen_of : ℕ → Stage → WorldState → Option ℕ → List Desk → Lists
+seen_of table stage state writer desks = lists_of state writer desks (undo_left_in table stage state)

@@ -9,7 +9,7 @@ use Rattle.inno_model.specs.Past.{is_of, under_way, of_item, own}
 use Rattle.inno_model.specs.Legal.{IsClosed}
 use Rattle.inno_model.proofs.Untouched.{untouched}
 use Rattle.sql_history.specs.Legal.{is_leaving}
-use Rattle.table_lists.specs.Order.{IsOfRow}
+use Rattle.past_agreement.specs.Order.{IsOfRow}
 use Rattle.shared_lists.specs.Tasks as tasks
 use Rattle.shared_lists.specs.State.{State as Lists, Adds, task_of}
 use Rattle.sql_lists.specs.Steps.{Adding, HasRowsAlone, StaysRunning}

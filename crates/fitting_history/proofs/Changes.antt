@@ -8,12 +8,12 @@ use Rattle.inno_db.specs.declared.change.Change.TheVariants.{Create, Put, Remove
 use Rattle.inno_model.specs.declared.event.Event.{Event}
 use Rattle.inno_model.specs.declared.event.Event.TheVariants as events
 use Rattle.inno_model.specs.Past.{own, oldest, committed}
-use Rattle.table_lists.specs.Order.{created, MayCome, IsOrdered}
+use Rattle.past_agreement.specs.Order.{created, MayCome, IsOrdered}
 use Rattle.sql_history.specs.Items.{before_turn, own_before}
 use Rattle.fitting_rows.specs.Storable.{IsStorable, AreStorable}
 use Rattle.fitting_rows.specs.Fitting.{FitsTables}
 use Rattle.fitting_rows.proofs.Applying.{FitsTables-more}
-use Rattle.fitting_history.specs.History.{FitsWell, FitsThen}
+use Rattle.shared_lists.specs.Fitting.{FitsWell, FitsThen}
 
 -- ---- tables
 

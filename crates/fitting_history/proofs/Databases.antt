@@ -14,10 +14,10 @@ use Rattle.inno_db.specs.Database.{Database, RowMap, key_in}
 use Rattle.inno_db.specs.Outcome.{outcome}
 use Rattle.inno_model.specs.declared.event.Event.{Event}
 use Rattle.inno_model.specs.Past.{own, commits, committed, opening, changed}
-use Rattle.table_lists.specs.Order.{created, is_creation}
-use Rattle.table_lists.specs.Rows.{seen}
-use Rattle.table_lists.specs.Agreement.{IsSound}
-use Rattle.table_lists.proofs.Tables.{key_stays}
+use Rattle.past_agreement.specs.Order.{created, is_creation}
+use Rattle.past_agreement.specs.Rows.{seen}
+use Rattle.past_agreement.specs.Agreement.{IsSound}
+use Rattle.past_agreement.proofs.Tables.{key_stays}
 use Rattle.tables_as_db.specs.Tables.{with_all_tables}
 use Rattle.sql_history.specs.Items.{own_before, base}
 use Rattle.sql_lists.specs.Kept.{made, AreInOrder, IsInOrder, AreStanding}
@@ -27,7 +27,8 @@ use Rattle.fitting_rows.specs.Numbers.{ChangeHas64Bits, RowsHave64Bits, Stores64
 use Rattle.fitting_rows.proofs.Applying.{AreFitting-apply_one, AreFitting-changed, AreFitting-no_rows}
 use Rattle.fitting_rows.proofs.Numbers.{changed-Has64Bits, empty-Has64Bits, outcome-Has64Bits}
 use Rattle.fitting_rows.proofs.Outcomes.{outcome-FitsTables}
-use Rattle.fitting_history.specs.History.{FitsWell, FitsThen, CanBeCoded}
+use Rattle.shared_lists.specs.Fitting.{FitsWell, FitsThen}
+use Rattle.fitting_history.specs.Databases.{CanBeCoded}
 use Rattle.fitting_history.proofs.Changes.{tables_storable, own_fits, own_before_fits, committed_fits}
 
 -- ---- the two parts of what fits

@@ -1,4 +1,4 @@
-//! Laws: where each change of a history fitted its tables when it was made (`FitsThen`, specs/History.antt), each database of
+//! Laws: where each change of a history fitted its tables when it was made (`FitsThen` of `shared_lists`), each database of
 //! the history fits, and so do the changes that a statement makes of it. Each function has an empty body: its contract is
 //! the law. Nothing calls them; the lists that will keep a world stand on the lemmas behind them, in proofs/.
 #![tactic(auto)]
@@ -10,15 +10,16 @@ ghost use Rattle.inno_db.specs.Database.{Database};
 ghost use Rattle.inno_db.specs.Outcome.{outcome};
 ghost use Rattle.inno_model.specs.declared.event.Event.{Event};
 ghost use Rattle.inno_model.specs.Past.{changed, own, committed};
-ghost use Rattle.table_lists.specs.Order.{created, IsOrdered};
-ghost use Rattle.table_lists.specs.Rows.{seen};
-ghost use Rattle.table_lists.specs.Agreement.{IsSound};
+ghost use Rattle.past_agreement.specs.Order.{created, IsOrdered};
+ghost use Rattle.past_agreement.specs.Rows.{seen};
+ghost use Rattle.past_agreement.specs.Agreement.{IsSound};
 ghost use Rattle.tables_as_db.specs.Tables.{with_all_tables};
 ghost use Rattle.sql_history.specs.Items.{own_before, base};
 ghost use Rattle.sql_lists.specs.Kept.{AreStanding, IsInOrder};
 ghost use Rattle.fitting_rows.specs.Storable.{AreStorable};
 ghost use Rattle.fitting_rows.specs.Numbers.{Stores64Bits};
-ghost use Rattle.fitting_history.specs.History.{FitsWell, FitsThen, CanBeCoded};
+ghost use Rattle.shared_lists.specs.Fitting.{FitsWell, FitsThen};
+ghost use Rattle.fitting_history.specs.Databases.{CanBeCoded};
 
 /// Each table that was made can be stored.
 pub fn tables_of_a_fitting_history_can_be_stored()

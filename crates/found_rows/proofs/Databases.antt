@@ -13,13 +13,12 @@ use Rattle.row_versions.specs.Chains.{Chains, newest}
 use Rattle.coded_rows.specs.Records.{IsClustered}
 use Rattle.coded_rows.specs.Tables.{in_table}
 use Rattle.sql_plan.specs.Visits.{IsRowOf}
-use Rattle.table_lists.specs.Rows.{seen}
-use Rattle.table_lists.specs.Agreement.{IsSound}
+use Rattle.past_agreement.specs.Rows.{seen}
+use Rattle.past_agreement.specs.Agreement.{IsSound}
 use Rattle.tables_as_db.specs.Tables.{with_all_tables}
 use Rattle.tables_as_db.proofs.Gets.{seen_is}
 use Rattle.tables_as_db.proofs.Walk.{rows_are}
-use Rattle.gathering.specs.Walk.{at_key}
-use Rattle.gathering.proofs.Latest.{latest}
+use Rattle.found_rows.proofs.Latest.{at_key, latest}
 use Rattle.world.specs.State.{WorldState, Session, Work, Seen, HasWork}
 use Rattle.world_agreement.specs.Agreement.{sight_of, Agrees}
 use Rattle.world_agreement.proofs.Readers.{seen_by_view, seen_newest}

@@ -6,3 +6,4 @@ pub mod Seen
 pub mod Finding
 pub mod Showing
 pub mod Covered
+pub mod Latest

@@ -16,11 +16,11 @@ use Rattle.inno_model.proofs.Commits.{committed_stays, view_within}
 use Rattle.row_versions.specs.declared.place.Place.{Place}
 use Rattle.row_versions.specs.Chains.{Chains, first_seen, sees}
 use Rattle.coded_rows.specs.Tables.{in_table}
-use Rattle.table_lists.specs.Order.{created, IsTabled, IsOrdered}
-use Rattle.table_lists.specs.Rows.{is_at, row_at, row_of, seen, row_seen}
-use Rattle.table_lists.specs.Agreement.{ViewAgrees}
-use Rattle.table_lists.proofs.Tables.{at_stays, own_tabled, committed_tabled}
-use Rattle.gathering.specs.Walk.{at_key}
+use Rattle.past_agreement.specs.Order.{created, IsTabled, IsOrdered}
+use Rattle.past_agreement.specs.Rows.{is_at, row_at, row_of, seen, row_seen}
+use Rattle.past_agreement.specs.Agreement.{ViewAgrees}
+use Rattle.past_agreement.proofs.Tables.{at_stays, own_tabled, committed_tabled}
+use Rattle.found_rows.proofs.Latest.{at_key}
 use Rattle.world.specs.State.{WorldState, Session, Work, Seen, HasWork}
 use Rattle.world_agreement.specs.Agreement.{sight_of, Agrees}
 use Rattle.world_agreement.proofs.Ending.{work_of}

@@ -20,7 +20,7 @@ use Rattle.row_search.specs.Sights.{sees_by, rows_seen}
 use Rattle.row_search.specs.Tables.{ShowsTable, HoldsTable, HaveKeys, ShowsRows}
 use Rattle.row_search.proofs.Keys.{key_there_at}
 use Rattle.row_search.proofs.Others.{in_clustered, in_keyed, seen_among}
-use Rattle.found_rows.specs.Lagging.{TellsOfOlder}
+use Rattle.coded_rows.specs.Tables.{TellsOfOlder}
 
 told_pairs : (found : Option (List Pair)) → IsSome found → found ≡ Some (pairs_in found)
 told_pairs None is = cc

@@ -1,4 +1,3 @@
-pub mod Lagging
 pub mod Finding
 pub mod Pasts
 pub mod Plans

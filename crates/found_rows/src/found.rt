@@ -11,7 +11,7 @@ ghost use Rattle.row_versions.specs.Chains.{Chains};
 ghost use Rattle.coded_rows.specs.Records.{IsClustered};
 ghost use Rattle.coded_rows.specs.Tables.{in_table};
 ghost use Rattle.sql_plan.specs.Visits.{IsRowOf};
-ghost use Rattle.table_lists.specs.Rows.{seen};
+ghost use Rattle.past_agreement.specs.Rows.{seen};
 ghost use Rattle.tables_as_db.specs.Tables.{with_all_tables};
 ghost use Rattle.world.specs.State.{WorldState, Session, Work, Seen, HasWork};
 ghost use Rattle.world_agreement.specs.Agreement.{sight_of, Agrees};

@@ -11,7 +11,7 @@ ghost use Rattle.world.specs.Told.{IsTold, pairs_of};
 ghost use Rattle.row_search.specs.declared.scan.Scan.{Scan};
 ghost use Rattle.row_search.specs.Sights.{sees_by};
 ghost use Rattle.row_search.specs.Tables.{HoldsTable, ShowsRows};
-ghost use Rattle.found_rows.specs.Lagging.{TellsOfOlder};
+ghost use Rattle.coded_rows.specs.Tables.{TellsOfOlder};
 
 /// A world whose indexes are certain rows shows them to each search. While keys lag it shows them to a search through the
 /// clustered index; and to one through a key where they lag at one place alone, tell of all its versions but the newest, and

@@ -5,7 +5,7 @@ use Rattle.std.proofs.lemmas.Bool.{cases_eq}
 use Rattle.std.proofs.lemmas.List.{length-set}
 use Rattle.inno_types.specs.declared.value.Schema.{Schema}
 use Rattle.inno_model.specs.Legal.{IsOpen}
-use Rattle.table_lists.specs.Order.{created}
+use Rattle.past_agreement.specs.Order.{created}
 use Rattle.world.specs.State.{WorldState}
 use Rattle.world.specs.Undoing.{read_into}
 use Rattle.world.specs.declared.undo_room.UndoRoom.{UndoRoom}
@@ -21,7 +21,8 @@ use Rattle.desks.specs.Desks.{desk_at, doing_at, with_doing, is_quiet_doing}
 use Rattle.desks.specs.Holding.{IsHeld, RowsHeld, SearchHeld}
 use Rattle.held_changes.specs.Beginning.{IsEditable, IsKeyOfEdit, begun}
 use Rattle.held_changes.proofs.Desks.{doing_here, doing_elsewhere, started_still}
-use Rattle.held_changes.proofs.Fits.{tables_storable, editable, fits_edit}
+use Rattle.fitting_history.proofs.Changes.{tables_storable}
+use Rattle.held_changes.proofs.Fits.{editable, fits_edit}
 use Rattle.held_changes.proofs.Sessions.{open_work, open_joined}
 
 some_same : (a b : ℕ) → Some a ≡ Some b → a ≡ b

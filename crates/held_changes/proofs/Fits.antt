@@ -1,41 +1,17 @@
 -- Edits that fit the tables of a history.
-use Rattle.std.proofs.Common.{◌≡◌, ℕ, zero, suc, List, [], ◌∷◌, ◌++◌, Option, Some, None, refl, subst}
+use Rattle.std.proofs.Common.{◌≡◌, ℕ, List, [], ◌∷◌, ◌++◌, Option, Some, None, refl, subst}
 use Rattle.std.specs.Prelude.{slice_get, IsSomeAnd}
 use Rattle.std.proofs.lemmas.Option.{slice_get_within}
 use Rattle.inno_types.specs.declared.value.Column.{Column}
 use Rattle.inno_types.specs.declared.value.Schema.{Schema}
-use Rattle.inno_db.specs.declared.change.Change.TheVariants as changes
-use Rattle.inno_model.specs.declared.event.Event.{Event}
-use Rattle.inno_model.specs.declared.event.Event.TheVariants as events
-use Rattle.table_lists.specs.Order.{created}
-use Rattle.fitting_rows.specs.Storable.{IsStorable, AreStorable}
 use Rattle.fitting_rows.specs.Fitting.{IsKeyFor, FitsTable}
 use Rattle.world.specs.State.{WorldState}
 use Rattle.row_changes.specs.declared.row_edit.RowEdit.{RowEdit}
 use Rattle.row_changes.specs.declared.row_edit.RowEdit.TheVariants.{Put, Remove}
 use Rattle.row_changes.specs.Edits.{change_of, FitsEdit}
 use Rattle.row_changes.specs.Rows.{primary_of}
-use Rattle.shared_lists.specs.Fitting.{FitsWell, FitsThen}
+use Rattle.shared_lists.specs.Fitting.{FitsWell}
 use Rattle.held_changes.specs.Beginning.{IsEditable, IsKeyOfEdit}
-
--- ---- tables
-
-storable_more : (schemas : List Schema) (schema : Schema) → AreStorable schemas → IsStorable schema → AreStorable (schemas ++ schema ∷ [])
-storable_more [] schema all is zero found there = let same : schema ≡ found = cc in subst IsStorable same is
-storable_more [] schema all is (suc n) found there = absurd (cc)
-storable_more (first ∷ schemas) schema all is zero found there = all zero found there
-storable_more (first ∷ schemas) schema all is (suc n) found there = storable_more schemas schema (λ m other at. all (suc m) other at) is n found there
-
-none_there : AreStorable []
-none_there n schema there = absurd (cc)
-
-pub tables_storable : (past : List Event) → FitsThen past → AreStorable (created past)
-tables_storable [] fits = none_there
-tables_storable (events.Opened db ∷ past) fits = fits
-tables_storable (events.Changed s (changes.Create schema) ∷ past) fits = storable_more (created past) schema (tables_storable past fits.1) fits.0.0
-tables_storable (events.Changed s (changes.Put table row) ∷ past) fits = tables_storable past fits.1
-tables_storable (events.Changed s (changes.Remove table key) ∷ past) fits = tables_storable past fits.1
-tables_storable (e ∷ past) fits = tables_storable past fits
 
 -- ---- one of them
 

@@ -13,7 +13,7 @@ use Rattle.entries.specs.Calls.{Leaves}
 use Rattle.chain.specs.Versions.{Versions, Stays}
 use Rattle.row_versions.specs.declared.place.Place.{Place}
 use Rattle.row_versions.specs.Chains.{Chains, versions_at}
-use Rattle.table_lists.specs.Rows.{place_in}
+use Rattle.past_agreement.specs.Rows.{place_in}
 use Rattle.coded_rows.specs.Records.{KeepsMore}
 use Rattle.world.specs.State.{WorldState, Session, Logged}
 use Rattle.world.specs.Indexes.{Calls}

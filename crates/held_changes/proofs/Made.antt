@@ -9,7 +9,7 @@ use Rattle.inno_model.specs.Past.{own}
 use Rattle.row_versions.specs.declared.place.Place.{Place}
 use Rattle.row_versions.specs.declared.version.Version.{Version}
 use Rattle.row_versions.specs.Chains.{Chains, versions_at, is_same_place, Pushes}
-use Rattle.table_lists.specs.Order.{created, is_creation}
+use Rattle.past_agreement.specs.Order.{created, is_creation}
 use Rattle.world.specs.State.{WorldState}
 use Rattle.world.specs.Told.{IsTold}
 use Rattle.world.specs.Undoing.{read_into}

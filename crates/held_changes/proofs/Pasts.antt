@@ -6,7 +6,7 @@ use Rattle.inno_model.specs.declared.event.Event.{Event}
 use Rattle.inno_model.specs.declared.event.Event.TheVariants.{Changed}
 use Rattle.inno_model.specs.Past.{own, started, under_way, of_item}
 use Rattle.inno_model.specs.Legal.{awaits_ack}
-use Rattle.table_lists.specs.Order.{is_creation}
+use Rattle.past_agreement.specs.Order.{is_creation}
 use Rattle.found_rows.specs.Pasts.{AddsAtMostOne}
 
 -- no item has started or ended, no commit waits for its acknowledgement that didn't, and no table was made

@@ -6,8 +6,8 @@ use Rattle.inno_types.specs.declared.lock.Level.{Level}
 use Rattle.inno_model.specs.Past.{level}
 use Rattle.inno_model.specs.Legal.{IsOpen}
 use Rattle.row_versions.specs.Chains.{Chains}
-use Rattle.table_lists.specs.Slots.{fresh}
-use Rattle.table_lists.specs.Agreement.{SlotAgrees, IsIdle}
+use Rattle.past_agreement.specs.Slots.{fresh}
+use Rattle.past_agreement.specs.Agreement.{SlotAgrees, IsIdle}
 use Rattle.world.specs.State.{WorldState, Session, Work, IsSession, HasWork}
 use Rattle.world_agreement.specs.Agreement.{Agrees}
 use Rattle.world_agreement.proofs.Settled.{slot_if, slot_at}

@@ -28,7 +28,7 @@ use Rattle.held_changes.specs.Beginning.{begun}
 use Rattle.held_changes.specs.Making.{given_up, LeavesLists, AddsNothing, IsNearer, IsEntered}
 use Rattle.held_changes.specs.Leaving.{LeavesIndexes}
 use Rattle.held_changes.proofs.Desks.{doing_here, doing_elsewhere, changes_at_a_desk}
-use Rattle.held_changes.proofs.Fits.{tables_storable}
+use Rattle.fitting_history.proofs.Changes.{tables_storable}
 
 some_same : (a b : ℕ) → Some a ≡ Some b → a ≡ b
 some_same a b same = cc

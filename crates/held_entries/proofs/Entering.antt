@@ -1,22 +1,19 @@
 -- An entry that changes no row leaves all that is held.
-use Rattle.std.proofs.Common.{◌≡◌, ◌≢◌, ℕ, suc, ◌+◌, ◌<◌, ◌≤◌, ◌==◌, eqb, Bool, true, false, Option, Some, None, List, ◌∷◌, length, refl, sym, ap, subst, ◌∙◌, inl, inr, arith, ◌⊎◌}
+use Rattle.std.proofs.Common.{◌≡◌, ◌≢◌, ℕ, ◌+◌, ◌<◌, ◌≤◌, ◌==◌, Bool, true, false, Option, Some, None, List, ◌∷◌, length, refl, sym, ap, subst, ◌∙◌, inl, inr, arith, ◌⊎◌}
 use Rattle.std.specs.Prelude.{slice_get, is_some}
 use Rattle.std.proofs.lemmas.Bool.Decides.{nat_tests, eqb_tells}
 use Rattle.inno_model.specs.declared.event.Event.{Event}
 use Rattle.inno_model.specs.Past.{is_of, own, started, under_way, of_item}
 use Rattle.inno_model.specs.Legal.{awaits_ack}
 use Rattle.inno_model.proofs.Untouched.{IsUntouched, untouched}
-use Rattle.store_api.specs.declared.answers.Undo.{Undo}
 use Rattle.entries.specs.Pairs.{Pair}
 use Rattle.entries.specs.Index.{Index, AreKept}
 use Rattle.row_versions.specs.declared.place.Place.{Place}
-use Rattle.row_versions.specs.Chains.{Chains, versions_at}
-use Rattle.table_lists.specs.Rows.{place_in}
+use Rattle.past_agreement.specs.Rows.{place_in}
 use Rattle.world.specs.State.{WorldState, Session, Work, Logged, IsSession, HasWork}
-use Rattle.world.specs.Told.{IsTold, LeavesRows}
+use Rattle.world.specs.Told.{LeavesRows}
 use Rattle.world.specs.declared.undo_room.UndoRoom.{UndoRoom}
 use Rattle.world.specs.Undoing.{read_into}
-use Rattle.world_agreement.specs.Agreement.{Agrees}
 use Rattle.row_changes.specs.Told.{HasRows}
 use Rattle.row_changes.specs.declared.row_change.RowChange.{RowChange}
 use Rattle.row_changes.specs.declared.row_change.RowChange.TheVariants.{Record, Keys}
@@ -32,10 +29,10 @@ use Rattle.desks.specs.declared.desk.Desk.{Desk}
 use Rattle.desks.specs.declared.desk.Doing.{Doing}
 use Rattle.desks.specs.declared.desk.Doing.TheVariants.{Nothing, Searching, Changing, Lagging, Undoing}
 use Rattle.desks.specs.Desks.{desk_at, doing_at, is_quiet_doing}
-use Rattle.desks.specs.Holding.{HasRoom, IsLast, IsLagging, IsLastOf, IsLastIfTold, IsGoingBack, RowsHeld, RowsHeldBy, SearchHeld, IsHeld}
+use Rattle.desks.specs.Holding.{HasRoom, IsLast, IsLastIfTold, RowsHeld, RowsHeldBy, SearchHeld, IsHeld}
 use Rattle.desks.specs.Leaves.{LeavesOthers}
 use Rattle.desks.proofs.Leaving.{search_left}
-use Rattle.held_entries.specs.Entries.{HasSameRows, IsOwnSession, LeavesDesks, IsEntered}
+use Rattle.held_entries.specs.Entries.{HasSameRows, IsEntered}
 
 -- ---- rows
 

@@ -1,16 +1,15 @@
 -- Items that start and end, commits that are acknowledged, and what sessions set.
-use Rattle.std.proofs.Common.{◌≡◌, ◌≢◌, ℕ, ◌+◌, ◌<◌, ◌≤◌, ◌^◌, ◌==◌, eqb, Bool, true, false, Option, Some, None, List, [], ◌∷◌, length, refl, sym, ap, subst, ◌∙◌, inl, inr, arith, ◌⊎◌}
+use Rattle.std.proofs.Common.{◌≡◌, ◌≢◌, ℕ, ◌+◌, ◌<◌, ◌≤◌, ◌^◌, ◌==◌, Bool, true, false, Option, Some, None, List, [], ◌∷◌, length, refl, sym, ap, ◌∙◌, inl, inr, arith, ◌⊎◌}
 use Rattle.std.specs.Prelude.{slice_get, slice_set, is_some}
 use Rattle.std.proofs.lemmas.Bool.Decides.{nat_tests}
 use Rattle.std.proofs.lemmas.List.{length-set}
 use Rattle.inno_types.specs.declared.reply.Item.{Item}
 use Rattle.inno_types.specs.declared.reply.Reply.{Reply}
-use Rattle.inno_types.specs.declared.stmt.Stmt.{Stmt}
 use Rattle.inno_model.specs.declared.event.Event.{Event}
 use Rattle.inno_model.specs.declared.event.Event.TheVariants.{Started, Ended, Acked}
 use Rattle.inno_model.specs.Past.{is_of, own, started, under_way, of_item}
 use Rattle.inno_model.specs.Legal.{awaits_ack}
-use Rattle.table_lists.specs.Order.{MayCome}
+use Rattle.past_agreement.specs.Order.{MayCome}
 use Rattle.world.specs.State.{WorldState, Session, Work, IsSession, HasWork}
 use Rattle.world.specs.Told.{IsTold}
 use Rattle.world.specs.declared.undo_room.UndoRoom.{UndoRoom}
@@ -20,14 +19,12 @@ use Rattle.world_agreement.specs.Agreement.{Agrees}
 use Rattle.world_agreement.proofs.Opening.{set_here, set_other}
 use Rattle.world_agreement.proofs.Entries.{started_agrees, ended_agrees, acked_agrees, unentered_agrees}
 use Rattle.shared_lists.specs.Fitting.{FitsThen}
-use Rattle.logged_changes.specs.Steps.{LeavesLog, HasNoLog}
-use Rattle.engine_world.specs.Calls.{item_started, item_ended, acknowledged, with_setting}
+use Rattle.engine_world.specs.Calls.{item_started, acknowledged}
 use Rattle.found_rows.specs.Pasts.{AddsAtMostOne}
 use Rattle.desks.specs.declared.desk.Desk.{Desk}
 use Rattle.desks.specs.declared.desk.Doing.TheVariants.{Nothing}
 use Rattle.desks.specs.Desks.{desk_at, doing_at, with_start}
 use Rattle.desks.specs.Holding.{IsHeld}
-use Rattle.held_entries.specs.Entries.{HasSameRows, IsEntered}
 use Rattle.held_entries.proofs.Entering.{entered}
 use Rattle.held_entries.proofs.Sessions.{own_session, same_log, same_writer, started_desks, start_here, same_makes, same_works}
 

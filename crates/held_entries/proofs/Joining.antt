@@ -1,15 +1,14 @@
 -- The first world, and sessions that join.
-use Rattle.std.proofs.Common.{◌≡◌, ◌≢◌, ℕ, zero, suc, ◌+◌, ◌<◌, ◌≤◌, Bool, true, false, Option, Some, None, List, [], ◌∷◌, ◌++◌, length, refl, sym, ap, subst, ◌∙◌, inl, inr, arith, get_or}
+use Rattle.std.proofs.Common.{◌≡◌, ◌≢◌, ℕ, zero, suc, ◌+◌, ◌<◌, ◌≤◌, Bool, true, false, Option, Some, None, List, [], ◌∷◌, ◌++◌, length, refl, sym, ap, subst, ◌∙◌, inl, arith, get_or}
 use Rattle.std.specs.Prelude.{slice_get, is_some}
 use Rattle.std.proofs.lemmas.List.{length-append}
 use Rattle.inno_types.specs.declared.reply.Item.{Item}
 use Rattle.inno_types.specs.declared.lock.Level.{Level}
 use Rattle.inno_model.specs.Past.{own, started, under_way, of_item, level}
 use Rattle.inno_model.specs.Legal.{awaits_ack}
-use Rattle.table_lists.specs.Agreement.{owed_by, owed_by_txn, owed_by_item}
-use Rattle.row_versions.specs.Chains.{Chains}
+use Rattle.past_agreement.specs.Agreement.{owed_by, owed_by_txn, owed_by_item}
 use Rattle.coded_rows.proofs.Made.{no_tables}
-use Rattle.world.specs.State.{WorldState, Session, Work, IsSession, HasWork}
+use Rattle.world.specs.State.{WorldState, Session, Work}
 use Rattle.world.specs.Told.{IsTold}
 use Rattle.world.specs.declared.undo_room.UndoRoom.{UndoRoom}
 use Rattle.undo_apply.specs.declared.work_room.WorkRoom.{WorkRoom}
@@ -18,10 +17,8 @@ use Rattle.undo_apply.specs.Rooms.{IsWhole}
 use Rattle.world_agreement.proofs.Joining.{first_agrees, joined_agrees}
 use Rattle.engine_world.specs.Calls.{IsNew, fresh_session, joined}
 use Rattle.desks.specs.declared.desk.Desk.{Desk}
-use Rattle.desks.specs.declared.desk.Doing.TheVariants.{Nothing}
-use Rattle.desks.specs.Desks.{fresh_desk, desk_at, doing_at}
+use Rattle.desks.specs.Desks.{fresh_desk}
 use Rattle.desks.specs.Holding.{IsHeld}
-use Rattle.held_entries.specs.Entries.{IsEntered}
 use Rattle.held_entries.proofs.Entering.{entered}
 use Rattle.held_entries.proofs.Sessions.{own_session}
 

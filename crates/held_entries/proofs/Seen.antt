@@ -1,37 +1,23 @@
 -- What callers see of entries that change no row, and of what sessions set.
-use Rattle.std.proofs.Common.{◌≡◌, ◌≢◌, ℕ, zero, suc, ◌+◌, ◌<◌, ◌≤◌, ◌==◌, eqb, Bool, true, false, cond, Option, Some, None, List, [], ◌∷◌, ◌++◌, length, map, refl, sym, ap, subst, ◌∙◌, inl, inr, arith, ◌⊎◌, get_or, set, ◌^◌}
-use Rattle.std.specs.Prelude.{slice_get, slice_set, slice_index_or, is_some, option_map}
-use Rattle.std.proofs.lemmas.Bool.Decides.{nat_tests, eqb_tells}
-use Rattle.std.proofs.lemmas.List.{length-set, length-map, map-set, set-get_or, get_or-set_same, get_or-set_other, ext_get_or}
-use Rattle.std.proofs.lemmas.Option.{slice_get_within, get_or_from_slice_get, slice_get-get_or}
-use Rattle.std.proofs.Math.ListN.{get_or-map}
+use Rattle.std.proofs.Common.{◌≡◌, ◌≢◌, ℕ, zero, suc, ◌+◌, ◌<◌, ◌≤◌, ◌==◌, Option, Some, List, [], ◌∷◌, ◌++◌, length, map, refl, sym, ap, ◌∙◌, inl, inr, arith, ◌⊎◌, get_or, set, ◌^◌}
+use Rattle.std.specs.Prelude.{slice_get, slice_set, slice_index_or}
+use Rattle.std.proofs.lemmas.Bool.Decides.{eqb_tells}
+use Rattle.std.proofs.lemmas.List.{length-set, map-set, set-get_or, ext_get_or}
+use Rattle.std.proofs.lemmas.Option.{slice_get-get_or}
 use Rattle.inno_types.specs.declared.value.Schema.{Schema}
 use Rattle.inno_model.specs.declared.event.Event.{Event}
 use Rattle.chain.specs.Versions.{Versions}
 use Rattle.sql_history.specs.Settings.{Setting, at_first}
-use Rattle.world.specs.State.{WorldState, Session, Work, IsSession}
-use Rattle.world.specs.Sessions.{of_txn, change_txn}
+use Rattle.world.specs.State.{WorldState, Session}
 use Rattle.undo_apply.specs.declared.work_room.Stage.{Stage}
-use Rattle.shared_lists.specs.Tasks.{Task}
 use Rattle.shared_lists.specs.Tasks as tasks
-use Rattle.shared_lists.specs.State.{State, Lists, task_of, IsNow}
+use Rattle.shared_lists.specs.State.{task_of, IsNow}
 use Rattle.desks.specs.declared.desk.Desk.{Desk}
-use Rattle.desks.specs.declared.desk.Doing.{Doing}
-use Rattle.desks.specs.declared.desk.Doing.TheVariants.{Nothing, Searching, Changing, Lagging, Undoing}
-use Rattle.desks.specs.Desks.{fresh_desk, desk_at, doing_at}
-use Rattle.desks.specs.Shown.{shown, lists_of}
+use Rattle.desks.specs.declared.desk.Doing.TheVariants.{Nothing}
+use Rattle.desks.specs.Desks.{doing_at}
+use Rattle.desks.specs.Shown.{shown, seen_of}
 use Rattle.desks.specs.Undoing.{keys_if, left_at, undo_left_in}
-use Rattle.held_entries.specs.Seen.{seen_of, settings_of}
-
-pub task_is : (s left : ℕ) (state : WorldState) (writer : Option ℕ) (desks : List Desk) → task_of s (lists_of state writer desks left).state ≡ shown state.schemas left (doing_at s desks)
-task_is s left state writer desks = get_or-map (λ (desk : Desk). shown state.schemas left desk.doing) desks s fresh_desk
-
-pub idle_shown : (left : ℕ) (schemas : List Schema) (doing : Doing) → shown schemas left doing ≡ tasks.Idle → doing ≡ Nothing
-idle_shown left schemas Nothing is = refl
-idle_shown left schemas (Searching on) is = absurd (cc)
-idle_shown left schemas (Changing change) is = absurd (cc)
-idle_shown left schemas Lagging is = absurd (cc)
-idle_shown left schemas Undoing is = absurd (cc)
+use Rattle.desks.proofs.Showing.{task_is, idle_shown}
 
 pub rests_of : (s table : ℕ) (stage : Stage) (state : WorldState) (writer : Option ℕ) (desks : List Desk) → task_of s (seen_of table stage state writer desks).state ≡ tasks.Idle → doing_at s desks ≡ Nothing
 rests_of s table stage state writer desks idle = idle_shown (undo_left_in table stage state) state.schemas (doing_at s desks) (sym (task_is s (undo_left_in table stage state) state writer desks) ∙ idle)

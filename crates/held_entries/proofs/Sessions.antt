@@ -1,21 +1,20 @@
 -- One session is another now, and the desks are as they were but its own.
-use Rattle.std.proofs.Common.{◌≡◌, ◌≢◌, ℕ, ◌+◌, ◌<◌, ◌≤◌, ◌==◌, eqb, Bool, true, false, cond, Option, Some, None, List, [], ◌∷◌, length, refl, sym, ap, subst, ◌∙◌, inl, inr, arith, ◌⊎◌, get_or, set}
+use Rattle.std.proofs.Common.{◌≡◌, ◌≢◌, ℕ, ◌+◌, ◌<◌, ◌≤◌, ◌==◌, Bool, true, Option, Some, None, List, [], ◌∷◌, length, refl, sym, ap, subst, ◌∙◌, inl, inr, arith, ◌⊎◌, get_or}
 use Rattle.std.specs.Prelude.{slice_get, slice_set, is_some, option_map}
 use Rattle.std.specs.List.{list_any}
 use Rattle.std.proofs.lemmas.Bool.Decides.{nat_tests, eqb_tells}
-use Rattle.std.proofs.lemmas.List.{length-set, get_or-set_same, get_or-set_other}
+use Rattle.std.proofs.lemmas.List.{get_or-set_same, get_or-set_other}
 use Rattle.inno_model.specs.declared.event.Event.{Event}
-use Rattle.inno_model.specs.Past.{is_of, own, started, under_way, of_item}
+use Rattle.inno_model.specs.Past.{own, started, under_way, of_item}
 use Rattle.inno_model.specs.Legal.{awaits_ack}
-use Rattle.table_lists.specs.Order.{is_creation}
-use Rattle.table_lists.specs.State.{writer_without}
+use Rattle.past_agreement.specs.Order.{is_creation}
+use Rattle.past_agreement.specs.Slots.{writer_without}
 use Rattle.world.specs.State.{WorldState, Session, Work, IsSession, HasWork}
-use Rattle.world_agreement.specs.Steps.{IsEntered as IsSettled}
 use Rattle.world_agreement.proofs.Opening.{set_here, set_other}
 use Rattle.logged_changes.specs.Steps.{LeavesLog, HasNoLog}
 use Rattle.found_rows.specs.Pasts.{AddsAtMostOne}
 use Rattle.desks.specs.declared.desk.Desk.{Desk}
-use Rattle.desks.specs.Desks.{fresh_desk, desk_at, doing_at, with_start}
+use Rattle.desks.specs.Desks.{fresh_desk, desk_at, with_start}
 use Rattle.desks.specs.Holding.{MakesTables}
 use Rattle.held_entries.specs.Entries.{IsOwnSession, LeavesDesks}
 use Rattle.held_entries.proofs.Entering.{others_past}

@@ -1,45 +1,36 @@
 -- A table that is made, by who may write.
-use Rattle.std.proofs.Common.{◌≡◌, ◌≢◌, ℕ, zero, suc, ◌+◌, ◌*◌, ◌<◌, ◌≤◌, ◌^◌, ◌==◌, eqb, Bool, true, false, cond, Option, Some, None, List, [], ◌∷◌, ◌++◌, length, refl, sym, ap, subst, ◌∙◌, inl, inr, arith, ◌⊎◌, get_or}
+use Rattle.std.proofs.Common.{◌≡◌, ◌≢◌, ℕ, zero, suc, ◌+◌, ◌*◌, ◌<◌, ◌≤◌, ◌^◌, ◌==◌, Bool, true, false, Some, List, [], ◌∷◌, ◌++◌, length, refl, sym, ap, subst, ◌∙◌, inl, inr, arith, ◌⊎◌, get_or}
 use Rattle.std.proofs.lemmas.Option.{slice_get_within, get_or_from_slice_get}
-use Rattle.std.specs.Prelude.{slice_get, slice_set, is_some, All, option_map}
+use Rattle.std.specs.Prelude.{slice_get, is_some}
 use Rattle.std.specs.List.{list_any}
-use Rattle.std.proofs.lemmas.Bool.{cases_lt}
 use Rattle.std.proofs.lemmas.Bool.Decides.{nat_tests, eqb_tells}
-use Rattle.std.proofs.lemmas.List.{length-append, length-set, length-map}
 use Rattle.inno_types.specs.declared.value.Schema.{Schema}
 use Rattle.inno_types.specs.declared.value.Key.{Key}
 use Rattle.inno_types.specs.declared.value.Column.{Column}
 use Rattle.inno_db.specs.declared.change.Change.TheVariants.{Create}
-use Rattle.inno_model.specs.declared.event.Event.{Event}
 use Rattle.inno_model.specs.declared.event.Event.TheVariants.{Changed}
 use Rattle.inno_model.specs.Past.{is_of, own, started, under_way, of_item}
 use Rattle.inno_model.specs.Legal.{awaits_ack}
 use Rattle.entries.specs.Pairs.{Pair, value_of}
 use Rattle.entries.specs.Index.{Index}
 use Rattle.entries.specs.Lists.{empty_index}
-use Rattle.txn_table.specs.Txns.{with_id as with_txn_id}
 use Rattle.fitting_rows.specs.Storable.{IsStorable, IsKeyOn}
 use Rattle.coded_rows.specs.Edits.{clustered_index, key_index}
 use Rattle.coded_rows.specs.Tables.{HasItsColumns, HasNoPairs, AreCoded}
 use Rattle.coded_rows.proofs.Made.{a_table_more}
-use Rattle.row_versions.specs.Chains.{Chains}
 use Rattle.world.specs.State.{WorldState, Session, Work, IsSession, HasWork, index_of}
 use Rattle.world.specs.Told.{IsTold, pairs_in, pairs_of}
-use Rattle.world.specs.Sessions.{change_txn, of_txn, work_with_id, identified}
 use Rattle.world.specs.declared.undo_room.UndoRoom.{UndoRoom}
 use Rattle.undo_apply.specs.declared.work_room.WorkRoom.{WorkRoom}
 use Rattle.row_changes.specs.Told.{HasRows}
 use Rattle.world_agreement.specs.Steps.{IsChangedBy}
 use Rattle.world_agreement.proofs.Changing.{created_agrees}
-use Rattle.world_agreement.proofs.Opening.{set_here, set_other}
 use Rattle.logged_changes.specs.Logs.{LogsAgree, IsLogOf}
-use Rattle.logged_changes.specs.Pointers.{PointersApart, IsNeededBy, AreApart}
-use Rattle.engine_world.specs.Calls.{MakesTable}
+use Rattle.logged_changes.specs.Pointers.{IsNeededBy}
 use Rattle.desks.specs.declared.desk.Desk.{Desk}
-use Rattle.desks.specs.declared.desk.Doing.{Doing}
 use Rattle.desks.specs.declared.desk.Doing.TheVariants.{Nothing}
-use Rattle.desks.specs.Desks.{desk_at, doing_at, is_quiet_doing}
-use Rattle.desks.specs.Holding.{RowsHeld, RowsHeldBy, SearchHeld, IsHeld, HasRoom}
+use Rattle.desks.specs.Desks.{desk_at, doing_at}
+use Rattle.desks.specs.Holding.{RowsHeld, SearchHeld, IsHeld, HasRoom}
 use Rattle.desks.specs.Leaves.{LeavesOthers}
 use Rattle.desks.proofs.Leaving.{search_left}
 use Rattle.held_entries.proofs.Entering.{others_past, past_grows}
@@ -255,7 +246,7 @@ module _ (had : Bool) (cuts : ℕ) (undo : UndoRoom) (room : WorkRoom) (old new 
     started = started_now;
     count = held.count ∙ ap length (sym by.names);
     few = subst (λ (names : List (List ℕ)). length names ≤ 68) (sym by.names) held.few;
-    makes = sym (ap (list_any Rattle.table_lists.specs.Order.is_creation) own_now);
+    makes = sym (ap (list_any Rattle.past_agreement.specs.Order.is_creation) own_now);
     cut = omega (arith, held.cut, past_grows t old.past new.past adds);
     short = λ place. omega (arith, held.short place, past_grows t old.past new.past adds);
     whole = held.whole;

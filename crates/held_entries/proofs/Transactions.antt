@@ -1,34 +1,31 @@
 -- Transactions that open, take views, keep savepoints and end.
 use Rattle.std.proofs.Common.{◌≡◌, ◌≢◌, ⊎_elim, ℕ, ◌+◌, ◌<◌, ◌≤◌, ◌^◌, ◌==◌, eqb, Bool, true, false, cond, Option, Some, None, List, [], ◌∷◌, length, refl, sym, ap, subst, ◌∙◌, inl, inr, arith, ◌⊎◌, eq-eqb}
-use Rattle.std.specs.Prelude.{slice_get, slice_set, is_some, option_map}
+use Rattle.std.specs.Prelude.{slice_get, slice_set, option_map}
 use Rattle.std.proofs.lemmas.Bool.Decides.{nat_tests, eqb_tells}
-use Rattle.std.proofs.lemmas.List.{length-set, length-map}
+use Rattle.std.proofs.lemmas.List.{length-map}
 use Rattle.std.proofs.lemmas.Option.{slice_get-map}
 use Rattle.inno_types.specs.declared.lock.Level.{Level}
 use Rattle.inno_model.specs.declared.event.Event.{Event}
 use Rattle.inno_model.specs.declared.event.Event.TheVariants.{Begin, View, Committed, RolledBack}
-use Rattle.inno_model.specs.Past.{is_of, own, started, under_way, of_item}
+use Rattle.inno_model.specs.Past.{is_of, own, started, of_item}
 use Rattle.inno_model.specs.Legal.{awaits_ack, IsClosed}
-use Rattle.sql_history.specs.Settings.{at_begin, at_end, saved}
-use Rattle.table_lists.specs.State.{writer_without}
-use Rattle.table_lists.proofs.Ids.{ids_of}
+use Rattle.sql_history.specs.Settings.{at_end, saved}
+use Rattle.past_agreement.specs.Slots.{writer_without}
+use Rattle.past_agreement.proofs.Ids.{ids_of}
 use Rattle.txn_table.specs.Txns.{ids_of as listed_ids}
 use Rattle.world.specs.State.{WorldState, Session, Work, IsSession, HasWork}
 use Rattle.world.specs.Told.{IsTold}
 use Rattle.world.specs.Sessions.{fresh_work, of_txn, change_txn, with_save}
 use Rattle.world.specs.declared.undo_room.UndoRoom.{UndoRoom}
 use Rattle.undo_apply.specs.declared.work_room.WorkRoom.{WorkRoom}
-use Rattle.world_agreement.specs.Steps.{opened, viewed, committed, rolled_back, session_begun, IsEntered as IsSettled}
+use Rattle.world_agreement.specs.Steps.{opened, viewed, committed, rolled_back, session_begun}
 use Rattle.world_agreement.proofs.Opening.{set_here, set_other, opened_agrees, viewed_agrees}
-use Rattle.world_agreement.proofs.Ending.{one_session_of, committed_agrees, rolled_back_agrees, work_of}
+use Rattle.world_agreement.proofs.Ending.{one_session_of, committed_agrees, rolled_back_agrees}
 use Rattle.world_agreement.proofs.Entries.{unentered_agrees}
-use Rattle.world_agreement.specs.Agreement.{Agrees}
-use Rattle.logged_changes.specs.Steps.{LeavesLog, HasNoLog}
 use Rattle.desks.specs.declared.desk.Desk.{Desk}
 use Rattle.desks.specs.declared.desk.Doing.TheVariants.{Nothing}
-use Rattle.desks.specs.Desks.{desk_at, doing_at}
+use Rattle.desks.specs.Desks.{doing_at}
 use Rattle.desks.specs.Holding.{MakesTables, IsHeld}
-use Rattle.held_entries.specs.Entries.{HasSameRows, IsEntered}
 use Rattle.held_entries.proofs.Entering.{entered}
 use Rattle.held_entries.proofs.Sessions.{own_session, same_log, same_writer, closed_desks, same_makes}
 
@@ -202,7 +199,7 @@ module _ (writer : Option ℕ) (made : Bool) (cuts : ℕ) (undo : UndoRoom) (roo
               subst (λ b. MakesTables (cond b None (Some w)) bool past) (sym differ.0)
               (theirs (λ same. differ.1 (some_number w t (sym was ∙ same)))
               ∙ subst (λ o. MakesTables o made old.past) was held.makes
-              ∙ ap (Rattle.std.specs.List.list_any Rattle.table_lists.specs.Order.is_creation) (sym (others w differ.1)))
+              ∙ ap (Rattle.std.specs.List.list_any Rattle.past_agreement.specs.Order.is_creation) (sym (others w differ.1)))
         ]
           where
             some_number : (a b : ℕ) → Some a ≡ Some b → a ≡ b

@@ -12,7 +12,7 @@ ghost use Rattle.desks.specs.declared.desk.Doing.TheVariants.{Nothing};
 ghost use Rattle.desks.specs.Desks.{doing_at};
 ghost use Rattle.desks.specs.Holding.{IsHeld};
 ghost use Rattle.held_entries.specs.Entries.{IsEntered};
-ghost use Rattle.held_entries.specs.Seen.{seen_of};
+ghost use Rattle.desks.specs.Shown.{seen_of};
 
 /// An entry of a session that has nothing under way leaves all that is held.
 pub fn an_entry_leaves_what_is_held()

@@ -13,7 +13,7 @@ use Rattle.coded_rows.specs.Tables.{Said, what_is_there, in_table}
 use Rattle.sql_plan.specs.declared.choice.Plan.{Plan}
 use Rattle.sql_plan.specs.Plans.{whole_index}
 use Rattle.sql_plan.specs.Visits.{is_within, index_key}
-use Rattle.table_lists.specs.Rows.{seen}
+use Rattle.past_agreement.specs.Rows.{seen}
 use Rattle.tables_as_db.specs.Tables.{with_all_tables}
 use Rattle.world.specs.State.{WorldState}
 use Rattle.world.specs.Told.{IsTold, pairs_of}

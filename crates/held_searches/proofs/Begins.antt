@@ -8,8 +8,8 @@ use Rattle.inno_model.specs.Legal.{IsOpen}
 use Rattle.sql_plan.specs.declared.choice.Plan.{Plan}
 use Rattle.row_versions.specs.Chains.{Chains}
 use Rattle.coded_rows.specs.Tables.{HasItsColumns}
-use Rattle.table_lists.specs.Rows.{place_in}
-use Rattle.table_lists.specs.Agreement.{SlotAgrees, WorkAgrees, ViewAgrees}
+use Rattle.past_agreement.specs.Rows.{place_in}
+use Rattle.past_agreement.specs.Agreement.{SlotAgrees, WorkAgrees, ViewAgrees}
 use Rattle.world.specs.State.{WorldState, Session, Work, Seen, id_of, standing_of}
 use Rattle.world.specs.Sessions.{IsShown}
 use Rattle.world.specs.Told.{IsTold}

@@ -2,7 +2,6 @@
 use Rattle.std.proofs.Common.{◌≡◌, inl, inr, ℕ, ◌<◌, List, length, Option, refl, sym, ap, subst, ◌∙◌}
 use Rattle.std.proofs.lemmas.Bool.{cases_lt}
 use Rattle.std.proofs.lemmas.List.{get_or_past}
-use Rattle.std.proofs.Math.ListN.{get_or-map}
 use Rattle.inno_types.specs.declared.value.Schema.{Schema}
 use Rattle.chain.specs.declared.kept.Kept.{Kept}
 use Rattle.sql_plan.specs.declared.choice.Plan.{Plan}
@@ -21,16 +20,14 @@ use Rattle.desks.specs.declared.desk.Doing.{Doing}
 use Rattle.desks.specs.declared.desk.Doing.TheVariants.{Nothing, Searching, Changing, Lagging, Undoing}
 use Rattle.desks.specs.declared.desk.TableSearch.{TableSearch}
 use Rattle.desks.specs.Desks.{fresh_desk, doing_at, with_doing}
-use Rattle.desks.specs.Shown.{shown, lists_of, reading_of}
+use Rattle.desks.specs.Shown.{shown, lists_of, reading_of, seen_of}
 use Rattle.desks.specs.Undoing.{undo_left_in}
+use Rattle.desks.proofs.Showing.{task_is}
 use Rattle.held_searches.specs.Begun.{IsBegun}
 use Rattle.held_searches.specs.Moving.{MovesPlaces}
-use Rattle.held_searches.specs.TakenUp.{IsSearchOf, lists_now}
+use Rattle.held_searches.specs.TakenUp.{IsSearchOf}
 use Rattle.held_searches.proofs.Places.{none_moves}
 use Rattle.held_searches.proofs.AtDesks.{doing_here, doing_other}
-
-pub task_is : (s left : ℕ) (state : WorldState) (writer : Option ℕ) (desks : List Desk) → task_of s (lists_of state writer desks left).state ≡ shown state.schemas left (doing_at s desks)
-task_is s left state writer desks = get_or-map (λ (desk : Desk). shown state.schemas left desk.doing) desks s fresh_desk
 
 pub left_stays : (s table : ℕ) (stage : Stage) (old new : WorldState) → MovesPlaces s old new → IsTold new → undo_left_in table stage new ≡ undo_left_in table stage old
 left_stays s table stage old new moves told =
@@ -63,14 +60,14 @@ module _ (s left : ℕ) (old new : WorldState) (writer : Option ℕ) (desks : Li
     rest_stays = (ap (λ (state : WorldState). (lists_of state writer desks left).settings) moves.rest, ap (λ (state : WorldState). state.rows) moves.rest)
 
   -- with what is left of a change that is being taken back
-  pub lists_now_stay : (table : ℕ) (stage : Stage) → left ≡ undo_left_in table stage old → IsTold new → lists_now table stage new writer desks ≡ lists_now table stage old writer desks
-  lists_now_stay table stage is told =
+  pub seen_stay : (table : ℕ) (stage : Stage) → left ≡ undo_left_in table stage old → IsTold new → seen_of table stage new writer desks ≡ seen_of table stage old writer desks
+  seen_stay table stage is told =
       ap (lists_of new writer desks) (left_stays s table stage old new moves told ∙ sym is) ∙ (lists_stay ∙ ap (lists_of old writer desks) is)
 
 pub turns_now : (s table : ℕ) (stage : Stage) (old new : WorldState) (writer : Option ℕ) (desks : List Desk) (doing : Doing) → s < length desks → MovesPlaces s old new → IsTold new
-    → Turns s (shown old.schemas (undo_left_in table stage old) doing) (lists_now table stage old writer desks).state (lists_now table stage new writer (with_doing s doing desks)).state
+    → Turns s (shown old.schemas (undo_left_in table stage old) doing) (seen_of table stage old writer desks).state (seen_of table stage new writer (with_doing s doing desks)).state
 turns_now s table stage old new writer desks doing within moves told =
-    subst (λ (left : ℕ). Turns s (shown old.schemas (undo_left_in table stage old) doing) (lists_now table stage old writer desks).state (lists_of new writer (with_doing s doing desks) left).state) (sym (left_stays s table stage old new moves told))
+    subst (λ (left : ℕ). Turns s (shown old.schemas (undo_left_in table stage old) doing) (seen_of table stage old writer desks).state (lists_of new writer (with_doing s doing desks) left).state) (sym (left_stays s table stage old new moves told))
     (turns s (undo_left_in table stage old) old new writer desks moves doing within)
 
 -- ---- a search as a task
@@ -81,13 +78,6 @@ search_shown left schemas Nothing table plan reading is = absurd (cc)
 search_shown left schemas (Changing change) table plan reading is = absurd (cc)
 search_shown left schemas Lagging table plan reading is = absurd (cc)
 search_shown left schemas Undoing table plan reading is = absurd (cc)
-
-pub idle_shown : (left : ℕ) (schemas : List Schema) (doing : Doing) → shown schemas left doing ≡ tasks.Idle → doing ≡ Nothing
-idle_shown left schemas Nothing is = refl
-idle_shown left schemas (Searching on) is = absurd (cc)
-idle_shown left schemas (Changing change) is = absurd (cc)
-idle_shown left schemas Lagging is = absurd (cc)
-idle_shown left schemas Undoing is = absurd (cc)
 
 begun_shown : (table left : ℕ) (schemas : List Schema) (plan : Plan) (sight : Sight) (schema : Schema) (cuts : ℕ) (on : TableSearch) → IsBegun table plan sight schema cuts on
     → shown schemas left (Searching on) ≡ tasks.Searching table plan (reading_of sight)
@@ -115,16 +105,16 @@ has_desk s desks on is = elim (cases_lt s (length desks)) [
 
 module _ (s table : ℕ) (stage : Stage) (writer : Option ℕ) (desks : List Desk) where
   pub turns_to_search : (state : WorldState) (searched cuts : ℕ) (plan : Plan) (sight : Sight) (schema : Schema) (on : TableSearch) → s < length desks → IsBegun searched plan sight schema cuts on
-      → Turns s (tasks.Searching searched plan (reading_of sight)) (lists_now table stage state writer desks).state (lists_now table stage state writer (with_doing s (Searching on) desks)).state
+      → Turns s (tasks.Searching searched plan (reading_of sight)) (seen_of table stage state writer desks).state (seen_of table stage state writer (with_doing s (Searching on) desks)).state
   turns_to_search state searched cuts plan sight schema on within is =
-      subst (λ (task : Task). Turns s task (lists_now table stage state writer desks).state (lists_now table stage state writer (with_doing s (Searching on) desks)).state)
+      subst (λ (task : Task). Turns s task (seen_of table stage state writer desks).state (seen_of table stage state writer (with_doing s (Searching on) desks)).state)
       (begun_shown searched (undo_left_in table stage state) state.schemas plan sight schema cuts on is)
       (turns s (undo_left_in table stage state) state state writer desks (none_moves s state) (Searching on) within)
 
   pub searches_on : (old new : WorldState) (cuts : ℕ) (on : TableSearch) (next : RowSearch) → doing_at s desks ≡ Searching on → MovesPlaces s old new → IsSameScan on.search.scan next.scan → IsTold new
-      → Turns s (task_of s (lists_now table stage old writer desks).state) (lists_now table stage old writer desks).state (lists_now table stage new writer (with_doing s (Searching (record on { search = next; cuts = cuts })) desks)).state
+      → Turns s (task_of s (seen_of table stage old writer desks).state) (seen_of table stage old writer desks).state (seen_of table stage new writer (with_doing s (Searching (record on { search = next; cuts = cuts })) desks)).state
   searches_on old new cuts on next is moves same told =
-      subst (λ (task : Task). Turns s task (lists_now table stage old writer desks).state (lists_now table stage new writer (with_doing s (Searching (record on { search = next; cuts = cuts })) desks)).state)
+      subst (λ (task : Task). Turns s task (seen_of table stage old writer desks).state (seen_of table stage new writer (with_doing s (Searching (record on { search = next; cuts = cuts })) desks)).state)
       (same_shown (undo_left_in table stage old) cuts old.schemas on next same
       ∙ (ap (shown old.schemas (undo_left_in table stage old)) (sym is) ∙ sym (task_is s (undo_left_in table stage old) old writer desks)))
       (turns_now s table stage old new writer desks (Searching (record on { search = next; cuts = cuts })) (has_desk s desks on is) moves told)

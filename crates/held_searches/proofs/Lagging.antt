@@ -13,7 +13,7 @@ use Rattle.row_versions.specs.declared.version.Version.{Version}
 use Rattle.row_versions.specs.Chains.{Chains, versions_at, is_same_place}
 use Rattle.coded_rows.specs.Tables.{Said, HasItsColumns, AreCodedAs, LagAt, in_table, what_is_there}
 use Rattle.coded_rows.proofs.Values.{same_place, one_key}
-use Rattle.table_lists.specs.Rows.{place_in}
+use Rattle.past_agreement.specs.Rows.{place_in}
 use Rattle.world.specs.State.{WorldState, Logged}
 use Rattle.world.specs.Told.{IsTold, pairs_of}
 use Rattle.row_changes.specs.declared.keys_change.KeysChange.{KeysChange}

@@ -8,7 +8,7 @@ use Rattle.row_versions.specs.declared.place.Place.{Place}
 use Rattle.row_versions.specs.declared.version.Version.{Version}
 use Rattle.row_versions.specs.Chains.{Chains, versions_at}
 use Rattle.coded_rows.specs.Tables.{Said, HasItsColumns, AreCoded, in_table, what_is_there}
-use Rattle.table_lists.specs.Ids.{id_of}
+use Rattle.past_agreement.specs.Ids.{id_of}
 use Rattle.world.specs.State.{WorldState, Logged}
 use Rattle.world.specs.Told.{IsTold, pairs_of}
 use Rattle.world_agreement.specs.Agreement.{Agrees}

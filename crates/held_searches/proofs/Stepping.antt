@@ -10,9 +10,9 @@ use Rattle.entries.specs.declared.answers.Move.{Move}
 use Rattle.entries.specs.Calls.{Leaves}
 use Rattle.row_versions.specs.Chains.{Chains}
 use Rattle.coded_rows.specs.Tables.{in_table}
-use Rattle.table_lists.specs.Order.{created}
-use Rattle.table_lists.specs.Rows.{seen}
-use Rattle.table_lists.specs.Agreement.{WriterAgrees}
+use Rattle.past_agreement.specs.Order.{created}
+use Rattle.past_agreement.specs.Rows.{seen}
+use Rattle.past_agreement.specs.Agreement.{WriterAgrees}
 use Rattle.tables_as_db.specs.Tables.{with_all_tables}
 use Rattle.world.specs.State.{WorldState}
 use Rattle.world.specs.Told.{IsTold, pairs_of}

@@ -12,10 +12,10 @@ use Rattle.row_versions.specs.declared.place.Place.{Place}
 use Rattle.row_versions.specs.declared.version.Version.{Version}
 use Rattle.row_versions.specs.Chains.{Chains, versions_at, sees}
 use Rattle.coded_rows.proofs.Values.{place_itself}
-use Rattle.table_lists.specs.Ids.{id_of}
-use Rattle.table_lists.specs.Rows.{is_at, is_place, row_of}
-use Rattle.table_lists.specs.Agreement.{AreVersionsBy, ViewAgrees, versions_of}
-use Rattle.table_lists.proofs.Ids.{AreIds, ids_of}
+use Rattle.past_agreement.specs.Ids.{id_of}
+use Rattle.past_agreement.specs.Rows.{is_at, is_place, row_of}
+use Rattle.past_agreement.specs.Agreement.{AreVersionsBy, ViewAgrees, versions_of}
+use Rattle.past_agreement.proofs.Ids.{AreIds, ids_of}
 use Rattle.world.specs.State.{WorldState, Logged}
 use Rattle.world_agreement.specs.Agreement.{sight_of, Agrees}
 use Rattle.world_agreement.proofs.Ending.{work_of}

@@ -1,5 +1,5 @@
--- The search of which a session's next step is one, and what callers see of it.
-use Rattle.std.specs.Prelude.{◌≡◌, ◌⊎◌, ℕ, List, Option}
+-- The search of which a session's next step is one.
+use Rattle.std.specs.Prelude.{◌≡◌, ◌⊎◌, ℕ}
 use Rattle.inno_types.specs.declared.value.Schema.{Schema}
 use Rattle.sql_plan.specs.declared.choice.Plan.{Plan}
 use Rattle.world.specs.State.{WorldState, IsIndex, index_of}
@@ -7,15 +7,11 @@ use Rattle.row_search.specs.declared.search.RowSearch.{RowSearch}
 use Rattle.row_search.specs.Searches.{IsSearching}
 use Rattle.row_search.specs.Tables.{HoldsTable}
 use Rattle.row_search.specs.Others.{KeepsFound, KeepsSearching, NeedsNoVersion}
-use Rattle.undo_apply.specs.declared.work_room.Stage.{Stage}
 use Rattle.shared_lists.specs.declared.answers.Reading.{Reading}
-use Rattle.shared_lists.specs.State.{Lists}
-use Rattle.desks.specs.declared.desk.Desk.{Desk}
 use Rattle.desks.specs.declared.desk.Doing.{Doing}
 use Rattle.desks.specs.declared.desk.Doing.TheVariants.{Searching}
 use Rattle.desks.specs.declared.desk.TableSearch.{TableSearch}
-use Rattle.desks.specs.Shown.{lists_of, reading_of}
-use Rattle.desks.specs.Undoing.{undo_left_in}
+use Rattle.desks.specs.Shown.{reading_of}
 
 -- the search as it comes to its pair anew
 pub record ComesAnew (search anew : RowSearch) : Type 0 where
@@ -41,7 +37,3 @@ plan_of on = record { which = on.search.scan.which; range = on.search.scan.range
 -- the session is at a search of this table, by this plan
 abbrev pub IsSearchOf : Doing → ℕ → Plan → Reading → Type 0
 IsSearchOf doing table plan reading = (on : TableSearch) × (doing ≡ Searching on) × (table ≡ on.search.scan.table) × (plan ≡ plan_of on) × (reading ≡ reading_of on.search.scan.sight)
-
--- what callers see of a world and its desks, where a change of this table is being taken back so far
-abbrev pub lists_now : ℕ → Stage → WorldState → Option ℕ → List Desk → Lists
-lists_now table stage state writer desks = lists_of state writer desks (undo_left_in table stage state)

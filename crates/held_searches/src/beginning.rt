@@ -5,7 +5,7 @@ ghost use Rattle.inno_types.specs.declared.value.Schema.{Schema};
 ghost use Rattle.inno_model.specs.Past.{view_of};
 ghost use Rattle.inno_model.specs.Legal.{IsOpen};
 ghost use Rattle.sql_plan.specs.declared.choice.Plan.{Plan};
-ghost use Rattle.table_lists.specs.Order.{created};
+ghost use Rattle.past_agreement.specs.Order.{created};
 ghost use Rattle.world.specs.State.{WorldState, standing_of};
 ghost use Rattle.world.specs.Sessions.{IsShown};
 ghost use Rattle.world.specs.Told.{IsTold};

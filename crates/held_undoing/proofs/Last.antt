@@ -10,9 +10,9 @@ use Rattle.inno_model.specs.declared.event.Event.TheVariants.{Undone}
 use Rattle.inno_model.specs.Past.{own}
 use Rattle.row_versions.specs.declared.place.Place.{Place}
 use Rattle.row_versions.specs.Chains.{Chains}
-use Rattle.table_lists.specs.Order.{IsOfRow, is_creation}
-use Rattle.table_lists.specs.Rows.{place_in}
-use Rattle.table_lists.specs.Agreement.{WriterAgrees}
+use Rattle.past_agreement.specs.Order.{IsOfRow, is_creation}
+use Rattle.past_agreement.specs.Rows.{place_in}
+use Rattle.past_agreement.specs.Agreement.{WriterAgrees}
 use Rattle.world.specs.State.{WorldState}
 use Rattle.world_agreement.specs.Agreement.{Agrees}
 use Rattle.logged_changes.specs.Logs.{IsAlone}

@@ -14,9 +14,9 @@ use Rattle.entries.specs.declared.answers.Move.TheVariants.{Done}
 use Rattle.store_api.specs.declared.answers.Undo.{Undo}
 use Rattle.row_versions.specs.declared.place.Place.{Place}
 use Rattle.row_versions.specs.Chains.{Chains}
-use Rattle.table_lists.specs.Order.{IsOfRow, IsUndoable, MayCome}
-use Rattle.table_lists.specs.Rows.{place_in}
-use Rattle.table_lists.specs.Agreement.{SlotAgrees, WriterAgrees}
+use Rattle.past_agreement.specs.Order.{IsOfRow, IsUndoable, MayCome}
+use Rattle.past_agreement.specs.Rows.{place_in}
+use Rattle.past_agreement.specs.Agreement.{SlotAgrees, WriterAgrees}
 use Rattle.world.specs.State.{WorldState, Session, Work, Logged, HasWork}
 use Rattle.world.specs.Told.{IsTold, LeavesRows}
 use Rattle.world.specs.declared.undo_room.UndoRoom.{UndoRoom}

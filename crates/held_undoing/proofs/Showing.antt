@@ -1,12 +1,11 @@
 -- What callers see of a change that is taken back: the session's own task alone has changed.
 use Rattle.std.proofs.Common.{◌≡◌, ◌≢◌, ◌⊎◌, inl, inr, ℕ, ◌^◌, ◌<◌, Bool, true, false, List, ◌∷◌, length, map, Option, Some, refl, sym, ap, subst, ◌∙◌}
-use Rattle.std.proofs.Math.ListN.{get_or-map}
 use Rattle.inno_types.specs.declared.value.Schema.{Schema}
 use Rattle.inno_model.specs.declared.event.Event.{Event}
 use Rattle.inno_model.specs.declared.event.Event.TheVariants.{Undone}
 use Rattle.entries.specs.declared.answers.Move.{Move}
 use Rattle.entries.specs.declared.answers.Move.TheVariants.{Done, Step}
-use Rattle.table_lists.specs.Order.{MayCome}
+use Rattle.past_agreement.specs.Order.{MayCome}
 use Rattle.world.specs.State.{WorldState, Session, Work, HasWork}
 use Rattle.world.specs.Sessions.{undone_added}
 use Rattle.world.specs.declared.undo_room.UndoRoom.{UndoRoom}
@@ -17,10 +16,11 @@ use Rattle.engine_world.specs.Memory.{IsInMemory}
 use Rattle.desks.specs.declared.desk.Desk.{Desk}
 use Rattle.desks.specs.declared.desk.Doing.{Doing}
 use Rattle.desks.specs.declared.desk.Doing.TheVariants.{Nothing, Searching, Changing, Lagging, Undoing}
-use Rattle.desks.specs.Desks.{fresh_desk, doing_at, with_doing, is_quiet_doing}
+use Rattle.desks.specs.Desks.{doing_at, with_doing, is_quiet_doing}
 use Rattle.desks.specs.Shown.{shown, lists_of}
 use Rattle.desks.specs.Undoing.{undo_left_in}
 use Rattle.desks.specs.Holding.{IsHeld}
+use Rattle.desks.proofs.Showing.{task_is}
 use Rattle.shared_lists.specs.Tasks.{Task, MayTakeBack, undo_to_go}
 use Rattle.shared_lists.specs.Tasks as tasks
 use Rattle.shared_lists.specs.State.{task_of, IsNow, Turns}
@@ -33,9 +33,6 @@ use Rattle.held_undoing.proofs.Reading.{may_write, few_begun}
 use Rattle.held_undoing.proofs.TakenBack.{past_now, names_now, schemas_now, count_rows_now, settings_now}
 
 -- ---- tasks
-
-pub task_is : (state : WorldState) (writer : Option ℕ) (desks : List Desk) (left t : ℕ) → task_of t (lists_of state writer desks left).state ≡ shown state.schemas left (doing_at t desks)
-task_is state writer desks left t = get_or-map (λ (desk : Desk). shown state.schemas left desk.doing) desks t fresh_desk
 
 -- of a session that takes nothing back it doesn't show how much is left
 shown_quiet : (schemas : List Schema) (left now : ℕ) (doing : Doing) → is_quiet_doing doing ≡ true → shown schemas now doing ≡ shown schemas left doing
@@ -55,13 +52,13 @@ shows_now s doing past old new writer desks later left now mine quiet gives name
   names_are = names;
   past_is = is;
   writer_is = refl;
-  task_is = task_is new writer later now s ∙ ap (shown new.schemas now) gives.here ∙ shows;
+  task_is = task_is s now new writer later ∙ ap (shown new.schemas now) gives.here ∙ shows;
   others = λ t differs.
-      task_is new writer later now t
+      task_is t now new writer later
       ∙ ap (shown new.schemas now) (gives.others t differs)
       ∙ ap (λ (x : List Schema). shown x now (doing_at t desks)) schemas
       ∙ shown_quiet old.schemas left now (doing_at t desks) (quiet t (λ is. differs (some_same t s (sym is ∙ mine))))
-      ∙ sym (task_is old writer desks left t);
+      ∙ sym (task_is t left old writer desks);
 }
 
 pub ready_if : (state : WorldState) (writer : Option ℕ) (desks : List Desk) (left s : ℕ) → MayTakeBack (task_of s (lists_of state writer desks left).state) → IsReady (doing_at s desks) ⊎ (doing_at s desks ≡ Undoing)
@@ -70,8 +67,8 @@ ready_if state writer desks left s may = go (doing_at s desks) refl where
   go Nothing is = inl (subst IsReady (sym is) (record {}))
   go Lagging is = inl (subst IsReady (sym is) (record {}))
   go Undoing is = inr is
-  go (Searching on) is = absurd (subst MayTakeBack (task_is state writer desks left s ∙ ap (shown state.schemas left) is) may)
-  go (Changing change) is = absurd (subst MayTakeBack (task_is state writer desks left s ∙ ap (shown state.schemas left) is) may)
+  go (Searching on) is = absurd (subst MayTakeBack (task_is s left state writer desks ∙ ap (shown state.schemas left) is) may)
+  go (Changing change) is = absurd (subst MayTakeBack (task_is s left state writer desks ∙ ap (shown state.schemas left) is) may)
 
 -- all of it is to go yet
 ready_to_go : (schemas : List Schema) (left : ℕ) (doing : Doing) → IsReady doing → undo_to_go (shown schemas left doing) ≡ 2 ^ 70
@@ -95,7 +92,7 @@ module _ (s keep : ℕ) (old new : WorldState) (writer : Option ℕ) (desks late
       shows_now s Undoing old.past old new writer desks later left now mine quiet gives (ap (λ (state : WorldState). state.names) rest) (ap (λ (state : WorldState). state.schemas) rest) (ap (λ (state : WorldState). state.past) rest) task shows
 
   task_now : task_of s (lists_of new writer later now).state ≡ tasks.Undoing now
-  task_now = task_is new writer later now s ∙ ap (shown new.schemas now) gives.here
+  task_now = task_is s now new writer later ∙ ap (shown new.schemas now) gives.here
 
   pub seen_went : now < undo_to_go (task_of s (lists_of old writer desks left).state) → TakesBackIn s keep (lists_of old writer desks left) (lists_of new writer later now) undone.Went
   seen_went nearer = record {
@@ -110,7 +107,7 @@ module _ (s keep : ℕ) (old new : WorldState) (writer : Option ℕ) (desks late
 
   pub seen_hindered : doing_at s desks ≡ Undoing → now ≡ left → TakesBackIn s keep (lists_of old writer desks left) (lists_of new writer later now) undone.NoMemory
   seen_hindered busy same = record {
-    takes = turned (task_of s (lists_of old writer desks left).state) (ap tasks.Undoing same ∙ sym (task_is old writer desks left s ∙ ap (shown old.schemas left) busy));
+    takes = turned (task_of s (lists_of old writer desks left).state) (ap tasks.Undoing same ∙ sym (task_is s left old writer desks ∙ ap (shown old.schemas left) busy));
     settings = settings_same;
     rows = count_same;
   }
@@ -122,7 +119,7 @@ pub shows_begun : (s keep : ℕ) (old new : WorldState) (writer : Option ℕ) (m
 shows_begun s keep old new writer made desks cuts undo read room there held joined ready may memory reads =
     let left = undo_left_in undo.table room.stage old in
     let few = few_begun s keep old new writer made desks cuts undo read room there held may reads joined ready memory in
-    let all : undo_to_go (task_of s (lists_of old writer desks left).state) ≡ 2 ^ 70 = ap undo_to_go (task_is old writer desks left s) ∙ ready_to_go old.schemas left (doing_at s desks) ready in
+    let all : undo_to_go (task_of s (lists_of old writer desks left).state) ≡ 2 ^ 70 = ap undo_to_go (task_is s left old writer desks) ∙ ready_to_go old.schemas left (doing_at s desks) ready in
     seen_went s keep old new writer desks (with_doing s Undoing desks) left (undo_left_in read.table room.stage new) (may_write s keep old writer made desks cuts undo room held may) held.quiet (given s Undoing desks joined) reads.1.rest
     (subst (λ (n : ℕ). undo_left_in read.table room.stage new < n) (sym all) few)
 
@@ -137,7 +134,7 @@ module _ (s keep : ℕ) (old new : WorldState) (writer : Option ℕ) (made : Boo
   by_me = mine s old new writer made desks cuts undo room next held busy
 
   to_go : undo_to_go (task_of s (lists_of old writer desks was).state) ≡ was
-  to_go = ap undo_to_go (task_is old writer desks was s ∙ ap (shown old.schemas was) busy)
+  to_go = ap undo_to_go (task_is s was old writer desks ∙ ap (shown old.schemas was) busy)
 
   pub shows_went : IsInMemory old → IsInMemory new → HasPutBack s (read_into undo) room next old new Step → TakesBackIn s keep (lists_held old writer desks undo room) (lists_held new writer desks undo next) undone.Went
   shows_went memory later put =

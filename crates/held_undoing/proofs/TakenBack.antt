@@ -16,8 +16,8 @@ use Rattle.entries.specs.declared.answers.Move.TheVariants.{Done}
 use Rattle.entries.specs.Index.{AreKept, Index}
 use Rattle.store_api.specs.declared.answers.Undo.{Undo}
 use Rattle.row_versions.specs.Chains.{Chains, Pops}
-use Rattle.table_lists.specs.Order.{IsOfRow}
-use Rattle.table_lists.proofs.Rows.{own_undone}
+use Rattle.past_agreement.specs.Order.{IsOfRow}
+use Rattle.past_agreement.proofs.Rows.{own_undone}
 use Rattle.world.specs.State.{WorldState, Session, Work, Logged, IsSession, HasWork, standing_of}
 use Rattle.world.specs.Told.{LeavesRows}
 use Rattle.world.specs.Sessions.{undone_added}

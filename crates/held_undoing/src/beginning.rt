@@ -4,7 +4,7 @@ ghost use Rattle.std.specs.Prelude.{◌≡◌, ℕ, ◌^◌, ◌<◌, Bool, true
 ghost use Rattle.inno_model.specs.declared.event.Event.TheVariants.{Undone};
 ghost use Rattle.entries.specs.declared.answers.Move.{Move};
 ghost use Rattle.entries.specs.declared.answers.Move.TheVariants.{Done};
-ghost use Rattle.table_lists.specs.Order.{MayCome};
+ghost use Rattle.past_agreement.specs.Order.{MayCome};
 ghost use Rattle.world.specs.State.{WorldState};
 ghost use Rattle.world.specs.declared.undo_room.UndoRoom.{UndoRoom};
 ghost use Rattle.world.specs.Undoing.{read_into, ReadsLast};

@@ -4,7 +4,7 @@ ghost use Rattle.std.specs.Prelude.{◌≡◌, ◌≢◌, ◌⊎◌, ℕ, ◌<�
 ghost use Rattle.inno_model.specs.declared.event.Event.TheVariants.{Undone};
 ghost use Rattle.entries.specs.declared.answers.Move.{Move};
 ghost use Rattle.entries.specs.declared.answers.Move.TheVariants.{Done, Step};
-ghost use Rattle.table_lists.specs.Order.{MayCome};
+ghost use Rattle.past_agreement.specs.Order.{MayCome};
 ghost use Rattle.world.specs.State.{WorldState, Session, Work, HasWork};
 ghost use Rattle.world.specs.Sessions.{undone_added};
 ghost use Rattle.world.specs.declared.undo_room.UndoRoom.{UndoRoom};

@@ -16,7 +16,7 @@ use Rattle.coded_rows.specs.Records.{shown}
 use Rattle.coded_rows.specs.Tables.{Said, in_table, AreCodedAs, LagAt, what_is_there}
 use Rattle.coded_rows.proofs.Values.{one_key, same_place}
 use Rattle.coded_rows.proofs.Keys.{said_alike}
-use Rattle.table_lists.specs.Rows.{place_in}
+use Rattle.past_agreement.specs.Rows.{place_in}
 use Rattle.world.specs.State.{WorldState, Logged}
 use Rattle.world.specs.Told.{IsTold, pairs_of}
 use Rattle.row_changes.specs.declared.entry_put.EntryPut.{EntryPut}

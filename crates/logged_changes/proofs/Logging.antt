@@ -22,7 +22,7 @@ use Rattle.coded_rows.specs.Edits.{clustered_index, Puts}
 use Rattle.coded_rows.specs.Records.{IsCodeOf, KeepsMore}
 use Rattle.coded_rows.specs.Tables.{AreClustered}
 use Rattle.coded_rows.proofs.Pairs.{at_index, value_now}
-use Rattle.table_lists.specs.Rows.{place_in}
+use Rattle.past_agreement.specs.Rows.{place_in}
 use Rattle.world.specs.State.{WorldState, Session, Work, Logged, HasWork}
 use Rattle.world.specs.Indexes.{IsUndo, KeepsVersion}
 use Rattle.world.specs.Told.{IsTold, pairs_of}

@@ -13,7 +13,7 @@ use Rattle.store_api.specs.declared.answers.Undo.{Undo}
 use Rattle.entries.specs.Pairs.{key_cmp}
 use Rattle.chain.specs.declared.kept.Kept.{Kept}
 use Rattle.row_versions.specs.declared.place.Place.{Place}
-use Rattle.table_lists.specs.Rows.{place_in}
+use Rattle.past_agreement.specs.Rows.{place_in}
 use Rattle.world.specs.State.{Logged}
 use Rattle.world.specs.Indexes.{KeepsAsSaid}
 use Rattle.undo_apply.specs.Standing.{TellsOf, LeadsBack, was_before}

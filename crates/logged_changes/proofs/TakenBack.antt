@@ -11,7 +11,7 @@ use Rattle.row_versions.specs.Chains.{Chains, Pops}
 use Rattle.coded_rows.specs.Edits.{clustered_index, Puts}
 use Rattle.coded_rows.specs.Records.{LeadTo}
 use Rattle.coded_rows.specs.Tables.{AreClustered}
-use Rattle.table_lists.specs.Rows.{place_in}
+use Rattle.past_agreement.specs.Rows.{place_in}
 use Rattle.world.specs.State.{WorldState, Session, Work, Logged, HasWork}
 use Rattle.world.specs.Told.{IsTold, pairs_of}
 use Rattle.row_changes.specs.Told.{HasRows}

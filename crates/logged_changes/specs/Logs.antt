@@ -14,7 +14,7 @@ use Rattle.chain.specs.declared.kept.Kept.{Kept}
 use Rattle.row_versions.specs.declared.place.Place.{Place}
 use Rattle.coded_rows.specs.Edits.{clustered_index}
 use Rattle.coded_rows.specs.Records.{IsCodeOf}
-use Rattle.table_lists.specs.Rows.{place_in}
+use Rattle.past_agreement.specs.Rows.{place_in}
 use Rattle.world.specs.State.{WorldState, Session, Work, Logged, HasWork}
 use Rattle.world.specs.Told.{IsTold, pairs_of}
 use Rattle.undo_apply.specs.Standing.{TellsOf, LeadsBack, was_before}

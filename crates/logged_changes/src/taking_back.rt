@@ -8,7 +8,7 @@ ghost use Rattle.entries.specs.declared.answers.Move.{Move};
 ghost use Rattle.entries.specs.declared.answers.Move.TheVariants.{Done};
 ghost use Rattle.row_versions.specs.declared.place.Place.{Place};
 ghost use Rattle.row_versions.specs.Chains.{Chains, Pops};
-ghost use Rattle.table_lists.specs.Rows.{place_in};
+ghost use Rattle.past_agreement.specs.Rows.{place_in};
 ghost use Rattle.world.specs.State.{WorldState, Session, Work, Logged, HasWork};
 ghost use Rattle.world.specs.Told.{IsTold, pairs_of};
 ghost use Rattle.coded_rows.specs.Tables.{AreCoded};

@@ -23,7 +23,7 @@ use Rattle.sql_history.specs.Legal.{MayBegin, MayView, MayCommit, MayRollBack, i
 use Rattle.sql_lists.proofs.Staying.{point_now, point_before, is_within, before_within, starts_not}
 use Rattle.shared_lists.specs.Tasks.{Idle}
 use Rattle.shared_lists.specs.State.{State, Adds, Closes, Turns, Stays, task_of}
-use Rattle.table_lists.specs.Order.{IsOfRow}
+use Rattle.past_agreement.specs.Order.{IsOfRow}
 use Rattle.sql_lists.specs.Steps.{Moves}
 use Rattle.sql_lists.proofs.Moving.{moves_none, moves_turns, moves_adds, moves_closes}
 use Rattle.read_statement.specs.declared.machine.Asked.{Asked}

@@ -16,7 +16,7 @@ use Rattle.sql_history.specs.Counts.{rows_of_reply, rows_kept, most_rows}
 use Rattle.sql_history.specs.Legal.{MayCommit, MayRollBack, IsWithin}
 use Rattle.shared_lists.specs.Tasks.{Idle}
 use Rattle.shared_lists.specs.State.{State, Adds, task_of}
-use Rattle.table_lists.specs.Order.{IsOfRow}
+use Rattle.past_agreement.specs.Order.{IsOfRow}
 use Rattle.sql_lists.specs.Kept.{MayReply, OwesAck}
 use Rattle.sql_lists.specs.Steps.{Moves, HasRowsAlone}
 use Rattle.sql_lists.proofs.Moving.{moves_adds}

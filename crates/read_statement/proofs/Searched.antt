@@ -9,23 +9,19 @@ use Rattle.inno_db.specs.Database.{Database, rows_of}
 use Rattle.inno_db.specs.Outcome.{outcome}
 use Rattle.inno_db.proofs.Outcomes.{table_read}
 use Rattle.inno_model.specs.declared.event.Event.{Event}
-use Rattle.inno_model.specs.declared.event.Event.TheVariants as events
 use Rattle.inno_model.specs.Past.{own, committed, opening, changed}
 use Rattle.sql_history.specs.Statements.{schemas_now}
 use Rattle.sql_history.specs.Answers.{MaySee, seen_by}
-use Rattle.table_lists.specs.Order.{created, IsTabled}
-use Rattle.table_lists.specs.Rows.{seen}
-use Rattle.table_lists.specs.Agreement.{IsSound}
-use Rattle.table_lists.proofs.Tables.{own_tabled, committed_tabled}
+use Rattle.past_agreement.specs.Order.{created, IsTabled}
+use Rattle.past_agreement.specs.Rows.{seen}
+use Rattle.past_agreement.specs.Agreement.{IsSound}
+use Rattle.past_agreement.proofs.Tables.{own_tabled, committed_tabled}
 use Rattle.tables_as_db.specs.Tables.{with_all_tables}
 use Rattle.plain_sql.specs.Finding.{IsReadFrom}
-use Rattle.fitting_rows.specs.Storable.{AreStorable}
 use Rattle.sql_plan.specs.Visits.{IsRowOf}
 use Rattle.shared_lists.specs.Fitting.{FitsThen}
 use Rattle.shared_lists.specs.Steps.{rows_in_range}
 use Rattle.sql_lists.specs.Kept.{IsOnlyMaker, AreStanding, made}
-use Rattle.fitting_history.specs.History.{FitsThen as HasFitted}
-use Rattle.fitting_history.proofs.Changes.{tables_storable}
 use Rattle.fitting_history.proofs.Databases.{seen_coded}
 use Rattle.found_rows.proofs.Fits.{fitting_rows_fit}
 use Rattle.read_statement.specs.declared.machine.Found.{Found}
@@ -35,21 +31,11 @@ use Rattle.read_statement.proofs.Planned.{by_plan}
 
 -- ---- what fits
 
--- that each change fitted when it was made, as the lists say it and as the laws on such histories do
-has_fitted : (h : List Event) → FitsThen h → HasFitted h
-has_fitted [] fits = tt
-has_fitted (events.Opened db ∷ h) fits = fits
-has_fitted (events.Changed s change ∷ h) fits = (fits.0, has_fitted h fits.1)
-has_fitted (e ∷ h) fits = has_fitted h fits
-
-pub all_storable : (h : List Event) → FitsThen h → AreStorable (created h)
-all_storable h fits = tables_storable h (has_fitted h fits)
-
 -- the rows of a table that a session sees are of the table's columns
 pub rows_seen_fit : (h : List Event) (s n table : ℕ) (schema : Schema) → FitsThen h → IsSound h → slice_get (created h) table ≡ Some schema → All (IsRowOf schema.columns) (rows_of table (changed (with_all_tables h) (seen h s n)))
 rows_seen_fit h s n table schema fits sound there =
     let db = changed (with_all_tables h) (seen h s n) in
-    let coded = seen_coded h s n (has_fitted h fits) sound in
+    let coded = seen_coded h s n fits sound in
     let there_too : slice_get db.schemas table ≡ Some schema = subst (λ (l : List Schema). slice_get l table ≡ Some schema) (sym (schemas_after (with_all_tables h) (seen h s n))) (got_before (created h) (made (seen h s n)) table schema there) in
     fitting_rows_fit db table schema coded.fitting coded.numbers there_too
 

@@ -8,8 +8,8 @@ use Rattle.inno_model.specs.Past.{started}
 use Rattle.sql_history.specs.Statements.{refused_at_once}
 use Rattle.sql_history.specs.Counts.{rows_of_reply, rows_kept, most_rows}
 use Rattle.sql_history.specs.Endings.{IsOpen}
-use Rattle.table_lists.specs.Order.{created}
-use Rattle.table_lists.specs.Agreement.{IsSound}
+use Rattle.past_agreement.specs.Order.{created}
+use Rattle.past_agreement.specs.Agreement.{IsSound}
 use Rattle.sql_plan.specs.declared.choice.Plan.{Plan}
 use Rattle.shared_lists.specs.declared.answers.Reading.TheVariants.{View}
 use Rattle.shared_lists.specs.Tasks.{Idle, Searching}

@@ -18,7 +18,7 @@ use Rattle.sql_lists.specs.Steps.{HasRowsAlone, StaysRunning}
 use Rattle.sql_lists.proofs.Staying.{other_of, not_starting, at_work, is_within, before_within, starts_not, within_of_other, point_stays}
 use Rattle.shared_lists.specs.Tasks.{Task}
 use Rattle.shared_lists.specs.State.{task_of}
-use Rattle.table_lists.specs.Order.{IsOfRow, created}
+use Rattle.past_agreement.specs.Order.{IsOfRow, created}
 use Rattle.std.specs.List.{AllByRecursion}
 use Rattle.read_statement.specs.declared.machine.Read.{Read}
 use Rattle.read_statement.specs.declared.machine.Found.{Found}

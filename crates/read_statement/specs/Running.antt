@@ -24,8 +24,8 @@ use Rattle.sql_history.specs.Counts.{rows_of_reply, rows_kept, most_rows}
 use Rattle.sql_history.specs.Endings.{IsOpen, IsClosed}
 use Rattle.sql_history.specs.Waiting.{is_victim}
 use Rattle.sql_history.specs.Legal.{Takes, TakesView}
-use Rattle.table_lists.specs.Order.{created, IsTabled}
-use Rattle.table_lists.specs.Rows.{seen}
+use Rattle.past_agreement.specs.Order.{created, IsTabled}
+use Rattle.past_agreement.specs.Rows.{seen}
 use Rattle.sql_plan.specs.declared.choice.Plan.{Plan}
 use Rattle.shared_lists.specs.declared.answers.Reading.TheVariants.{View}
 use Rattle.shared_lists.specs.Tasks.{Task, Idle, Searching}

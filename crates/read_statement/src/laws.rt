@@ -9,7 +9,7 @@ ghost use Rattle.inno_model.specs.declared.event.Event.{Event};
 ghost use Rattle.inno_model.specs.Loose.{Sometime};
 ghost use Rattle.inno_model.specs.Past.{own, current};
 ghost use Rattle.sql_history.specs.LooseReading.{newest, IsQuiet, IsLooseReading};
-ghost use Rattle.table_lists.specs.Agreement.{IsSound};
+ghost use Rattle.past_agreement.specs.Agreement.{IsSound};
 ghost use Rattle.tables_as_db.specs.Tables.{at_places, rows_in};
 
 /// Rows that rise by their keys, each the newest of its place at some moment of the item, are the table's rows in a

@@ -1,7 +1,7 @@
 //! How a SELECT opens its transaction, takes its view, and begins to search by it.
 
 ghost use Rattle.std.specs.Prelude.{◌≡◌, ◌<◌, length};
-ghost use Rattle.table_lists.specs.Order.{created};
+ghost use Rattle.past_agreement.specs.Order.{created};
 ghost use Rattle.sql_lists.specs.Going.{Nears};
 ghost use Rattle.sql_lists.specs.Steps.{Steps};
 ghost use Rattle.read_statement.specs.Going.{to_go};

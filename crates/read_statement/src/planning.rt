@@ -8,7 +8,7 @@ ghost use Rattle.inno_db.proofs.Outcomes.{table_read};
 ghost use Rattle.sql_history.specs.Readings.{is_plain_select};
 ghost use Rattle.fitting_rows.specs.Storable.{AreStorable};
 ghost use Rattle.sql_plan.specs.Visits.{are_indexable};
-ghost use Rattle.table_lists.specs.Order.{created};
+ghost use Rattle.past_agreement.specs.Order.{created};
 ghost use Rattle.read_statement.specs.Planning.{IsChosen, IsPlanned};
 
 use inno_db::MOST_BYTES_OF_INDEX;

@@ -1,11 +1,9 @@
-//! The rows of all tables with their versions: for each place, the newest first, in order of place.
-//! Writers push and pop versions; readers find what they see, and walk from place to place.
+//! Places of rows, their versions, and what versions are to their readers (specs/Chains.antt): the words in which crates
+//! below statements speak of rows. How rows are kept is theirs to say.
 #![tactic(auto)]
 
 mod place;
-#[cfg(test)]
-mod tests;
 mod version;
 
 pub use place::Place;
-pub use version::{RowVersions, Version};
+pub use version::Version;

@@ -1,12 +1,10 @@
 //! Places: where a row stands. They are in order by table, and then by the value of the primary key.
 
-ghost use Rattle.std.specs.Prelude.{◌≡◌, IfOk};
 ghost use Rattle.std.specs.Ordering.{eq_by_cmp, is_eq};
 ghost use Rattle.row_versions.specs.Chains.{place_order};
 
-use inno_db::{of_value, order, to_value};
+use inno_db::{of_value, order};
 use inno_types::Value;
-use std::alloc::AllocError;
 use std::cmp::Ordering;
 
 /// A table's number, and the value of its primary key.
@@ -14,18 +12,6 @@ use std::cmp::Ordering;
 pub struct Place {
     pub table: u8,
     pub key: Value,
-}
-
-impl Place {
-    /// The same place once more.
-    pub fn copied(&self) -> Result<Place, AllocError>
-        ensures { IfOk result (λ place. place ≡ self.now) }
-    {
-        Ok(Place {
-            table: self.table,
-            key: to_value(of_value(&self.key))?,
-        })
-    }
 }
 
 impl PartialEq for Place {

@@ -2,13 +2,12 @@
 use Rattle.std.specs.Prelude.{List, [], ◌∷◌}
 use Rattle.inno_types.specs.declared.value.Schema.{Schema}
 use Rattle.inno_db.specs.declared.change.Change.{Change}
-use Rattle.inno_db.specs.Database.{Database}
 use Rattle.inno_model.specs.declared.event.Event.{Event}
 use Rattle.inno_model.specs.declared.event.Event.TheVariants.{Opened, Changed}
-use Rattle.table_lists.specs.Order.{created}
+use Rattle.past_agreement.specs.Order.{created}
 use Rattle.fitting_rows.specs.Storable.{AreStorable}
-use Rattle.fitting_rows.specs.Fitting.{FitsTables, AreFitting}
-use Rattle.fitting_rows.specs.Numbers.{ChangeHas64Bits, RowsHave64Bits}
+use Rattle.fitting_rows.specs.Fitting.{FitsTables}
+use Rattle.fitting_rows.specs.Numbers.{ChangeHas64Bits}
 
 -- the change fits these tables, and its numbers have 64 bits
 abbrev pub FitsWell : List Schema → Change → Type 0
@@ -20,8 +19,3 @@ FitsThen [] = Unit {0}
 FitsThen (Opened db ∷ past) = AreStorable db.schemas
 FitsThen (Changed s change ∷ past) = FitsWell (created past) change × FitsThen past
 FitsThen (other ∷ past) = FitsThen past
-
--- its tables can be stored, and each of its rows can be coded
-pub record CanBeCoded (db : Database) : Type 0 where
-  pub fitting : AreFitting db
-  pub numbers : RowsHave64Bits db

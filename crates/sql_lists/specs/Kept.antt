@@ -18,8 +18,8 @@ use Rattle.sql_history.specs.Counts.{has_stopped, last_moment, rows_kept, most_r
 use Rattle.sql_history.specs.Endings.{IsClosed}
 use Rattle.sql_history.specs.Legal.{IsLegal, EndsBy, owes_commit}
 use Rattle.sql_history.specs.Statements.{schemas_now}
-use Rattle.table_lists.specs.Agreement.{IsSound}
-use Rattle.table_lists.specs.Order.{created, is_creation, IsTabled}
+use Rattle.past_agreement.specs.Agreement.{IsSound}
+use Rattle.past_agreement.specs.Order.{created, is_creation, IsTabled}
 
 -- no other session is making a table
 abbrev pub IsOnlyMaker : ℕ → List Event → Type 0

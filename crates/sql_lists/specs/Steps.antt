@@ -12,7 +12,7 @@ use Rattle.inno_model.specs.Past.{is_of, started, of_item, own, level, txn}
 use Rattle.sql_grammar.specs.Grammar.{Spells}
 use Rattle.sql_history.specs.Endings.{IsOpen}
 use Rattle.sql_history.specs.Legal.{Takes}
-use Rattle.table_lists.specs.Order.{IsOfRow}
+use Rattle.past_agreement.specs.Order.{IsOfRow}
 use Rattle.shared_lists.specs.Tasks.{Idle}
 use Rattle.shared_lists.specs.State.{State, task_of, Stays}
 use Rattle.sql_lists.specs.declared.advance.Advance.{Advance}

@@ -15,10 +15,10 @@ use Rattle.inno_model.specs.Past.{changed, own, committed}
 use Rattle.row_versions.specs.declared.place.Place.{Place}
 use Rattle.row_versions.specs.Chains.{in_model, is_same_place}
 use Rattle.row_versions.specs.Laws.{same_place_equiv}
-use Rattle.table_lists.specs.Order.{created, IsTabled}
-use Rattle.table_lists.specs.Rows.{is_at, row_at, seen, row_seen}
-use Rattle.table_lists.specs.Agreement.{IsSound}
-use Rattle.table_lists.proofs.Tables.{key_stays, own_tabled, committed_tabled}
+use Rattle.past_agreement.specs.Order.{created, IsTabled}
+use Rattle.past_agreement.specs.Rows.{is_at, row_at, seen, row_seen}
+use Rattle.past_agreement.specs.Agreement.{IsSound}
+use Rattle.past_agreement.proofs.Tables.{key_stays, own_tabled, committed_tabled}
 use Rattle.tables_as_db.specs.Tables.{with_all_tables}
 
 grouped : {X : Type 0} (xs ys zs : List X) → (xs ++ ys) ++ zs ≡ xs ++ (ys ++ zs)

@@ -5,7 +5,7 @@ use Rattle.inno_types.specs.declared.value.Value.{Value}
 use Rattle.inno_db.specs.Database.{Database, Place, RowMap, place_cmp}
 use Rattle.inno_model.specs.declared.event.Event.{Event}
 use Rattle.inno_model.specs.Past.{opening}
-use Rattle.table_lists.specs.Order.{created}
+use Rattle.past_agreement.specs.Order.{created}
 
 -- the opening with all tables that have been made
 abbrev pub with_all_tables : List Event → Database

@@ -12,8 +12,8 @@ ghost use Rattle.inno_model.specs.declared.event.Event.{Event};
 ghost use Rattle.inno_model.specs.Past.{changed};
 ghost use Rattle.row_versions.specs.declared.place.Place.{Place};
 ghost use Rattle.row_versions.specs.Chains.{in_model};
-ghost use Rattle.table_lists.specs.Rows.{seen, row_seen};
-ghost use Rattle.table_lists.specs.Agreement.{IsSound};
+ghost use Rattle.past_agreement.specs.Rows.{seen, row_seen};
+ghost use Rattle.past_agreement.specs.Agreement.{IsSound};
 ghost use Rattle.tables_as_db.specs.Matching.{FindsTheSame};
 ghost use Rattle.tables_as_db.specs.Tables.{with_all_tables, AreRowsOfTable, rows_in};
 

@@ -13,7 +13,7 @@ use Rattle.sql_history.specs.Settings.{Setting, HasSet}
 use Rattle.sql_history.specs.Waiting.{is_victim}
 use Rattle.sql_history.specs.Endings.{IsClosed, StaysIn}
 use Rattle.sql_history.specs.Legal.{Takes, CommittedFirst, LeavesIt, MayLeaveOpen}
-use Rattle.table_lists.specs.Order.{IsOfRow}
+use Rattle.past_agreement.specs.Order.{IsOfRow}
 use Rattle.shared_lists.specs.State.{State, task_of}
 use Rattle.sql_lists.specs.Kept.{SetsQuietly}
 use Rattle.sql_lists.specs.Steps.{Adding, HasRowsAlone}

@@ -19,7 +19,7 @@ use Rattle.sql_history.specs.Statements.{refused_at_once}
 use Rattle.sql_history.specs.Endings.{IsOpen}
 use Rattle.sql_history.specs.Waiting.{is_victim}
 use Rattle.sql_history.specs.Legal.{MayCommit, CommitsBy}
-use Rattle.table_lists.specs.Order.{IsOfRow, IsUndoable}
+use Rattle.past_agreement.specs.Order.{IsOfRow, IsUndoable}
 use Rattle.shared_lists.specs.State.{State}
 use Rattle.sql_lists.specs.Steps.{HasRowsAlone, IsTaken}
 use Rattle.sql_lists.proofs.Staying.{point_now, point_before}

@@ -14,12 +14,12 @@ use Rattle.inno_model.specs.Past.{own}
 use Rattle.row_versions.specs.declared.place.Place.{Place}
 use Rattle.row_versions.specs.Chains.{Chains, Pushes}
 use Rattle.txn_table.specs.Txns.{Txns, with_id as with_txn_id}
-use Rattle.table_lists.specs.Slots.{Slot, fresh, id_of_work, txn_of_work, with_place, with_id, set_work, GivesId, id_for}
-use Rattle.table_lists.specs.Slots as slots
-use Rattle.table_lists.specs.Rows.{place_in, row_of}
-use Rattle.table_lists.specs.Order.{created, IsOfRow, IsTabled}
-use Rattle.table_lists.specs.Agreement.{IsAgreed, owed_by_all}
-use Rattle.table_lists.proofs.Agree.{agreed_changed, agreed_created}
+use Rattle.past_agreement.specs.Slots.{Slot, fresh, id_of_work, txn_of_work, with_place, with_id, set_work, GivesId, id_for}
+use Rattle.past_agreement.specs.Slots as slots
+use Rattle.past_agreement.specs.Rows.{place_in, row_of}
+use Rattle.past_agreement.specs.Order.{created, IsOfRow, IsTabled}
+use Rattle.past_agreement.specs.Agreement.{IsAgreed, owed_by_all}
+use Rattle.past_agreement.proofs.Agree.{agreed_changed, agreed_created}
 use Rattle.world.specs.State.{WorldState, Session, Work, IsSession, HasWork}
 use Rattle.world_agreement.specs.Agreement.{sight_of, work_at, slots_from, Agrees}
 use Rattle.world_agreement.specs.Steps.{HasOneMore, IsChangedBy}

@@ -8,12 +8,11 @@ use Rattle.inno_model.specs.declared.event.Event.TheVariants.{Committed, RolledB
 use Rattle.inno_model.specs.Past.{own}
 use Rattle.row_versions.specs.Chains.{Chains}
 use Rattle.sql_history.specs.Settings.{at_end}
-use Rattle.table_lists.specs.State.{writer_without}
-use Rattle.table_lists.specs.Slots.{Slot, fresh, txn_of_work, places_of_work}
-use Rattle.table_lists.specs.Rows.{place_in}
-use Rattle.table_lists.specs.Agreement.{IsWorkOf, WorkAgrees, owed_by_all}
-use Rattle.table_lists.proofs.Ids.{ids_of}
-use Rattle.table_lists.proofs.Agree.{agreed_committed, agreed_rolled_back}
+use Rattle.past_agreement.specs.Slots.{Slot, fresh, txn_of_work, places_of_work, writer_without}
+use Rattle.past_agreement.specs.Rows.{place_in}
+use Rattle.past_agreement.specs.Agreement.{IsWorkOf, WorkAgrees, owed_by_all}
+use Rattle.past_agreement.proofs.Ids.{ids_of}
+use Rattle.past_agreement.proofs.Agree.{agreed_committed, agreed_rolled_back}
 use Rattle.world.specs.State.{WorldState, Session, Work, HasWork}
 use Rattle.world.specs.Sessions.{of_txn, change_txn}
 use Rattle.world_agreement.specs.Agreement.{work_at, slots_from, Agrees}

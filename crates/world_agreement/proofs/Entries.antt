@@ -14,12 +14,12 @@ use Rattle.inno_model.specs.Past.{own, started, under_way}
 use Rattle.row_versions.specs.declared.place.Place.{Place}
 use Rattle.row_versions.specs.Chains.{Chains, Pops}
 use Rattle.txn_table.specs.Txns.{Txns}
-use Rattle.table_lists.specs.Slots.{Slot, fresh, first, but_first, places_of_work, without_place}
-use Rattle.table_lists.specs.Rows.{place_in}
-use Rattle.table_lists.specs.Order.{IsOfRow, IsUndoable, MayCome}
-use Rattle.table_lists.specs.Agreement.{IsAgreed, owed_by_all}
-use Rattle.table_lists.proofs.Rows.{own_undone}
-use Rattle.table_lists.proofs.Agree.{agreed_started, agreed_ended, agreed_acked, agreed_undone}
+use Rattle.past_agreement.specs.Slots.{Slot, fresh, first, but_first, places_of_work, without_place}
+use Rattle.past_agreement.specs.Rows.{place_in}
+use Rattle.past_agreement.specs.Order.{IsOfRow, IsUndoable, MayCome}
+use Rattle.past_agreement.specs.Agreement.{IsAgreed, owed_by_all}
+use Rattle.past_agreement.proofs.Rows.{own_undone}
+use Rattle.past_agreement.proofs.Agree.{agreed_started, agreed_ended, agreed_acked, agreed_undone}
 use Rattle.world.specs.State.{WorldState, Session, Work}
 use Rattle.world_agreement.specs.Agreement.{sight_of, work_at, slots_from, Agrees}
 use Rattle.world_agreement.specs.Steps.{IsEntered, IsTakenBackBy}

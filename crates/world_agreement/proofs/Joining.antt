@@ -4,10 +4,10 @@ use Rattle.std.specs.Prelude.{slice_get, option_map}
 use Rattle.inno_model.specs.declared.event.Event.TheVariants.{Opened}
 use Rattle.inno_model.specs.Past.{own}
 use Rattle.row_versions.specs.Chains.{Chains}
-use Rattle.table_lists.specs.Slots.{Slot, fresh}
-use Rattle.table_lists.specs.Rows.{place_in}
-use Rattle.table_lists.specs.Agreement.{owed_by_all}
-use Rattle.table_lists.proofs.Agree.{agreed_first, agreed_joined}
+use Rattle.past_agreement.specs.Slots.{Slot, fresh}
+use Rattle.past_agreement.specs.Rows.{place_in}
+use Rattle.past_agreement.specs.Agreement.{owed_by_all}
+use Rattle.past_agreement.proofs.Agree.{agreed_first, agreed_joined}
 use Rattle.world.specs.State.{WorldState, Session, Work}
 use Rattle.world_agreement.specs.Agreement.{work_at, slots_from, Agrees}
 use Rattle.world_agreement.specs.Steps.{IsJoined, IsFirst}

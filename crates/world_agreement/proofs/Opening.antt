@@ -14,22 +14,22 @@ use Rattle.inno_model.specs.Legal.{IsOpen}
 use Rattle.inno_model.proofs.Untouched.{untouched}
 use Rattle.txn_table.specs.Txns.{Txns}
 use Rattle.row_versions.specs.Chains.{Chains}
-use Rattle.table_lists.specs.Slots.{Slot, fresh}
-use Rattle.table_lists.specs.Slots as slots
-use Rattle.table_lists.specs.Rows.{place_in}
-use Rattle.table_lists.proofs.Ids.{ids_of}
-use Rattle.table_lists.specs.Agreement.{WorkAgrees, SlotAgrees, IsIdle, owed_by_all}
+use Rattle.past_agreement.specs.Slots.{Slot, fresh}
+use Rattle.past_agreement.specs.Slots as slots
+use Rattle.past_agreement.specs.Rows.{place_in}
+use Rattle.past_agreement.proofs.Ids.{ids_of}
+use Rattle.past_agreement.specs.Agreement.{WorkAgrees, SlotAgrees, IsIdle, owed_by_all}
 use Rattle.read_view.specs.Sight.{Sight}
 use Rattle.txn_table.specs.Txns.{ids_of as active_of}
-use Rattle.table_lists.specs.Slots.{id_of_work}
-use Rattle.table_lists.specs.Agreement.{IsWorkOf, IsViewOf}
-use Rattle.table_lists.specs.Ids.{id_of, given}
-use Rattle.table_lists.specs.Slots.{with_view}
-use Rattle.table_lists.proofs.Ids.{AreIds}
-use Rattle.table_lists.proofs.Standing.{standing_some}
+use Rattle.past_agreement.specs.Slots.{id_of_work}
+use Rattle.past_agreement.specs.Agreement.{IsWorkOf, IsViewOf}
+use Rattle.past_agreement.specs.Ids.{id_of, given}
+use Rattle.past_agreement.specs.Slots.{with_view}
+use Rattle.past_agreement.proofs.Ids.{AreIds}
+use Rattle.past_agreement.proofs.Standing.{standing_some}
 use Rattle.read_view.specs.Sight.{is_seen}
 use Rattle.std.proofs.lemmas.List.{get_or-set_same, get_or-set_other}
-use Rattle.table_lists.proofs.Agree.{agreed_begin, agreed_view}
+use Rattle.past_agreement.proofs.Agree.{agreed_begin, agreed_view}
 use Rattle.world.specs.State.{WorldState, Session, Work, IsSession, HasWork}
 use Rattle.world.specs.Sessions.{fresh_work}
 use Rattle.world_agreement.specs.Agreement.{work_at, slot_of, slots_from, Agrees}

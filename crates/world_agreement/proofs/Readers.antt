@@ -4,9 +4,9 @@ use Rattle.std.specs.Prelude.{option_map}
 use Rattle.inno_model.specs.Past.{view_of}
 use Rattle.row_versions.specs.declared.place.Place.{Place}
 use Rattle.row_versions.specs.Chains.{Chains, versions_at, first_seen, newest, sees, IsFirstFrom, IsNoneFrom, IsNext, IsLast}
-use Rattle.table_lists.specs.Rows.{row_seen, IsFirstSeen, IsNoneSeen, IsNextSeen, IsLastSeen, IsNewestSeen}
-use Rattle.table_lists.specs.Agreement.{owed_by_all}
-use Rattle.table_lists.proofs.Agree.{visible_is, newest_row, first_is, none_is, next_is, last_is}
+use Rattle.past_agreement.specs.Rows.{row_seen, IsFirstSeen, IsNoneSeen, IsNextSeen, IsLastSeen, IsNewestSeen}
+use Rattle.past_agreement.specs.Agreement.{owed_by_all}
+use Rattle.past_agreement.proofs.Agree.{visible_is, newest_row, first_is, none_is, next_is, last_is}
 use Rattle.world.specs.State.{WorldState, Session, Work, Seen, HasWork}
 use Rattle.world_agreement.specs.Agreement.{sight_of, work_at, slots_from, Agrees}
 use Rattle.world_agreement.proofs.Ending.{slot_work}

@@ -9,9 +9,9 @@ use Rattle.inno_model.specs.Past.{own}
 use Rattle.txn_table.specs.Txns.{Txns}
 use Rattle.row_versions.specs.declared.place.Place.{Place}
 use Rattle.row_versions.specs.Chains.{Chains}
-use Rattle.table_lists.specs.Slots.{Slot, fresh}
-use Rattle.table_lists.specs.Rows.{place_in}
-use Rattle.table_lists.specs.Agreement.{IsAgreed, WorkAgrees, SlotAgrees, owed_by_all}
+use Rattle.past_agreement.specs.Slots.{Slot, fresh}
+use Rattle.past_agreement.specs.Rows.{place_in}
+use Rattle.past_agreement.specs.Agreement.{IsAgreed, WorkAgrees, SlotAgrees, owed_by_all}
 use Rattle.world.specs.State.{Session, Work}
 use Rattle.world_agreement.specs.Agreement.{work_at, slot_of, slots_from}
 

@@ -6,10 +6,10 @@ use Rattle.inno_model.specs.Past.{own, started}
 use Rattle.read_view.specs.Sight.{Sight}
 use Rattle.row_versions.specs.declared.place.Place.{Place}
 use Rattle.row_versions.specs.Chains.{Chains}
-use Rattle.table_lists.specs.Slots.{Slot}
-use Rattle.table_lists.specs.Slots as slots
-use Rattle.table_lists.specs.Rows.{place_in}
-use Rattle.table_lists.specs.Agreement.{IsAgreed, owed_by_all}
+use Rattle.past_agreement.specs.Slots.{Slot}
+use Rattle.past_agreement.specs.Slots as slots
+use Rattle.past_agreement.specs.Rows.{place_in}
+use Rattle.past_agreement.specs.Agreement.{IsAgreed, owed_by_all}
 use Rattle.world.specs.State.{WorldState, Session, Work, Seen, HasWork}
 
 -- ---- sessions and transactions

@@ -8,7 +8,7 @@ use Rattle.inno_model.specs.declared.event.Event.{Event}
 use Rattle.inno_model.specs.declared.event.Event.TheVariants.{Opened, Changed, Undone}
 use Rattle.inno_types.specs.declared.lock.Level.{Level}
 use Rattle.txn_table.specs.Txns.{ids_of, with_id as with_txn_id}
-use Rattle.table_lists.specs.Slots.{id_for}
+use Rattle.past_agreement.specs.Slots.{id_for}
 use Rattle.world.specs.State.{WorldState, Session, Work, HasWork}
 use Rattle.world.specs.Sessions.{fresh_work, begun, begin_added, view_added, committed_added, rolled_back_added, ended}
 use Rattle.sql_history.specs.Settings.{at_begin}

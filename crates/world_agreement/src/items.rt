@@ -6,7 +6,7 @@ ghost use Rattle.inno_types.specs.declared.reply.Reply.{Reply};
 ghost use Rattle.inno_model.specs.declared.event.Event.TheVariants.{Started, Ended, Acked};
 ghost use Rattle.inno_model.specs.Past.{started, under_way};
 ghost use Rattle.row_versions.specs.Chains.{Chains};
-ghost use Rattle.table_lists.specs.Order.{MayCome};
+ghost use Rattle.past_agreement.specs.Order.{MayCome};
 ghost use Rattle.world.specs.State.{WorldState};
 ghost use Rattle.world_agreement.specs.Agreement.{Agrees};
 ghost use Rattle.world_agreement.specs.Steps.{IsFirst, IsJoined, IsEntered};

@@ -4,9 +4,9 @@ ghost use Rattle.std.specs.Prelude.{◌≡◌, ℕ, length, Option, Some, None};
 ghost use Rattle.inno_model.specs.Past.{level, txn, own, view_of};
 ghost use Rattle.row_versions.specs.declared.place.Place.{Place};
 ghost use Rattle.row_versions.specs.Chains.{Chains, versions_at, first_seen, newest, sees, IsFirstFrom, IsNoneFrom, IsNext, IsLast};
-ghost use Rattle.table_lists.specs.Rows.{row_seen, IsFirstSeen, IsNoneSeen, IsNextSeen, IsLastSeen, IsNewestSeen};
-ghost use Rattle.table_lists.specs.Ids.{id_of};
-ghost use Rattle.table_lists.specs.Agreement.{IsIdle};
+ghost use Rattle.past_agreement.specs.Rows.{row_seen, IsFirstSeen, IsNoneSeen, IsNextSeen, IsLastSeen, IsNewestSeen};
+ghost use Rattle.past_agreement.specs.Ids.{id_of};
+ghost use Rattle.past_agreement.specs.Agreement.{IsIdle};
 ghost use Rattle.world.specs.State.{WorldState, Session, Work, Seen, IsSession, HasWork};
 ghost use Rattle.world_agreement.specs.Agreement.{sight_of, Agrees};
 

@@ -4,7 +4,7 @@ ghost use Rattle.std.specs.Prelude.{◌≡◌, ◌<◌, ◌^◌, ◌+◌, ℕ, [
 ghost use Rattle.inno_types.specs.declared.lock.Level.{Level};
 ghost use Rattle.inno_model.specs.Past.{own};
 ghost use Rattle.row_versions.specs.Chains.{Chains};
-ghost use Rattle.table_lists.specs.State.{writer_without};
+ghost use Rattle.past_agreement.specs.Slots.{writer_without};
 ghost use Rattle.world.specs.State.{WorldState, Session, Work, IsSession, HasWork};
 ghost use Rattle.world_agreement.specs.Agreement.{Agrees};
 ghost use Rattle.world_agreement.specs.Steps.{opened, viewed, committed, rolled_back};

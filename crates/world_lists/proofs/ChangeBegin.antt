@@ -5,7 +5,7 @@ use Rattle.inno_types.specs.declared.value.Column.{Column}
 use Rattle.inno_types.specs.declared.value.Schema.{Schema}
 use Rattle.inno_db.specs.declared.change.Change.{Change}
 use Rattle.inno_model.specs.Legal.{IsOpen}
-use Rattle.table_lists.specs.Order.{created}
+use Rattle.past_agreement.specs.Order.{created}
 use Rattle.key_codec.specs.Keys.{IsOfKind}
 use Rattle.world.specs.State.{WorldState}
 use Rattle.world.specs.declared.undo_room.UndoRoom.{UndoRoom}

@@ -9,7 +9,7 @@ use Rattle.desks.specs.declared.desk.Doing.{Doing}
 use Rattle.desks.specs.declared.desk.Doing.TheVariants.{Nothing, Searching, Changing, Lagging, Undoing}
 use Rattle.desks.specs.Desks.{doing_at}
 use Rattle.desks.specs.Shown.{shown, lists_of}
-use Rattle.held_undoing.proofs.Showing.{task_is}
+use Rattle.desks.proofs.Showing.{task_is}
 
 nothing_shown : (schemas : List Schema) (left : ℕ) (doing : Doing) → shown schemas left doing ≡ tasks.Idle → doing ≡ Nothing
 nothing_shown schemas left Nothing is = refl
@@ -20,8 +20,8 @@ nothing_shown schemas left Undoing is = absurd (cc)
 
 module _ (state : WorldState) (writer : Option ℕ) (desks : List Desk) (left s : ℕ) where
   pub nothing_if : task_of s (lists_of state writer desks left).state ≡ tasks.Idle → doing_at s desks ≡ Nothing
-  nothing_if is = nothing_shown state.schemas left (doing_at s desks) (sym (task_is state writer desks left s) ∙ is)
+  nothing_if is = nothing_shown state.schemas left (doing_at s desks) (sym (task_is s left state writer desks) ∙ is)
 
   -- who takes a change back shows so
   pub shows_undoing : doing_at s desks ≡ Undoing → task_of s (lists_of state writer desks left).state ≡ tasks.Undoing left
-  shows_undoing is = task_is state writer desks left s ∙ ap (shown state.schemas left) is
+  shows_undoing is = task_is s left state writer desks ∙ ap (shown state.schemas left) is

@@ -15,7 +15,7 @@ use Rattle.inno_model.proofs.Commits.{begins_few}
 use Rattle.sql_history.specs.Settings.{Setting, at_first, set_by}
 use Rattle.sql_history.specs.Counts.{rows_of_reply}
 use Rattle.txn_table.specs.Txns.{Txns}
-use Rattle.table_lists.specs.Order.{MayCome}
+use Rattle.past_agreement.specs.Order.{MayCome}
 use Rattle.world.specs.State.{WorldState, Session, Work, IsSession, HasWork, txn_of}
 use Rattle.world.specs.Told.{IsTold}
 use Rattle.world.specs.Sessions.{change_txn, with_save}
@@ -31,13 +31,14 @@ use Rattle.desks.specs.declared.desk.Desk.{Desk}
 use Rattle.desks.specs.declared.desk.Doing.TheVariants.{Nothing}
 use Rattle.desks.specs.Desks.{fresh_desk, desk_at, doing_at, with_start}
 use Rattle.desks.specs.Holding.{IsHeld}
-use Rattle.held_entries.specs.Seen.{seen_of, settings_of}
-use Rattle.held_entries.proofs.Seen.{task_is, left_same, rests_of, now_of, settings_by}
+use Rattle.desks.specs.Shown.{seen_of, shown}
+use Rattle.held_entries.specs.Seen.{settings_of}
+use Rattle.desks.proofs.Showing.{task_is}
+use Rattle.held_entries.proofs.Seen.{left_same, rests_of, now_of, settings_by}
 use Rattle.held_entries.proofs.Items.{started_held, ended_held, acked_held, unentered_held}
 use Rattle.held_entries.proofs.Transactions.{txn_here, txn_elsewhere, viewed_held, saved_held, committed_held, rolled_back_held}
 use Rattle.held_entries.proofs.Sessions.{start_here}
 use Rattle.world_lists.proofs.Answering.{desk_read, few_more}
-use Rattle.desks.specs.Shown.{shown}
 use Rattle.desks.specs.Undoing.{undo_left_in}
 use Rattle.world_lists.proofs.Standings.{there, open_has, txn_is}
 

@@ -9,8 +9,8 @@ use Rattle.inno_model.specs.Legal.{IsOpen}
 use Rattle.read_view.specs.Sight.{Sight as ReadSight}
 use Rattle.sql_plan.specs.declared.choice.Plan.{Plan}
 use Rattle.row_versions.specs.Chains.{Chains}
-use Rattle.table_lists.specs.Order.{created}
-use Rattle.table_lists.specs.Agreement.{SlotAgrees, WriterAgrees}
+use Rattle.past_agreement.specs.Order.{created}
+use Rattle.past_agreement.specs.Agreement.{SlotAgrees, WriterAgrees}
 use Rattle.world.specs.State.{WorldState, Session}
 use Rattle.world.specs.Told.{IsTold}
 use Rattle.world.specs.declared.undo_room.UndoRoom.{UndoRoom}
@@ -28,12 +28,12 @@ use Rattle.desks.specs.declared.desk.Doing.TheVariants.{Nothing, Searching}
 use Rattle.desks.specs.declared.desk.TableSearch.{TableSearch}
 use Rattle.desks.specs.Desks.{doing_at, with_doing}
 use Rattle.desks.specs.Holding.{IsHeld, IsOwnView, SightHolds}
-use Rattle.desks.specs.Shown.{reading_of}
+use Rattle.desks.specs.Shown.{reading_of, seen_of}
 use Rattle.desks.specs.Undoing.{undo_left_in}
 use Rattle.held_searches.specs.Begun.{HasView, IsBegun}
-use Rattle.held_searches.specs.TakenUp.{lists_now}
 use Rattle.held_searches.proofs.Begins.{has_view, begun}
-use Rattle.held_searches.proofs.Callers.{task_is, idle_shown, turns_to_search}
+use Rattle.desks.proofs.Showing.{task_is, idle_shown}
+use Rattle.held_searches.proofs.Callers.{turns_to_search}
 
 -- ---- who reads
 
@@ -65,7 +65,7 @@ module _ (w : ℕ) (chains : Chains) (writer : Option ℕ) (state : WorldState) 
 pub copied : (tables : List Schema) (table : ℕ) (schema copy found : Schema) → slice_get tables table ≡ Some schema → copy ≡ found → found ≡ get_or tables table found → copy ≡ schema
 copied tables table schema copy found there same read = same ∙ (read ∙ get_or_from_slice_get tables table schema found there)
 
-module _ (s : ℕ) (state : WorldState) (writer : Option ℕ) (made : Bool) (desks : List Desk) (cuts : ℕ) (undo : UndoRoom) (room : WorkRoom) (lists : Lists) (held : IsHeld state writer made desks cuts undo room) (view : lists_now undo.table room.stage state writer desks ≡ lists) where
+module _ (s : ℕ) (state : WorldState) (writer : Option ℕ) (made : Bool) (desks : List Desk) (cuts : ℕ) (undo : UndoRoom) (room : WorkRoom) (lists : Lists) (held : IsHeld state writer made desks cuts undo room) (view : seen_of undo.table room.stage state writer desks ≡ lists) where
   pub writer_within : IfSome writer (λ w. w < length desks)
   writer_within = by writer (held.agrees.lists.writes) where
     by : (who : Option ℕ) → WriterAgrees state.past who → IfSome who (λ w. w < length desks)
@@ -99,9 +99,9 @@ module _ (s : ℕ) (state : WorldState) (writer : Option ℕ) (made : Bool) (des
         subst (λ (d : List Desk). IsHeld state writer made d cuts undo room) (sym at)
         (begun s table state writer made desks cuts undo room plan sight on.schema on held told idle there le reads.0 is)
 
-    pub begun_seen : s < length desks → Turns s (tasks.Searching table plan reading) lists.state (lists_now undo.table room.stage state writer after).state
+    pub begun_seen : s < length desks → Turns s (tasks.Searching table plan reading) lists.state (seen_of undo.table room.stage state writer after).state
     begun_seen mine =
-        subst (λ (l : Lists). Turns s (tasks.Searching table plan reading) l.state (lists_now undo.table room.stage state writer after).state) view
-        (subst (λ (r : Reading). Turns s (tasks.Searching table plan r) (lists_now undo.table room.stage state writer desks).state (lists_now undo.table room.stage state writer after).state) reads.1
-        (subst (λ (d : List Desk). Turns s (tasks.Searching table plan (reading_of sight)) (lists_now undo.table room.stage state writer desks).state (lists_now undo.table room.stage state writer d).state) (sym at)
+        subst (λ (l : Lists). Turns s (tasks.Searching table plan reading) l.state (seen_of undo.table room.stage state writer after).state) view
+        (subst (λ (r : Reading). Turns s (tasks.Searching table plan r) (seen_of undo.table room.stage state writer desks).state (seen_of undo.table room.stage state writer after).state) reads.1
+        (subst (λ (d : List Desk). Turns s (tasks.Searching table plan (reading_of sight)) (seen_of undo.table room.stage state writer desks).state (seen_of undo.table room.stage state writer d).state) (sym at)
         (turns_to_search s undo.table room.stage writer desks state table cuts plan sight on.schema on mine is)))

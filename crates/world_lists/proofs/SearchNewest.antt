@@ -19,9 +19,9 @@ use Rattle.desks.specs.Holding.{IsHeld}
 use Rattle.desks.specs.Undoing.{undo_left_in}
 use Rattle.held_searches.specs.Moving.{MovesPlaces}
 use Rattle.held_searches.specs.Newest.{plan_read, TellsTable, AreRead}
-use Rattle.held_searches.specs.TakenUp.{lists_now}
+use Rattle.desks.specs.Shown.{seen_of}
 use Rattle.held_searches.proofs.AtOnce.{tells_held, are_newest}
-use Rattle.held_searches.proofs.Callers.{lists_now_stay}
+use Rattle.held_searches.proofs.Callers.{seen_stay}
 
 nothing_changes : (s : ℕ) (state : State) → Stays s state state
 nothing_changes s state = record { names_are = refl; past_is = refl; writer_is = refl; task_is = refl; others = λ t differs. refl }
@@ -31,11 +31,11 @@ pub answered : {E : Type 0} (found : List (List Value)) (answer : Result (List (
 answered found (Ok rows) IsRight is right = subst IsRight (sym is) right
 answered found (Err why) IsRight is right = record {}
 
-module _ (s : ℕ) (state : WorldState) (writer : Option ℕ) (made : Bool) (desks : List Desk) (cuts : ℕ) (undo : UndoRoom) (room : WorkRoom) (lists : Lists) (held : IsHeld state writer made desks cuts undo room) (view : lists_now undo.table room.stage state writer desks ≡ lists) where
-  pub nothing_seen : (new : WorldState) → MovesPlaces s state new → IsTold new → Stays s lists.state (lists_now undo.table room.stage new writer desks).state
+module _ (s : ℕ) (state : WorldState) (writer : Option ℕ) (made : Bool) (desks : List Desk) (cuts : ℕ) (undo : UndoRoom) (room : WorkRoom) (lists : Lists) (held : IsHeld state writer made desks cuts undo room) (view : seen_of undo.table room.stage state writer desks ≡ lists) where
+  pub nothing_seen : (new : WorldState) → MovesPlaces s state new → IsTold new → Stays s lists.state (seen_of undo.table room.stage new writer desks).state
   nothing_seen new moves told =
       subst (λ (l : Lists). Stays s lists.state l.state)
-      (sym (lists_now_stay s (undo_left_in undo.table room.stage state) state new writer desks moves undo.table room.stage refl told ∙ view)) (nothing_changes s lists.state)
+      (sym (seen_stay s (undo_left_in undo.table room.stage state) state new writer desks moves undo.table room.stage refl told ∙ view)) (nothing_changes s lists.state)
 
   module _ (table : ℕ) (plan by : Plan) (schema : Schema) (told : IsTold state) (there : slice_get state.schemas table ≡ Some schema) (le : plan.which ≤ length schema.keys) (by_is : by ≡ plan_read (is_quiet writer desks) plan) where
     pub tells_now : TellsTable held.chains table by schema state

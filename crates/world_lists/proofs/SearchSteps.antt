@@ -26,12 +26,13 @@ use Rattle.desks.specs.declared.desk.Doing.TheVariants.{Nothing, Searching}
 use Rattle.desks.specs.declared.desk.TableSearch.{TableSearch}
 use Rattle.desks.specs.Desks.{doing_at, with_doing}
 use Rattle.desks.specs.Holding.{IsHeld}
-use Rattle.desks.specs.Shown.{reading_of}
+use Rattle.desks.specs.Shown.{reading_of, seen_of}
 use Rattle.desks.specs.Undoing.{undo_left_in}
 use Rattle.held_searches.specs.Moving.{MovesPlaces}
-use Rattle.held_searches.specs.TakenUp.{ComesAnew, IsTakenUp, MayStep, IsSearchOf, plan_of, lists_now}
+use Rattle.held_searches.specs.TakenUp.{ComesAnew, IsTakenUp, MayStep, IsSearchOf, plan_of}
 use Rattle.held_searches.proofs.AtDesks.{doing_twice}
-use Rattle.held_searches.proofs.Callers.{task_is, turns_now, search_shown, has_desk, searches_on}
+use Rattle.desks.proofs.Showing.{task_is}
+use Rattle.held_searches.proofs.Callers.{turns_now, search_shown, has_desk, searches_on}
 use Rattle.held_searches.proofs.Stepping.{steps, went, ended, waited, given_up}
 
 -- what stands at desks after the session's task was taken and another given
@@ -63,9 +64,9 @@ found_as table plan reading s past rows on is found =
     (subst (λ (p : Plan). AreFoundBy (reading_of is.0.search.scan.sight) table p past s rows) (sym is.3)
     (subst (λ (n : ℕ). AreFoundBy (reading_of is.0.search.scan.sight) n (plan_of is.0) past s rows) (sym is.2) by))
 
-module _ (s : ℕ) (old : WorldState) (writer : Option ℕ) (made : Bool) (desks : List Desk) (cuts : ℕ) (undo : UndoRoom) (room : WorkRoom) (lists : Lists) (held : IsHeld old writer made desks cuts undo room) (view : lists_now undo.table room.stage old writer desks ≡ lists) where
+module _ (s : ℕ) (old : WorldState) (writer : Option ℕ) (made : Bool) (desks : List Desk) (cuts : ℕ) (undo : UndoRoom) (room : WorkRoom) (lists : Lists) (held : IsHeld old writer made desks cuts undo room) (view : seen_of undo.table room.stage old writer desks ≡ lists) where
   abbrev now_in : WorldState → List Desk → State
-  now_in state at = (lists_now undo.table room.stage state writer at).state
+  now_in state at = (seen_of undo.table room.stage state writer at).state
 
   module _ (on : TableSearch) (is : doing_at s desks ≡ Searching on) where
     pub stays_held : (new : WorldState) (after : List Desk) (doing : Doing) → after ≡ with_doing s doing desks → IsHeld new writer made (with_doing s doing desks) cuts undo room → IsHeld new writer made after cuts undo room

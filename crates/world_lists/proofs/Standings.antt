@@ -4,9 +4,9 @@ use Rattle.std.specs.Prelude.{slice_get, is_some, option_map}
 use Rattle.std.specs.List.{list_any}
 use Rattle.inno_model.specs.Past.{own, level, txn, view_of}
 use Rattle.inno_model.specs.Legal.{IsOpen}
-use Rattle.table_lists.specs.Order.{created, is_creation}
-use Rattle.table_lists.specs.Rows.{place_in}
-use Rattle.table_lists.specs.Agreement.{IsIdle, IsWorkOf, ViewAgrees, WriterAgrees}
+use Rattle.past_agreement.specs.Order.{created, is_creation}
+use Rattle.past_agreement.specs.Rows.{place_in}
+use Rattle.past_agreement.specs.Agreement.{IsIdle, IsWorkOf, ViewAgrees, WriterAgrees}
 use Rattle.world.specs.State.{WorldState, Session, Work, Seen, IsSession, HasWork, standing_of, txn_of, own_of, level_of}
 use Rattle.world_agreement.specs.Agreement.{sight_of, work_at}
 use Rattle.world_agreement.proofs.Opening.{idle_of}

@@ -28,11 +28,12 @@ use Rattle.desks.specs.declared.desk.Desk.{Desk}
 use Rattle.desks.specs.declared.desk.Doing.{Doing}
 use Rattle.desks.specs.declared.desk.Doing.TheVariants.{Nothing, Searching, Changing, Lagging, Undoing}
 use Rattle.desks.specs.Desks.{doing_at, is_quiet_doing}
-use Rattle.desks.specs.Shown.{shown}
+use Rattle.desks.specs.Shown.{shown, seen_of}
 use Rattle.desks.specs.Undoing.{undo_left_in}
 use Rattle.desks.specs.Holding.{IsHeld}
-use Rattle.held_entries.specs.Seen.{seen_of, settings_of}
-use Rattle.held_entries.proofs.Seen.{task_is, settings_same, setting_at, settings_set}
+use Rattle.held_entries.specs.Seen.{settings_of}
+use Rattle.desks.proofs.Showing.{task_is}
+use Rattle.held_entries.proofs.Seen.{settings_same, setting_at, settings_set}
 use Rattle.held_entries.proofs.Tables.{LeavesRooms, created_held}
 use Rattle.world_lists.proofs.Answering.{few_more}
 

@@ -295,7 +295,7 @@ impl<W: EngineWorld> WorldLists<W> {
     ghost use Rattle.std.specs.Prelude.{◌≡◌, ℕ, ◌-◌, ◌<◌, length};
     ghost use Rattle.inno_model.specs.declared.event.Event.TheVariants.{Undone as UndoneEvent};
     ghost use Rattle.inno_model.specs.Past.{own};
-    ghost use Rattle.table_lists.specs.Order.{MayCome};
+    ghost use Rattle.past_agreement.specs.Order.{MayCome};
     ghost use Rattle.shared_lists.specs.Tasks.{Undoing, MayTakeBack};
     ghost use Rattle.shared_lists.specs.State.{task_of};
     ghost use Rattle.held_undoing.specs.Seen.{TakesBackIn};

@@ -7,7 +7,7 @@ ghost use Rattle.row_versions.specs.Chains.{Chains};
 ghost use Rattle.world.specs.State.{Session, Work, IsSession, HasWork, standing_of};
 ghost use Rattle.world.specs.Told.{TellsTogether};
 ghost use Rattle.world.specs.Undoing.{read_into, IsCutBack};
-ghost use Rattle.table_lists.specs.Order.{IsOfRow};
+ghost use Rattle.past_agreement.specs.Order.{IsOfRow};
 ghost use Rattle.row_changes.specs.Edits.{change_of};
 ghost use Rattle.row_changes.specs.Rows.{IsChangingRow, table_of};
 ghost use Rattle.inno_model.specs.Past.{own};

@@ -23,17 +23,15 @@ use Rattle.sql_history.specs.Items.{own_before, base, undoes}
 use Rattle.sql_history.specs.LooseReading.{newest}
 use Rattle.sql_history.specs.Counts.{rows_of_entry, rows_kept, most_rows}
 use Rattle.sql_history.specs.Legal.{IsWriting, ChangesBy, MayChange}
-use Rattle.table_lists.specs.Order.{created, IsTabled, IsOfRow}
-use Rattle.table_lists.specs.Agreement.{IsSound}
+use Rattle.past_agreement.specs.Order.{created, IsTabled, IsOfRow}
+use Rattle.past_agreement.specs.Agreement.{IsSound}
 use Rattle.fitting_rows.proofs.Spelled.{spelled-Has64Bits}
-use Rattle.fitting_history.specs.History.{FitsWell as WellFitting}
 use Rattle.fitting_history.proofs.Databases.{latest_coded, statement_fits}
 use Rattle.shared_lists.specs.Fitting.{FitsWell, FitsThen}
 use Rattle.sql_lists.specs.Kept.{IsInOrder}
 use Rattle.write_statement.specs.declared.machine.Work.{Work}
 use Rattle.write_statement.specs.Running.{IsChanging}
 use Rattle.write_statement.proofs.Writing.{of_writing}
-use Rattle.write_statement.proofs.Fitted.{fitted}
 use Rattle.write_statement.proofs.Own.{did_same, over_same, working_own}
 
 -- ---- lists
@@ -118,10 +116,10 @@ module _ (past : List Event) (writer : Option ℕ) (s : ℕ) (work : Work) (todo
   -- it fits its table
   pub fits : FitsThen past → IsSound past → IsInOrder past → FitsWell (created past) change
   fits then sound in-order =
-      let coded = latest_coded past s (reverse r.made) (fitted past then) sound in-order r.own_is r.tables in
+      let coded = latest_coded past s (reverse r.made) then sound in-order r.own_is r.tables in
       let stores = spelled-Has64Bits r.working.takes.asks.0 r.statement r.working.takes.asks.2 in
-      let all : All (WellFitting (base s past).schemas) (r.made ++ change ∷ reverse todo) = subst (All (WellFitting (base s past).schemas)) parts_are (statement_fits r.statement (base s past) coded stores) in
-      subst (λ (schemas : List Schema). FitsWell schemas change) (sym r.tables) (All-head (WellFitting (base s past).schemas) change (reverse todo) (All-behind (WellFitting (base s past).schemas) r.made (change ∷ reverse todo) all))
+      let all : All (FitsWell (base s past).schemas) (r.made ++ change ∷ reverse todo) = subst (All (FitsWell (base s past).schemas)) parts_are (statement_fits r.statement (base s past) coded stores) in
+      subst (λ (schemas : List Schema). FitsWell schemas change) (sym r.tables) (All-head (FitsWell (base s past).schemas) change (reverse todo) (All-behind (FitsWell (base s past).schemas) r.made (change ∷ reverse todo) all))
 
   -- the history tells it
   module _ (of-row : IsOfRow change) where

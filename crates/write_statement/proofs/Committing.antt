@@ -21,7 +21,7 @@ use Rattle.sql_history.specs.Answers.{MakesFor}
 use Rattle.sql_history.specs.Endings.{IsClosed, Commits, Goes, BacksOut}
 use Rattle.sql_history.specs.Legal.{IsSettled, CommitsBy, MayCommit, is_alone}
 use Rattle.sql_history.specs.Waiting.{is_victim}
-use Rattle.table_lists.specs.Order.{IsOfRow}
+use Rattle.past_agreement.specs.Order.{IsOfRow}
 use Rattle.shared_lists.specs.Tasks.{Idle}
 use Rattle.shared_lists.specs.State.{State, Adds, Closes, task_of}
 use Rattle.sql_lists.specs.Kept.{MayReply}

@@ -23,10 +23,10 @@ use Rattle.inno_db.specs.Typing.{filter_fits, set_fits, set_known, where_fits, w
 use Rattle.inno_db.proofs.Outcomes.{table_read}
 use Rattle.inno_model.specs.declared.event.Event.{Event}
 use Rattle.inno_model.specs.Past.{own, commits, committed, opening, changed}
-use Rattle.table_lists.specs.Order.{created, is_creation}
-use Rattle.table_lists.specs.Rows.{seen}
-use Rattle.table_lists.specs.Agreement.{IsSound}
-use Rattle.table_lists.proofs.Tables.{key_stays}
+use Rattle.past_agreement.specs.Order.{created, is_creation}
+use Rattle.past_agreement.specs.Rows.{seen}
+use Rattle.past_agreement.specs.Agreement.{IsSound}
+use Rattle.past_agreement.proofs.Tables.{key_stays}
 use Rattle.tables_as_db.specs.Tables.{with_all_tables}
 use Rattle.sql_history.specs.Items.{own_before, base}
 use Rattle.sql_history.specs.Legal.{IsWriting}
@@ -46,7 +46,6 @@ use Rattle.write_statement.specs.declared.settling.Settled.{Settled}
 use Rattle.write_statement.specs.Planning.{Covers, HoldsMatches}
 use Rattle.write_statement.specs.Running.{IsEarly, HasRight, IsFound, AreEnough, IsChanging}
 use Rattle.write_statement.specs.Settling.{IsSettledBy}
-use Rattle.write_statement.proofs.Fitted.{fitted}
 
 -- ---- the same rows, whether later tables are there or not
 
@@ -170,7 +169,7 @@ found_enough state s search rows r stands sound in-order fits =
     let same = read.early.unchanged in
     let db = base s past in
     let tables = tables_are past state.writer s read.right same stands in
-    let coded = unchanged_coded past s (fitted past fits) sound in-order stands read.right.alone same in
+    let coded = unchanged_coded past s fits sound in-order stands read.right.alone same in
     let there : slice_get db.schemas read.table ≡ Some read.schema = ap (λ schemas. slice_get schemas read.table) (sym tables) ∙ read.there in
     let at : table_read db.schemas search.stmt ≡ Some read.table = ap (λ schemas. table_read schemas search.stmt) (sym tables) ∙ read.table_is in
     let fit = fitting_rows_fit db read.table read.schema coded.fitting coded.numbers there in

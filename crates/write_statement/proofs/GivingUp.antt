@@ -26,7 +26,7 @@ use Rattle.sql_history.specs.Endings.{IsOpen, Goes, BacksOut, RollsBack}
 use Rattle.sql_history.specs.Legal.{IsWriting, UndoesBy, MayUndo, RollsBackBy, MayRollBack, LeavesIt, MayLeaveOpen, is_alone}
 use Rattle.sql_history.specs.Waiting.{is_victim}
 use Rattle.sql_history.specs.Counts.{rows_kept, most_rows}
-use Rattle.table_lists.specs.Order.{IsOfRow, IsUndoable}
+use Rattle.past_agreement.specs.Order.{IsOfRow, IsUndoable}
 use Rattle.shared_lists.specs.declared.answers.Undone.{Undone}
 use Rattle.shared_lists.specs.declared.answers.Undone.TheVariants as undone
 use Rattle.shared_lists.specs.Tasks.{Task, Idle, MayTakeBack}

@@ -21,7 +21,7 @@ use Rattle.sql_history.specs.Statements.{refused_at_once}
 use Rattle.sql_history.specs.Endings.{IsOpen, IsClosed}
 use Rattle.sql_history.specs.Legal.{Takes, IsWriting, MayBegin, BeginsBy, LeavesIt, WantsMemory}
 use Rattle.sql_history.specs.Waiting.{is_victim}
-use Rattle.table_lists.specs.Order.{IsOfRow}
+use Rattle.past_agreement.specs.Order.{IsOfRow}
 use Rattle.shared_lists.specs.State.{State, Adds}
 use Rattle.sql_lists.specs.Steps.{IsTaken, Moves}
 use Rattle.sql_lists.specs.Kept.{MayReply}

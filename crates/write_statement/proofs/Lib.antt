@@ -6,7 +6,6 @@ pub mod Others
 pub mod MayReply
 pub mod Joining
 pub mod Own
-pub mod Fitted
 pub mod Found
 pub mod Plans
 pub mod Changes

@@ -22,7 +22,7 @@ use Rattle.sql_history.specs.Legal.{Takes}
 use Rattle.sql_history.specs.Waiting.{is_victim}
 use Rattle.shared_lists.specs.Tasks.{Idle, is_changing, asked, MayTakeBack}
 use Rattle.shared_lists.specs.State.{State, task_of}
-use Rattle.table_lists.specs.Order.{created, IsOfRow}
+use Rattle.past_agreement.specs.Order.{created, IsOfRow}
 use Rattle.sql_lists.specs.Steps.{Adding, IsTaken, StaysRunning, changes_rows}
 use Rattle.sql_lists.proofs.Staying.{other_of, not_starting, at_work, point_now, point_stays, IsSteady, steady_on, base_on}
 use Rattle.write_statement.specs.declared.machine.Search.{Search}

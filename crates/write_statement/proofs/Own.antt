@@ -17,7 +17,7 @@ use Rattle.sql_history.specs.Settings.{Setting, HasSet}
 use Rattle.sql_history.specs.Statements.{refused_at_once}
 use Rattle.sql_history.specs.Legal.{Takes}
 use Rattle.sql_history.specs.Waiting.{is_victim}
-use Rattle.table_lists.specs.Order.{IsOfRow}
+use Rattle.past_agreement.specs.Order.{IsOfRow}
 use Rattle.sql_lists.proofs.Staying.{is_within, item_within, before_within, starts_not, point_now, point_before, point_stays}
 use Rattle.write_statement.specs.Running.{Joins, HasOpened, InTxn, IsWorking, HasReply}
 use Rattle.write_statement.proofs.Replies.{reply_stays}

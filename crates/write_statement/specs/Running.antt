@@ -22,7 +22,7 @@ use Rattle.sql_history.specs.Endings.{IsOpen, IsClosed, RollsBack, Goes, BacksOu
 use Rattle.sql_history.specs.Legal.{Takes, IsWriting}
 use Rattle.sql_history.specs.Waiting.{is_victim}
 use Rattle.sql_history.specs.Counts.{rows_of_entry, rows_kept, most_rows}
-use Rattle.table_lists.specs.Order.{created, IsOfRow}
+use Rattle.past_agreement.specs.Order.{created, IsOfRow}
 use Rattle.plain_sql.specs.Finding.{IsReadFrom}
 use Rattle.shared_lists.specs.declared.answers.Reading.TheVariants.{Newest}
 use Rattle.shared_lists.specs.Tasks.{Task, Idle, Searching, is_changing, asked, MayTakeBack}

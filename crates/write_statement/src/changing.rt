@@ -3,7 +3,7 @@
 ghost use Rattle.std.specs.Prelude.{◌≡◌, ◌<◌, ◌+◌, [], ◌∷◌, ◌++◌, length};
 ghost use Rattle.inno_model.specs.declared.event.Event.TheVariants.{Changed as ChangedEvent};
 ghost use Rattle.sql_history.specs.Counts.{rows_of_entry};
-ghost use Rattle.table_lists.specs.Order.{IsOfRow};
+ghost use Rattle.past_agreement.specs.Order.{IsOfRow};
 ghost use Rattle.shared_lists.specs.Tasks.{Idle};
 ghost use Rattle.shared_lists.specs.State.{task_of};
 ghost use Rattle.sql_lists.specs.Steps.{Steps};

@@ -6,7 +6,7 @@ ghost use Rattle.inno_db.specs.declared.limits.TheConstants.{MOST_TABLES};
 ghost use Rattle.inno_types.specs.declared.value.Schema.{Schema};
 ghost use Rattle.inno_model.specs.Past.{own};
 ghost use Rattle.sql_history.specs.Endings.{IsOpen, IsClosed};
-ghost use Rattle.table_lists.specs.Order.{created};
+ghost use Rattle.past_agreement.specs.Order.{created};
 ghost use Rattle.fitting_rows.specs.Storable.{AreStorable};
 ghost use Rattle.shared_lists.specs.Tasks.{Idle};
 ghost use Rattle.shared_lists.specs.State.{task_of};

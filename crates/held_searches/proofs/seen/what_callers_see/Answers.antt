@@ -1,6 +1,7 @@
 use Rattle.std.proofs.Common.{refl}
 use Rattle.desks.specs.Undoing.{undo_left_in}
-use Rattle.held_searches.proofs.Callers.{task_is, left_stays, lists_now_stay, turns_now, rest_stays}
+use Rattle.desks.proofs.Showing.{task_is}
+use Rattle.held_searches.proofs.Callers.{left_stays, seen_stay, turns_now, rest_stays}
 use Rattle.held_searches.proofs.seen.what_callers_see.Goals as goal
 
 pub returns-clause-task : goal.returns-clause-task
@@ -10,7 +11,7 @@ pub returns-clause-left : goal.returns-clause-left
 returns-clause-left c = left_stays
 
 pub returns-clause-stays : goal.returns-clause-stays
-returns-clause-stays c = λ s table stage old new writer desks moves. lists_now_stay s (undo_left_in table stage old) old new writer desks moves table stage refl
+returns-clause-stays c = λ s table stage old new writer desks moves. seen_stay s (undo_left_in table stage old) old new writer desks moves table stage refl
 
 pub returns-clause-turns : goal.returns-clause-turns
 returns-clause-turns c = turns_now

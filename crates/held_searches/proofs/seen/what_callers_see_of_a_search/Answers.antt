@@ -2,7 +2,8 @@ use Rattle.std.proofs.Common.{sym, ◌∙◌}
 use Rattle.desks.specs.declared.desk.Doing.TheVariants.{Nothing}
 use Rattle.desks.specs.Desks.{doing_at}
 use Rattle.desks.specs.Undoing.{undo_left_in}
-use Rattle.held_searches.proofs.Callers.{task_is, turns_now, search_shown, idle_shown, has_desk, turns_to_search, searches_on}
+use Rattle.desks.proofs.Showing.{task_is, idle_shown}
+use Rattle.held_searches.proofs.Callers.{turns_now, search_shown, has_desk, turns_to_search, searches_on}
 use Rattle.held_searches.proofs.seen.what_callers_see_of_a_search.Goals as goal
 
 pub returns-clause-searching : goal.returns-clause-searching

@@ -1,10 +1,10 @@
 use Rattle.std.proofs.Common.{◌≡◌, subst, sym}
 use Rattle.fitting_rows.specs.Storable.{AreStorable}
-use Rattle.table_lists.specs.Order.{created}
-use Rattle.read_statement.proofs.Searched.{all_storable}
+use Rattle.past_agreement.specs.Order.{created}
+use Rattle.fitting_history.proofs.Changes.{tables_storable}
 use Rattle.read_statement.proofs.planning.plan_search.Goals as goal
 
 pub plan_among-requires-clause-storable : goal.plan_among-requires-clause-storable
 plan_among-requires-clause-storable g c =
     let same : c.schemas.result.now ≡ created c.args.lists.now.past = cc in
-    subst AreStorable (sym same) (all_storable c.args.lists.now.past c.lists.ensures.fits)
+    subst AreStorable (sym same) (tables_storable c.args.lists.now.past c.lists.ensures.fits)

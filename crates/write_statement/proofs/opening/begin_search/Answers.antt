@@ -1,6 +1,6 @@
 use Rattle.std.proofs.Common.{subst, sym, ap, ◌∙◌, arith}
 use Rattle.inno_db.proofs.Outcomes.{table_read}
-use Rattle.table_lists.specs.Order.{created}
+use Rattle.past_agreement.specs.Order.{created}
 use Rattle.shared_lists.specs.State.{State}
 use Rattle.write_statement.specs.declared.machine.WriteStatement.TheVariants.{Locking}
 use Rattle.write_statement.specs.Running.{AreEnough}

@@ -1,15 +1,14 @@
 use Rattle.std.proofs.Common.{subst, sym, ap, ◌∙◌}
-use Rattle.table_lists.specs.Order.{created}
+use Rattle.past_agreement.specs.Order.{created}
 use Rattle.fitting_rows.specs.Storable.{AreStorable}
 use Rattle.fitting_history.proofs.Changes.{tables_storable}
 use Rattle.shared_lists.specs.State.{State}
-use Rattle.write_statement.proofs.Fitted.{fitted}
 use Rattle.write_statement.proofs.Turning.{turns_none, turns_stayed, early_given_up, begins_search}
 use Rattle.write_statement.proofs.opening.search_table.Goals as goal
 
 pub plan_in-requires : goal.plan_in-requires
 plan_in-requires g c =
-    record { storable = subst AreStorable (sym (c.schemas.ensures ∙ ap (λ (st : State). created st.past) c.lists.ensures.same)) (tables_storable c.args.lists.now.past (fitted c.args.lists.now.past c.lists.ensures.fits)) }
+    record { storable = subst AreStorable (sym (c.schemas.ensures ∙ ap (λ (st : State). created st.past) c.lists.ensures.same)) (tables_storable c.args.lists.now.past c.lists.ensures.fits) }
 
 pub returns-in_default-clause-steps : goal.returns-in_default-clause-steps
 returns-in_default-clause-steps g c =

@@ -12,7 +12,7 @@ use Rattle.engine_world.specs.Calls.{MakesTable}
 use Rattle.row_changes.specs.Records.{IsListed}
 use Rattle.row_changes.specs.Entering.{GivesId}
 use Rattle.shared_lists.specs.State.{Adds}
-use Rattle.held_entries.specs.Seen.{seen_of}
+use Rattle.desks.specs.Shown.{seen_of}
 use Rattle.world_lists.proofs.SearchBegins.{writer_now}
 use Rattle.world_lists.proofs.Tabled.{work1, session1, listed1, id_was, given, past_is, names_are, rows_are, settings_are, created_now, table_seen}
 use Rattle.world_lists.proofs.steps.WorldListsSharedLists.create.Goals as goal

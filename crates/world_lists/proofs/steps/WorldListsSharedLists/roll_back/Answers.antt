@@ -43,7 +43,7 @@ returns-clause-closes g c =
     let session : Session = mine.0 in
     let work : Work = mine.1 in
     let has : HasWork c.args.session session work old = mine.2 in
-    subst (λ (later : Option ℕ). Rattle.shared_lists.specs.State.Closes (RolledBack c.args.session) c.args.session c.args.self.now.state (Rattle.held_entries.specs.Seen.seen_of l.undo.table l.room.stage (g.W.World.state c.end.new.self) later l.desks.items).state) (sym c.without-self-inside.ensures)
+    subst (λ (later : Option ℕ). Rattle.shared_lists.specs.State.Closes (RolledBack c.args.session) c.args.session c.args.self.now.state (Rattle.desks.specs.Shown.seen_of l.undo.table l.room.stage (g.W.World.state c.end.new.self) later l.desks.items).state) (sym c.without-self-inside.ensures)
     (closes c.args.session old l.writer l.has_made_table l.desks.items l.cuts l.undo l.room c.args.self.now c.self.invariant c.self.view_is (RolledBack c.args.session) (g.W.World.state c.end.new.self) (rolled_back c.args.session session work old) (c.end.ensures ∙ ap (λ n. ended n (g.W.World.state c.add_rolled_back.new.self)) (c.txn_of-txn.ensures ∙ its_txn c.args.session old l.writer l.has_made_table l.desks.items l.cuts l.undo l.room c.args.self.now c.self.invariant c.self.view_is session work has) ∙ ap (ended work.txn) (c.add_rolled_back.ensures session work has)) refl refl refl refl)
 
 pub returns-clause-settings : goal.returns-clause-settings

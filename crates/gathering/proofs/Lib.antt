@@ -1,3 +1,0 @@
-mod Order
-pub mod Rows
-pub mod Latest
