@@ -1,6 +1,5 @@
 -- The tables of the catalog: pages hold one list of them, and another one goes behind.
-use Rattle.std.proofs.Common.{◌≡◌, ◌≢◌, ℕ, ◌+◌, ◌<◌, ◌≤◌, inl, inr, List, [], ◌∷◌, ◌++◌, length, take, drop, get_or, true, false, Some, None, refl, sym, ap, ◌∙◌, subst, arith, length-append}
-use Rattle.std.specs.Prelude.{slice_get, slice_index}
+use Rattle.std.proofs.Common.{◌≡◌, ◌≢◌, ℕ, ◌+◌, ◌<◌, ◌≤◌, inl, inr, List, [], ◌∷◌, ◌++◌, length, take, drop, get_or, true, sym, ◌∙◌, subst, arith, length-append}
 use Rattle.std.proofs.lemmas.Bool.{cases_lt}
 use Rattle.std.proofs.lemmas.List.{same_lists}
 use Rattle.std.proofs.lemmas.Option.{slice_get_cases, slice_get_within, get_or_from_slice_get}
@@ -8,7 +7,7 @@ use Rattle.catalog_entry.specs.declared.held.Held.{Held}
 use Rattle.catalog_entry.proofs.Entries.{one_entry}
 use Rattle.catalog.specs.Makeable.{is_makeable}
 use Rattle.catalog.specs.Tables.{IsUnused, HoldsTable, is_new_name, IsTable, page_count, IsCatalog}
-use Rattle.catalog.specs.Creating.{IsFilled, HasRoom}
+use Rattle.catalog.specs.Creating.{IsFilled}
 use Rattle.catalog.proofs.Prefixes.{table_at}
 
 pub filled : (tables : List Held) (pages : ℕ → List ℕ) → IsCatalog tables pages → IsFilled (length tables) pages

@@ -1,7 +1,7 @@
 -- How many pages a mini-transaction deals with: asking for one more page takes one place at most.
-use Rattle.std.proofs.Common.{◌≡◌, ℕ, ◌+◌, ◌≤◌, inl, inr, List, [], ◌∷◌, ◌++◌, length, Bool, true, false, ap, refl, arith, length-append}
+use Rattle.std.proofs.Common.{◌≡◌, ℕ, ◌+◌, ◌≤◌, List, [], ◌∷◌, ◌++◌, length, Bool, true, false, ap, refl, arith, length-append}
 use Rattle.std.specs.Prelude.{if◌then◌else◌, Result, Ok, Err}
-use Rattle.mtr.specs.declared.answers.Visit.{Visit}
+use Rattle.store_api.specs.declared.visits.Visit.{Visit}
 use Rattle.mtr.specs.Seen.{MtrState, is_in, visit, claim}
 use Rattle.mtr.specs.Calls.{Asks}
 use Rattle.mtr.proofs.Claims.{visited_stays, claim_least}

@@ -1,6 +1,6 @@
 -- A schema that could be made is declared by a CREATE TABLE: its columns, its primary key and its keys, each written out.
-use Rattle.std.proofs.Common.{◌≡◌, ℕ, zero, suc, ◌+◌, ◌<◌, ◌≤◌, inl, inr, List, [], ◌∷◌, ◌++◌, length, get_or, map, Bool, true, false, ◌&&◌, ◌||◌, not, Option, Some, None, refl, sym, ap, ◌∙◌, subst, arith}
-use Rattle.std.specs.Prelude.{slice_get, nat_le, nat_lt, bytes_eq, position, unwrap_or, if◌then◌else◌}
+use Rattle.std.proofs.Common.{◌≡◌, ℕ, zero, suc, ◌<◌, inl, inr, List, [], ◌∷◌, ◌++◌, length, get_or, map, Bool, true, false, ◌&&◌, ◌||◌, not, Option, Some, None, refl, sym, ap, ◌∙◌, subst, arith}
+use Rattle.std.specs.Prelude.{slice_get, nat_le, nat_lt, unwrap_or, if◌then◌else◌}
 use Rattle.std.specs.List.{list_all, list_any, flat_map, position_or_len}
 use Rattle.std.specs.Str.{str_eq_ignore_ascii_case, str_to_ascii_lowercase}
 use Rattle.std.proofs.lemmas.Bool.{and_from, cases_lt}
@@ -9,7 +9,7 @@ use Rattle.std.proofs.lemmas.Slice.Eq.{bytes_eq-Decides}
 use Rattle.std.proofs.lemmas.List.{append-nil}
 use Rattle.std.proofs.lemmas.List.Concat.{flat_map-append}
 use Rattle.std.proofs.lemmas.List.Folds.{list_all-append, list_any-append, list_any_at}
-use Rattle.std.proofs.lemmas.List.Sums.{AllPass-from_list_all, list_all-from_AllPass, position_or_len_is}
+use Rattle.std.proofs.lemmas.List.Sums.{list_all-from_AllPass, position_or_len_is}
 use Rattle.std.proofs.lemmas.Option.{slice_get_cases, get_or_from_slice_get}
 use Rattle.inno_types.specs.declared.value.Kind.{Kind}
 use Rattle.inno_types.specs.declared.value.Kind.TheVariants.{BigInt, VarBinary}
@@ -21,8 +21,8 @@ use Rattle.inno_types.specs.declared.stmt.DeclaredKind.TheVariants as declared
 use Rattle.inno_types.specs.declared.stmt.Definition.{Definition}
 use Rattle.inno_types.specs.declared.stmt.Definition.TheVariants as definition
 use Rattle.inno_db.specs.Names.{column_at, column_place}
-use Rattle.inno_db.specs.Declarations.{has_twins, kind_of, says_null, column_of, columns_of, primary_of, primaries_of, key_column_of, key_columns_of, declares_null, key_of, keys_of, is_indexable, are_good_columns, are_good_keys, schema_of, schema_if, declared_by, schema_declared}
-use Rattle.catalog.specs.Makeable.{is_name, are_named, takes_no_null, has_primary, has_good_keys, is_narrow, is_makeable}
+use Rattle.inno_db.specs.Declarations.{has_twins, kind_of, column_of, columns_of, primary_of, primaries_of, key_column_of, key_columns_of, declares_null, key_of, keys_of, is_indexable, are_good_columns, are_good_keys, schema_of, schema_if, declared_by, schema_declared}
+use Rattle.catalog.specs.Makeable.{is_name, takes_no_null, is_narrow, is_makeable}
 use Rattle.catalog.specs.Declaration.{has_byte, can_be_written, IsDeclared}
 use Rattle.catalog.proofs.Makeables.{both}
 use Rattle.catalog.proofs.Declaring.{holds_no_null}

@@ -1,22 +1,20 @@
 -- What a CREATE TABLE declares could be made.
-use Rattle.std.proofs.Common.{◌≡◌, ℕ, ◌+◌, ◌<◌, ◌≤◌, inl, inr, List, [], ◌∷◌, ◌++◌, length, get_or, Bool, true, false, ◌&&◌, ◌||◌, not, Option, Some, None, refl, sym, ap, ◌∙◌, subst, arith}
-use Rattle.std.specs.Prelude.{slice_get, nat_le, position, unwrap_or, flat_map, if◌then◌else◌}
-use Rattle.std.specs.List.{list_all, list_any}
+use Rattle.std.proofs.Common.{◌≡◌, ℕ, inl, inr, List, [], ◌∷◌, length, Bool, true, false, ◌&&◌, ◌||◌, not, Option, Some, None, refl, sym, ap, ◌∙◌, subst, arith}
+use Rattle.std.specs.Prelude.{slice_get, nat_le, unwrap_or, if◌then◌else◌}
+use Rattle.std.specs.List.{list_all}
 use Rattle.std.specs.Str.{str_eq_ignore_ascii_case}
 use Rattle.std.proofs.lemmas.Bool.{and_from}
-use Rattle.std.proofs.lemmas.List.Folds.{list_all-append}
 use Rattle.std.proofs.lemmas.List.Sums.{AllPass-from_list_all}
 use Rattle.std.proofs.lemmas.List.Quantifiers.{position-Some}
 use Rattle.std.proofs.lemmas.Option.{slice_get_cases, slice_get_within, get_or_from_slice_get}
 use Rattle.inno_types.specs.declared.value.Column.{Column}
-use Rattle.inno_types.specs.declared.value.Key.{Key}
 use Rattle.inno_types.specs.declared.value.Schema.{Schema}
 use Rattle.inno_types.specs.declared.stmt.DeclaredKind.{DeclaredKind}
 use Rattle.inno_types.specs.declared.stmt.DeclaredKind.TheVariants as declared
 use Rattle.inno_types.specs.declared.stmt.Definition.{Definition}
 use Rattle.inno_types.specs.declared.stmt.Definition.TheVariants as definition
 use Rattle.inno_db.specs.Names.{column_at, column_place}
-use Rattle.inno_db.specs.Declarations.{kind_of, says_not_null, column_of, columns_of, primaries_of, key_column_of, key_columns_of, declared_name, key_name, key_of, keys_of, is_indexable, are_good_columns, are_good_keys, schema_of, schema_if, declared_by}
+use Rattle.inno_db.specs.Declarations.{kind_of, says_not_null, columns_of, primaries_of, key_columns_of, declared_name, key_name, keys_of, is_indexable, are_good_columns, are_good_keys, schema_of, declared_by}
 use Rattle.catalog.specs.Makeable.{is_name, takes_no_null, is_narrow, is_makeable}
 use Rattle.catalog.specs.Declaration.{has_byte, can_be_written, IsDeclared}
 use Rattle.catalog.proofs.Makeables.{both}

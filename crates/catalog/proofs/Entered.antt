@@ -1,18 +1,18 @@
 -- A table's entry is put on its page, and the table is there.
-use Rattle.std.proofs.Common.{◌≡◌, ◌≢◌, ℕ, ◌+◌, ◌*◌, ◌^◌, ◌<◌, ◌≤◌, inl, inr, List, [], ◌∷◌, ◌++◌, length, take, drop, get_or, true, false, refl, sym, ap, ◌∙◌, subst, arith, length-append}
+use Rattle.std.proofs.Common.{◌≡◌, ◌≢◌, ℕ, ◌+◌, ◌*◌, ◌<◌, ◌≤◌, List, [], ◌∷◌, ◌++◌, length, take, drop, true, false, refl, sym, ap, ◌∙◌, subst, arith}
 use Rattle.std.specs.Prelude.{slice_index, All, IsTrue}
 use Rattle.std.specs.List.{flat_map}
 use Rattle.std.proofs.lemmas.List.{append-nil, get_or_append_left, get_or-append-add, get_or-take, length-take-le, drop_at, drop-drop}
 use Rattle.std.proofs.lemmas.List.Elements.{All-nil, All-cons}
 use Rattle.inno_types.specs.declared.value.Schema.{Schema}
-use Rattle.page_format.specs.Words.{u32_at, kind_of}
+use Rattle.page_format.specs.Words.{kind_of}
 use Rattle.mtr.specs.Seen.{MtrState, is_in, capacity_of, IsWithin, with_bytes}
-use Rattle.mtr.specs.Calls.{SamePages, SeesAt, Consults}
+use Rattle.mtr.specs.Calls.{Consults}
 use Rattle.mtr.proofs.Consulting.{goes_then}
 use Rattle.catalog_entry.specs.declared.held.Held.{Held}
-use Rattle.catalog_entry.specs.Numbers.{u32_bytes}
-use Rattle.catalog_entry.specs.Entry.{schema_bytes, entry_bytes, IsRoot, IsEntry}
-use Rattle.catalog_entry.specs.Refused.{BeginsWith}
+use Rattle.schema_codec.specs.Numbers.{u32_bytes}
+use Rattle.schema_codec.specs.Schema.{schema_bytes}
+use Rattle.catalog_entry.specs.Entry.{IsRoot, IsEntry}
 use Rattle.catalog.specs.Makeable.{is_makeable}
 use Rattle.catalog.specs.Tables.{IsCatalogPage, IsUnused, HoldsTable, is_new_name, page_count, IsCatalog}
 use Rattle.catalog.specs.Creating.{HasRoom, IsFilled, IsEmptyLeaf, record_len, AreEmptyRoots, ReservesPages, Reserves, MakesRoots, PutsEntry, IsCreated, Creates, asked_pages}

@@ -1,9 +1,9 @@
 -- Counts of free pages: one that is taken is one less, and what stands on other pages doesn't count.
-use Rattle.std.proofs.Common.{◌≡◌, ◌≢◌, ℕ, zero, suc, ◌+◌, ◌-◌, ◌%◌, ◌<◌, ◌≤◌, inl, inr, List, ap, refl, arith}
+use Rattle.std.proofs.Common.{◌≡◌, ◌≢◌, ℕ, zero, suc, ◌+◌, ◌%◌, ◌<◌, ◌≤◌, inl, inr, List, ap, refl, arith}
 use Rattle.std.specs.Prelude.{slice_index}
 use Rattle.std.specs.Int.{bit_at}
 use Rattle.std.proofs.lemmas.Bool.{cases_eq}
-use Rattle.mtr.specs.Seen.{MtrState, with_bytes}
+use Rattle.mtr.specs.Seen.{MtrState}
 use Rattle.mtr.specs.Calls.{SeesAt}
 use Rattle.space_map.specs.Map.{map_page, byte_of, mark_of, free_among}
 

@@ -1,12 +1,12 @@
 -- The bytes of an empty leaf, written at byte 20 of a page of zeros.
-use Rattle.std.proofs.Common.{◌≡◌, ℕ, ◌+◌, ◌*◌, ◌^◌, ◌<◌, ◌≤◌, ◌==◌, List, [], ◌∷◌, ◌++◌, length, take, drop, replicate, get_or, None, refl, sym, ap, ◌∙◌, subst, arith}
-use Rattle.std.specs.Prelude.{slice_index, All, if◌then◌else◌}
-use Rattle.std.specs.Int.{w16, w32, to_be_bytes, from_be_bytes}
-use Rattle.std.proofs.lemmas.List.{get_or-append-add, length-take-le, drop_at, drop-drop, length-replicate, take_at}
+use Rattle.std.proofs.Common.{◌≡◌, ℕ, ◌+◌, ◌*◌, ◌^◌, ◌<◌, ◌==◌, List, ◌++◌, length, take, drop, replicate, refl, sym, ap, ◌∙◌, subst, arith}
+use Rattle.std.specs.Prelude.{slice_index, if◌then◌else◌}
+use Rattle.std.specs.Int.{w16, w32, from_be_bytes}
+use Rattle.std.proofs.lemmas.List.{get_or-append-add, length-take-le, drop_at, drop-drop, length-replicate}
 use Rattle.std.proofs.lemmas.List.Elements.{All-replicate, All-drop, All-take}
 use Rattle.std.proofs.lemmas.Nat.{from_be_bytes-to_be_bytes_2, from_be_bytes-to_be_bytes_4}
-use Rattle.page_format.specs.Words.{u16_at, u32_at, kind_of, level_of, count_of, index_of, right_of, record_len_of, fence, low_of, high_of, pieces, records_of}
-use Rattle.page_format.specs.Shape.{AreZeros, fence_width, IsFence, HasTreeFields}
+use Rattle.page_format.specs.Words.{u16_at, u32_at, kind_of, level_of, count_of, index_of, right_of, record_len_of, fence, pieces}
+use Rattle.page_format.specs.Shape.{AreZeros, IsFence}
 use Rattle.mtr.specs.Seen.{with_bytes}
 use Rattle.catalog.specs.Creating.{leaf_head, IsEmptyLeaf}
 

@@ -10,7 +10,6 @@ pub mod Nearing
 pub mod Prefixes
 pub mod Reasons
 pub mod Reserving
-pub mod Resting
 pub mod Rooted
 pub mod Shown
 pub mod Told

@@ -1,11 +1,10 @@
 -- What is known of a schema that a CREATE TABLE could make: its numbers fit their fields, and its entry fits a page.
-use Rattle.std.proofs.Common.{◌≡◌, ℕ, suc, ◌+◌, ◌-◌, ◌*◌, ◌<◌, ◌≤◌, inl, inr, List, [], ◌∷◌, ◌++◌, length, get_or, Bool, true, false, ◌&&◌, not, Option, Some, None, refl, sym, ap, ◌∙◌, subst, arith, length-append}
-use Rattle.std.specs.Prelude.{All, slice_get, nat_le, nat_lt, sum_by}
-use Rattle.std.specs.List.{list_all, flat_map}
+use Rattle.std.proofs.Common.{◌≡◌, ℕ, ◌+◌, ◌*◌, ◌<◌, ◌≤◌, inl, inr, List, [], ◌∷◌, ◌++◌, length, get_or, Bool, true, false, ◌&&◌, refl, sym, ap, ◌∙◌, arith, length-append}
+use Rattle.std.specs.Prelude.{All, slice_get, nat_le, nat_lt}
+use Rattle.std.specs.List.{flat_map}
 use Rattle.std.proofs.Math.Nat.{mul-suc}
-use Rattle.std.proofs.lemmas.Bool.{cases_lt}
 use Rattle.std.proofs.lemmas.Bool.Decides.{nat_tests}
-use Rattle.std.proofs.lemmas.List.Elements.{All-head, All-tail, All-nil, All-cons, All-weaker}
+use Rattle.std.proofs.lemmas.List.Elements.{All-head, All-tail}
 use Rattle.std.proofs.lemmas.List.Sums.{AllPass-from_list_all}
 use Rattle.std.proofs.lemmas.Option.{slice_get_cases}
 use Rattle.inno_types.specs.declared.value.Kind.{Kind}
@@ -13,10 +12,10 @@ use Rattle.inno_types.specs.declared.value.Kind.TheVariants.{BigInt, VarBinary}
 use Rattle.inno_types.specs.declared.value.Column.{Column}
 use Rattle.inno_types.specs.declared.value.Key.{Key}
 use Rattle.inno_types.specs.declared.value.Schema.{Schema}
-use Rattle.inno_db.specs.Declarations.{is_sized, is_short, is_indexable, has_twins, key_bytes, row_bytes}
-use Rattle.catalog_entry.specs.Numbers.{u32_bytes}
-use Rattle.catalog_entry.specs.Entry.{counted, name_bytes, kind_bytes, flag_bytes, column_bytes, key_bytes as key_entry, schema_bytes, IsName, IsKind, IsColumn, IsKey, IsSchema}
-use Rattle.catalog_entry.proofs.Lengths.{length-u32}
+use Rattle.inno_db.specs.Declarations.{is_indexable, row_bytes}
+use Rattle.schema_codec.specs.Numbers.{u32_bytes}
+use Rattle.schema_codec.specs.Schema.{counted, name_bytes, kind_bytes, flag_bytes, column_bytes, key_bytes as key_entry, schema_bytes, IsKind, IsColumn, IsKey, IsSchema}
+use Rattle.schema_codec.proofs.Lengths.{length-u32}
 use Rattle.catalog.specs.Makeable.{is_name, is_narrow, is_makeable}
 
 pub both : (a b : Bool) → (a && b) ≡ true → (a ≡ true) × (b ≡ true)

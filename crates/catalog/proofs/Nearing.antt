@@ -3,7 +3,7 @@ use Rattle.std.proofs.Common.{◌≡◌, ℕ, ◌+◌, ◌-◌, ◌*◌, ◌<◌
 use Rattle.std.specs.Prelude.{slice_index}
 use Rattle.std.proofs.lemmas.Bool.{cases_lt}
 use Rattle.mtr.proofs.Behind.{byte-behind}
-use Rattle.catalog.specs.Creating.{IsFilled, Nears}
+use Rattle.catalog.specs.Creating.{Nears}
 
 module _ (place step : ℕ) (pages : ℕ → List ℕ) (bytes : List ℕ) (same : drop 20 bytes ≡ drop 20 (pages (5 + (place + step - 1)))) (some : 0 < step) (inside : place + 2 * step ≤ 16) where
   shown : slice_index bytes 32 ≡ slice_index (pages (5 + (place + step - 1))) 32

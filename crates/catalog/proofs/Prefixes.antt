@@ -1,9 +1,9 @@
 -- The tables on the first pages of the catalog, one page more at a time.
-use Rattle.std.proofs.Common.{◌≡◌, ℕ, zero, suc, ◌+◌, ◌<◌, ◌≤◌, List, [], ◌∷◌, ◌++◌, length, take, true, Option, Some, None, inl, inr, sym, ap, ◌∙◌, refl, subst, arith, length-append}
-use Rattle.std.specs.Prelude.{slice_get, slice_index}
+use Rattle.std.proofs.Common.{◌≡◌, ℕ, zero, suc, ◌+◌, ◌<◌, List, [], ◌∷◌, ◌++◌, length, take, Option, Some, None, inl, inr, sym, ◌∙◌, refl, subst, arith, length-append}
+use Rattle.std.specs.Prelude.{slice_get}
 use Rattle.std.proofs.lemmas.Bool.{cases_eq, cases_lt}
-use Rattle.std.proofs.lemmas.List.{take-append-le, take_all, ext_get_or}
-use Rattle.std.proofs.lemmas.Option.{slice_get_within, slice_get_past, slice_get-get_or}
+use Rattle.std.proofs.lemmas.List.{take-append-le, take_all}
+use Rattle.std.proofs.lemmas.Option.{slice_get_within}
 use Rattle.catalog_entry.specs.declared.held.Held.{Held}
 use Rattle.catalog.specs.Tables.{IsUnused, HoldsTable, IsTable, page_count, HoldsBelow}
 use Rattle.catalog.specs.Loading.{Shows, Accepts, Adds}

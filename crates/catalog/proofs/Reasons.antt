@@ -1,17 +1,15 @@
 -- Why no table is made, over several calls one after another.
-use Rattle.std.proofs.Common.{◌≡◌, ◌≢◌, ℕ, suc, ◌+◌, ◌<◌, ◌≤◌, ◌==◌, ◌||◌, inl, inr, ◌⊎◌, List, [], ◌∷◌, ◌++◌, length, length-append, Bool, true, false, Some, refl, sym, ap, ◌∙◌, subst, arith}
-use Rattle.std.specs.Prelude.{IsTrue, Option, IfErr, OnErr, Result, Ok, Err}
-use Rattle.std.proofs.lemmas.Bool.{cases_eq}
+use Rattle.std.proofs.Common.{◌≡◌, ℕ, ◌+◌, ◌<◌, ◌≤◌, ◌==◌, ◌||◌, inl, inr, ◌⊎◌, List, [], ◌++◌, length, length-append, Bool, true, false, Some, refl, sym, ap, ◌∙◌, subst, arith}
+use Rattle.std.specs.Prelude.{IsTrue, Option, OnErr, Result, Ok, Err}
 use Rattle.store_api.specs.Causes.{Rose}
-use Rattle.page_format.specs.Words.{u32_at}
-use Rattle.mtr.specs.declared.answers.Visit.{Visit}
-use Rattle.mtr.specs.declared.answers.Visit.TheVariants.{Failed, Again, Bad}
-use Rattle.mtr.specs.declared.answers.SpaceBad.{SpaceBad}
-use Rattle.mtr.specs.declared.answers.SpaceBad.TheVariants as space
+use Rattle.store_api.specs.declared.visits.Visit.{Visit}
+use Rattle.store_api.specs.declared.visits.Visit.TheVariants.{Failed, Again, Bad}
+use Rattle.store_api.specs.declared.visits.SpaceBad.{SpaceBad}
+use Rattle.store_api.specs.declared.visits.SpaceBad.TheVariants as space
 use Rattle.mtr.specs.Seen.{MtrState, is_in, capacity_of, IsShut}
-use Rattle.mtr.specs.Calls.{Goes, Consults, IsReason}
+use Rattle.mtr.specs.Calls.{Goes, IsReason}
 use Rattle.space_map.specs.Map.{mark_of, IsFree, free_among}
-use Rattle.space_map.specs.Taking.{map_pages, HasPageCount, Miscounts, IsTakeReason}
+use Rattle.space_map.specs.Taking.{map_pages, Miscounts, IsTakeReason}
 use Rattle.catalog.specs.Creating.{ReservesPages, Reserves, asked_pages, FreesFixed, IsVisitReason, IsPutReason, IsFreshReason, IsCreateReason, Attempts}
 use Rattle.catalog.proofs.Freeing.{none_free}
 use Rattle.catalog.proofs.Reserving.{is_out, reserves_then}

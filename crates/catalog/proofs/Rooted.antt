@@ -1,21 +1,20 @@
 -- A page is taken, made zeros and written as an empty leaf; and then another one.
-use Rattle.std.proofs.Common.{◌≡◌, ◌≢◌, ℕ, ◌+◌, ◌*◌, ◌^◌, ◌<◌, ◌≤◌, inl, inr, List, [], ◌∷◌, ◌++◌, length, replicate, true, refl, sym, ap, ◌∙◌, subst, arith, length-append}
+use Rattle.std.proofs.Common.{◌≡◌, ◌≢◌, ℕ, ◌+◌, ◌*◌, ◌^◌, ◌<◌, ◌≤◌, inl, inr, List, [], ◌∷◌, ◌++◌, replicate, true, refl, sym, ap, subst, arith, length-append}
 use Rattle.std.specs.Prelude.{IsTrue}
 use Rattle.inno_types.specs.declared.value.Schema.{Schema}
-use Rattle.mtr.specs.Seen.{MtrState, is_in, visit, claim, capacity_of, IsWithin, with_bytes}
-use Rattle.mtr.specs.Calls.{Goes, SeesAt, Makes, Puts, Consults}
-use Rattle.mtr.proofs.Claims.{visited_now}
+use Rattle.mtr.specs.Seen.{MtrState, is_in, claim, capacity_of, IsWithin, with_bytes}
+use Rattle.mtr.specs.Calls.{Makes, Puts}
 use Rattle.mtr.proofs.Consulting.{goes_then, consults_none, claim_left}
 use Rattle.space_map.specs.Map.{mark_of, IsFree}
 use Rattle.space_map.specs.Taking.{map_pages, HasPageCount}
 use Rattle.space_map.specs.Taking as taking
 use Rattle.space_map.proofs.Places.{distinct_map_pages}
-use Rattle.catalog.specs.Creating.{leaf_head, IsEmptyLeaf, record_len, AreEmptyRoots, ReservesPages, Reserves, MakesRoot, MakesRoots, Attempts}
+use Rattle.catalog.specs.Creating.{leaf_head, IsEmptyLeaf, record_len, Reserves, MakesRoot, MakesRoots, Attempts}
 use Rattle.catalog.proofs.Claims.{claim_one_more}
 use Rattle.catalog.proofs.Entered.{leaves_kept, leaves_then}
 use Rattle.catalog.proofs.Leaves.{leaf_on_zeros}
 use Rattle.catalog.proofs.Reasons.{attempts_taken}
-use Rattle.catalog.proofs.Reserving.{in_head, in_either, is_out, same_if_in, out_if_apart, out_of_map, reserves_none, reserves_then, reserves_taken, reserves_put}
+use Rattle.catalog.proofs.Reserving.{in_head, in_either, same_if_in, out_if_apart, out_of_map, reserves_none, reserves_then, reserves_taken, reserves_put}
 
 -- ---- one root
 

@@ -1,5 +1,5 @@
 -- One page of the catalog: what its bytes show, and that they show one table at most.
-use Rattle.std.proofs.Common.{◌≡◌, ℕ, ◌<◌, ◌≤◌, ◌==◌, ◌||◌, Bool, List, drop, true, false, Option, Some, None, inl, inr, sym, ap, ◌∙◌, refl, subst, arith}
+use Rattle.std.proofs.Common.{◌≡◌, ℕ, ◌<◌, ◌≤◌, ◌==◌, ◌||◌, Bool, List, drop, true, false, Option, Some, None, inl, inr, sym, ◌∙◌, refl, subst, arith}
 use Rattle.std.specs.Prelude.{slice_index, All}
 use Rattle.std.proofs.lemmas.Bool.{cases_eq}
 use Rattle.catalog_entry.specs.declared.held.Held.{Held}

@@ -1,10 +1,10 @@
 -- Why the catalog can't be told, once some of its pages were read.
-use Rattle.std.proofs.Common.{◌≡◌, ℕ, ◌+◌, ◌<◌, ◌≤◌, inl, inr, List, ◌∷◌, [], ◌++◌, length, Option, Some, None, refl, sym, ap, ◌∙◌, subst, arith, length-append}
+use Rattle.std.proofs.Common.{◌≡◌, ℕ, ◌+◌, ◌<◌, ◌≤◌, inl, inr, List, ◌∷◌, [], length, Option, Some, None, sym, ap, subst, arith, length-append}
 use Rattle.std.specs.Prelude.{IsTrue, Result, Ok, Err}
 use Rattle.catalog_entry.specs.declared.held.Held.{Held}
-use Rattle.mtr.specs.declared.answers.Visit.{Visit}
-use Rattle.mtr.specs.declared.answers.FindBad.{FindBad}
-use Rattle.mtr.specs.declared.answers.FindBad.TheVariants as find
+use Rattle.store_api.specs.declared.visits.Visit.{Visit}
+use Rattle.store_api.specs.declared.visits.FindBad.{FindBad}
+use Rattle.store_api.specs.declared.visits.FindBad.TheVariants as find
 use Rattle.mtr.specs.Seen.{MtrState, is_in}
 use Rattle.mtr.specs.Calls.{Asks, Consults, IsReason}
 use Rattle.mtr.proofs.Consulting.{reason_asked, reason_later}

@@ -1,5 +1,5 @@
 -- What making a table does to the pages, and why none is made.
-use Rattle.std.specs.Prelude.{◌≡◌, ◌≢◌, ◌⊎◌, ℕ, zero, suc, ◌+◌, ◌*◌, ◌<◌, ◌≤◌, Bool, true, false, List, [], ◌∷◌, ◌++◌, length, slice_get, slice_index, IsTrue, Option, Some, None}
+use Rattle.std.specs.Prelude.{◌≡◌, ◌⊎◌, ℕ, zero, suc, ◌+◌, ◌*◌, ◌<◌, ◌≤◌, true, false, List, [], ◌∷◌, ◌++◌, length, slice_get, slice_index, IsTrue, Option, Some, None}
 use Rattle.std.specs.Int.{w16, w32, to_be_bytes}
 use Rattle.std.specs.List.{flat_map}
 use Rattle.inno_types.specs.declared.value.Kind.{Kind}
@@ -9,19 +9,19 @@ use Rattle.inno_types.specs.declared.value.Key.{Key}
 use Rattle.inno_types.specs.declared.value.Schema.{Schema}
 use Rattle.inno_db.specs.Declarations.{key_bytes, row_bytes}
 use Rattle.store_api.specs.Causes.{Rose}
-use Rattle.page_format.specs.Words.{kind_of, level_of, count_of, index_of, right_of, record_len_of, low_of, high_of, records_of}
+use Rattle.page_format.specs.Words.{kind_of, level_of, index_of, right_of, record_len_of, low_of, high_of, records_of}
 use Rattle.page_format.specs.Shape.{HasTreeFields}
-use Rattle.mtr.specs.declared.answers.Visit.{Visit}
-use Rattle.mtr.specs.declared.answers.Visit.TheVariants.{Failed, Again, Bad}
-use Rattle.mtr.specs.declared.answers.SpaceBad.{SpaceBad}
-use Rattle.mtr.specs.declared.answers.SpaceBad.TheVariants as space
+use Rattle.store_api.specs.declared.visits.Visit.{Visit}
+use Rattle.store_api.specs.declared.visits.Visit.TheVariants.{Failed, Again, Bad}
+use Rattle.store_api.specs.declared.visits.SpaceBad.{SpaceBad}
+use Rattle.store_api.specs.declared.visits.SpaceBad.TheVariants as space
 use Rattle.mtr.specs.Seen.{MtrState, is_in, claim, capacity_of, AreDistinct, IsShut, with_bytes}
 use Rattle.mtr.specs.Calls.{Goes, SeesAt, IsReason}
 use Rattle.space_map.specs.Map.{mark_of, IsFree, free_among}
 use Rattle.space_map.specs.Taking.{map_pages, HasPageCount, Miscounts}
 use Rattle.catalog_entry.specs.declared.held.Held.{Held}
-use Rattle.catalog_entry.specs.Numbers.{u32_bytes}
-use Rattle.catalog_entry.specs.Entry.{schema_bytes}
+use Rattle.schema_codec.specs.Numbers.{u32_bytes}
+use Rattle.schema_codec.specs.Schema.{schema_bytes}
 use Rattle.catalog.specs.Tables.{is_new_name, IsCatalog}
 
 -- ---- what is asked

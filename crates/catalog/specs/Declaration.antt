@@ -1,5 +1,5 @@
 -- Which schemas some CREATE TABLE declares.
-use Rattle.std.specs.Prelude.{◌≡◌, Bool, true, ◌&&◌, nat_le, List, Option, Some, None}
+use Rattle.std.specs.Prelude.{◌≡◌, Bool, true, ◌&&◌, nat_le, List, Some, None}
 use Rattle.std.specs.List.{list_all}
 use Rattle.inno_types.specs.declared.value.Schema.{Schema}
 use Rattle.inno_types.specs.declared.stmt.DeclaredKind.{DeclaredKind}

@@ -4,8 +4,8 @@ use Rattle.catalog_entry.specs.declared.held.Held.{Held}
 use Rattle.catalog_entry.specs.declared.held.EntryBad.{EntryBad}
 use Rattle.catalog_entry.specs.declared.held.EntryBad.TheVariants.{Shape}
 use Rattle.catalog_entry.specs.declared.held.EntryBad.TheVariants as entry
-use Rattle.mtr.specs.declared.answers.FindBad.{FindBad}
-use Rattle.mtr.specs.declared.answers.FindBad.TheVariants.{Visit, Malformed, NoMemory}
+use Rattle.store_api.specs.declared.visits.FindBad.{FindBad}
+use Rattle.store_api.specs.declared.visits.FindBad.TheVariants.{Visit, Malformed, NoMemory}
 use Rattle.mtr.specs.Seen.{MtrState}
 use Rattle.mtr.specs.Calls.{IsReason}
 use Rattle.catalog.specs.Makeable.{is_makeable}

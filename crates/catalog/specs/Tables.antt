@@ -1,6 +1,6 @@
 -- The tables that the pages of the catalog hold. A table's number is its place in their list, and it stands on the page
 -- of that number behind the first one. No table ever goes, so the pages in use come first.
-use Rattle.std.specs.Prelude.{◌≡◌, ◌⊎◌, ℕ, ◌+◌, ◌<◌, ◌≤◌, Bool, true, not, List, length, take, drop, slice_get, slice_index, bytes_eq, All, IsTrue, Option, Some, None}
+use Rattle.std.specs.Prelude.{◌≡◌, ℕ, ◌+◌, ◌<◌, ◌≤◌, Bool, true, not, List, length, take, drop, slice_get, slice_index, bytes_eq, All, Some}
 use Rattle.std.specs.List.{list_all}
 use Rattle.page_format.specs.Words.{u32_at, kind_of}
 use Rattle.catalog_entry.specs.declared.held.Held.{Held}

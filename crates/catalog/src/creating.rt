@@ -6,8 +6,8 @@ ghost use Rattle.std.specs.List.{flat_map};
 ghost use Rattle.mtr.specs.Seen.{claim, IsWithin};
 ghost use Rattle.mtr.specs.Calls.{Consults, IsReason};
 ghost use Rattle.space_map.specs.Taking.{map_pages, Miscounts};
-ghost use Rattle.catalog_entry.specs.Numbers.{u32_bytes};
-ghost use Rattle.catalog_entry.specs.Entry.{schema_bytes};
+ghost use Rattle.schema_codec.specs.Numbers.{u32_bytes};
+ghost use Rattle.schema_codec.specs.Schema.{schema_bytes};
 ghost use Rattle.catalog.specs.Makeable.{is_makeable};
 ghost use Rattle.catalog.specs.Creating.{HasRoom, IsFilled, Nears, PutsEntry, Creates, Attempts, asked_pages, IsPutReason, IsCreateReason};
 
@@ -16,9 +16,9 @@ use crate::roots::make_roots;
 use crate::tables::IN_USE;
 use catalog_entry::put_table;
 use inno_types::Schema;
-use mtr::{Mtr, SpaceBad, Visit};
+use mtr::Mtr;
 use std::alloc::Global;
-use store_api::NoMemory;
+use store_api::{NoMemory, SpaceBad, Visit};
 
 /// Goes on by a step where the page before the place that it leads to is in use.
 fn pass<M: Mtr>(m: &mut M, place: u8, step: u8) -> Result<u8, Visit>

@@ -14,6 +14,3 @@ pub use creating::create;
 pub use laws::made_is_declared;
 pub use loading::load;
 pub use makeable::could_be_made;
-
-#[cfg(test)]
-mod tests;

@@ -12,9 +12,9 @@ use crate::makeable::could_be_made;
 use crate::pages::{END, FIRST, table_on};
 use catalog_entry::{Held, Schemas};
 use inno_types::{Bytes, Listed};
-use mtr::{FindBad, Mtr, capacity};
+use mtr::{Mtr, capacity};
 use std::alloc::Global;
-use store_api::NoMemory;
+use store_api::{FindBad, NoMemory};
 
 /// The rule on tables, of those that a page may break.
 const TABLE: u8 = 6;

@@ -8,8 +8,9 @@ ghost use Rattle.catalog.specs.Loading.{catalog_pages, Shows, IsTableReason};
 
 use crate::tables::table_in;
 use catalog_entry::{EntryBad, Held};
-use mtr::{FindBad, Mtr};
+use mtr::Mtr;
 use std::alloc::Global;
+use store_api::FindBad;
 
 /// The first page of the catalog.
 pub const FIRST: u32 = 5;

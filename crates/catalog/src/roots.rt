@@ -10,10 +10,10 @@ ghost use Rattle.catalog.specs.Creating.{leaf_head, key_bytes_at, record_len, Ma
 
 use crate::makeable::{bytes_of_key, bytes_of_row};
 use inno_types::{Column, Kind, Schema};
-use mtr::{FreshBad, Mtr, SpaceBad, Visit};
+use mtr::Mtr;
 use space_map::take;
 use std::alloc::Global;
-use store_api::NoMemory;
+use store_api::{FreshBad, NoMemory, SpaceBad, Visit};
 
 /// The kind of a leaf.
 const LEAF: u8 = 3;

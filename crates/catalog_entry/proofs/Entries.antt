@@ -1,14 +1,16 @@
 -- Entries are read as they are spelled.
-use Rattle.std.proofs.Common.{◌≡◌, ℕ, ◌+◌, ◌^◌, ◌<◌, List, ◌++◌, length, Some, None, refl, sym, subst, ◌∙◌, ap, append_assoc}
+use Rattle.std.proofs.Common.{◌≡◌, ℕ, ◌+◌, List, ◌++◌, length, Some, None, refl, sym, subst, ◌∙◌, ap, append_assoc}
 use Rattle.std.specs.List.{flat_map}
 use Rattle.catalog_entry.specs.declared.held.Held.{Held}
-use Rattle.catalog_entry.specs.Numbers.{u32_bytes}
-use Rattle.catalog_entry.specs.Entry.{schema_bytes, entry_bytes, IsRoot, IsEntry}
-use Rattle.catalog_entry.specs.Reading.{◌>>=◌, u32_at, list_at, schema_at, entry_at}
+use Rattle.schema_codec.specs.Numbers.{u32_bytes}
+use Rattle.schema_codec.specs.Schema.{schema_bytes}
+use Rattle.schema_codec.specs.Reading.{◌>>=◌, u32_at, list_at, schema_at}
+use Rattle.schema_codec.proofs.Fields.{IsBytes, bind_some, some_is, Takes-then, u32_takes, u32_again}
+use Rattle.schema_codec.proofs.Spells.{Spells, list_takes, list_again}
+use Rattle.schema_codec.proofs.Schemas.{schema_spells}
+use Rattle.catalog_entry.specs.Entry.{entry_bytes, IsRoot, IsEntry}
+use Rattle.catalog_entry.specs.Reading.{entry_at}
 use Rattle.catalog_entry.specs.Refused.{BeginsWith}
-use Rattle.catalog_entry.proofs.Fields.{IsBytes, bind_some, some_is, Takes, Takes-then, u32_takes, u32_again}
-use Rattle.catalog_entry.proofs.Spells.{Spells, list_takes, list_again}
-use Rattle.catalog_entry.proofs.Schemas.{schema_spells}
 
 root_spells : Spells u32_at u32_bytes IsRoot
 root_spells = record { takes = λ bytes x fits e. u32_takes bytes x.0 x.1 fits e; again = u32_again }

@@ -1,4 +1,3 @@
 pub mod Entry
-pub mod Numbers
 pub mod Reading
 pub mod Refused

@@ -3,14 +3,16 @@
 
 ghost use Rattle.std.specs.Prelude.{◌≡◌, ◌++◌, IfOk, IfErr, OnOk};
 ghost use Rattle.std.specs.List.{flat_map};
-ghost use Rattle.catalog_entry.specs.Numbers.{u32_bytes};
-ghost use Rattle.catalog_entry.specs.Entry.{schema_bytes, IsSchema, entry_bytes, IsEntry};
+ghost use Rattle.schema_codec.specs.Numbers.{u32_bytes};
+ghost use Rattle.schema_codec.specs.Schema.{schema_bytes, IsSchema};
+ghost use Rattle.catalog_entry.specs.Entry.{entry_bytes, IsEntry};
 ghost use Rattle.catalog_entry.specs.Refused.{BeginsWith, IsRefused};
 
 use crate::held::{EntryBad, Held};
-use crate::reading::{Stop, entry_of};
+use crate::reading::entry_of;
 use crate::write;
 use inno_types::Schema;
+use schema_codec::{Stop, put_schema};
 use std::alloc::Global;
 use store_api::NoMemory;
 
@@ -28,7 +30,7 @@ pub fn put_table(schema: &Schema, roots: &[u32], out: &mut Vec<u8>) -> Result<()
     requires { IsSchema schema.now }
     ensures { OnOk result (out.new.items ≡ out.old.items ++ (schema_bytes schema.now ++ flat_map u32_bytes roots.now)) }
 {
-    write::put_schema(schema, out)?;
+    put_schema(schema, out)?;
     write::put_roots(roots, out)?;
     Ok(())
 }

@@ -9,6 +9,3 @@ mod write;
 
 pub use entry::{get_entry, put_entry, put_table};
 pub use held::{EntryBad, Held, Roots, Schemas};
-
-#[cfg(test)]
-mod tests;

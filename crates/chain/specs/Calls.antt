@@ -2,8 +2,8 @@
 use Rattle.std.specs.Prelude.{◌≡◌, ◌≢◌, ℕ, Bool, true, false, IsTrue, List, Option, None, Some, option_map, Result, Ok, Err}
 use Rattle.store_api.specs.Causes.{Rose}
 use Rattle.store_api.specs.declared.answers.Version.{Version}
-use Rattle.mtr.specs.declared.answers.Visit.{Visit}
-use Rattle.mtr.specs.declared.answers.Visit.TheVariants.{Failed, Again, Bad}
+use Rattle.store_api.specs.declared.visits.Visit.{Visit}
+use Rattle.store_api.specs.declared.visits.Visit.TheVariants.{Failed, Again, Bad}
 use Rattle.chain.specs.declared.answers.ChainBad.{ChainBad}
 use Rattle.chain.specs.declared.answers.ChainBad.TheVariants.{Visit as Unseen, NoMemory}
 use Rattle.chain.specs.declared.kept.Kept.{Kept}

@@ -1,6 +1,6 @@
 //! What a chain answers where it shows no version.
 
-use mtr::Visit;
+use store_api::Visit;
 
 /// Why a version isn't shown: its page isn't, or memory ran out.
 #[derive(Clone, Copy, Debug, PartialEq, Eq)]

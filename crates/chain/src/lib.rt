@@ -5,8 +5,6 @@
 mod answers;
 mod kept;
 mod list_chain;
-#[cfg(test)]
-mod tests;
 mod versions;
 
 pub use answers::ChainBad;

@@ -7,10 +7,9 @@ use crate::answers::ChainBad;
 use crate::kept::{Kept, copy_into};
 use crate::versions::Chain;
 use inno_types::Bytes;
-use mtr::Visit;
 use std::alloc::Global;
 use std::marker::Model;
-use store_api::{NoMemory, Version};
+use store_api::{NoMemory, Version, Visit};
 
 /// Versions in memory. Contracts see the list of them, the oldest first.
 #[derive(Drop)]

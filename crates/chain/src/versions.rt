@@ -5,8 +5,7 @@ ghost use Rattle.chain.specs.Versions.{Versions, IsPointer, GoesOn};
 ghost use Rattle.chain.specs.Calls.{ShowsVersion, ShowsBytes, has_read};
 
 use crate::answers::ChainBad;
-use mtr::Visit;
-use store_api::Version;
+use store_api::{Version, Visit};
 
 /// Versions of rows by roll pointers. A caller that walks a chain asks for each pointer along it.
 pub trait Chain {

@@ -15,13 +15,11 @@ use Rattle.inno_db.specs.declared.limits.TheConstants.{MOST_TABLES}
 use Rattle.inno_db.specs.Outcome.{outcome}
 use Rattle.inno_model.specs.declared.event.Event.{Event}
 use Rattle.inno_model.specs.declared.event.Event.TheVariants as events
-use Rattle.inno_model.specs.Legal.{awaits_ack}
-use Rattle.inno_model.specs.Past.{is_of, of_item, started, level, own, begins, txn}
+use Rattle.inno_model.specs.Past.{is_of, of_item, started, level, own, begins, txn, awaits_ack, IsOpen, IsClosed}
 use Rattle.sql_grammar.specs.Grammar.{Spells}
 use Rattle.sql_history.specs.Legal.{MayBegin}
 use Rattle.sql_history.specs.Items.{base}
-use Rattle.sql_history.specs.Endings.{IsOpen, IsClosed}
-use Rattle.past_agreement.specs.Order.{created, is_creation}
+use Rattle.law_past_agreement.specs.Order.{created, is_creation}
 use Rattle.shared_lists.specs.Tasks.{Idle}
 use Rattle.shared_lists.specs.State.{State, IsNow, Adds, Closes, Stays, task_of, writer_without}
 use Rattle.sql_lists.specs.Kept.{AreStanding}

@@ -9,14 +9,13 @@ use Rattle.inno_db.specs.declared.change.Change.TheVariants.{Create}
 use Rattle.inno_db.specs.declared.limits.TheConstants.{MOST_TABLES}
 use Rattle.inno_db.specs.Outcome.{outcome}
 use Rattle.inno_model.specs.declared.event.Event.{Event}
-use Rattle.inno_model.specs.Legal.{awaits_ack}
-use Rattle.inno_model.specs.Past.{is_of, under_way, of_item, did, begins_txn, commits_txn, rolls_back_txn, own}
+use Rattle.inno_model.specs.Past.{is_of, under_way, of_item, did, begins_txn, commits_txn, rolls_back_txn, own, awaits_ack}
 use Rattle.inno_model.proofs.Untouched.{IsUntouched, untouched}
 use Rattle.sql_grammar.specs.Grammar.{Spells}
 use Rattle.sql_history.specs.Items.{own_before, base, point}
 use Rattle.sql_history.specs.Waiting.{is_victim}
 use Rattle.sql_history.specs.Legal.{CommittedFirst, LeavesIt, EndsCreate}
-use Rattle.past_agreement.specs.Order.{IsOfRow, created}
+use Rattle.law_past_agreement.specs.Order.{IsOfRow, created}
 use Rattle.shared_lists.specs.State.{State}
 use Rattle.sql_lists.specs.Steps.{Adding, HasRowsAlone, StaysRunning, changes_rows}
 use Rattle.sql_lists.proofs.Staying.{StaysAtWork, at_work, other_of, within_of_other, point_stays, steady_on, base_on}

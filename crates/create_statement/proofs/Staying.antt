@@ -14,7 +14,7 @@ use Rattle.sql_history.specs.Items.{of_turn, is_over, before_turn, own_before, p
 use Rattle.sql_history.specs.Settings.{Setting, HasSet, Either}
 use Rattle.sql_history.specs.Waiting.{is_victim}
 use Rattle.sql_history.specs.Legal.{Takes, EndsCreate}
-use Rattle.past_agreement.specs.Order.{IsOfRow, created}
+use Rattle.law_past_agreement.specs.Order.{IsOfRow, created}
 use Rattle.sql_lists.specs.Steps.{changes_rows}
 use Rattle.sql_lists.proofs.Staying.{is_within, item_within, before_within, starts_not, point_now, point_stays}
 use Rattle.create_statement.specs.Knowing.{IsAt, IsToBegin, HasMadeNone}

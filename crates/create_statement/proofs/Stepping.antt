@@ -14,17 +14,15 @@ use Rattle.inno_db.specs.declared.change.Change.TheVariants.{Create}
 use Rattle.inno_db.specs.Outcome.{outcome}
 use Rattle.inno_model.specs.declared.event.Event.{Event}
 use Rattle.inno_model.specs.declared.event.Event.TheVariants as events
-use Rattle.inno_model.specs.Legal.{awaits_ack}
-use Rattle.inno_model.specs.Loose.{Sometime}
-use Rattle.inno_model.specs.Past.{is_of, of_item, did, begins_txn, commits_txn, rolls_back_txn, closes, level, own, begins}
+use Rattle.inno_model.specs.Moments.{Sometime}
+use Rattle.inno_model.specs.Past.{is_of, of_item, did, begins_txn, commits_txn, rolls_back_txn, closes, level, own, begins, awaits_ack, IsOpen, IsClosed}
 use Rattle.sql_grammar.specs.Grammar.{Spells}
 use Rattle.sql_history.specs.Items.{own_before, of_turn, is_over, point, base, HasMade}
 use Rattle.sql_history.specs.Settings.{Setting, HasSet, next_level}
 use Rattle.sql_history.specs.Counts.{rows_kept, most_rows}
-use Rattle.sql_history.specs.Endings.{IsOpen, IsClosed}
 use Rattle.sql_history.specs.Waiting.{is_victim}
 use Rattle.sql_history.specs.Legal.{IsCreation, EndsCreate, MayBegin, MayChange, MayCommit, MayRollBack}
-use Rattle.past_agreement.specs.Order.{IsOfRow}
+use Rattle.law_past_agreement.specs.Order.{IsOfRow}
 use Rattle.shared_lists.specs.State.{State, IsNow, Adds, task_of}
 use Rattle.sql_lists.specs.Kept.{MayReply}
 use Rattle.sql_lists.specs.Steps.{Moves, changes_rows, HasRowsAlone, IsTaken}

@@ -24,11 +24,11 @@ use Rattle.inno_types.specs.declared.lock.Level.{Level}
 use Rattle.inno_model.specs.declared.event.Event.{Event}
 use Rattle.inno_model.specs.declared.event.Event.TheVariants as events
 use Rattle.inno_model.specs.Past.{own, commits, committed, opening, changed}
-use Rattle.fitting_rows.proofs.Declared.{declared-IsStorable}
+use Rattle.law_fitting_rows.proofs.Declared.{declared-IsStorable}
 use Rattle.sql_history.specs.Items.{own_before, base}
 use Rattle.sql_history.specs.Statements.{schemas_now}
 use Rattle.sql_history.specs.Legal.{IsCreation}
-use Rattle.past_agreement.specs.Order.{created, IsOfRow}
+use Rattle.law_past_agreement.specs.Order.{created, IsOfRow}
 use Rattle.sql_lists.specs.Kept.{IsOnlyMaker, AreStanding}
 use Rattle.sql_lists.specs.Steps.{HasRowsAlone}
 use Rattle.create_statement.specs.Making.{is_there, Makes}

@@ -9,16 +9,14 @@ use Rattle.inno_db.specs.declared.change.Change.TheVariants.{Create}
 use Rattle.inno_db.specs.declared.limits.TheConstants.{MOST_TABLES}
 use Rattle.inno_db.specs.Outcome.{outcome}
 use Rattle.inno_model.specs.declared.event.Event.{Event}
-use Rattle.inno_model.specs.Legal.{awaits_ack}
-use Rattle.inno_model.specs.Past.{under_way, of_item, did, begins_txn, rolls_back_txn, own}
+use Rattle.inno_model.specs.Past.{under_way, of_item, did, begins_txn, rolls_back_txn, own, awaits_ack, IsOpen, IsClosed}
 use Rattle.sql_grammar.specs.Grammar.{Spells}
 use Rattle.sql_history.specs.Items.{is_over, point, own_before, base}
 use Rattle.sql_history.specs.Settings.{next_level}
-use Rattle.sql_history.specs.Endings.{IsOpen, IsClosed}
 use Rattle.sql_history.specs.Waiting.{is_victim}
 use Rattle.sql_history.specs.Legal.{Takes, IsCreation, EndsCreate, LeavesIt, CommittedFirst}
-use Rattle.fitting_rows.specs.Storable.{IsStorable}
-use Rattle.past_agreement.specs.Order.{IsOfRow, created}
+use Rattle.law_fitting_rows.specs.Storable.{IsStorable}
+use Rattle.law_past_agreement.specs.Order.{IsOfRow, created}
 use Rattle.shared_lists.specs.State.{State}
 use Rattle.sql_lists.specs.Steps.{HasRowsAlone}
 use Rattle.sql_lists.proofs.Staying.{IsSteady}

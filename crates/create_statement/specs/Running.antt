@@ -1,7 +1,6 @@
 -- What a CREATE TABLE knows between its steps, of the past and of who may write. It has nothing under way with rows.
 use Rattle.std.specs.Prelude.{◌≡◌, ℕ, true, false, []}
-use Rattle.inno_model.specs.Legal.{awaits_ack}
-use Rattle.inno_model.specs.Past.{of_item}
+use Rattle.inno_model.specs.Past.{of_item, awaits_ack}
 use Rattle.shared_lists.specs.Tasks.{Idle}
 use Rattle.shared_lists.specs.State.{State, task_of}
 use Rattle.sql_lists.specs.Steps.{HasRowsAlone}

@@ -2,10 +2,9 @@
 
 ghost use Rattle.std.specs.Prelude.{◌≡◌, ◌≢◌, ◌<◌, ℕ, [], length, None, Some};
 ghost use Rattle.inno_db.specs.Outcome.{outcome};
-ghost use Rattle.inno_model.specs.Past.{own};
+ghost use Rattle.inno_model.specs.Past.{own, IsOpen};
 ghost use Rattle.sql_history.specs.Items.{base};
-ghost use Rattle.sql_history.specs.Endings.{IsOpen};
-ghost use Rattle.past_agreement.specs.Order.{created};
+ghost use Rattle.law_past_agreement.specs.Order.{created};
 ghost use Rattle.sql_lists.specs.Kept.{AreStanding};
 ghost use Rattle.sql_lists.specs.Steps.{Steps};
 ghost use Rattle.sql_lists.specs.Going.{Nears};
@@ -60,7 +59,10 @@ fn wait_asked<L: SharedLists>(
             CreateStatement::Asked { stmt, level },
             Advance::Waiting { by, blockers },
         ),
-        Err(_) => (CreateStatement::Failed, Advance::NoMemory),
+        Err(_) => {
+            drop(stmt);
+            (CreateStatement::Failed, Advance::NoMemory)
+        }
     }
 }
 
@@ -136,7 +138,10 @@ pub fn step_closed<L: SharedLists>(
     }
     match table_to_make(alloc, lists.lists().schemas(), &stmt) {
         Some(schema) => open(stmt, schema, level, session, lists),
-        None => (CreateStatement::Failed, Advance::NoMemory),
+        None => {
+            drop(stmt);
+            (CreateStatement::Failed, Advance::NoMemory)
+        }
     }
 }
 
@@ -159,7 +164,10 @@ fn wait_closed<L: SharedLists>(
             CreateStatement::Closed { stmt, level },
             Advance::Waiting { by, blockers },
         ),
-        Err(_) => (CreateStatement::Failed, Advance::NoMemory),
+        Err(_) => {
+            drop(stmt);
+            (CreateStatement::Failed, Advance::NoMemory)
+        }
     }
 }
 
@@ -185,6 +193,10 @@ fn open<L: SharedLists>(
             let _ = lists.lock(session);
             (CreateStatement::Begun { stmt, schema }, Advance::Went)
         }
-        Err(_) => (CreateStatement::Failed, Advance::NoMemory),
+        Err(_) => {
+            drop(stmt);
+            drop(schema);
+            (CreateStatement::Failed, Advance::NoMemory)
+        }
     }
 }

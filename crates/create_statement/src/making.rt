@@ -23,11 +23,16 @@ pub fn step_begun<L: SharedLists>(
     ensures nears { Nears to_go session lists.old (CreateStatement.Begun stmt schema) lists.new result.0 result.1 }
 {
     if lists.overfull(0).is_some() {
+        drop(stmt);
+        drop(schema);
         return (CreateStatement::Failing, Advance::NoMemory);
     }
     match lists.create(session, schema) {
         Ok(()) => (CreateStatement::Made { stmt }, Advance::Went),
-        Err(_) => (CreateStatement::Failing, Advance::NoMemory),
+        Err(_) => {
+            drop(stmt);
+            (CreateStatement::Failing, Advance::NoMemory)
+        }
     }
 }
 

@@ -5,7 +5,8 @@ ghost use Rattle.inno_db.specs.Refusals.{refusal};
 ghost use Rattle.create_statement.specs.Making.{is_there, Makes};
 
 use inno_types::{Listed, Schema, Stmt};
-use sql_refusals::{declare, refuse};
+use sql_declarations::declare;
+use sql_refusals::refuse;
 use sql_values::place_of_table;
 use std::alloc::Global;
 
@@ -13,9 +14,10 @@ use std::alloc::Global;
 pub fn is_there(schemas: &Listed<Schema>, stmt: &Stmt) -> bool
     ensures { result ≡ is_there schemas.now stmt.now }
 {
-    match stmt {
-        Stmt::CreateTable { table, .. } => place_of_table(schemas, table).is_some(),
-        _ => false,
+    if let Stmt::CreateTable { table, .. } = stmt {
+        place_of_table(schemas, table).is_some()
+    } else {
+        false
     }
 }
 
@@ -32,7 +34,17 @@ pub fn table_to_make(alloc: Global, schemas: &Listed<Schema>, stmt: &Stmt) -> Op
             definitions,
             ..
         } => declare(alloc, table, definitions).ok()?,
-        _ => None,
+        Stmt::Select { .. }
+        | Stmt::Insert { .. }
+        | Stmt::Update { .. }
+        | Stmt::Delete { .. }
+        | Stmt::Begin { .. }
+        | Stmt::Commit
+        | Stmt::Rollback
+        | Stmt::RollbackTo { .. }
+        | Stmt::Savepoint { .. }
+        | Stmt::SetAutocommit(_)
+        | Stmt::SetLevel { .. } => None,
     }
 }
 

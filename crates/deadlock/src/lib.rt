@@ -7,6 +7,3 @@ mod search;
 
 pub use rollback::{Size, Sizes, victim};
 pub use search::cycle_through;
-
-#[cfg(test)]
-mod tests;

@@ -4,17 +4,17 @@ use Rattle.std.specs.Prelude.{slice_get}
 use Rattle.std.proofs.lemmas.Bool.Decides.{nat_tests, eqb_tells}
 use Rattle.inno_types.specs.declared.value.Value.{Value}
 use Rattle.row_versions.specs.Chains.{Chains}
-use Rattle.coded_rows.specs.Tables.{in_table}
-use Rattle.coded_rows.specs.Records.{KeepsMore}
+use Rattle.law_coded_rows.specs.Tables.{in_table}
+use Rattle.law_coded_rows.specs.Records.{KeepsMore}
 use Rattle.world.specs.State.{WorldState, HasWork}
 use Rattle.row_search.specs.Sights.{rows_seen}
 use Rattle.row_search.specs.declared.sight.Sight.{Sight}
 use Rattle.row_search.specs.declared.sight.Sight.TheVariants.{View, Newest}
 use Rattle.row_search.specs.declared.search.RowSearch.{RowSearch}
-use Rattle.world_agreement.specs.Agreement.{sight_of}
-use Rattle.found_rows.specs.Finding.{IsFinding, IsFindingAnew, LeavesScan}
-use Rattle.found_rows.proofs.Finding.{keeps_finding, may_come_anew, finds_anew}
-use Rattle.found_rows.proofs.Seen.{same_rows}
+use Rattle.law_world_agreement.specs.Agreement.{sight_of}
+use Rattle.law_found_rows.specs.Finding.{IsFinding, IsFindingAnew, LeavesScan}
+use Rattle.law_found_rows.proofs.Finding.{keeps_finding, may_come_anew, finds_anew}
+use Rattle.law_found_rows.proofs.Seen.{same_rows}
 use Rattle.desks.specs.declared.desk.Doing.{Doing}
 use Rattle.desks.specs.declared.desk.Doing.TheVariants.{Nothing, Searching, Changing, Lagging, Undoing}
 use Rattle.desks.specs.declared.desk.TableSearch.{TableSearch}

@@ -3,18 +3,17 @@ use Rattle.std.specs.Prelude.{◌≡◌, ◌≢◌, ℕ, ◌<◌, ◌≤◌, ◌
 use Rattle.std.specs.List.{list_any}
 use Rattle.inno_db.specs.declared.change.Change.{Change}
 use Rattle.inno_model.specs.declared.event.Event.{Event}
-use Rattle.inno_model.specs.Past.{own, started, under_way, of_item}
-use Rattle.inno_model.specs.Legal.{awaits_ack}
+use Rattle.inno_model.specs.Past.{own, started, under_way, of_item, awaits_ack}
 use Rattle.store_api.specs.declared.answers.Undo.{Undo}
 use Rattle.read_view.specs.Sight.{Sight as ReadSight}
 use Rattle.row_versions.specs.declared.place.Place.{Place}
 use Rattle.row_versions.specs.Chains.{Chains, versions_at}
-use Rattle.past_agreement.specs.Order.{is_creation}
-use Rattle.past_agreement.specs.Rows.{place_in}
+use Rattle.law_past_agreement.specs.Order.{is_creation}
+use Rattle.law_past_agreement.specs.Rows.{place_in}
 use Rattle.world.specs.State.{WorldState, Session, Work, Logged, Seen, IsSession, HasWork}
 use Rattle.world.specs.declared.undo_room.UndoRoom.{UndoRoom}
 use Rattle.world.specs.Undoing.{read_into}
-use Rattle.world_agreement.specs.Agreement.{Agrees, sight_of}
+use Rattle.law_world_agreement.specs.Agreement.{Agrees, sight_of}
 use Rattle.row_changes.specs.Told.{HasRows}
 use Rattle.row_changes.specs.Rows.{IsChangingRow}
 use Rattle.row_changes.specs.declared.keys_change.KeysChange.{KeysChange}
@@ -27,9 +26,9 @@ use Rattle.undo_apply.specs.declared.work_room.Stage.TheVariants.{Find}
 use Rattle.undo_apply.specs.Rooms.{IsWhole}
 use Rattle.undo_apply.specs.Stages.{IsPuttingBack}
 use Rattle.shared_lists.specs.Fitting.{FitsThen}
-use Rattle.logged_changes.specs.Logs.{LogsAgree}
-use Rattle.found_rows.specs.Finding.{IsFinding, IsFindingAnew}
-use Rattle.engine_world.specs.Calls.{IsNew}
+use Rattle.law_logged_changes.specs.Logs.{LogsAgree}
+use Rattle.law_found_rows.specs.Finding.{IsFinding, IsFindingAnew}
+use Rattle.world.specs.EngineCalls.{IsNew}
 use Rattle.desks.specs.declared.desk.Desk.{Desk}
 use Rattle.desks.specs.declared.desk.Doing.{Doing}
 use Rattle.desks.specs.declared.desk.Doing.TheVariants.{Nothing, Searching, Changing, Lagging, Undoing}

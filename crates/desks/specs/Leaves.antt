@@ -2,11 +2,11 @@
 use Rattle.std.specs.Prelude.{◌≡◌, ◌≢◌, ◌⊎◌, ℕ, ◌+◌, List, Option, Some, slice_get}
 use Rattle.inno_types.specs.declared.value.Schema.{Schema}
 use Rattle.row_versions.specs.Chains.{Chains}
-use Rattle.coded_rows.specs.Records.{KeepsMore}
+use Rattle.law_coded_rows.specs.Records.{KeepsMore}
 use Rattle.world.specs.State.{WorldState}
 use Rattle.world.specs.Told.{IsTold}
-use Rattle.world_agreement.specs.Agreement.{Agrees}
-use Rattle.found_rows.specs.Pasts.{AddsAtMostOne}
+use Rattle.law_world_agreement.specs.Agreement.{Agrees}
+use Rattle.law_found_rows.specs.Pasts.{AddsAtMostOne}
 
 -- whatever was kept is kept still, or one older version more was dropped
 abbrev pub KeepsOrCuts : ℕ → ℕ → WorldState → WorldState → Type 0

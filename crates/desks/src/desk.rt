@@ -51,5 +51,5 @@ pub fn give_doing(desks: &mut Vec<Desk>, session: u32, doing: Doing)
     requires { session < length desks.old.items }
     ensures { desks.new.items ≡ with_doing session doing desks.old.items }
 {
-    desks[session as usize].doing = doing;
+    drop(std::mem::replace(&mut desks[session as usize].doing, doing));
 }

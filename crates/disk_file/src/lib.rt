@@ -14,6 +14,3 @@ pub use clock::SystemClock;
 pub use disk::FileDisk;
 pub use sink::StdSink;
 pub use source::FileSource;
-
-#[cfg(test)]
-mod tests;

@@ -16,6 +16,3 @@ pub use image::Pick;
 pub use sink::MemSink;
 pub use source::MemSource;
 pub use still::{FixedClock, OpenGate};
-
-#[cfg(test)]
-mod tests;

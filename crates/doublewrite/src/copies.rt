@@ -8,9 +8,7 @@ ghost use Rattle.doublewrite.specs.Reading.{IsGoodPage, IsNewestCopy};
 
 use crate::batch::{PAGE, SLOTS};
 use crate::numbers::{lsn_in, number_in, passes_sum};
-
-/// Pages from this number on are none of a database.
-const PAGES: u32 = 65_536;
+use store_api::MOST_PAGES;
 
 /// The number of a page that is whole.
 pub fn good_number(page: &[u8]) -> Option<u32>
@@ -52,7 +50,13 @@ pub fn restorable(double: &[u8], slot: usize) -> Option<u32>
         (λ number. (number < 65536) × IsGoodPage number (piece 4096 slot double.now)) }
 {
     match number_of_copy(double, slot) {
-        Some(number) => { if number < PAGES { Some(number) } else { None } }
+        Some(number) => {
+            if number < MOST_PAGES {
+                Some(number)
+            } else {
+                None
+            }
+        }
         None => None,
     }
 }

@@ -11,6 +11,3 @@ mod restoring;
 pub use batch::Batch;
 pub use placing::{Staged, stage};
 pub use restoring::{RepairBad, repair};
-
-#[cfg(test)]
-mod tests;

@@ -1,3 +1,2 @@
 mod Others
-mod Looking
 mod Seating

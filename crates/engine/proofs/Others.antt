@@ -5,11 +5,10 @@ use Rattle.std.specs.List.{AllByRecursion}
 use Rattle.inno_types.specs.declared.reply.Item.TheVariants.{Sql}
 use Rattle.inno_model.specs.declared.event.Event.{Event}
 use Rattle.inno_model.specs.declared.event.Event.TheVariants as events
-use Rattle.inno_model.specs.Past.{is_of, under_way, of_item, own}
-use Rattle.inno_model.specs.Legal.{IsClosed}
+use Rattle.inno_model.specs.Past.{is_of, under_way, of_item, own, IsClosed}
 use Rattle.inno_model.proofs.Untouched.{untouched}
 use Rattle.sql_history.specs.Legal.{is_leaving}
-use Rattle.past_agreement.specs.Order.{IsOfRow}
+use Rattle.law_past_agreement.specs.Order.{IsOfRow}
 use Rattle.shared_lists.specs.Tasks as tasks
 use Rattle.shared_lists.specs.State.{State as Lists, Adds, task_of}
 use Rattle.sql_lists.specs.Steps.{Adding, HasRowsAlone, StaysRunning}
@@ -25,11 +24,11 @@ use Rattle.write_statement.specs.declared.machine.WriteStatement.{WriteStatement
 use Rattle.write_statement.specs.declared.machine.WriteStatement.TheVariants as writes
 use Rattle.write_statement.specs.Running.{IsRunning as IsChangingRows}
 use Rattle.write_statement.proofs.Others.{stays_running as write_runs}
-use Rattle.engine.specs.declared.statement.Statement.{Statement}
-use Rattle.engine.specs.declared.statement.Statement.TheVariants as statements
+use Rattle.statement.specs.declared.under_way.Statement.{Statement}
+use Rattle.statement.specs.declared.under_way.Statement.TheVariants as statements
 use Rattle.engine.specs.declared.seats.Seat.{Seat}
 use Rattle.engine.specs.declared.seats.Seat.TheVariants.{Idle, Busy, Leaving, Left}
-use Rattle.engine.specs.Running.{HasOnlyStarted, IsReadFrom, IsRunning}
+use Rattle.statement.specs.Running.{HasOnlyStarted, IsReadFrom, IsRunning}
 use Rattle.engine.specs.Seats.{MayGoOut, IsGoingOut, SeatAgrees}
 
 leaving_same : (e : Event) (h : List Event) (s : ℕ) → is_of s e ≡ false → is_leaving s (e ∷ h) ≡ is_leaving s h

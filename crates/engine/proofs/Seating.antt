@@ -10,26 +10,27 @@ use Rattle.inno_types.specs.declared.reply.Item.TheVariants.{Sql}
 use Rattle.inno_types.specs.declared.reply.Reply.{Reply}
 use Rattle.inno_model.specs.declared.event.Event.{Event}
 use Rattle.inno_model.specs.declared.event.Event.TheVariants as events
-use Rattle.inno_model.specs.Past.{is_of, started, under_way, own}
-use Rattle.inno_model.specs.Legal.{IsClosed}
+use Rattle.inno_model.specs.Past.{is_of, started, under_way, own, IsClosed}
+use Rattle.inno_types.specs.Order.{IsBelow}
 use Rattle.store_api.specs.declared.answers.Progress.{Progress}
 use Rattle.store_api.specs.declared.answers.Progress.TheVariants as progress
 use Rattle.sql_history.specs.Legal.{is_leaving}
 use Rattle.shared_lists.specs.Tasks as tasks
-use Rattle.past_agreement.specs.Order.{IsOfRow}
+use Rattle.law_past_agreement.specs.Order.{IsOfRow}
 use Rattle.shared_lists.specs.State.{State as Lists, Lists as AllLists, IsFirst, Adds, Stays, task_of}
 use Rattle.sql_lists.specs.declared.advance.Advance.{Advance}
 use Rattle.sql_lists.specs.declared.advance.Advance.TheVariants as advance
 use Rattle.sql_lists.specs.Steps.{Moves, Adding, Steps, HasRowsAlone}
 use Rattle.sql_lists.proofs.Moving.{moves_none, moves_stays, moves_adds}
-use Rattle.sql_lists.specs.Going.{IsBelow, Nears as StatementNears}
-use Rattle.engine.specs.declared.statement.Statement.{Statement}
+use Rattle.sql_lists.specs.Going.{Nears as StatementNears}
+use Rattle.statement.specs.declared.under_way.Statement.{Statement}
 use Rattle.engine.specs.declared.seats.Seat.{Seat}
 use Rattle.engine.specs.declared.seats.Seat.TheVariants.{Idle, Busy, Leaving, Left}
-use Rattle.engine.specs.Running.{IsRunning, IsReadFrom}
+use Rattle.statement.specs.Running.{IsRunning, IsReadFrom}
 use Rattle.engine.specs.Seats.{seat_at, is_working, MayGoOut, IsGoingOut, SeatAgrees, AreSeats}
 use Rattle.engine.specs.Calls.{AreFirst, SameLists, Joins, Starts, SameState, OthersStay, KeepsItems, GoesOn, StepsOn, Settled, GoesOut, StepsBy}
-use Rattle.engine.specs.Going.{statement_to_go, Nears, NearsEnding}
+use Rattle.statement.specs.Going.{statement_to_go}
+use Rattle.engine.specs.Going.{Nears, NearsEnding}
 use Rattle.engine.proofs.Others.{seat_stays, has_item, read_runs}
 
 -- ---- seats

@@ -7,8 +7,7 @@ use Rattle.inno_types.specs.declared.reply.Reply.TheVariants.{Done}
 use Rattle.inno_db.specs.Database.{Database}
 use Rattle.inno_model.specs.declared.event.Event.{Event}
 use Rattle.inno_model.specs.declared.event.Event.TheVariants.{Opened, Started, Ended}
-use Rattle.inno_model.specs.Past.{is_of, started}
-use Rattle.inno_model.specs.Legal.{IsClosed}
+use Rattle.inno_model.specs.Past.{is_of, started, IsClosed}
 use Rattle.store_api.specs.declared.answers.Progress.{Progress}
 use Rattle.store_api.specs.declared.answers.Progress.TheVariants as progress
 use Rattle.shared_lists.specs.Tasks as tasks
@@ -16,7 +15,7 @@ use Rattle.shared_lists.specs.State.{State as Lists, Adds, task_of}
 use Rattle.sql_lists.specs.declared.advance.Advance.{Advance}
 use Rattle.sql_lists.specs.declared.advance.Advance.TheVariants as advance
 use Rattle.sql_lists.specs.Steps.{Moves, WaitsFor}
-use Rattle.engine.specs.declared.statement.Statement.{Statement}
+use Rattle.statement.specs.declared.under_way.Statement.{Statement}
 use Rattle.engine.specs.declared.seats.Seat.{Seat}
 use Rattle.engine.specs.declared.seats.Seat.TheVariants as seats
 use Rattle.engine.specs.Seats.{State, seat_at, is_working, IsGoingOut}

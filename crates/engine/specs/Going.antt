@@ -3,26 +3,12 @@ use Rattle.std.specs.Prelude.{ℕ, List, ◌∷◌}
 use Rattle.store_api.specs.declared.answers.Progress.{Progress}
 use Rattle.store_api.specs.declared.answers.Progress.TheVariants as progress
 use Rattle.shared_lists.specs.State.{State as Lists}
-use Rattle.sql_lists.specs.Going.{IsBelow, left, to_roll_back}
-use Rattle.transaction_statements.specs.Going.{to_go as of_transaction}
-use Rattle.create_statement.specs.Going.{to_go as of_create}
-use Rattle.read_statement.specs.Going.{to_go as of_read}
-use Rattle.write_statement.specs.Going.{to_go as of_write}
-use Rattle.engine.specs.declared.statement.Statement.{Statement}
-use Rattle.engine.specs.declared.statement.Statement.TheVariants as statements
+use Rattle.sql_lists.specs.Going.{left, to_roll_back}
+use Rattle.inno_types.specs.Order.{IsBelow}
+use Rattle.statement.specs.Going.{statement_to_go}
 use Rattle.engine.specs.declared.seats.Seat.{Seat}
 use Rattle.engine.specs.declared.seats.Seat.TheVariants as seats
 use Rattle.engine.specs.Seats.{State, seat_at}
-
--- what a statement has before it at most: it is yet to begin, and then what its kind has
-abbrev pub statement_to_go : ℕ → Lists → Statement → List ℕ
-statement_to_go s lists (statements.Unread at) = 1 ∷ left 0 0 0 0
-statement_to_go s lists (statements.Asked stmt) = 1 ∷ left 0 0 0 0
-statement_to_go s lists (statements.Transaction statement) = 0 ∷ of_transaction s lists statement
-statement_to_go s lists (statements.Create statement) = 0 ∷ of_create s lists statement
-statement_to_go s lists (statements.Read statement) = 0 ∷ of_read s lists statement
-statement_to_go s lists (statements.Write statement) = 0 ∷ of_write s lists statement
-statement_to_go s lists statements.Failed = 0 ∷ left 0 0 0 0
 
 -- what a seat has before it at most
 abbrev pub seat_to_go : ℕ → Lists → Seat → List ℕ

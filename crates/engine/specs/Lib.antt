@@ -1,4 +1,3 @@
-pub mod Running
 pub mod Seats
 pub mod Calls
 pub mod Going

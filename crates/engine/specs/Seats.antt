@@ -2,14 +2,13 @@
 use Rattle.std.specs.Prelude.{◌≡◌, ℕ, ◌<◌, ◌≤◌, Bool, true, false, None, List, length, slice_index_or, refl}
 use Rattle.std.specs.Coded.{Coded, code_by, coded×, coded_list}
 use Rattle.inno_model.specs.declared.event.Event.{Event}
-use Rattle.inno_model.specs.Past.{under_way, own}
-use Rattle.inno_model.specs.Legal.{IsClosed}
+use Rattle.inno_model.specs.Past.{under_way, own, IsClosed}
 use Rattle.sql_history.specs.Legal.{is_leaving}
 use Rattle.shared_lists.specs.Tasks as tasks
 use Rattle.shared_lists.specs.State.{State as Lists, state_code as lists_code, task_of}
 use Rattle.sql_lists.specs.Steps.{HasRowsAlone}
 use Rattle.transaction_statements.specs.Running.{TakesBackTo}
-use Rattle.engine.specs.Running.{IsRunning}
+use Rattle.statement.specs.Running.{IsRunning}
 use Rattle.engine.specs.declared.seats.Seat.{Seat}
 use Rattle.engine.specs.declared.seats.Seat.TheVariants.{Idle, Busy, Leaving, Left}
 use Rattle.engine.specs.contracts.seats.Seat as of_seat

@@ -4,8 +4,6 @@
 
 mod machine;
 mod seats;
-mod statement;
 
 pub use machine::{Engine, mount};
 pub use seats::Seat;
-pub use statement::Statement;

@@ -2,17 +2,15 @@
 
 ghost use Rattle.std.specs.Prelude.{◌≡◌, ℕ, ◌<◌, ◌^◌, ◌∷◌, ◌++◌, [], length, None, Ok, IsTrue, IfOk, IfErr, OnOk, OnErr};
 ghost use Rattle.inno_types.specs.declared.reply.Item.TheVariants.{Sql};
-ghost use Rattle.inno_model.specs.Past.{under_way, own};
-ghost use Rattle.inno_model.specs.Legal.{IsOpen};
+ghost use Rattle.inno_model.specs.Past.{under_way, own, IsOpen};
 ghost use Rattle.shared_lists.specs.Tasks.{Idle as TaskIdle};
 ghost use Rattle.shared_lists.specs.State.{task_of};
 ghost use Rattle.engine.specs.Calls.{IsOpened, AreFirst, Settled, GoesOut};
-ghost use Rattle.engine.specs.Running.{IsReadFrom, ReadsItem};
+ghost use Rattle.statement.specs.Running.{IsReadFrom, ReadsItem};
 ghost use Rattle.engine.specs.Seats.{IsGoingOut};
 ghost use Rattle.engine.specs.Going.{NearsEnding};
 
 use crate::seats::{Seat, Seats};
-use crate::statement::Statement;
 use inno_model::History;
 use inno_types::{Bytes, Cause, Item, Reply};
 use list_world::ListWorld;
@@ -20,6 +18,7 @@ use shared_lists::{SharedLists, Undone};
 use sql_lists::{Advance, SqlLists};
 use sql_prefix::parse;
 use sql_text::ParseBad;
+use statement::Statement;
 use std::alloc::Global;
 use std::marker::Model;
 use store_api::{Disk, MountBad, NoMemory, Progress};

@@ -3,7 +3,7 @@
 ghost use Rattle.std.specs.Prelude.{◌≡◌, ◌<◌, [], ◌∷◌, ◌++◌, length, OnOk, OnErr, slice_set};
 ghost use Rattle.engine.specs.Seats.{seat_at, is_working, has_left};
 
-use crate::statement::Statement;
+use statement::Statement;
 use std::alloc::{AllocError, Global};
 use std::marker::Model;
 

@@ -1,10 +1,11 @@
 -- What each call of an index answers, and what it changes.
 use Rattle.std.specs.Prelude.{◌≡◌, ◌≢◌, ◌⊎◌, ℕ, ◌<◌, ◌==◌, Bool, true, false, if◌then◌else◌, List, length, Option, None, Some, IsSome, IsSomeAnd}
 use Rattle.store_api.specs.Causes.{Rose}
-use Rattle.entries.specs.declared.answers.Move.{Move}
-use Rattle.entries.specs.declared.answers.Move.TheVariants.{At, End, Done, Step, Latch, Again, Full, TooDeep, Failed, Bad, NoMemory}
+use Rattle.store_api.specs.declared.moves.Move.{Move}
+use Rattle.store_api.specs.declared.moves.Move.TheVariants.{At, End, Done, Step, Latch, Again, Full, TooDeep, Failed, Bad, NoMemory}
 use Rattle.entries.specs.Pairs.{Pair, value_of, first_from, first_after, with_pair, without_key}
-use Rattle.entries.specs.Index.{Paged, Index, Told, AreKept, IsAsBefore, IsGiven, HasGone, InPages, IsBelow, IsFree, IsHeld}
+use Rattle.entries.specs.Index.{Paged, Index, Told, AreKept, IsAsBefore, IsGiven, HasGone, InPages, IsFree, IsHeld}
+use Rattle.inno_types.specs.Order.{IsBelow}
 
 -- The call has not ended, by a cause that only an index in pages has. All is as it was.
 pub record IsPutOff (why : Paged → Paged → Type 0) (old new : Index) : Type 0 where

@@ -72,11 +72,6 @@ GoesOn None None = Unit {0}
 GoesOn (Some old) (Some new) = old.faults ≤ new.faults
 GoesOn old new = ⊥
 
--- the list is the smaller one, compared from the first number
-abbrev pub IsBelow : List ℕ → List ℕ → Type 0
-IsBelow (a ∷ later) (b ∷ others) = (a < b) ⊎ ((a ≡ b) × IsBelow later others)
-IsBelow list other = ⊥
-
 -- no other actor is awaited
 abbrev pub IsFree : ℕ → Index → Type 0
 IsFree actor index = IfSome index.awaited (λ holder. holder ≡ actor)

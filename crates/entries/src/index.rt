@@ -5,8 +5,8 @@ ghost use Rattle.entries.specs.Pairs.{AreSound};
 ghost use Rattle.entries.specs.Index.{Index, Told, GoesOn};
 ghost use Rattle.entries.specs.Calls.{is_done, Seeks, Follows, Fetches, NextKeys, Inserts, Replaces, Removes, Tidies, Leaves};
 
-use crate::answers::Move;
 use inno_types::Bytes;
+use store_api::Move;
 
 /// An ordered index. Keys have at most 67 bytes, and values at most 1,024.
 pub trait Entries {

@@ -6,7 +6,7 @@ ghost use Rattle.std.specs.Ordering.{is_le, is_lt};
 ghost use Rattle.entries.specs.Pairs.{Pair, key_cmp, AreRising, IsFirstOf, NonePasses, value_of, first_from, first_after, with_pair, without_key};
 ghost use Rattle.entries.specs.Index.{Index, IsHeld};
 ghost use Rattle.entries.specs.Calls.{Seeks, Follows, Fetches, NextKeys, Inserts, Replaces, Removes, Tidies, IsAtOnce, IsWithoutPages, IsKeptOffBy};
-ghost use Rattle.entries.specs.declared.answers.Move.{Move};
+ghost use Rattle.store_api.specs.declared.moves.Move.{Move};
 ghost use Rattle.entries.specs.declared.list_index.ListIndex.{ListIndex};
 ghost use Rattle.entries.specs.Lists.{shown};
 

@@ -2,16 +2,12 @@
 //! a sorted vector. Statements, rollback and purge go through the trait; each call is one step of an actor.
 #![tactic(auto)]
 
-mod answers;
 mod index;
 mod laws;
 mod list_index;
 mod pairs;
 mod stored;
-#[cfg(test)]
-mod tests;
 
-pub use answers::Move;
 pub use index::Entries;
 pub use laws::{
     a_list_has_no_pages, each_edit_is_of_one_key, edits_keep_the_order, finds_are_first,

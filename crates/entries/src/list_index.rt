@@ -6,13 +6,12 @@ ghost use Rattle.entries.specs.Index.{IsAsBefore, IsFree, IsHeld};
 ghost use Rattle.entries.specs.Calls.{next_of, Gives, Seeks, Follows, Inserts};
 ghost use Rattle.entries.specs.Lists.{shown, empty_index};
 
-use crate::answers::Move;
 use crate::index::Entries;
 use crate::pairs::SortedPairs;
 use inno_types::Bytes;
 use std::alloc::{AllocError, Global};
 use std::collections::BTreeMap;
-use store_api::NoMemory;
+use store_api::{Move, NoMemory};
 
 /// An index in memory. It makes no steps on the way: each call ends, but where another actor is awaited or memory runs out.
 #[derive(Drop)]

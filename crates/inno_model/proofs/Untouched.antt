@@ -2,7 +2,7 @@
 use Rattle.std.proofs.Common.{◌≡◌, ℕ, false, List, ◌∷◌, arith}
 use Rattle.std.proofs.lemmas.Bool.Decides.{nat_tests}
 use Rattle.inno_model.specs.declared.event.Event.{Event}
-use Rattle.inno_model.specs.Past.{is_of, started, under_way, before_item, of_item, level, txn, own, view_of, session_level}
+use Rattle.inno_model.specs.Past.{is_of, started, under_way, before_item, of_item, level, txn, own, view_of}
 
 -- all that is a session's own
 pub record IsUntouched (old new : List Event) (s : ℕ) : Type 0 where
@@ -14,7 +14,6 @@ pub record IsUntouched (old new : List Event) (s : ℕ) : Type 0 where
   pub txn_is : txn s new ≡ txn s old
   pub own_is : own s new ≡ own s old
   pub view_is : view_of s new ≡ view_of s old
-  pub later_level : session_level s new ≡ session_level s old
 
 -- What is a session's own changes at its own entries alone.
 pub untouched : (e : Event) (past : List Event) (s : ℕ) → is_of s e ≡ false → IsUntouched past (e ∷ past) s
@@ -28,5 +27,4 @@ untouched e past s other =
       txn_is = grind (arith, nat_tests);
       own_is = grind (arith, nat_tests);
       view_is = grind (arith, nat_tests);
-      later_level = grind (arith, nat_tests);
     }

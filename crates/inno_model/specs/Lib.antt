@@ -1,7 +1,4 @@
-pub mod Commands
-pub mod Legal
-pub mod Loose
-pub mod Outcome
 pub mod Past
+pub mod Moments
 pub mod Recorded
 pub mod Text

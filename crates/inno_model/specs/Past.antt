@@ -1,18 +1,13 @@
 -- What the entries of a history say. A past lists them from the newest to the oldest, so each line says what the
 -- newest entry makes of what was before it. Lists of changes stand newest first too.
-use Rattle.std.specs.Prelude.{ℕ, ◌+◌, ◌-◌, List, [], ◌∷◌, ◌++◌, ◌==◌, Bool, true, false, nat_lt, if◌then◌else◌, length, drop, Option, None, Some}
+use Rattle.std.specs.Prelude.{◌≡◌, ℕ, ◌+◌, ◌-◌, List, [], ◌∷◌, ◌++◌, ◌==◌, Bool, true, false, nat_lt, if◌then◌else◌, length, drop, Option, None, Some, is_some}
 use Rattle.std.specs.List.{list_any}
 use Rattle.std.specs.FinMap.{from_entries}
 use Rattle.inno_types.specs.declared.lock.Level.{Level}
-use Rattle.inno_types.specs.declared.lock.Level.TheVariants.{RepeatableRead}
 use Rattle.inno_types.specs.declared.reply.Item.{Item}
-use Rattle.inno_types.specs.declared.reply.Item.TheVariants.{Sql}
-use Rattle.inno_types.specs.declared.reply.Reply.{Reply}
-use Rattle.inno_types.specs.declared.reply.Reply.TheVariants.{Done}
 use Rattle.inno_db.specs.Database.{Database}
 use Rattle.inno_db.specs.Changes.{apply_one}
 use Rattle.inno_db.specs.declared.change.Change.{Change}
-use Rattle.inno_model.specs.Commands.{level_of}
 use Rattle.inno_model.specs.declared.event.Event.{Event}
 use Rattle.inno_model.specs.declared.event.Event.TheVariants.{Opened, Begin, Started, View, Changed, Waits, Victim, Undone, Ended, Committed, Acked, RolledBack}
 
@@ -86,10 +81,10 @@ closes (RolledBack t) = true
 closes (Ended t j reply) = true
 closes other = false
 
--- The past at the item's point, where its statement counts: before the first entry by which it has come to the end of its changes.
-abbrev pub at_point : ℕ → List Event → List Event
-at_point s [] = []
-at_point s (e ∷ past) = if did closes s (e ∷ past) then (if did closes s past then at_point s past else past) else e ∷ past
+-- the newest entry of the item is a commit: its reply may not be given before it is acknowledged
+abbrev pub awaits_ack : List Event → Bool
+awaits_ack (Committed t ∷ entries) = true
+awaits_ack other = false
 
 -- ---- transactions
 
@@ -117,16 +112,12 @@ abbrev pub level_or : Option Level → Level → Level
 level_or None before = before
 level_or (Some level) before = level
 
--- what an item that was done makes of the level of its session's later transactions
-abbrev pub level_after : Option Item → Reply → Level → Level
-level_after (Some (Sql text)) Done before = level_or (level_of text) before
-level_after item reply before = before
+-- the session has an open transaction
+abbrev pub IsOpen : ℕ → List Event → Type 0
+IsOpen s past = is_some (level s past) ≡ true
 
--- the level of the session's later transactions
-abbrev pub session_level : ℕ → List Event → Level
-session_level s [] = RepeatableRead
-session_level s (Ended t j reply ∷ past) = if t == s then level_after (under_way s past) reply (session_level s past) else session_level s past
-session_level s (other ∷ past) = session_level s past
+abbrev pub IsClosed : ℕ → List Event → Type 0
+IsClosed s past = level s past ≡ None
 
 -- of changes that stand newest first, those that were made first
 abbrev pub oldest : ℕ → List Change → List Change

@@ -2,11 +2,9 @@
 //! Everything that is proved of the engine is stated by the definitions of specs/.
 #![tactic(auto)]
 
-mod command;
 mod event;
 mod history;
 
-pub use command::Command;
 pub use event::Event;
 pub use history::History;
 pub use inno_db::{Change, Db};

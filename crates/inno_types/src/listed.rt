@@ -136,3 +136,29 @@ impl Listed<Edge> {
         Ok(Listed { items: edges })
     }
 }
+
+impl Listed<Column> {
+    /// The same columns.
+    pub fn copied(&self) -> Result<Self, AllocError>
+        ensures { IfOk result (λ columns. columns ≡ self.now) }
+    {
+        let mut columns = Vec::new(*self.items.allocator());
+        for column in self.items.iter() {
+            columns.push(column.copied()?)?;
+        }
+        Ok(Listed { items: columns })
+    }
+}
+
+impl Listed<Key> {
+    /// The same keys.
+    pub fn copied(&self) -> Result<Self, AllocError>
+        ensures { IfOk result (λ keys. keys ≡ self.now) }
+    {
+        let mut keys = Vec::new(*self.items.allocator());
+        for key in self.items.iter() {
+            keys.push(key.copied()?)?;
+        }
+        Ok(Listed { items: keys })
+    }
+}

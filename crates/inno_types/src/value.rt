@@ -1,6 +1,9 @@
 //! Values, and the tables that hold them.
 
+ghost use Rattle.std.specs.Prelude.{◌≡◌, IfOk};
+
 use crate::listed::{Bytes, Columns, Keys};
+use std::alloc::AllocError;
 
 /// A value of a column.
 #[derive(Clone, Drop)]
@@ -38,4 +41,43 @@ pub struct Schema {
     pub columns: Columns,
     pub primary: u8,
     pub keys: Keys,
+}
+
+impl Column {
+    /// The same column.
+    pub fn copied(&self) -> Result<Column, AllocError>
+        ensures { IfOk result (λ column. column ≡ self.now) }
+    {
+        Ok(Column {
+            name: self.name.copied()?,
+            kind: self.kind,
+            not_null: self.not_null,
+        })
+    }
+}
+
+impl Key {
+    /// The same key.
+    pub fn copied(&self) -> Result<Key, AllocError>
+        ensures { IfOk result (λ key. key ≡ self.now) }
+    {
+        Ok(Key {
+            name: self.name.copied()?,
+            column: self.column,
+        })
+    }
+}
+
+impl Schema {
+    /// The same schema.
+    pub fn copied(&self) -> Result<Schema, AllocError>
+        ensures { IfOk result (λ schema. schema ≡ self.now) }
+    {
+        Ok(Schema {
+            name: self.name.copied()?,
+            columns: self.columns.copied()?,
+            primary: self.primary,
+            keys: self.keys.copied()?,
+        })
+    }
 }

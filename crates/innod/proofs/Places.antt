@@ -13,6 +13,7 @@ use Rattle.inno_model.specs.Text.{items}
 use Rattle.script.specs.declared.script.Script.{Script}
 use Rattle.script.specs.declared.script.ScriptItem.{ScriptItem}
 use Rattle.script.specs.Script.{IsPlayable}
+use Rattle.innod.specs.Run.{allowed}
 use Rattle.innod.specs.Sessions.{items_of, HasStarted, FollowsScript, HasPlayed, AllRest}
 use Rattle.innod.proofs.Answering.{rests}
 
@@ -98,7 +99,7 @@ below : (s n : ℕ) → (s < n) ⊎ (n ≤ s)
 below s n = search (arith, rules)
 
 -- all places are at the end
-pub to_the_end : (script : Script) (places : List ℕ) (names : List (List ℕ)) (past : List Event) → IsPlayable script → names ≡ script.names → length places ≡ length names → All (λ place. place ≡ length script.items) places
+pub to_the_end : (script : Script) (places : List ℕ) (names : List (List ℕ)) (past : List Event) → IsPlayable allowed script → names ≡ script.names → length places ≡ length names → All (λ place. place ≡ length script.items) places
     → HasStarted script.items places past → HasPlayed script names past
 to_the_end script places names past playable names_are count ends started = record {
   names_are = names_are;

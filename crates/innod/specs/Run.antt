@@ -1,13 +1,19 @@
 -- What a run answers, and what it has done then.
-use Rattle.std.specs.Prelude.{◌≡◌, ◌⊎◌, ℕ, List, Option}
+use Rattle.std.specs.Prelude.{◌≡◌, ◌⊎◌, ℕ, List, Option, false}
 use Rattle.std.specs.Io.KnownBytes.{Appends}
 use Rattle.inno_model.specs.declared.event.Event.{Event}
 use Rattle.script.specs.declared.script.Script.{Script}
-use Rattle.script.specs.Script.{Spells, IsScript, IsBadAt}
+use Rattle.script.specs.declared.script.Directives.{Directives}
+use Rattle.script.specs.declared.script.ScriptBad.TheVariants.{Line, Limit as LimitPassed}
+use Rattle.script.specs.Script.{Spells, IsScript, IsRefused}
 use Rattle.innod.specs.declared.outcome.Fault.{Fault}
 use Rattle.innod.specs.declared.outcome.Fault.TheVariants.{Nothing, Usage, ScriptBad, ScriptRead, OutputWrite, DiskFault, File, Limit, NoMemory}
 use Rattle.innod.specs.Streams.{AppendsFront}
 use Rattle.innod.specs.Sessions.{FollowsScript, HasPlayed, HasAnswered}
+
+-- The engine takes statements alone so far. So a directive about a signal or a tick is a bad line.
+abbrev pub allowed : Directives
+allowed = record { signals = false; ticks = false }
 
 abbrev pub status_of : Fault → ℕ
 status_of Nothing = 0
@@ -20,10 +26,11 @@ status_of (File bad) = 6
 status_of (Limit what found most) = 7
 status_of NoMemory = 8
 
--- a fault of the script's bytes or of memory
+-- a fault of the script's bytes or its size, or of memory
 abbrev pub IsInputFault : Fault → Type 0
 IsInputFault (ScriptBad line) = Unit {0}
 IsInputFault ScriptRead = Unit {0}
+IsInputFault (Limit what found most) = Unit {0}
 IsInputFault NoMemory = Unit {0}
 IsInputFault other = ⊥
 
@@ -38,7 +45,6 @@ IsOutputFault other = ⊥
 abbrev pub IsRunFault : Fault → Type 0
 IsRunFault DiskFault = ⊥
 IsRunFault (File bad) = ⊥
-IsRunFault (Limit what found most) = ⊥
 IsRunFault other = Unit {0}
 
 -- What a sink was given: the text, or after its own fault a front of it. Want of memory may come before the
@@ -51,15 +57,16 @@ IsPrinted other old new text = new ≡ old
 
 -- What a fault says of the bytes of the source. Where they weren't read, it says nothing.
 abbrev pub Judges : Fault → List ℕ → Type 0
-Judges Nothing bytes = IsScript bytes
-Judges OutputWrite bytes = IsScript bytes
-Judges (ScriptBad line) bytes = IsBadAt line bytes × (IsScript bytes → ⊥)
+Judges Nothing bytes = IsScript allowed bytes
+Judges OutputWrite bytes = IsScript allowed bytes
+Judges (ScriptBad line) bytes = IsRefused allowed bytes (Line line)
+Judges (Limit what found most) bytes = IsRefused allowed bytes (LimitPassed what found most)
 Judges other bytes = Unit {0}
 
 -- each session has started the first of the items that the bytes give it
 abbrev pub Follows : List ℕ → List Event → Type 0
-Follows bytes past = IsScript bytes → (script : Script) × Spells bytes script × FollowsScript script.items past
+Follows bytes past = IsScript allowed bytes → (script : Script) × Spells allowed bytes script × FollowsScript script.items past
 
 -- each session of the bytes has started all of its items, and each of them was answered
 abbrev pub Plays : List ℕ → List (List ℕ) → List Event → Type 0
-Plays bytes names past = (script : Script) × Spells bytes script × HasPlayed script names past × HasAnswered script past
+Plays bytes names past = (script : Script) × Spells allowed bytes script × HasPlayed script names past × HasAnswered script past

@@ -45,6 +45,7 @@ fn run_words(rt: &HostRuntime) -> io::Result<u8> {
         return Ok(8);
     };
     let Ok(mut source) = FileSource::new(rt, alloc, script) else {
+        drop(disk);
         return Ok(8);
     };
     let mut sink = StdSink::new(rt);
@@ -58,7 +59,9 @@ fn run_words(rt: &HostRuntime) -> io::Result<u8> {
         &clock,
         &OpenGate,
     );
-    Ok(outcome.status)
+    let status = outcome.status;
+    drop(outcome);
+    Ok(status)
 }
 
 fn words_of(rt: &HostRuntime) -> io::Result<Vec<Bytes>> {

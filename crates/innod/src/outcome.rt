@@ -4,12 +4,12 @@ ghost use Rattle.std.specs.Prelude.{◌≡◌, ◌⊎◌, [], IfOk, IfErr, IfSom
 ghost use Rattle.store_api.specs.Causes.{Rose};
 ghost use Rattle.inno_model.specs.Text.{text};
 ghost use Rattle.script.specs.Script.{Spells, IsPlayable};
-ghost use Rattle.innod.specs.Run.{status_of, IsInputFault, IsOutputFault, IsPrinted, Judges};
+ghost use Rattle.innod.specs.Run.{allowed, status_of, IsInputFault, IsOutputFault, IsPrinted, Judges};
 
 use crate::input::{ReadBad, read_all};
 use crate::output::write_all;
 use inno_model::History;
-use script::{Script, ScriptBad, read_script, transcript};
+use script::{Directives, Script, ScriptBad, read_script, transcript};
 use std::alloc::Global;
 use store_api::{Failed, MountBad, NoMemory, Sink, Source};
 
@@ -73,8 +73,8 @@ pub fn refused<D>(alloc: Global, disk: D, fault: Fault) -> Outcome<D>
 
 /// Reads the script, all of the source.
 pub fn read_input<S: Source>(alloc: Global, source: &mut S) -> Result<Script, Fault>
-    ensures script { IfOk result (λ script. IfSome (S.left source.old) (λ bytes. Spells bytes script)) }
-    ensures playable { IfOk result IsPlayable }
+    ensures script { IfOk result (λ script. IfSome (S.left source.old) (λ bytes. Spells allowed bytes script)) }
+    ensures playable { IfOk result (IsPlayable allowed) }
     ensures read { result ≡ Err Fault.ScriptRead → Rose (S.faults source.old) (S.faults source.new) }
     ensures judged { IfErr result (λ fault. IfSome (S.left source.old) (Judges fault)) }
     ensures causes { IfErr result IsInputFault }
@@ -84,9 +84,14 @@ pub fn read_input<S: Source>(alloc: Global, source: &mut S) -> Result<Script, Fa
         Err(ReadBad::Failed) => return Err(Fault::ScriptRead),
         Err(ReadBad::NoMemory) => return Err(Fault::NoMemory),
     };
-    match read_script(alloc, bytes.as_slice()) {
+    let allowed = Directives {
+        signals: false,
+        ticks: false,
+    };
+    match read_script(alloc, bytes.as_slice(), allowed) {
         Ok(script) => Ok(script),
         Err(ScriptBad::Line { line }) => Err(Fault::ScriptBad { line }),
+        Err(ScriptBad::Limit { what, found, most }) => Err(Fault::Limit { what, found, most }),
         Err(ScriptBad::NoMemory) => Err(Fault::NoMemory),
     }
 }

@@ -6,6 +6,7 @@ ghost use Rattle.inno_model.specs.Past.{under_way};
 ghost use Rattle.inno_model.specs.Text.{items};
 ghost use Rattle.script.specs.declared.script.ScriptItem.{ScriptItem as ScriptItemValue};
 ghost use Rattle.script.specs.Script.{IsPlayable};
+ghost use Rattle.innod.specs.Run.{allowed};
 ghost use Rattle.innod.specs.Sessions.{IsJoined, IsIdle, StartsNothing, FollowsScript, HasPlayed, AllRest, Plays, IsNew, items_of, IsStatement};
 
 use crate::sessions::Sessions;
@@ -20,7 +21,7 @@ const MOMENT: u64 = 0;
 /// Joins the sessions of a script, plays it to its end, and lets all sessions leave.
 pub fn play<E: Sessions>(alloc: Global, engine: &mut E, script: &Script) -> Result<(), NoMemory>
     requires new { IsNew (E.shown engine.old) }
-    requires playable { IsPlayable script.now }
+    requires playable { IsPlayable allowed script.now }
     ensures follows { FollowsScript script.now.items (E.shown engine.new).past }
     ensures played { OnOk result (HasPlayed script.now (E.shown engine.new).names (E.shown engine.new).past) }
     ensures rests { OnOk result (AllRest (E.shown engine.new).past) }
@@ -245,15 +246,17 @@ fn step<E: Sessions>(engine: &mut E, s: u32) -> Result<bool, NoMemory>
     ensures { StartsNothing (E.shown engine.old) (E.shown engine.new) }
 {
     let progress = engine.step(s, MOMENT);
-    if !lacked_memory(&progress) || !engine.is_working(s) {
-        return Ok(went_on(&progress));
+    let lacked = lacked_memory(&progress);
+    let went = went_on(&progress);
+    drop(progress);
+    if !lacked || !engine.is_working(s) {
+        return Ok(went);
     }
     let again = engine.step(s, MOMENT);
-    if lacked_memory(&again) {
-        Err(NoMemory)
-    } else {
-        Ok(went_on(&again))
-    }
+    let lacked = lacked_memory(&again);
+    let went = went_on(&again);
+    drop(again);
+    if lacked { Err(NoMemory) } else { Ok(went) }
 }
 
 fn lacked_memory(progress: &Progress) -> bool {

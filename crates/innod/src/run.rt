@@ -8,7 +8,7 @@ ghost use Rattle.inno_model.specs.Text.{text};
 ghost use Rattle.script.specs.Script.{IsScript, IsPlayable};
 ghost use Rattle.innod.specs.Words.{IsCommand};
 ghost use Rattle.innod.specs.Sessions.{FollowsScript, HasPlayed, HasAnswered};
-ghost use Rattle.innod.specs.Run.{IsOutputFault, IsRunFault, IsPrinted, Judges, Follows, Plays};
+ghost use Rattle.innod.specs.Run.{allowed, IsOutputFault, IsRunFault, IsPrinted, Judges, Follows, Plays};
 
 use crate::outcome::{Fault, Outcome, finish, read_input, refused};
 use crate::playing::play;
@@ -43,7 +43,7 @@ pub fn run<D: Disk, S: Source, K: Sink, C: Clock, G: Gate>(
     ensures script_read { result.fault ≡ Fault.ScriptRead → Rose (S.faults script.old) (S.faults script.new) }
     ensures output_write { result.fault ≡ Fault.OutputWrite → Rose (K.faults out.old) (K.faults out.new) }
     ensures others { IsRunFault result.fault }
-    ensures complete { (bytes : List ℕ) → IsCommand words.now → S.left script.old ≡ Some bytes → IsScript bytes
+    ensures complete { (bytes : List ℕ) → IsCommand words.now → S.left script.old ≡ Some bytes → IsScript allowed bytes
         → (Rose (S.faults script.old) (S.faults script.new) → ⊥) → (Rose (K.faults out.old) (K.faults out.new) → ⊥) → (result.status ≡ 0) ⊎ (result.status ≡ 8) }
 {
     if !is_command(words) {
@@ -57,7 +57,7 @@ pub fn run<D: Disk, S: Source, K: Sink, C: Clock, G: Gate>(
 
 /// Plays a script on an engine over the disk, and prints the history.
 fn serve<D: Disk, K: Sink>(alloc: Global, script: &Script, disk: D, out: &mut K) -> Outcome<D>
-    requires { IsPlayable script.now }
+    requires { IsPlayable allowed script.now }
     ensures legal { IsLegal Spells result.history.past }
     ensures printed { IsPrinted result.fault (K.taken out.old) (K.taken out.new) (text result.history) }
     ensures follows { FollowsScript script.now.items result.history.past }

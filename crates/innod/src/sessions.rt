@@ -3,7 +3,7 @@
 ghost use Rattle.std.specs.Prelude.{◌≡◌, ◌<◌, ◌^◌, List, ℕ, length, true, None, IsTrue, OnOk, OnErr};
 ghost use Rattle.inno_types.specs.declared.reply.Item.TheVariants.{Sql};
 ghost use Rattle.inno_model.specs.Past.{under_way};
-ghost use Rattle.sql_lists.specs.Going.{IsBelow};
+ghost use Rattle.inno_types.specs.Order.{IsBelow};
 ghost use Rattle.innod.specs.Sessions.{Shown, IsJoined, IsIdle, StartsNothing, Joins, Starts};
 
 use inno_types::{Bytes, Item};

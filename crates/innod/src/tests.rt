@@ -198,7 +198,7 @@ fn prints_what_sessions_were_answered(rt: HostRuntime) -> Result<(), Fail> {
         ),
         failed("@sesion a\n", 0, 0, Fault::ScriptBad { line: 1 }, 2),
         failed(
-            "@session a\nBEGIN;\nx\n",
+            "@session a\nBEGIN;\n@signal x\n",
             0,
             0,
             Fault::ScriptBad { line: 3 },

@@ -11,6 +11,3 @@ pub use laws::{entries_keep_order, keys_keep_order, one_entry, one_key, one_widt
 pub use parts::{key_len, padded_text, put_padded, put_u64, u64_of};
 pub use read::{KeyBad, get_key};
 pub use write::{put_entry, put_key};
-
-#[cfg(test)]
-mod tests;

@@ -5,8 +5,8 @@ use Rattle.std.proofs.lemmas.Option.{slice_get_within}
 use Rattle.std.proofs.lemmas.Bool.{cases_lt}
 use Rattle.inno_types.specs.declared.value.Schema.{Schema}
 use Rattle.store_api.specs.declared.answers.Undo.{Undo}
-use Rattle.entries.specs.declared.answers.Move.{Move}
-use Rattle.entries.specs.declared.answers.Move.TheVariants.{At, End, Done, Step, Latch, Again, Full, TooDeep, Failed, Bad, NoMemory}
+use Rattle.store_api.specs.declared.moves.Move.{Move}
+use Rattle.store_api.specs.declared.moves.Move.TheVariants.{At, End, Done, Step, Latch, Again, Full, TooDeep, Failed, Bad, NoMemory}
 use Rattle.entries.specs.declared.list_index.ListIndex.{ListIndex}
 use Rattle.entries.specs.Pairs.{Pair, AreSound}
 use Rattle.entries.specs.Index.{Index, Told, IsAsBefore}
@@ -15,10 +15,10 @@ use Rattle.entries.specs.Lists.{shown, empty_index}
 use Rattle.chain.specs.declared.kept.Kept.{Kept}
 use Rattle.world.specs.State.{WorldState, IsIndex}
 use Rattle.world.specs.Indexes.{InIndex, StaysBeside, Calls, Changes, Brings, IsLogged, InsertsWith, ReplacesWith, KeepsIf}
-use Rattle.list_world.specs.Slots.{slotted, kept_behind, filled_if}
-use Rattle.list_world.specs.Brought.{KeepsOnly}
+use Rattle.world_parts.specs.Slots.{slotted, kept_behind, filled_if}
+use Rattle.world_parts.specs.Brought.{KeepsOnly}
 use Rattle.list_world.specs.Parts.{Parts, AreAdded, world_of, index_in, index_of_list}
-use Rattle.list_world.proofs.Places.{get_set_here, get_set_elsewhere, kept_filled, kept_elsewhere}
+use Rattle.world_parts.proofs.Places.{get_set_here, get_set_elsewhere, kept_filled, kept_elsewhere}
 
 pub as_before : (list : Option ListIndex) → IsAsBefore (index_of_list list) (index_of_list list)
 as_before None = record { pairs = refl; place = refl; awaited = refl }

@@ -8,12 +8,12 @@ use Rattle.std.proofs.lemmas.List.{length-set}
 use Rattle.std.proofs.lemmas.List.Sums.{sum_by-set, sum_by-cons, sum_by_push}
 use Rattle.std.proofs.lemmas.Option.{slice_get_within, get_or_from_slice_get}
 use Rattle.world.specs.State.{Session, txn_of}
-use Rattle.list_world.specs.Owed.{owed_of, owed_by_all, puts_of, puts_of_all}
-use Rattle.list_world.specs.Holding.{AreApart, HaveBegun, txn_in, txn_at}
+use Rattle.world_parts.specs.Owed.{owed_of, owed_by_all, puts_of, puts_of_all}
+use Rattle.world_parts.specs.Holding.{AreApart, HaveBegun, txn_in, txn_at}
 use Rattle.chain.specs.declared.kept.Kept.{Kept}
-use Rattle.list_world.specs.Slots.{filled_if}
+use Rattle.world_parts.specs.Slots.{filled_if}
 use Rattle.list_world.specs.Parts.{Parts, HasSlot, ArePromised, IsSound}
-use Rattle.list_world.proofs.Places.{get_set_here, get_set_elsewhere, element, kept_taken, kept_past, kept_elsewhere}
+use Rattle.world_parts.proofs.Places.{get_set_here, get_set_elsewhere, element, kept_taken, kept_past, kept_elsewhere}
 
 -- a session of a world, as it stands in its parts
 pub there_of : {p q : Parts} (s : ℕ) (session : Session) → p ≡ q → slice_get q.sessions s ≡ Some session → slice_get p.sessions s ≡ Some session

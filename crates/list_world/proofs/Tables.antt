@@ -7,9 +7,9 @@ use Rattle.inno_db.specs.declared.change.Change.TheVariants.{Create}
 use Rattle.inno_model.specs.declared.event.Event.TheVariants.{Changed}
 use Rattle.entries.specs.declared.list_index.ListIndex.{ListIndex}
 use Rattle.world.specs.State.{Session, Work, HasWork}
-use Rattle.list_world.specs.Slots.{kept_behind}
+use Rattle.world_parts.specs.Slots.{kept_behind}
 use Rattle.list_world.specs.Parts.{Parts, AreAdded, world_of, index_of_list, index_in}
-use Rattle.engine_world.specs.Calls.{MakesTable}
+use Rattle.world.specs.EngineCalls.{MakesTable}
 
 pub none_kept : (pointer : ℕ) → kept_behind [] pointer ≡ None
 none_kept zero = refl

@@ -1,7 +1,2 @@
-pub mod Rooms
-pub mod Owed
-pub mod Slots
-pub mod Brought
-pub mod Holding
 pub mod Parts
 pub mod Memory

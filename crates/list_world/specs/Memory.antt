@@ -1,7 +1,7 @@
 -- A world in memory tells everything, and has no pages.
 use Rattle.std.specs.Prelude.{◌≡◌, IsSome, slice_get, Option, None, Some, refl}
 use Rattle.entries.specs.declared.list_index.ListIndex.{ListIndex}
-use Rattle.engine_world.specs.Memory.{IsInMemory}
+use Rattle.world.specs.Memory.{IsInMemory}
 use Rattle.list_world.specs.Parts.{Parts, world_of, index_of_list}
 
 pairs_of_list : (list : Option ListIndex) → IsSome (index_of_list list).pairs

@@ -8,9 +8,9 @@ use Rattle.entries.specs.Lists.{shown, empty_index}
 use Rattle.chain.specs.declared.kept.Kept.{Kept}
 use Rattle.txn_table.specs.Txns.{Txns}
 use Rattle.world.specs.State.{WorldState, Session}
-use Rattle.list_world.specs.Slots.{slotted, kept_behind}
-use Rattle.list_world.specs.Owed.{owed_by_all, puts_of_all}
-use Rattle.list_world.specs.Holding.{AreApart, HaveBegun}
+use Rattle.world_parts.specs.Slots.{slotted, kept_behind}
+use Rattle.world_parts.specs.Owed.{owed_by_all, puts_of_all}
+use Rattle.world_parts.specs.Holding.{AreApart, HaveBegun}
 
 pub record Parts : Type 0 where
   pub names : List (List ℕ)

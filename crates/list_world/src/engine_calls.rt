@@ -4,16 +4,11 @@
 ghost use Rattle.std.specs.Prelude.{◌≡◌, ◌+◌, ◌<◌, ◌≤◌, ◌^◌, [], length, reverse, IfOk, vec_len, vec_capacity};
 ghost use Rattle.std.specs.FinMap.{from_entries};
 ghost use Rattle.sql_history.specs.Counts.{rows_of_reply};
-ghost use Rattle.engine_world.specs.Calls.{IsNew};
+ghost use Rattle.world.specs.EngineCalls.{IsNew};
 ghost use Rattle.list_world.specs.Memory.{in_memory};
 ghost use Rattle.list_world.specs.Parts.{world_of, AreAdded};
 
-use crate::history_room::take_room;
 use crate::list_world::ListWorld;
-use crate::reading::copy_schema;
-use crate::session_room::SessionRoom;
-use crate::versions::Slots;
-use engine_world::EngineWorld;
 use entries::ListIndex;
 use inno_db::{Change, Db};
 use inno_model::{Event, History};
@@ -22,6 +17,8 @@ use session_settings::SessionSettings;
 use std::alloc::Global;
 use store_api::NoMemory;
 use txn_table::TxnTable;
+use world::EngineWorld;
+use world_parts::{SessionRoom, Slots, take_room};
 
 /// How many numbers of indexes a table has.
 const INDEXES_OF_TABLE: usize = 8;
@@ -107,7 +104,7 @@ impl EngineWorld for ListWorld {
     }
 
     fn add_table(&mut self, s: u32, schema: Schema) -> Result<(), NoMemory> {
-        let copy = copy_schema(self.alloc, &schema)?;
+        let copy = schema.copied()?;
         self.indexes.reserve(INDEXES_OF_TABLE)?;
         take_room(&mut self.history, &self.sessions, 2)?;
         self.schemas.push(copy)?;

@@ -1,13 +1,12 @@
 //! The world itself. Its parts are changed by the calls of the engine and by those of the trait alone.
 
-use crate::session_room::SessionRoom;
-use crate::versions::Slots;
 use entries::ListIndex;
 use inno_model::History;
 use inno_types::{Listed, Schema};
 use std::alloc::Global;
 use std::marker::Model;
 use txn_table::TxnTable;
+use world_parts::{SessionRoom, Slots};
 
 /// A world in memory.
 #[derive(Drop)]

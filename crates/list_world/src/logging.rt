@@ -4,19 +4,18 @@ ghost use Rattle.std.specs.Prelude.{◌≡◌, ◌==◌, ◌≤◌, ◌<◌, len
 ghost use Rattle.entries.specs.Index.{IsAsBefore};
 ghost use Rattle.world.specs.Undoing.{IsReady, IsUnchanged};
 ghost use Rattle.chain.specs.Versions.{IsShort};
-ghost use Rattle.list_world.specs.Slots.{filled_if};
+ghost use Rattle.world_parts.specs.Slots.{filled_if};
 ghost use Rattle.world.specs.State.{IsIndex};
 ghost use Rattle.world.specs.Indexes.{Calls, Changes, MayLog, IsLogged, InsertsWith, ReplacesWith};
-ghost use Rattle.list_world.specs.Brought.{KeepsOnly};
+ghost use Rattle.world_parts.specs.Brought.{KeepsOnly};
 ghost use Rattle.list_world.specs.Parts.{world_of};
 
-use crate::brought::{Brought, bring};
 use crate::list_world::ListWorld;
-use crate::versions::Slots;
 use chain::Kept;
-use entries::{Entries, Move};
+use entries::Entries;
 use inno_types::Bytes;
-use store_api::{NoMemory, Undo};
+use store_api::{Move, NoMemory, Undo};
+use world_parts::{Brought, Slots, bring};
 
 /// Fills the slot of a pointer, if a version is kept.
 fn fill_if(slots: &mut Slots, pointer: u64, kept: Option<Kept>)

@@ -2,21 +2,17 @@
 //! is awaited or memory is wanting.
 
 ghost use Rattle.std.specs.Prelude.{◌≡◌, ◌+◌, ◌<◌, ◌^◌, true};
-ghost use Rattle.list_world.specs.Owed.{bit};
+ghost use Rattle.world_parts.specs.Owed.{bit};
 
-use crate::history_room::{take_room, take_room_unless};
-use crate::holder::holder;
 use crate::list_world::ListWorld;
-use crate::open_work::SeenIds;
-use crate::reading::{copy_ids, read_undo};
 use chain::ChainBad;
-use entries::{Entries, Move};
+use entries::Entries;
 use inno_db::Change;
 use inno_model::Event;
 use inno_types::{Bytes, Ids, Level, Row, Schema, Value};
-use mtr::Visit;
-use store_api::{NoMemory, Standing, Undo, Version};
+use store_api::{Move, NoMemory, Standing, Undo, Version, Visit};
 use world::{UndoRoom, World};
+use world_parts::{SeenIds, copy_ids, holder, read_undo, take_room, take_room_unless};
 
 /// From this count of rows on no more are let in.
 const MANY_ROWS: u64 = 1 << 63;

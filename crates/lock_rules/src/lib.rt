@@ -4,8 +4,6 @@
 
 mod conflict;
 mod rule;
-#[cfg(test)]
-mod tests;
 
 pub use conflict::{
     conflicts, covers, is_shared, is_upper, kind_at, kind_covers, kinds_conflict, locks_gap,

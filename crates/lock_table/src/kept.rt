@@ -14,16 +14,14 @@ use lock_rules::{
 };
 use std::alloc::{AllocError, Global};
 use std::marker::Model;
-
-/// The longest key of an index, in bytes.
-pub(crate) const MAX_KEY: usize = 67;
+use store_api::MOST_BYTES_OF_KEY;
 
 /// A granted lock or a request, kept with room for the longest key.
 #[derive(Drop)]
 pub struct KeptLock {
     txn: u64,
     index: u32,
-    key: Option<ArrayVec<u8, MAX_KEY>>,
+    key: Option<ArrayVec<u8, MOST_BYTES_OF_KEY>>,
     kind: LockKind,
     mode: Mode,
     reason: Reason,
@@ -41,7 +39,7 @@ impl Model for KeptLock {
     ghost invariant = { λ l. IsShort (option_map (λ k. k.items) l.key) };
 }
 
-fn kept_key(key: &Option<Bytes>) -> Option<ArrayVec<u8, MAX_KEY>>
+fn kept_key(key: &Option<Bytes>) -> Option<ArrayVec<u8, MOST_BYTES_OF_KEY>>
     requires { IsShort key.now }
     ensures { option_map (λ k. k.items) result ≡ key.now }
 {
@@ -93,7 +91,7 @@ impl KeptLock {
     pub(crate) fn to_lock(&self, alloc: Global) -> Result<Lock, AllocError>
         ensures { IfOk result (λ lock. lock ≡ self.now) }
     {
-        let buffer = Vec::with_capacity(alloc, MAX_KEY)?;
+        let buffer = Vec::with_capacity(alloc, MOST_BYTES_OF_KEY)?;
         Ok(self.lock_in(buffer))
     }
 
@@ -198,7 +196,7 @@ impl KeptLock {
 }
 
 /// The same key, in this buffer.
-fn key_in(key: &Option<ArrayVec<u8, MAX_KEY>>, mut buffer: Vec<u8>) -> Option<Bytes>
+fn key_in(key: &Option<ArrayVec<u8, MOST_BYTES_OF_KEY>>, mut buffer: Vec<u8>) -> Option<Bytes>
     requires empty { buffer.items ≡ [] }
     requires holds { 67 ≤ vec_capacity buffer }
     requires short { IsShort (option_map (λ k. k.items) key.now) }

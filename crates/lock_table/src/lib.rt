@@ -8,8 +8,6 @@ mod laws;
 mod lists;
 mod room;
 mod table;
-#[cfg(test)]
-mod tests;
 
 pub use kept::KeptLock;
 pub use laws::{insertion_keeps_coverage, removal_keeps_coverage};

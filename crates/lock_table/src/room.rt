@@ -6,9 +6,9 @@ ghost use Rattle.std.specs.List.{AllByRecursion};
 ghost use Rattle.lock_table.specs.Empty.{IsEmptyFor, HoldKeys, is_ready};
 ghost use Rattle.lock_table.specs.Room.{HasRoom, HasRooms, KeepsRooms};
 
-use crate::kept::MAX_KEY;
 use inno_types::Edge;
 use std::alloc::{AllocError, Global};
+use store_api::MOST_BYTES_OF_KEY;
 
 /// Memory for one cycle and for the search that finds it. All its lists are empty.
 #[derive(Drop)]
@@ -66,7 +66,7 @@ fn keep_ready(keys: &mut Vec<Vec<u8>>)
 fn is_ready(key: &Vec<u8>) -> bool
     ensures { result ≡ is_ready key.now }
 {
-    key.is_empty() && key.capacity() >= MAX_KEY
+    key.is_empty() && key.capacity() >= MOST_BYTES_OF_KEY
 }
 
 /// Adds keys, until there are so many.
@@ -77,7 +77,7 @@ fn add_keys(keys: &mut Vec<Vec<u8>>, alloc: Global, count: usize) -> Result<(), 
     ensures grows { length keys.old.items ≤ length keys.new.items }
 {
     while keys.len() < count {
-        keys.push(Vec::with_capacity(alloc, MAX_KEY)?)?;
+        keys.push(Vec::with_capacity(alloc, MOST_BYTES_OF_KEY)?)?;
     }
     Ok(())
 }

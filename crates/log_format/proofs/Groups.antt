@@ -6,8 +6,8 @@ use Rattle.std.proofs.lemmas.Bool.{cases_lt}
 use Rattle.std.proofs.lemmas.List.{take_at, take-append-le, append_cancel_left}
 use Rattle.std.proofs.lemmas.Nat.{from_be_bytes-to_be_bytes_4}
 use Rattle.log_format.specs.declared.group.Group.{Group}
-use Rattle.log_format.specs.Numbers.{u32_bytes}
-use Rattle.log_format.proofs.Lengths.{length-u16, length-u32, length-u64}
+use Rattle.schema_codec.specs.Numbers.{u32_bytes}
+use Rattle.schema_codec.proofs.Lengths.{length-u16, length-u32, length-u64}
 use Rattle.log_format.specs.Group.{record_bytes, body, group_bytes, IsGroup, AreGroups}
 use Rattle.log_format.specs.Scan.{stream_of}
 

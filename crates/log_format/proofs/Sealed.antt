@@ -6,8 +6,8 @@ use Rattle.std.proofs.lemmas.Nat.{from_be_bytes-to_be_bytes_2, from_be_bytes-to_
 use Rattle.sum64.specs.Fnv.{fnv_of}
 use Rattle.sum64.proofs.Bound.{fnv_of_below}
 use Rattle.store_api.specs.Areas.{PassesSum}
-use Rattle.log_format.specs.Numbers.{u16_bytes, u64_bytes}
-use Rattle.log_format.proofs.Lengths.{length-u16, length-u64}
+use Rattle.schema_codec.specs.Numbers.{u16_bytes, u64_bytes}
+use Rattle.schema_codec.proofs.Lengths.{length-u16, length-u64}
 use Rattle.log_format.specs.Block.{block_rest, block_bytes, payload_of}
 
 read-u16 : (n : ℕ) → n < 2 ^ 16 → from_be_bytes w16 (u16_bytes n) ≡ n

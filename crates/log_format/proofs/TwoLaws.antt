@@ -8,12 +8,15 @@ use Rattle.std.proofs.lemmas.List.{append-nil, nil_from_length}
 use Rattle.log_format.specs.declared.group.Group.{Group}
 use Rattle.log_format.specs.declared.group.Record.{Record}
 use Rattle.log_format.specs.declared.group.Record.TheVariants.{Put, Fresh, RowPut, RowRemove, NewTable}
-use Rattle.log_format.specs.Numbers.{u16_bytes, u32_bytes, u64_bytes}
-use Rattle.log_format.specs.Group.{counted, IsCounted, value_bytes, IsValue, record_bytes, IsRecord, body, group_bytes, IsGroup}
-use Rattle.log_format.specs.Reading.{◌>>=◌, u8_at, u16_at, u32_at, u64_at, bytes_at, put_at, fresh_at, value_at, schema_at, both_at, list_at, counted_at, row_put_at, row_remove_at, new_table_at, change_at, record_at, body_at, group_at}
-use Rattle.log_format.proofs.Spells.{Spells, IsByte, u8_spells, both_spells, counted_spells, list_takes, list_again}
-use Rattle.log_format.proofs.Values.{value_spells, schema_spells}
-use Rattle.log_format.proofs.Fields.{IsBytes, bind_some, guard_some, guard_last, some_is, Takes, Takes-then, u16_takes, u32_takes, u64_takes, u16_again, u32_again, u64_again, bytes_take, bytes_again}
+use Rattle.schema_codec.specs.Numbers.{u16_bytes, u32_bytes, u64_bytes}
+use Rattle.schema_codec.specs.Schema.{counted, IsCounted}
+use Rattle.schema_codec.specs.Reading.{◌>>=◌, u8_at, u16_at, u32_at, u64_at, bytes_at, both_at, list_at, counted_at, schema_at}
+use Rattle.schema_codec.proofs.Schemas.{schema_spells}
+use Rattle.schema_codec.proofs.Spells.{Spells, IsByte, u8_spells, both_spells, counted_spells, list_takes, list_again}
+use Rattle.log_format.specs.Group.{value_bytes, IsValue, record_bytes, IsRecord, body, group_bytes, IsGroup}
+use Rattle.log_format.specs.Reading.{put_at, fresh_at, value_at, row_put_at, row_remove_at, new_table_at, change_at, record_at, body_at, group_at}
+use Rattle.log_format.proofs.Values.{value_spells}
+use Rattle.schema_codec.proofs.Fields.{IsBytes, bind_some, guard_some, guard_last, some_is, Takes, Takes-then, u16_takes, u32_takes, u64_takes, u16_again, u32_again, u64_again, bytes_take, bytes_again}
 
 neither : (a b : Bool) → (a || b) ≡ false → (a ≡ false) × (b ≡ false)
 neither true b e = absurd cc

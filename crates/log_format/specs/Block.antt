@@ -2,7 +2,7 @@
 use Rattle.std.specs.Prelude.{◌≡◌, ℕ, zero, suc, ◌+◌, ◌-◌, ◌*◌, ◌/◌, ◌≤◌, List, [], ◌∷◌, ◌++◌, length, take, drop, replicate, All}
 use Rattle.std.specs.List.{flat_map}
 use Rattle.std.specs.Int.{w16, w64, from_be_bytes}
-use Rattle.log_format.specs.Numbers.{u16_bytes, u64_bytes}
+use Rattle.schema_codec.specs.Numbers.{u16_bytes, u64_bytes}
 use Rattle.sum64.specs.Fnv.{fnv_of}
 use Rattle.store_api.specs.Areas.{piece, PassesSum}
 

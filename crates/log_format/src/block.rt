@@ -1,14 +1,29 @@
-//! Blocks of 512 bytes, put where there is room for them.
+//! Blocks of 512 bytes, put where there is room for them. The layout stands in specs/Block.antt.
+//! The log asks for the room; nothing here may run out of memory.
 
-ghost use Rattle.std.specs.Prelude.{◌≡◌, ◌+◌, ◌-◌, ◌*◌, ◌^◌, ◌<◌, ◌≤◌, ◌++◌, length, vec_len, vec_capacity};
+ghost use Rattle.std.specs.Prelude.{◌≡◌, ◌+◌, ◌-◌, ◌*◌, ◌^◌, ◌<◌, ◌≤◌, ◌++◌, length, replicate, vec_len, vec_capacity};
 ghost use Rattle.log_format.specs.Block.{block_rest, block_bytes, AreBlocks, blocks_for};
 
-use crate::numbers::{put_u16_within, put_u64_within, put_within, put_zeros_within};
+use schema_codec::{extend_reserved, put_u16_reserved, put_u64_reserved};
+use std::alloc::AllocError;
 use sum64::fnv;
 
 pub const BLOCK: usize = 512;
 
 const PAYLOAD: usize = 484;
+
+/// Zeros where there is room for them; a vector asks for memory only past its capacity.
+fn put_zeros(count: usize, out: &mut Vec<u8>)
+    requires { vec_len out.old + count ≤ vec_capacity out.old }
+    ensures items { out.new.items ≡ out.old.items ++ replicate count 0 }
+    ensures len { vec_len out.new ≡ vec_len out.old + count }
+    ensures grows { vec_capacity out.old ≤ vec_capacity out.new }
+{
+    match out.resize(out.len() + count, 0) {
+        Ok(()) => {}
+        Err(AllocError) => unreachable!(),
+    }
+}
 
 /// What the sum is over.
 #[tactic(auto, unfolding(crate::specs::Block::block_rest))]
@@ -19,15 +34,15 @@ fn put_rest(run: u64, number: u64, payload: &[u8], out: &mut Vec<u8>)
     ensures len { vec_len out.new ≡ vec_len out.old + 504 }
     ensures grows { vec_capacity out.old ≤ vec_capacity out.new }
 {
-    put_u64_within(run, out);
-    put_u64_within(number, out);
-    put_u16_within(payload.len() as u16, out);
-    put_within(&[0, 0], out);
-    put_within(payload, out);
-    put_zeros_within(PAYLOAD - payload.len(), out);
+    put_u64_reserved(run, out);
+    put_u64_reserved(number, out);
+    put_u16_reserved(payload.len() as u16, out);
+    extend_reserved(&[0, 0], out);
+    extend_reserved(payload, out);
+    put_zeros(PAYLOAD - payload.len(), out);
 }
 
-#[tactic(auto, unfolding(crate::specs::Block::block_bytes, crate::specs::Numbers::u64_bytes))]
+#[tactic(auto, unfolding(crate::specs::Block::block_bytes, schema_codec::specs::Numbers::u64_bytes))]
 fn put_block(run: u64, number: u64, payload: &[u8], out: &mut Vec<u8>)
     requires small { length payload.now ≤ 484 }
     requires room { vec_len out.old + 512 ≤ vec_capacity out.old }
@@ -36,7 +51,7 @@ fn put_block(run: u64, number: u64, payload: &[u8], out: &mut Vec<u8>)
     ensures grows { vec_capacity out.old ≤ vec_capacity out.new }
 {
     let start = out.len();
-    put_within(&[0; 8], out);
+    extend_reserved(&[0; 8], out);
     put_rest(run, number, payload, out);
     let sum = fnv(&out[start + 8..]);
     out[start..start + 8].copy_from_slice(&sum.to_be_bytes());

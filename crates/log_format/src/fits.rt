@@ -1,10 +1,13 @@
-//! Whether the numbers of a group fit their fields.
+//! Whether the numbers of a group fit their fields, and what is put lies in its page.
+//! `Group::fits` asks; of schemas `schema_codec` knows.
 
-ghost use Rattle.std.specs.Prelude.{◌≡◌, ◌<◌, ◌↔◌, IsTrue, All};
-ghost use Rattle.log_format.specs.Group.{IsCounted, IsValue, IsColumn, IsKey, IsSchema, IsRecord};
+ghost use Rattle.std.specs.Prelude.{◌↔◌, IsTrue, All};
+ghost use Rattle.schema_codec.specs.Schema.{IsCounted};
+ghost use Rattle.log_format.specs.Group.{IsValue, IsRecord};
 
 use crate::group::Record;
-use inno_types::{Column, Key, Kind, Schema, Value};
+use inno_types::Value;
+use schema_codec::schema_fits;
 
 fn value_fits(value: &Value) -> bool
     ensures { IsTrue result ↔ IsValue value.now }
@@ -19,22 +22,6 @@ fn value_fits(value: &Value) -> bool
     }
 }
 
-fn column_fits(column: &Column) -> bool
-    ensures { IsTrue result ↔ IsColumn column.now }
-{
-    match column.kind {
-        Kind::BigInt => column.name.len() < 256,
-        Kind::VarBinary(_size) => column.name.len() < 256,
-    }
-}
-
-fn key_fits(key: &Key) -> bool
-    ensures { IsTrue result ↔ IsKey key.now }
-{
-    let _column = key.column;
-    key.name.len() < 256
-}
-
 fn values_fit(items: &[Value]) -> bool
     ensures { IsTrue result ↔ IsCounted IsValue items.now }
 {
@@ -44,37 +31,6 @@ fn values_fit(items: &[Value]) -> bool
         }
     }
     items.len() < 256
-}
-
-fn columns_fit(items: &[Column]) -> bool
-    ensures { IsTrue result ↔ IsCounted IsColumn items.now }
-{
-    for item in items {
-        if !column_fits(item) {
-            return false;
-        }
-    }
-    items.len() < 256
-}
-
-fn keys_fit(items: &[Key]) -> bool
-    ensures { IsTrue result ↔ IsCounted IsKey items.now }
-{
-    for item in items {
-        if !key_fits(item) {
-            return false;
-        }
-    }
-    items.len() < 256
-}
-
-fn schema_fits(schema: &Schema) -> bool
-    ensures { IsTrue result ↔ IsSchema schema.now }
-{
-    let _primary = schema.primary;
-    schema.name.len() < 256
-        && columns_fit(schema.columns.as_slice())
-        && keys_fit(schema.keys.as_slice())
 }
 
 fn record_fits(change: &Record) -> bool

@@ -1,4 +1,5 @@
 //! Groups of changes. A group counts whole or not at all.
+//! Whoever writes the log makes them; `write` spells them, and `reading` gives them back.
 
 ghost use Rattle.std.specs.Prelude.{◌≡◌, ◌↔◌, IsTrue};
 

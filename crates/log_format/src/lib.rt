@@ -5,16 +5,13 @@
 mod block;
 mod fits;
 mod group;
-mod numbers;
 mod reading;
 mod scan;
 mod write;
 
 pub use block::put_blocks;
 pub use group::{Group, Groups, Record, Records};
-pub use reading::{Stop, group_of};
+pub use reading::group_of;
 pub use scan::{Found, get_groups, one_scan, scan_log};
+pub use schema_codec::Stop;
 pub use write::{put_group, put_group_as};
-
-#[cfg(test)]
-mod tests;

@@ -1,4 +1,5 @@
 //! What a log area stands for: the whole groups of the good blocks at its front.
+//! A mount asks here. Blocks are only read, never mended.
 
 ghost use Rattle.std.specs.Prelude.{◌≡◌, ◌+◌, ◌*◌, ◌≤◌, ◌++◌, ◌↔◌, ℕ, List, length, take, drop, IsTrue, IfOk, IfSome, IfNone};
 ghost use Rattle.std.specs.Int.{w16, w64, from_be_bytes};
@@ -10,8 +11,9 @@ ghost use Rattle.log_format.specs.Scan.{HasPayloads, NoGroup, HoldsGroups, Holds
 
 use crate::block::BLOCK;
 use crate::group::{Group, Groups};
-use crate::reading::{Stop, group_of};
+use crate::reading::group_of;
 use inno_types::Listed;
+use schema_codec::Stop;
 use std::alloc::{AllocError, Global};
 use store_api::NoMemory;
 use sum64::fnv;

@@ -2,8 +2,8 @@
 use Rattle.std.proofs.Common.{◌≡◌, ℕ, inl, inr, List, [], ◌∷◌, ◌++◌, ◌≤◌, length, true, refl, sym, ap, ◌∙◌, subst, arith}
 use Rattle.std.specs.Prelude.{Result, Ok, Err}
 use Rattle.store_api.specs.Causes.{Rose}
-use Rattle.mtr.specs.declared.answers.Visit.{Visit}
-use Rattle.mtr.specs.declared.answers.Visit.TheVariants.{Failed, Again, Bad}
+use Rattle.store_api.specs.declared.visits.Visit.{Visit}
+use Rattle.store_api.specs.declared.visits.Visit.TheVariants.{Failed, Again, Bad}
 use Rattle.mtr.specs.Seen.{MtrState, is_in, visit, visit_all, claim, AreAmong, AreDistinct, Visits, IsShut}
 use Rattle.mtr.specs.Calls.{Goes, SamePages, Looks, Explains, Asks, Consults, IsReason}
 use Rattle.mtr.proofs.Claims.{claim_all, claim_place}

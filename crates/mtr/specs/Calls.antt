@@ -1,8 +1,8 @@
 -- What the calls of a mini-transaction make of what it sees.
 use Rattle.std.specs.Prelude.{◌≡◌, ◌≢◌, ◌⊎◌, ℕ, ◌+◌, ◌≤◌, List, [], length, replicate, IsTrue, Option, Some, None, Result, MatchResult, if◌then◌else◌}
 use Rattle.store_api.specs.Causes.{Rose}
-use Rattle.mtr.specs.declared.answers.Visit.{Visit}
-use Rattle.mtr.specs.declared.answers.Visit.TheVariants.{Failed, Again, Bad}
+use Rattle.store_api.specs.declared.visits.Visit.{Visit}
+use Rattle.store_api.specs.declared.visits.Visit.TheVariants.{Failed, Again, Bad}
 use Rattle.mtr.specs.Seen.{MtrState, is_in, visit, Visits, IsShut, with_bytes}
 
 -- What each call keeps: pages that are told were told before, the disk's faults don't fall, and a beginning has the same spare.

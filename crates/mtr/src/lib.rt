@@ -1,17 +1,12 @@
-//! The pages by number, as one mini-transaction sees them: a trait, its answers, and pages in memory that meet it.
+//! The pages by number, as one mini-transaction sees them: a trait, and pages in memory that meet it.
 //! Trees, undo logs, the space map and the catalog read and change pages through this trait alone.
 #![tactic(auto)]
 
-mod answers;
 mod listed;
 mod pages;
 mod reading;
 mod store;
 
-pub use answers::{FindBad, FreshBad, SpaceBad, Visit};
 pub use listed::ListedPages;
 pub use pages::Mtr;
 pub use reading::{capacity, read_u32, u32_on};
-
-#[cfg(test)]
-mod tests;

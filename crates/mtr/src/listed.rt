@@ -4,11 +4,10 @@
 ghost use Rattle.std.specs.Prelude.{◌≡◌, ℕ, ◌+◌, ◌<◌, ◌≤◌, length, IsTrue, IsOk, IfOk, OnOk, OnErr, Err};
 ghost use Rattle.mtr.specs.Resting.{IsResting};
 
-use crate::answers::{FreshBad, Visit};
 use crate::pages::Mtr;
 use crate::store::Store;
 use std::alloc::Global;
-use store_api::NoMemory;
+use store_api::{FreshBad, NoMemory, Visit};
 
 /// Pages in memory. They are told as long as page 0 counts no more than there are.
 #[derive(Drop)]

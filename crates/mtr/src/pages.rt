@@ -4,13 +4,12 @@
 ghost use Rattle.std.specs.Prelude.{◌≡◌, ℕ, ◌+◌, ◌<◌, ◌≤◌, length, IsTrue, IsOk, IfOk, OnOk, OnErr, Err, Ok};
 ghost use Rattle.std.specs.Io.BufRead.{Rests};
 ghost use Rattle.std.specs.Borrow.{sem};
-ghost use Rattle.mtr.specs.declared.answers.FreshBad.TheVariants.{Again as FreshAgain, NoMemory as NoFreshMemory};
-ghost use Rattle.mtr.specs.declared.answers.Visit.TheVariants.{Again as VisitAgain};
+ghost use Rattle.store_api.specs.declared.visits.FreshBad.TheVariants.{Again as FreshAgain, NoMemory as NoFreshMemory};
+ghost use Rattle.store_api.specs.declared.visits.Visit.TheVariants.{Again as VisitAgain};
 ghost use Rattle.mtr.specs.Seen.{MtrState, is_in, visit, IsShut, IsWithin, IsShown};
 ghost use Rattle.mtr.specs.Calls.{Asks, Makes, Puts, Commits, GivesUp};
 
-use crate::answers::{FreshBad, Visit};
-use store_api::NoMemory;
+use store_api::{FreshBad, NoMemory, Visit};
 
 /// The pages by number, as one mini-transaction sees them. It deals with at most 24 pages.
 pub trait Mtr {

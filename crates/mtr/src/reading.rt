@@ -6,8 +6,8 @@ ghost use Rattle.page_format.specs.Words.{u32_at};
 ghost use Rattle.mtr.specs.Seen.{visit, capacity_of};
 ghost use Rattle.mtr.specs.Calls.{Asks};
 
-use crate::answers::Visit;
 use crate::pages::Mtr;
+use store_api::Visit;
 
 /// The number of 4 bytes at a place of bytes.
 #[tactic(auto, unfolding(page_format::specs::Words::u32_at))]

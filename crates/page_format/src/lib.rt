@@ -14,6 +14,3 @@ mod split;
 pub use page::Page;
 pub use read::PageBad;
 pub use records::Found;
-
-#[cfg(test)]
-mod tests;

@@ -16,7 +16,8 @@ use inno_db::{Change, Changes, Db, Outcome, Written};
 use inno_types::{
     Bytes, Definitions, Filter, Listed, Names, Reply, Rows, Schema, Selected, Sets, Stmt, Tuples,
 };
-use sql_refusals::{declare, refuse};
+use sql_declarations::declare;
+use sql_refusals::refuse;
 use sql_values::place_of_table;
 use std::alloc::{AllocError, Global};
 use store_api::NoMemory;
@@ -94,7 +95,14 @@ fn table_of(stmt: &Stmt) -> Option<&Bytes>
         | Stmt::Insert { table, .. }
         | Stmt::Update { table, .. }
         | Stmt::Delete { table, .. } => Some(table),
-        _ => None,
+        Stmt::CreateTable { .. }
+        | Stmt::Begin { .. }
+        | Stmt::Commit
+        | Stmt::Rollback
+        | Stmt::RollbackTo { .. }
+        | Stmt::Savepoint { .. }
+        | Stmt::SetAutocommit(_)
+        | Stmt::SetLevel { .. } => None,
     }
 }
 
@@ -221,21 +229,29 @@ fn run_on(alloc: Global, found: Option<Found<'_>>, stmt: &Stmt) -> Result<Outcom
         } => insert_rows(alloc, found, columns, tuples),
         Stmt::Update { sets, filter, .. } => update_rows(alloc, found, sets, filter),
         Stmt::Delete { filter, .. } => delete_rows(alloc, found, filter),
-        _ => Ok(answer(alloc, Reply::Done)),
+        Stmt::CreateTable { .. }
+        | Stmt::Begin { .. }
+        | Stmt::Commit
+        | Stmt::Rollback
+        | Stmt::RollbackTo { .. }
+        | Stmt::Savepoint { .. }
+        | Stmt::SetAutocommit(_)
+        | Stmt::SetLevel { .. } => Ok(answer(alloc, Reply::Done)),
     }
 }
 
 fn run(alloc: Global, db: &Db, stmt: &Stmt) -> Result<Outcome, AllocError>
     ensures { IfOk result (λ answer. answer ≡ answer_to stmt.now db.now) }
 {
-    match stmt {
-        Stmt::CreateTable {
-            table,
-            definitions,
-            ..
-        } => create(alloc, db, table, definitions),
-        _ => run_on(alloc, find(db, stmt), stmt),
+    if let Stmt::CreateTable {
+        table,
+        definitions,
+        ..
+    } = stmt
+    {
+        return create(alloc, db, table, definitions);
     }
+    run_on(alloc, find(db, stmt), stmt)
 }
 
 /// What a statement on rows answers, and what it changes, where the tables of its database are these and its own table

@@ -9,8 +9,7 @@ use Rattle.inno_types.specs.declared.reply.Reply.{Reply}
 use Rattle.inno_types.specs.declared.reply.Reply.TheVariants as replies
 use Rattle.inno_types.specs.declared.stmt.Stmt.{Stmt}
 use Rattle.inno_model.specs.declared.event.Event.{Event}
-use Rattle.inno_model.specs.Past.{before_item, of_item, did, closes, level, own}
-use Rattle.inno_model.specs.Legal.{awaits_ack}
+use Rattle.inno_model.specs.Past.{before_item, of_item, did, closes, level, own, awaits_ack, IsOpen, IsClosed}
 use Rattle.sql_grammar.specs.Grammar.{Spells}
 use Rattle.sql_history.specs.Items.{point, own_before}
 use Rattle.sql_history.specs.Settings.{Setting}
@@ -18,7 +17,7 @@ use Rattle.sql_history.specs.Statements.{refused_at_once}
 use Rattle.sql_history.specs.Readings.{is_plain_select}
 use Rattle.sql_history.specs.Counts.{rows_of_reply, rows_kept, most_rows}
 use Rattle.sql_history.specs.Waiting.{is_victim}
-use Rattle.sql_history.specs.Endings.{IsOpen, IsClosed, StaysIn, Goes, BacksOut}
+use Rattle.sql_history.specs.Endings.{StaysIn, Goes, BacksOut}
 use Rattle.sql_history.specs.Legal.{Takes, is_alone, AnswersRows, EndsRows, EndsStatement, IsOverfull, IsGivenUp, WasCommitted, WantsMemory, IsWithin, EndsItem}
 use Rattle.sql_lists.proofs.Staying.{point_now}
 use Rattle.sql_lists.specs.Kept.{MayReply}

@@ -12,18 +12,16 @@ use Rattle.inno_types.specs.declared.reply.Reply.TheVariants as replies
 use Rattle.inno_types.specs.declared.stmt.Stmt.{Stmt}
 use Rattle.inno_model.specs.declared.event.Event.{Event}
 use Rattle.inno_model.specs.declared.event.Event.TheVariants as events
-use Rattle.inno_model.specs.Past.{started, before_item, of_item, did, closes, begins_txn, takes_view, commits_txn, rolls_back_txn, begins, level, own, view_of, commits}
-use Rattle.inno_model.specs.Legal.{awaits_ack}
+use Rattle.inno_model.specs.Past.{started, before_item, of_item, did, closes, begins_txn, takes_view, commits_txn, rolls_back_txn, begins, level, own, view_of, commits, awaits_ack, IsOpen, IsClosed}
 use Rattle.sql_grammar.specs.Grammar.{Spells}
 use Rattle.sql_history.specs.Items.{is_over, point, own_before, before_turn, undoes}
 use Rattle.sql_history.specs.Statements.{Sight, plain_sight, is_select}
 use Rattle.sql_history.specs.Waiting.{is_victim}
-use Rattle.sql_history.specs.Endings.{IsOpen, IsClosed}
 use Rattle.sql_history.specs.Legal.{MayBegin, MayView, MayCommit, MayRollBack, is_alone}
 use Rattle.sql_lists.proofs.Staying.{point_now, point_before, is_within, before_within, starts_not}
 use Rattle.shared_lists.specs.Tasks.{Idle}
 use Rattle.shared_lists.specs.State.{State, Adds, Closes, Turns, Stays, task_of}
-use Rattle.past_agreement.specs.Order.{IsOfRow}
+use Rattle.law_past_agreement.specs.Order.{IsOfRow}
 use Rattle.sql_lists.specs.Steps.{Moves}
 use Rattle.sql_lists.proofs.Moving.{moves_none, moves_turns, moves_adds, moves_closes}
 use Rattle.read_statement.specs.declared.machine.Asked.{Asked}

@@ -8,15 +8,14 @@ use Rattle.inno_types.specs.declared.reply.Reply.TheVariants as replies
 use Rattle.inno_types.specs.declared.stmt.Stmt.{Stmt}
 use Rattle.inno_model.specs.declared.event.Event.{Event}
 use Rattle.inno_model.specs.declared.event.Event.TheVariants as events
-use Rattle.inno_model.specs.Past.{started, of_item}
-use Rattle.inno_model.specs.Legal.{awaits_ack}
+use Rattle.inno_model.specs.Past.{started, of_item, awaits_ack}
 use Rattle.sql_grammar.specs.Grammar.{Spells}
 use Rattle.sql_history.specs.Items.{point}
 use Rattle.sql_history.specs.Counts.{rows_of_reply, rows_kept, most_rows}
 use Rattle.sql_history.specs.Legal.{MayCommit, MayRollBack, IsWithin}
 use Rattle.shared_lists.specs.Tasks.{Idle}
 use Rattle.shared_lists.specs.State.{State, Adds, task_of}
-use Rattle.past_agreement.specs.Order.{IsOfRow}
+use Rattle.law_past_agreement.specs.Order.{IsOfRow}
 use Rattle.sql_lists.specs.Kept.{MayReply, OwesAck}
 use Rattle.sql_lists.specs.Steps.{Moves, HasRowsAlone}
 use Rattle.sql_lists.proofs.Moving.{moves_adds}

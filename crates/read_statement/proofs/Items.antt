@@ -7,13 +7,11 @@ use Rattle.std.specs.List.{list_any}
 use Rattle.inno_types.specs.declared.stmt.Stmt.{Stmt}
 use Rattle.inno_model.specs.declared.event.Event.{Event}
 use Rattle.inno_model.specs.declared.event.Event.TheVariants as events
-use Rattle.inno_model.specs.Past.{before_item, of_item, did, closes, level, own, commits_txn, rolls_back_txn}
-use Rattle.inno_model.specs.Legal.{awaits_ack}
-use Rattle.inno_model.specs.Loose.{Sometime}
+use Rattle.inno_model.specs.Past.{before_item, of_item, did, closes, level, own, commits_txn, rolls_back_txn, awaits_ack, IsOpen, IsClosed}
+use Rattle.inno_model.specs.Moments.{Sometime}
 use Rattle.sql_grammar.specs.Grammar.{Spells}
 use Rattle.sql_history.specs.Items.{is_over, before_turn, undoes}
 use Rattle.sql_history.specs.Waiting.{is_victim}
-use Rattle.sql_history.specs.Endings.{IsOpen, IsClosed}
 use Rattle.sql_history.specs.Settings.{HasSet}
 use Rattle.sql_history.specs.Legal.{Takes}
 use Rattle.sql_lists.proofs.Staying.{is_within, item_within, before_within, starts_not}

@@ -10,10 +10,10 @@ use Rattle.inno_types.specs.declared.value.Value.{Value}
 use Rattle.inno_db.specs.Database.{Place, RowMap, place_cmp, rows_of}
 use Rattle.inno_db.specs.Order.{place_cmp_total}
 use Rattle.inno_model.specs.declared.event.Event.{Event}
-use Rattle.inno_model.specs.Loose.{Sometime, Throughout}
+use Rattle.inno_model.specs.Moments.{Sometime, Throughout}
 use Rattle.sql_history.specs.LooseReading.{newest, IsQuiet, IsLooseReading}
-use Rattle.tables_as_db.specs.Tables.{at_places, rows_in}
-use Rattle.tables_as_db.proofs.Walk.{rows_are, same_places}
+use Rattle.law_past_agreement.specs.DatabaseTables.{at_places, rows_in}
+use Rattle.law_past_agreement.proofs.Walk.{rows_are, same_places}
 
 -- ---- moments
 

@@ -12,10 +12,10 @@ use Rattle.inno_db.specs.declared.change.Change.TheVariants.{Create, Put, Remove
 use Rattle.inno_db.specs.Database.{Database, RowMap, key_in, rows_of}
 use Rattle.inno_model.specs.declared.event.Event.{Event}
 use Rattle.inno_model.specs.Past.{is_of, own, commits, opening, changed}
-use Rattle.past_agreement.specs.Order.{created, IsTabled}
-use Rattle.past_agreement.specs.Rows.{seen}
-use Rattle.past_agreement.proofs.Tables.{key_stays}
-use Rattle.tables_as_db.specs.Tables.{with_all_tables}
+use Rattle.law_past_agreement.specs.Order.{created, IsTabled}
+use Rattle.law_past_agreement.specs.Rows.{seen}
+use Rattle.law_past_agreement.proofs.Tables.{key_stays}
+use Rattle.law_past_agreement.specs.DatabaseTables.{with_all_tables}
 use Rattle.sql_plan.specs.declared.choice.Plan.{Plan}
 use Rattle.shared_lists.specs.Steps.{AreRowsSeen, rows_in_range}
 use Rattle.sql_lists.specs.Kept.{made, AreInOrder}

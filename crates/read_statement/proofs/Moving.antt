@@ -2,12 +2,12 @@
 use Rattle.std.proofs.Common.{ℕ, ◌<◌, List, [], ◌∷◌, ap, subst, sym, ◌∙◌, inl, inr, arith}
 use Rattle.inno_model.specs.declared.event.Event.{Event}
 use Rattle.inno_model.specs.declared.event.Event.TheVariants.{Ended}
-use Rattle.inno_model.specs.Past.{started, txn}
-use Rattle.sql_history.specs.Endings.{IsOpen}
+use Rattle.inno_model.specs.Past.{started, txn, IsOpen}
+use Rattle.inno_types.specs.Order.{IsBelow}
 use Rattle.shared_lists.specs.State.{State, Stays}
 use Rattle.sql_lists.specs.declared.advance.Advance.{Advance}
 use Rattle.sql_lists.specs.declared.advance.Advance.TheVariants as advance
-use Rattle.sql_lists.specs.Going.{IsBelow, Nears, left}
+use Rattle.sql_lists.specs.Going.{Nears, left}
 use Rattle.sql_lists.specs.Steps.{Steps, WaitsFor, HasRowsAlone, open_txn, plain_edge}
 use Rattle.sql_lists.proofs.Moving.{moves_then, moves_stays}
 use Rattle.read_statement.specs.declared.machine.Found.{Found}

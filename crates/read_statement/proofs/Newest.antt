@@ -10,8 +10,8 @@ use Rattle.inno_model.specs.declared.event.Event.{Event}
 use Rattle.inno_model.specs.declared.event.Event.TheVariants as events
 use Rattle.inno_model.specs.Past.{own, level, commits, committed, opening, changed}
 use Rattle.sql_history.specs.LooseReading.{beginners, uncommitted, newest}
-use Rattle.past_agreement.specs.Order.{IsOrdered}
-use Rattle.past_agreement.specs.Rows.{seen}
+use Rattle.law_past_agreement.specs.Order.{IsOrdered}
+use Rattle.law_past_agreement.specs.Rows.{seen}
 
 -- ---- who has begun
 

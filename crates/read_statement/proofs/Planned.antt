@@ -27,8 +27,8 @@ use Rattle.sql_plan.specs.Covers.{CoversMatches}
 use Rattle.sql_history.specs.Readings.{is_plain_select}
 use Rattle.plain_sql.specs.Finding.{IsReadFrom}
 use Rattle.shared_lists.specs.Steps.{rows_in_range}
-use Rattle.found_rows.proofs.Passing.{passing_map, rows_of-passing}
-use Rattle.found_rows.proofs.Covered.{reads_enough, open_range}
+use Rattle.law_found_rows.proofs.Passing.{passing_map, rows_of-passing}
+use Rattle.law_found_rows.proofs.Covered.{reads_enough, open_range}
 use Rattle.read_statement.specs.Planning.{IsChosen}
 use Rattle.read_statement.proofs.Selects.{of_plain}
 

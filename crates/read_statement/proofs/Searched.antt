@@ -12,18 +12,18 @@ use Rattle.inno_model.specs.declared.event.Event.{Event}
 use Rattle.inno_model.specs.Past.{own, committed, opening, changed}
 use Rattle.sql_history.specs.Statements.{schemas_now}
 use Rattle.sql_history.specs.Answers.{MaySee, seen_by}
-use Rattle.past_agreement.specs.Order.{created, IsTabled}
-use Rattle.past_agreement.specs.Rows.{seen}
-use Rattle.past_agreement.specs.Agreement.{IsSound}
-use Rattle.past_agreement.proofs.Tables.{own_tabled, committed_tabled}
-use Rattle.tables_as_db.specs.Tables.{with_all_tables}
+use Rattle.law_past_agreement.specs.Order.{created, IsTabled}
+use Rattle.law_past_agreement.specs.Rows.{seen}
+use Rattle.law_past_agreement.specs.Agreement.{IsSound}
+use Rattle.law_past_agreement.proofs.Tables.{own_tabled, committed_tabled}
+use Rattle.law_past_agreement.specs.DatabaseTables.{with_all_tables}
 use Rattle.plain_sql.specs.Finding.{IsReadFrom}
 use Rattle.sql_plan.specs.Visits.{IsRowOf}
 use Rattle.shared_lists.specs.Fitting.{FitsThen}
 use Rattle.shared_lists.specs.Steps.{rows_in_range}
 use Rattle.sql_lists.specs.Kept.{IsOnlyMaker, AreStanding, made}
-use Rattle.fitting_history.proofs.Databases.{seen_coded}
-use Rattle.found_rows.proofs.Fits.{fitting_rows_fit}
+use Rattle.law_found_rows.proofs.FittingDatabases.{seen_coded}
+use Rattle.law_found_rows.proofs.Fits.{fitting_rows_fit}
 use Rattle.read_statement.specs.declared.machine.Found.{Found}
 use Rattle.read_statement.specs.Running.{HasFound, IsSeen}
 use Rattle.read_statement.proofs.MoreTables.{schemas_after, got_before}

@@ -19,7 +19,7 @@ use Rattle.inno_db.specs.Refusals.{refusal}
 use Rattle.std.specs.Prelude.{slice_get}
 use Rattle.inno_model.specs.declared.event.Event.{Event}
 use Rattle.inno_model.specs.Past.{own}
-use Rattle.inno_model.specs.Loose.{Sometime}
+use Rattle.inno_model.specs.Moments.{Sometime}
 use Rattle.sql_grammar.specs.Grammar.{Spells}
 use Rattle.sql_history.specs.Items.{point, own_before}
 use Rattle.sql_history.specs.Settings.{Setting}

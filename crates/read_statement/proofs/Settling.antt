@@ -4,12 +4,11 @@ use Rattle.inno_types.specs.declared.reply.Reply.{Reply}
 use Rattle.inno_types.specs.declared.reply.Reply.TheVariants as replies
 use Rattle.inno_types.specs.declared.stmt.Stmt.{Stmt}
 use Rattle.inno_model.specs.declared.event.Event.{Event}
-use Rattle.inno_model.specs.Past.{started}
+use Rattle.inno_model.specs.Past.{started, IsOpen}
 use Rattle.sql_history.specs.Statements.{refused_at_once}
 use Rattle.sql_history.specs.Counts.{rows_of_reply, rows_kept, most_rows}
-use Rattle.sql_history.specs.Endings.{IsOpen}
-use Rattle.past_agreement.specs.Order.{created}
-use Rattle.past_agreement.specs.Agreement.{IsSound}
+use Rattle.law_past_agreement.specs.Order.{created}
+use Rattle.law_past_agreement.specs.Agreement.{IsSound}
 use Rattle.sql_plan.specs.declared.choice.Plan.{Plan}
 use Rattle.shared_lists.specs.declared.answers.Reading.TheVariants.{View}
 use Rattle.shared_lists.specs.Tasks.{Idle, Searching}

@@ -5,9 +5,8 @@ use Rattle.inno_types.specs.declared.reply.Reply.{Reply}
 use Rattle.inno_types.specs.declared.reply.Reply.TheVariants as replies
 use Rattle.inno_types.specs.declared.stmt.Stmt.{Stmt}
 use Rattle.inno_model.specs.declared.event.Event.{Event}
-use Rattle.inno_model.specs.Past.{is_of, of_item, did, begins_txn, takes_view, commits_txn, rolls_back_txn, level, own}
-use Rattle.inno_model.specs.Legal.{awaits_ack}
-use Rattle.inno_model.specs.Loose.{starts}
+use Rattle.inno_model.specs.Past.{is_of, of_item, did, begins_txn, takes_view, commits_txn, rolls_back_txn, level, own, awaits_ack}
+use Rattle.inno_model.specs.Moments.{starts}
 use Rattle.inno_model.proofs.Untouched.{IsUntouched, untouched}
 use Rattle.inno_model.proofs.Commits.{view_within}
 use Rattle.sql_history.specs.Items.{is_over, point, own_before, undoes}
@@ -18,7 +17,7 @@ use Rattle.sql_lists.specs.Steps.{HasRowsAlone, StaysRunning}
 use Rattle.sql_lists.proofs.Staying.{other_of, not_starting, at_work, is_within, before_within, starts_not, within_of_other, point_stays}
 use Rattle.shared_lists.specs.Tasks.{Task}
 use Rattle.shared_lists.specs.State.{task_of}
-use Rattle.past_agreement.specs.Order.{IsOfRow, created}
+use Rattle.law_past_agreement.specs.Order.{IsOfRow, created}
 use Rattle.std.specs.List.{AllByRecursion}
 use Rattle.read_statement.specs.declared.machine.Read.{Read}
 use Rattle.read_statement.specs.declared.machine.Found.{Found}

@@ -16,8 +16,8 @@ use Rattle.inno_model.specs.declared.event.Event.TheVariants as events
 use Rattle.inno_model.specs.Past.{is_of, own, commits, committed}
 use Rattle.inno_model.proofs.Commits.{committed_stays}
 use Rattle.sql_history.specs.Readings.{is_plain_select}
-use Rattle.past_agreement.specs.Order.{created, IsTabled}
-use Rattle.past_agreement.specs.Rows.{seen}
+use Rattle.law_past_agreement.specs.Order.{created, IsTabled}
+use Rattle.law_past_agreement.specs.Rows.{seen}
 use Rattle.read_statement.proofs.Selects.{of_plain}
 
 -- an entry of a session adds a table at most

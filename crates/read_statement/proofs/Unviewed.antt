@@ -16,10 +16,10 @@ use Rattle.inno_model.specs.Past.{own, level, commits, opening, changed}
 use Rattle.plain_sql.specs.Finding.{IsReadFrom}
 use Rattle.sql_history.specs.LooseReading.{newest, IsQuiet, IsLooseReading}
 use Rattle.sql_history.specs.Readings.{is_plain_select}
-use Rattle.past_agreement.specs.Order.{created, is_creation}
-use Rattle.past_agreement.specs.Rows.{seen}
-use Rattle.past_agreement.specs.Agreement.{IsSound}
-use Rattle.tables_as_db.specs.Tables.{with_all_tables}
+use Rattle.law_past_agreement.specs.Order.{created, is_creation}
+use Rattle.law_past_agreement.specs.Rows.{seen}
+use Rattle.law_past_agreement.specs.Agreement.{IsSound}
+use Rattle.law_past_agreement.specs.DatabaseTables.{with_all_tables}
 use Rattle.sql_plan.specs.declared.choice.Plan.{Plan}
 use Rattle.sql_plan.specs.Plans.{whole_index}
 use Rattle.sql_plan.specs.Visits.{IsRowOf}

@@ -1,7 +1,8 @@
 -- What a SELECT has before it at most.
 use Rattle.std.specs.Prelude.{ℕ, List, Bool, true, false}
 use Rattle.shared_lists.specs.State.{State}
-use Rattle.sql_lists.specs.Going.{left, IsBelow}
+use Rattle.sql_lists.specs.Going.{left}
+use Rattle.inno_types.specs.Order.{IsBelow}
 use Rattle.sql_lists.specs.declared.advance.Advance.{Advance}
 use Rattle.sql_lists.specs.declared.advance.Advance.TheVariants as advance
 use Rattle.read_statement.specs.declared.machine.ReadStatement.{ReadStatement}

@@ -11,9 +11,8 @@ use Rattle.inno_db.specs.Database.{Database}
 use Rattle.inno_db.specs.Outcome.{outcome}
 use Rattle.inno_model.specs.declared.event.Event.{Event}
 use Rattle.inno_model.specs.declared.event.Event.TheVariants as events
-use Rattle.inno_model.specs.Past.{before_item, of_item, did, begins_txn, takes_view, commits_txn, rolls_back_txn, level, own, view_of}
-use Rattle.inno_model.specs.Loose.{Sometime}
-use Rattle.inno_model.specs.Legal.{awaits_ack}
+use Rattle.inno_model.specs.Past.{before_item, of_item, did, begins_txn, takes_view, commits_txn, rolls_back_txn, level, own, view_of, awaits_ack, IsOpen, IsClosed}
+use Rattle.inno_model.specs.Moments.{Sometime}
 use Rattle.sql_grammar.specs.Grammar.{Spells}
 use Rattle.sql_history.specs.Items.{is_over, point, own_before, undoes}
 use Rattle.sql_history.specs.Settings.{next_level}
@@ -21,11 +20,10 @@ use Rattle.sql_history.specs.Statements.{Sight, plain_sight}
 use Rattle.sql_history.specs.Readings.{is_plain_select}
 use Rattle.sql_history.specs.Answers.{MaySee}
 use Rattle.sql_history.specs.Counts.{rows_of_reply, rows_kept, most_rows}
-use Rattle.sql_history.specs.Endings.{IsOpen, IsClosed}
 use Rattle.sql_history.specs.Waiting.{is_victim}
 use Rattle.sql_history.specs.Legal.{Takes, TakesView}
-use Rattle.past_agreement.specs.Order.{created, IsTabled}
-use Rattle.past_agreement.specs.Rows.{seen}
+use Rattle.law_past_agreement.specs.Order.{created, IsTabled}
+use Rattle.law_past_agreement.specs.Rows.{seen}
 use Rattle.sql_plan.specs.declared.choice.Plan.{Plan}
 use Rattle.shared_lists.specs.declared.answers.Reading.TheVariants.{View}
 use Rattle.shared_lists.specs.Tasks.{Task, Idle, Searching}

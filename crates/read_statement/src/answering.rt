@@ -1,7 +1,7 @@
 //! How a SELECT answers by the rows that it has found, in one step: where no other session makes a table.
 
 ghost use Rattle.std.specs.Prelude.{◌≡◌, ◌≢◌, ◌<◌, ◌+◌, length, IfOk, IfSome, IfNone, Some, true};
-ghost use Rattle.sql_history.specs.Endings.{IsOpen};
+ghost use Rattle.inno_model.specs.Past.{IsOpen};
 ghost use Rattle.sql_history.specs.Counts.{rows_kept, rows_of_reply, most_rows};
 ghost use Rattle.sql_history.specs.Legal.{IsWithin};
 ghost use Rattle.sql_lists.specs.Going.{Nears};
@@ -36,7 +36,9 @@ pub fn step_found<L: SharedLists>(
         return wait_for(by, found, session, lists);
     }
     let alone = found.alone;
-    match settle_found(alloc, &found, session, lists) {
+    let settled = settle_found(alloc, &found, session, lists);
+    drop(found);
+    match settled {
         Ok(settled) => close(alone, settled, session, lists),
         Err(_) => (ReadStatement::Failed { alone }, Advance::NoMemory),
     }
@@ -61,7 +63,10 @@ fn wait_for<L: SharedLists>(
             ReadStatement::Found(found),
             Advance::Waiting { by, blockers },
         ),
-        Err(_) => (ReadStatement::Failed { alone }, Advance::NoMemory),
+        Err(_) => {
+            drop(found);
+            (ReadStatement::Failed { alone }, Advance::NoMemory)
+        }
     }
 }
 
@@ -120,7 +125,12 @@ pub fn only_answer(reply: Reply) -> Result<Reply, NoMemory>
     match reply {
         Reply::Rows(rows) => Ok(Reply::Rows(rows)),
         Reply::Fail(error) => Ok(Reply::Fail(error)),
-        _ => Err(NoMemory),
+        Reply::Done
+        | Reply::Count(_)
+        | Reply::RunLimit { .. }
+        | Reply::NotSignalled { .. }
+        | Reply::Stopped
+        | Reply::NoMemory => Err(NoMemory),
     }
 }
 
@@ -169,6 +179,12 @@ pub fn overfull_by<L: SharedLists>(reply: &Reply, lists: &SqlLists<L>) -> Option
 {
     match reply {
         Reply::Rows(rows) => lists.overfull(rows.as_slice().len() as u64),
-        _ => None,
+        Reply::Fail(_)
+        | Reply::Done
+        | Reply::Count(_)
+        | Reply::RunLimit { .. }
+        | Reply::NotSignalled { .. }
+        | Reply::Stopped
+        | Reply::NoMemory => None,
     }
 }

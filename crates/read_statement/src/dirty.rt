@@ -2,8 +2,7 @@
 
 ghost use Rattle.std.specs.Prelude.{◌≡◌, ◌≢◌, ◌<◌, ℕ, [], IfOk, Some, length, true};
 ghost use Rattle.inno_types.specs.declared.lock.Level.TheVariants.{ReadUncommitted};
-ghost use Rattle.inno_model.specs.Past.{level, own};
-ghost use Rattle.sql_history.specs.Endings.{IsOpen};
+ghost use Rattle.inno_model.specs.Past.{level, own, IsOpen};
 ghost use Rattle.sql_history.specs.Legal.{IsWithin};
 ghost use Rattle.sql_history.specs.Readings.{is_plain_select};
 ghost use Rattle.shared_lists.specs.Tasks.{Idle};
@@ -42,7 +41,10 @@ pub fn step_dirty<L: SharedLists>(
 {
     match read_newest(alloc, &stmt, session, lists) {
         Ok(rows) => answer_newest(alloc, stmt, alone, &rows, session, lists),
-        Err(_) => (ReadStatement::Failed { alone }, Advance::NoMemory),
+        Err(_) => {
+            drop(stmt);
+            (ReadStatement::Failed { alone }, Advance::NoMemory)
+        }
     }
 }
 
@@ -79,7 +81,9 @@ fn answer_newest<L: SharedLists>(
     ensures steps { Steps IsRunning session lists.old lists.new result.0 result.1 }
     ensures nears { NearsTo 4 session lists.new result.0 result.1 }
 {
-    match settle_newest(alloc, &stmt, alone, rows, session, lists) {
+    let settled = settle_newest(alloc, &stmt, alone, rows, session, lists);
+    drop(stmt);
+    match settled {
         Ok(settled) => close(alone, settled, session, lists),
         Err(_) => (ReadStatement::Failed { alone }, Advance::NoMemory),
     }

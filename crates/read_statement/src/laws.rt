@@ -6,11 +6,11 @@ ghost use Rattle.std.specs.FinMap.{get, find, is_sorted};
 ghost use Rattle.inno_types.specs.declared.value.Value.{Value};
 ghost use Rattle.inno_db.specs.Database.{Database, place_cmp, rows_of};
 ghost use Rattle.inno_model.specs.declared.event.Event.{Event};
-ghost use Rattle.inno_model.specs.Loose.{Sometime};
+ghost use Rattle.inno_model.specs.Moments.{Sometime};
 ghost use Rattle.inno_model.specs.Past.{own, current};
 ghost use Rattle.sql_history.specs.LooseReading.{newest, IsQuiet, IsLooseReading};
-ghost use Rattle.past_agreement.specs.Agreement.{IsSound};
-ghost use Rattle.tables_as_db.specs.Tables.{at_places, rows_in};
+ghost use Rattle.law_past_agreement.specs.Agreement.{IsSound};
+ghost use Rattle.law_past_agreement.specs.DatabaseTables.{at_places, rows_in};
 
 /// Rows that rise by their keys, each the newest of its place at some moment of the item, are the table's rows in a
 /// database that the item may see.

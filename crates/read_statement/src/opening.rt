@@ -1,7 +1,7 @@
 //! How a SELECT opens its transaction, takes its view, and begins to search by it.
 
 ghost use Rattle.std.specs.Prelude.{◌≡◌, ◌<◌, length};
-ghost use Rattle.past_agreement.specs.Order.{created};
+ghost use Rattle.law_past_agreement.specs.Order.{created};
 ghost use Rattle.sql_lists.specs.Going.{Nears};
 ghost use Rattle.sql_lists.specs.Steps.{Steps};
 ghost use Rattle.read_statement.specs.Going.{to_go};
@@ -41,7 +41,10 @@ pub fn step_opening<L: SharedLists>(
             let alone = autocommit;
             (ReadStatement::Open { stmt, alone }, Advance::Went)
         }
-        Err(_) => (ReadStatement::Failed { alone: false }, Advance::NoMemory),
+        Err(_) => {
+            drop(stmt);
+            (ReadStatement::Failed { alone: false }, Advance::NoMemory)
+        }
     }
 }
 
@@ -67,8 +70,11 @@ pub fn step_open<L: SharedLists>(
             view_first(stmt, alone, session, lists)
         }
         Some(Level::ReadUncommitted) => step_dirty(alloc, stmt, alone, session, lists),
-        // A SELECT at SERIALIZABLE is refused before it comes here.
-        _ => (ReadStatement::Failed { alone }, Advance::NoMemory),
+        // A transaction is open here, and a SELECT at SERIALIZABLE was refused before.
+        Some(Level::Serializable) | None => {
+            drop(stmt);
+            (ReadStatement::Failed { alone }, Advance::NoMemory)
+        }
     }
 }
 
@@ -87,7 +93,10 @@ fn view_first<L: SharedLists>(
 {
     match lists.take_view(session) {
         Ok(()) => (ReadStatement::Viewed { stmt, alone }, Advance::Went),
-        Err(_) => (ReadStatement::Failed { alone }, Advance::NoMemory),
+        Err(_) => {
+            drop(stmt);
+            (ReadStatement::Failed { alone }, Advance::NoMemory)
+        }
     }
 }
 
@@ -106,7 +115,10 @@ pub fn step_viewed<L: SharedLists>(
 {
     match plan_search(alloc, &stmt, lists) {
         Ok(planned) => begin_search(planned, stmt, alone, session, lists),
-        Err(_) => (ReadStatement::Failed { alone }, Advance::NoMemory),
+        Err(_) => {
+            drop(stmt);
+            (ReadStatement::Failed { alone }, Advance::NoMemory)
+        }
     }
 }
 
@@ -133,6 +145,9 @@ fn begin_search<L: SharedLists>(
                 Advance::Went,
             )
         }
-        Err(_) => (ReadStatement::Failed { alone }, Advance::NoMemory),
+        Err(_) => {
+            drop(stmt);
+            (ReadStatement::Failed { alone }, Advance::NoMemory)
+        }
     }
 }

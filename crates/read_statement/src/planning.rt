@@ -6,9 +6,9 @@ ghost use Rattle.inno_db.specs.declared.limits.TheConstants.{MOST_KEYS, MOST_TAB
 ghost use Rattle.inno_db.specs.Declarations.{is_short, is_indexable};
 ghost use Rattle.inno_db.proofs.Outcomes.{table_read};
 ghost use Rattle.sql_history.specs.Readings.{is_plain_select};
-ghost use Rattle.fitting_rows.specs.Storable.{AreStorable};
+ghost use Rattle.law_fitting_rows.specs.Storable.{AreStorable};
 ghost use Rattle.sql_plan.specs.Visits.{are_indexable};
-ghost use Rattle.past_agreement.specs.Order.{created};
+ghost use Rattle.law_past_agreement.specs.Order.{created};
 ghost use Rattle.read_statement.specs.Planning.{IsChosen, IsPlanned};
 
 use inno_db::MOST_BYTES_OF_INDEX;
@@ -77,7 +77,18 @@ fn plan_on(alloc: Global, schema: &Schema, stmt: &Stmt) -> Result<Plan, NoMemory
             filter: Some(condition),
             ..
         } => choose(alloc, schema, condition),
-        _ => Ok(Plan::whole()),
+        Stmt::Select { filter: None, .. }
+        | Stmt::CreateTable { .. }
+        | Stmt::Insert { .. }
+        | Stmt::Update { .. }
+        | Stmt::Delete { .. }
+        | Stmt::Begin { .. }
+        | Stmt::Commit
+        | Stmt::Rollback
+        | Stmt::RollbackTo { .. }
+        | Stmt::Savepoint { .. }
+        | Stmt::SetAutocommit(_)
+        | Stmt::SetLevel { .. } => Ok(Plan::whole()),
     }
 }
 
@@ -87,12 +98,12 @@ fn table_of(schemas: &Listed<Schema>, stmt: &Stmt) -> Option<u8>
     requires plain { is_plain_select stmt.now ≡ true }
     ensures { result ≡ table_read schemas.now stmt.now }
 {
-    match stmt {
-        Stmt::Select { table, .. } => match place_of_table(schemas, table) {
-            Some(place) => Some(place as u8),
-            None => None,
-        },
-        _ => None,
+    let Stmt::Select { table, .. } = stmt else {
+        return None;
+    };
+    match place_of_table(schemas, table) {
+        Some(place) => Some(place as u8),
+        None => None,
     }
 }
 

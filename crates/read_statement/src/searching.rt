@@ -24,6 +24,7 @@ pub fn step_searching<L: SharedLists>(
     let alone = read.alone;
     if read.left == 0 {
         lists.stop_search(session);
+        drop(read);
         return (ReadStatement::Failed { alone }, Advance::NoMemory);
     }
     // each change is of a table that is there
@@ -40,6 +41,9 @@ pub fn step_searching<L: SharedLists>(
                 Advance::Went,
             )
         }
-        Searched::NoMemory => (ReadStatement::Failed { alone }, Advance::NoMemory),
+        Searched::NoMemory => {
+            drop(read);
+            (ReadStatement::Failed { alone }, Advance::NoMemory)
+        }
     }
 }

@@ -12,7 +12,7 @@ use Rattle.sum64.specs.Fnv.{fnv_of}
 use Rattle.redo_log.specs.Logged.{GoesOnAt}
 
 -- a block of zeros fails its sum
-zeros_fail : PassesSum (replicate 512 0) → ⊥
+pub zeros_fail : PassesSum (replicate 512 0) → ⊥
 unfolding fnv_of
 zeros_fail passes = absurd (cc)
 

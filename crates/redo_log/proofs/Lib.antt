@@ -1,7 +1,7 @@
 mod Appended
 mod Begun
-mod Crash
+pub mod Crash
 mod Flush
-mod GoesOn
+pub mod GoesOn
 mod Spare
 mod Written

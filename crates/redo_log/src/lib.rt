@@ -6,6 +6,3 @@ mod log;
 mod room;
 
 pub use log::{Log, goes_on_before_zeros, stands_for_what_is_left};
-
-#[cfg(test)]
-mod tests;

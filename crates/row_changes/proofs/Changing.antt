@@ -5,7 +5,7 @@ use Rattle.std.proofs.lemmas.Bool.{cases_eq}
 use Rattle.inno_types.specs.declared.value.Schema.{Schema}
 use Rattle.entries.specs.Pairs.{Pair, value_of}
 use Rattle.entries.specs.Index.{Index, Told, Goes, AreKept}
-use Rattle.coded_rows.specs.Edits.{clustered_index}
+use Rattle.law_coded_rows.specs.Edits.{clustered_index}
 use Rattle.std.specs.Prelude.{slice_set, length}
 use Rattle.std.proofs.lemmas.List.{length-set}
 use Rattle.chain.specs.Versions.{Stays}
@@ -29,11 +29,11 @@ use Rattle.row_changes.specs.Records.{IsTable, IsListed, IsFormer, StageHolds, I
 use Rattle.row_changes.specs.declared.row_edit.RowEdit.{RowEdit}
 use Rattle.row_changes.specs.declared.row_edit.RowEdit.TheVariants.{Put, Remove}
 use Rattle.row_changes.specs.Edits.{IsPut, FindsRow, HasNoRow, LacksRow}
-use Rattle.coded_rows.specs.Records.{IsCodeOf}
+use Rattle.law_coded_rows.specs.Records.{IsCodeOf}
 use Rattle.std.proofs.Common.{cond, Bool, true, false}
 use Rattle.row_changes.specs.declared.record_change.RecordReached.TheVariants.{Went, Hindered}
-use Rattle.entries.specs.declared.answers.Move.{Move}
-use Rattle.entries.specs.declared.answers.Move.TheVariants as moves
+use Rattle.store_api.specs.declared.moves.Move.{Move}
+use Rattle.store_api.specs.declared.moves.Move.TheVariants as moves
 use Rattle.row_changes.proofs.Sessions.{one_session, aside_of_stay, readied_alone, same_pairs, same_versions, set_here, set_other}
 
 -- what is told of pairs stays told, if pairs are told still

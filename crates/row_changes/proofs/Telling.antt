@@ -8,8 +8,8 @@ use Rattle.entries.specs.Pairs.{Pair}
 use Rattle.entries.specs.Index.{Goes, AreKept}
 use Rattle.chain.specs.declared.kept.Kept.{Kept}
 use Rattle.row_versions.specs.Chains.{Chains}
-use Rattle.coded_rows.specs.Edits.{with_value, Puts}
-use Rattle.coded_rows.specs.Tables.{Said, AreCodedAs}
+use Rattle.law_coded_rows.specs.Edits.{with_value, Puts}
+use Rattle.law_coded_rows.specs.Tables.{Said, AreCodedAs}
 use Rattle.world.specs.State.{WorldState}
 use Rattle.row_changes.specs.Pairs.{RowsStay, PutsPair}
 use Rattle.world.specs.Told.{pairs_in, pairs_of, IsTold}

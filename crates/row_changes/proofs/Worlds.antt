@@ -1,15 +1,15 @@
 -- What the calls of a world's indexes leave of its pairs, and what may hinder them.
 use Rattle.std.proofs.Common.{◌≡◌, ◌≢◌, inr, ⊎_elim, ℕ, true, false, Option, Some, None, List, refl, sym, subst}
 use Rattle.std.proofs.lemmas.Bool.{cases_eq}
-use Rattle.entries.specs.declared.answers.Move.{Move}
-use Rattle.entries.specs.declared.answers.Move.TheVariants.{At, End, Done, Step, Latch, Again, Full, TooDeep, Failed, Bad, NoMemory}
+use Rattle.store_api.specs.declared.moves.Move.{Move}
+use Rattle.store_api.specs.declared.moves.Move.TheVariants.{At, End, Done, Step, Latch, Again, Full, TooDeep, Failed, Bad, NoMemory}
 use Rattle.entries.specs.Pairs.{Pair, value_of}
 use Rattle.std.specs.Prelude.{IfSome, is_some}
 use Rattle.entries.specs.Index.{Index, Told, AreKept, HasGone}
 use Rattle.entries.specs.Calls.{Delays, Fetches, NextKeys, Inserts, Replaces, Removes}
 use Rattle.world.specs.State.{WorldState}
 use Rattle.world.specs.Indexes.{InIndex, Calls, Changes}
-use Rattle.coded_rows.specs.Edits.{with_value}
+use Rattle.law_coded_rows.specs.Edits.{with_value}
 use Rattle.row_changes.specs.Entries.{IsThere, HindersEntry}
 use Rattle.row_changes.specs.Pairs.{RowsStay, PutsPair, Hinders}
 

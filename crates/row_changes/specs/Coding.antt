@@ -2,10 +2,10 @@
 use Rattle.std.specs.Prelude.{ℕ, List, Result, Ok, Err}
 use Rattle.inno_types.specs.declared.value.Schema.{Schema}
 use Rattle.store_api.specs.declared.answers.Version.{Version}
-use Rattle.entries.specs.declared.answers.Move.{Move}
-use Rattle.entries.specs.declared.answers.Move.TheVariants.{Bad, NoMemory}
+use Rattle.store_api.specs.declared.moves.Move.{Move}
+use Rattle.store_api.specs.declared.moves.Move.TheVariants.{Bad, NoMemory}
 use Rattle.row_codec.specs.Rows.{IsRecordOf}
-use Rattle.coded_rows.specs.Records.{IsCodeOf}
+use Rattle.law_coded_rows.specs.Records.{IsCodeOf}
 
 -- the version is that of the bytes, or none is, or memory ran out
 abbrev pub Decodes : Schema → List ℕ → List ℕ → Result Version Move → Type 0

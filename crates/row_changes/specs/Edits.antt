@@ -8,12 +8,12 @@ use Rattle.inno_db.specs.declared.change.Change.TheVariants as changes
 use Rattle.store_api.specs.declared.answers.Version.{Version}
 use Rattle.entries.specs.Index.{Index, Told}
 use Rattle.entries.specs.Pairs.{value_of}
-use Rattle.entries.specs.declared.answers.Move.{Move}
-use Rattle.entries.specs.declared.answers.Move.TheVariants.{End}
+use Rattle.store_api.specs.declared.moves.Move.{Move}
+use Rattle.store_api.specs.declared.moves.Move.TheVariants.{End}
 use Rattle.key_codec.specs.Keys.{HasKey, Has64Bits, key_code}
 use Rattle.row_codec.specs.Rows.{IsKeyOf}
-use Rattle.fitting_rows.specs.Fitting.{FitsTable}
-use Rattle.coded_rows.specs.Records.{IsCodeOf}
+use Rattle.law_fitting_rows.specs.Fitting.{FitsTable}
+use Rattle.law_coded_rows.specs.Records.{IsCodeOf}
 use Rattle.row_changes.specs.declared.row_edit.RowEdit.{RowEdit}
 use Rattle.row_changes.specs.declared.row_edit.RowEdit.TheVariants.{Put, Remove}
 

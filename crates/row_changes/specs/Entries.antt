@@ -1,7 +1,7 @@
 -- What is known of a change of one entry between its steps, and what each step does.
 use Rattle.std.specs.Prelude.{◌≡◌, ℕ, ◌<◌, ◌≤◌, Bool, true, false, List, [], ◌∷◌, length, None, Some, is_some}
-use Rattle.entries.specs.declared.answers.Move.{Move}
-use Rattle.entries.specs.declared.answers.Move.TheVariants.{End}
+use Rattle.store_api.specs.declared.moves.Move.{Move}
+use Rattle.store_api.specs.declared.moves.Move.TheVariants.{End}
 use Rattle.entries.specs.Pairs.{value_of}
 use Rattle.entries.specs.Index.{Index, Told}
 use Rattle.world.specs.State.{WorldState, IsIndex}

@@ -2,14 +2,14 @@
 use Rattle.std.specs.Prelude.{◌≡◌, ℕ, ◌+◌, ◌-◌, ◌*◌, ◌^◌, ◌<◌, ◌≤◌, List, ◌∷◌, length, slice_get, Option, None, Some, IfSome}
 use Rattle.inno_types.specs.declared.value.Value.{Value}
 use Rattle.inno_types.specs.declared.value.Schema.{Schema}
-use Rattle.entries.specs.declared.answers.Move.{Move}
+use Rattle.store_api.specs.declared.moves.Move.{Move}
 use Rattle.entries.specs.Index.{AreKept}
 use Rattle.chain.specs.Versions.{Stays}
 use Rattle.row_versions.specs.declared.place.Place.{Place}
 use Rattle.row_versions.specs.declared.version.Version.{Version}
 use Rattle.row_versions.specs.Chains.{Chains, versions_at, newest}
-use Rattle.coded_rows.specs.Edits.{clustered_index, key_index}
-use Rattle.coded_rows.specs.Tables.{Said, LagAt}
+use Rattle.law_coded_rows.specs.Edits.{clustered_index, key_index}
+use Rattle.law_coded_rows.specs.Tables.{Said, LagAt}
 use Rattle.world.specs.State.{WorldState}
 use Rattle.row_changes.specs.declared.entry_put.EntryPut.{EntryPut}
 use Rattle.row_changes.specs.declared.entry_put.PutPhase.TheVariants.{Look}

@@ -1,11 +1,11 @@
 -- What a short step of a change does to the pairs of a world's indexes, and what may keep it from going on.
 use Rattle.std.specs.Prelude.{◌≡◌, ◌≢◌, ◌⊎◌, ℕ, List, Option, None}
-use Rattle.entries.specs.declared.answers.Move.{Move}
-use Rattle.entries.specs.declared.answers.Move.TheVariants.{At, End, Done, Latch, Full, TooDeep, NoMemory}
+use Rattle.store_api.specs.declared.moves.Move.{Move}
+use Rattle.store_api.specs.declared.moves.Move.TheVariants.{At, End, Done, Latch, Full, TooDeep, NoMemory}
 use Rattle.entries.specs.Index.{Index, Goes, AreKept}
 use Rattle.entries.specs.Calls.{Delays, LacksPages, IsKeptOff}
 use Rattle.chain.specs.Versions.{Stays}
-use Rattle.coded_rows.specs.Edits.{with_value}
+use Rattle.law_coded_rows.specs.Edits.{with_value}
 use Rattle.world.specs.State.{WorldState}
 
 -- no pair has changed anywhere, and no actor's place

@@ -6,15 +6,15 @@ use Rattle.inno_db.specs.declared.change.Change.{Change}
 use Rattle.inno_model.specs.declared.event.Event.TheVariants.{Changed}
 use Rattle.store_api.specs.declared.answers.Version.{Version}
 use Rattle.store_api.specs.declared.answers.Undo.{Undo}
-use Rattle.entries.specs.declared.answers.Move.{Move}
-use Rattle.entries.specs.declared.answers.Move.TheVariants.{Done, End}
+use Rattle.store_api.specs.declared.moves.Move.{Move}
+use Rattle.store_api.specs.declared.moves.Move.TheVariants.{Done, End}
 use Rattle.entries.specs.Pairs.{value_of}
 use Rattle.entries.specs.Index.{Index, Told, Goes, AreKept}
 use Rattle.row_codec.specs.Rows.{IsRecordOf, version_code}
 use Rattle.txn_table.specs.Txns.{Txns, is_there, id_at, with_id}
-use Rattle.fitting_rows.specs.Storable.{IsStorable}
-use Rattle.coded_rows.specs.Edits.{clustered_index, with_value}
-use Rattle.coded_rows.specs.Records.{IsCodeOf, row_shown}
+use Rattle.law_fitting_rows.specs.Storable.{IsStorable}
+use Rattle.law_coded_rows.specs.Edits.{clustered_index, with_value}
+use Rattle.law_coded_rows.specs.Records.{IsCodeOf, row_shown}
 use Rattle.world.specs.State.{WorldState, Session, Work, Logged, HasWork}
 use Rattle.world.specs.Indexes.{KeepsIf}
 use Rattle.world.specs.Undoing.{MakesRoom}

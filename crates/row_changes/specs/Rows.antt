@@ -3,7 +3,7 @@ use Rattle.std.specs.Prelude.{◌≡◌, ℕ, ◌+◌, ◌-◌, ◌*◌, ◌<◌
 use Rattle.inno_types.specs.declared.value.Value.{Value}
 use Rattle.inno_types.specs.declared.value.Schema.{Schema}
 use Rattle.inno_db.specs.Database.{key_of}
-use Rattle.entries.specs.declared.answers.Move.{Move}
+use Rattle.store_api.specs.declared.moves.Move.{Move}
 use Rattle.row_versions.specs.declared.place.Place.{Place}
 use Rattle.row_versions.specs.Chains.{Chains, Pushes}
 use Rattle.world.specs.State.{WorldState, Session, Work, HasWork}

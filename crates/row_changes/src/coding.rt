@@ -6,11 +6,10 @@ ghost use Rattle.world.specs.State.{Session, Work, HasWork};
 ghost use Rattle.row_changes.specs.Coding.{Decodes};
 ghost use Rattle.row_changes.specs.Records.{id_for, undo_of_new, undo_of_former};
 
-use entries::Move;
 use inno_types::{Bytes, Schema};
 use row_codec::{RowBad, decode, encode};
 use std::alloc::Global;
-use store_api::{NoMemory, Undo, Version};
+use store_api::{Move, NoMemory, Undo, Version};
 use world::World;
 
 /// The rule that a record breaks whose bytes are no version of its table.

@@ -4,9 +4,9 @@ ghost use Rattle.std.specs.Prelude.{◌≡◌};
 ghost use Rattle.row_changes.specs.Entries.{IsDropping, DropsEntry};
 
 use crate::reached::Reached;
-use entries::Move;
 use inno_types::Bytes;
 use std::alloc::Global;
+use store_api::{MOST_BYTES_OF_KEY, Move};
 use world::World;
 
 /// What is done next.
@@ -52,7 +52,7 @@ impl EntryDrop {
         requires phase { self.phase ≡ DropPhase.Next }
         ensures { DropsEntry actor (W.state world.old) (W.state world.new) self result }
     {
-        let Ok(mut next) = Vec::with_capacity(alloc, 67) else {
+        let Ok(mut next) = Vec::with_capacity(alloc, MOST_BYTES_OF_KEY) else {
             return Reached::Hindered(self, Move::NoMemory);
         };
         match world.next_key(self.index, actor, &self.entry, &mut next) {

@@ -4,9 +4,9 @@ ghost use Rattle.std.specs.Prelude.{◌≡◌};
 ghost use Rattle.row_changes.specs.Entries.{IsMarking, MarksEntry};
 
 use crate::reached::Reached;
-use entries::Move;
 use inno_types::Bytes;
 use std::alloc::Global;
+use store_api::Move;
 use world::World;
 
 /// The value of an entry that is its newest row's no longer.

@@ -4,9 +4,9 @@ ghost use Rattle.std.specs.Prelude.{◌≡◌};
 ghost use Rattle.row_changes.specs.Entries.{IsPutting, PutsEntry};
 
 use crate::reached::Reached;
-use entries::Move;
 use inno_types::Bytes;
 use std::alloc::Global;
+use store_api::{MOST_BYTES_OF_KEY, MOST_BYTES_OF_VALUE, Move};
 use world::World;
 
 /// The value of an entry that is its newest row's.
@@ -61,7 +61,7 @@ impl EntryPut {
         requires phase { self.phase ≡ PutPhase.Look }
         ensures { PutsEntry actor (W.state world.old) (W.state world.new) self result }
     {
-        let Ok(mut mark) = Vec::with_capacity(alloc, 1024) else {
+        let Ok(mut mark) = Vec::with_capacity(alloc, MOST_BYTES_OF_VALUE) else {
             return Reached::Hindered(self, Move::NoMemory);
         };
         match world.fetch(self.index, actor, &self.entry, &mut mark) {
@@ -102,7 +102,7 @@ impl EntryPut {
         requires phase { self.phase ≡ PutPhase.Next }
         ensures { PutsEntry actor (W.state world.old) (W.state world.new) self result }
     {
-        let Ok(mut next) = Vec::with_capacity(alloc, 67) else {
+        let Ok(mut next) = Vec::with_capacity(alloc, MOST_BYTES_OF_KEY) else {
             return Reached::Hindered(self, Move::NoMemory);
         };
         match world.next_key(self.index, actor, &self.entry, &mut next) {

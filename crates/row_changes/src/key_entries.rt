@@ -2,7 +2,7 @@
 
 ghost use Rattle.std.specs.Prelude.{◌≡◌, ◌≤◌, ◌<◌, ℕ, Some, length, IfOk, IfSome, MatchOption};
 ghost use Rattle.row_codec.specs.Rows.{IsRowOf};
-ghost use Rattle.coded_rows.specs.Edits.{key_index};
+ghost use Rattle.law_coded_rows.specs.Edits.{key_index};
 ghost use Rattle.row_changes.specs.KeyEntries.{value_stays, StayBetween, IsFirstToChange, IsEntryIn, IsEntryFor, AreEntries};
 
 use inno_db::{at_place, order, to_value};
@@ -10,6 +10,7 @@ use inno_types::{Bytes, Row, Schema};
 use key_codec::put_entry;
 use std::alloc::Global;
 use store_api::NoMemory;
+use world::index_number;
 
 /// The entries of the old and of the new row in one key.
 #[derive(Drop)]
@@ -113,5 +114,5 @@ pub fn index_of_key(table: u8, which: usize) -> u32
     requires { which < 4 }
     ensures { result ≡ key_index table which }
 {
-    8 * u32::from(table) + (1 + which as u32)
+    index_number(table, 1 + which as u8)
 }

@@ -4,7 +4,7 @@
 ghost use Rattle.std.specs.Prelude.{◌≡◌, ◌<◌, Some, None, IfOk, MatchOption, length, slice_get};
 ghost use Rattle.inno_types.specs.declared.value.Schema.{Schema};
 ghost use Rattle.row_versions.specs.Chains.{Chains};
-ghost use Rattle.coded_rows.specs.Edits.{key_index};
+ghost use Rattle.law_coded_rows.specs.Edits.{key_index};
 ghost use Rattle.row_changes.specs.KeyEntries.{StayBetween, AreEntries};
 ghost use Rattle.row_changes.specs.Keys.{IsChangingKeys, ChangesKeys, keys_next};
 
@@ -12,10 +12,9 @@ use crate::entry_mark::EntryMark;
 use crate::entry_put::EntryPut;
 use crate::key_entries::{KeyEntries, index_of_key, next_entries};
 use crate::reached::Reached;
-use entries::Move;
 use inno_types::{Bytes, Row};
 use std::alloc::Global;
-use store_api::NoMemory;
+use store_api::{Move, NoMemory};
 use world::World;
 
 /// A change of a row that the keys of its table are taking over.

@@ -1,6 +1,6 @@
 //! How far a step of a change came.
 
-use entries::Move;
+use store_api::Move;
 
 /// How far a step came.
 #[derive(Drop)]

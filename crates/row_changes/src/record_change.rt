@@ -3,19 +3,18 @@
 //! after.
 
 ghost use Rattle.std.specs.Prelude.{◌≡◌, ℕ, List, IfOk};
-ghost use Rattle.coded_rows.specs.Edits.{clustered_index};
-ghost use Rattle.coded_rows.specs.Records.{row_shown};
+ghost use Rattle.law_coded_rows.specs.Edits.{clustered_index};
+ghost use Rattle.law_coded_rows.specs.Records.{row_shown};
 ghost use Rattle.row_changes.specs.Edits.{version_by};
 ghost use Rattle.row_changes.specs.Records.{IsChangingRecord, ChangesRecord, when_missed, when_found, row_found, undo_of_former};
 
 use crate::coding::{coded, decoded, undo_of_former, undo_of_new, writer_of};
 use crate::entering::enter;
 use crate::row_edit::RowEdit;
-use entries::Move;
 use inno_types::{Bytes, Row};
 use std::alloc::Global;
-use store_api::{NoMemory, Undo, Version};
-use world::World;
+use store_api::{MOST_BYTES_OF_KEY, MOST_BYTES_OF_VALUE, Move, NoMemory, Undo, Version};
+use world::{World, index_number};
 
 /// The longest undo record: seven bytes, a key and a value.
 const MOST_UNDO_BYTES: u16 = 1098;
@@ -74,7 +73,7 @@ impl RecordChange {
     fn index(&self) -> u32
         ensures { result ≡ clustered_index self.now.table }
     {
-        8 * u32::from(self.table)
+        index_number(self.table, 0)
     }
 
     fn then(self, stage: RecordStage) -> RecordReached
@@ -110,7 +109,7 @@ impl RecordChange {
         requires stage { self.stage ≡ RecordStage.Find }
         ensures { ChangesRecord s (W.state world.old) (W.state world.new) self result }
     {
-        let Ok(mut value) = Vec::with_capacity(alloc, 1024) else {
+        let Ok(mut value) = Vec::with_capacity(alloc, MOST_BYTES_OF_VALUE) else {
             return RecordReached::Hindered(self, Move::NoMemory);
         };
         match world.fetch(self.index(), s, &self.key, &mut value) {
@@ -137,7 +136,10 @@ impl RecordChange {
     {
         match &self.edit {
             RowEdit::Remove(_) if before.marked => RecordReached::Hindered(self, Move::End),
-            _ => self.then(RecordStage::Replace { before, bytes }),
+            RowEdit::Put(_) | RowEdit::Remove(_) => self.then(RecordStage::Replace {
+                before,
+                bytes,
+            }),
         }
     }
 
@@ -146,7 +148,7 @@ impl RecordChange {
         requires stage { self.stage ≡ RecordStage.Next }
         ensures { ChangesRecord s (W.state world.old) (W.state world.new) self result }
     {
-        let Ok(mut next) = Vec::with_capacity(alloc, 67) else {
+        let Ok(mut next) = Vec::with_capacity(alloc, MOST_BYTES_OF_KEY) else {
             return RecordReached::Hindered(self, Move::NoMemory);
         };
         match world.next_key(self.index(), s, &self.key, &mut next) {
@@ -211,7 +213,14 @@ impl RecordChange {
         let (row, marked) = match (&self.edit, &self.stage) {
             (RowEdit::Put(row), _) => (row, false),
             (RowEdit::Remove(_), RecordStage::Replace { before, .. }) => (&before.row, true),
-            _ => return Err(NoMemory),
+            (
+                RowEdit::Remove(_),
+                RecordStage::Enter
+                | RecordStage::Room
+                | RecordStage::Find
+                | RecordStage::Next
+                | RecordStage::Insert,
+            ) => return Err(NoMemory),
         };
         Ok(Version {
             row: row.copied()?,
@@ -231,7 +240,11 @@ fn former(table: u8, key: &Bytes, stage: &RecordStage) -> Result<(Option<Row>, U
             shown_row(before)?,
             undo_of_former(table, key, bytes)?,
         )),
-        _ => Err(NoMemory),
+        RecordStage::Enter
+        | RecordStage::Room
+        | RecordStage::Find
+        | RecordStage::Next
+        | RecordStage::Insert => Err(NoMemory),
     }
 }
 

@@ -13,6 +13,3 @@ pub use laws::{one_length, one_version};
 pub use read::decode;
 pub use refused::RowBad;
 pub use write::encode;
-
-#[cfg(test)]
-mod tests;

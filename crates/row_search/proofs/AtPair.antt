@@ -6,12 +6,12 @@ use Rattle.inno_types.specs.declared.value.Schema.{Schema}
 use Rattle.store_api.specs.declared.answers.Version.{Version as Coded}
 use Rattle.row_codec.specs.Rows.{IsRecordOf, IsVersion}
 use Rattle.entries.specs.Pairs.{Pair}
-use Rattle.entries.specs.Index.{IsBelow}
+use Rattle.inno_types.specs.Order.{IsBelow}
 use Rattle.chain.specs.declared.kept.Kept.{Kept}
 use Rattle.chain.specs.Versions.{IsPointer}
 use Rattle.row_versions.specs.declared.version.Version.{Version}
 use Rattle.row_versions.specs.Chains.{older}
-use Rattle.coded_rows.specs.Records.{shown, IsCodeOf, LeadTo, IsRecordWith}
+use Rattle.law_coded_rows.specs.Records.{shown, IsCodeOf, LeadTo, IsRecordWith}
 use Rattle.world.specs.State.{WorldState, index_of}
 use Rattle.world.specs.Undoing.{IsUnchanged}
 use Rattle.row_search.specs.declared.scan.Scan.{Scan}
@@ -25,9 +25,9 @@ use Rattle.row_search.specs.Visits.{phase_after}
 use Rattle.inno_db.specs.Database.{key_of}
 use Rattle.key_codec.specs.Keys.{entry_code}
 use Rattle.sql_plan.specs.Visits.{primary_key, index_key}
-use Rattle.coded_rows.specs.Entries.{value_in}
-use Rattle.coded_rows.specs.Tables.{HasItsColumns}
-use Rattle.entries.specs.declared.answers.Move.TheVariants.{NoMemory}
+use Rattle.law_coded_rows.specs.Entries.{value_in}
+use Rattle.law_coded_rows.specs.Tables.{HasItsColumns}
+use Rattle.store_api.specs.declared.moves.Move.TheVariants.{NoMemory}
 use Rattle.row_search.specs.declared.found.FoundRow.{FoundRow}
 use Rattle.row_search.specs.Owners.{TellsSame, IsOwner}
 use Rattle.row_search.proofs.Keys.{IsHome, home, fits_in, keyed_is, key_there_at}

@@ -5,19 +5,19 @@ use Rattle.std.specs.Ordering.{is_le, is_lt}
 use Rattle.inno_types.specs.declared.value.Value.{Value}
 use Rattle.inno_types.specs.declared.value.Schema.{Schema}
 use Rattle.entries.specs.Pairs.{Pair, AreRising, key_cmp, value_of, first_from, IsFirstOf, NonePasses}
-use Rattle.entries.specs.Index.{IsBelow}
+use Rattle.inno_types.specs.Order.{IsBelow}
 use Rattle.entries.specs.Calls.{HasKey as IsAtKey, Seeks, Follows, next_of}
-use Rattle.entries.specs.declared.answers.Move.{Move}
-use Rattle.entries.specs.declared.answers.Move.TheVariants.{At, End}
+use Rattle.store_api.specs.declared.moves.Move.{Move}
+use Rattle.store_api.specs.declared.moves.Move.TheVariants.{At, End}
 use Rattle.entries.proofs.Found.{first_is}
 use Rattle.chain.specs.declared.kept.Kept.{Kept}
 use Rattle.chain.specs.Versions.{Versions, Stays}
 use Rattle.chain.specs.Calls.{ShowsVersion}
 use Rattle.chain.specs.declared.answers.ChainBad.{ChainBad}
 use Rattle.chain.specs.declared.answers.ChainBad.TheVariants.{Visit, NoMemory as NoMemoryThere}
-use Rattle.mtr.specs.declared.answers.Visit.TheVariants.{Failed, Again, Bad}
+use Rattle.store_api.specs.declared.visits.Visit.TheVariants.{Failed, Again, Bad}
 use Rattle.row_versions.specs.declared.version.Version.{Version}
-use Rattle.coded_rows.specs.Records.{LeadTo, IsRecordWith}
+use Rattle.law_coded_rows.specs.Records.{LeadTo, IsRecordWith}
 use Rattle.world.specs.State.{WorldState, index_of}
 use Rattle.world.specs.Indexes.{Calls}
 use Rattle.world.specs.Undoing.{IsUnchanged}

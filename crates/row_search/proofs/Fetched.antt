@@ -5,15 +5,15 @@ use Rattle.inno_types.specs.declared.value.Kind.{Kind}
 use Rattle.inno_types.specs.declared.value.Schema.{Schema}
 use Rattle.key_codec.specs.Keys.{HasKey, key_code}
 use Rattle.entries.specs.Pairs.{Pair, value_of}
-use Rattle.entries.specs.Index.{IsBelow}
+use Rattle.inno_types.specs.Order.{IsBelow}
 use Rattle.entries.specs.Calls.{HasKey as IsAtKey, Fetches}
-use Rattle.entries.specs.declared.answers.Move.{Move}
-use Rattle.entries.specs.declared.answers.Move.TheVariants.{End, Done}
+use Rattle.store_api.specs.declared.moves.Move.{Move}
+use Rattle.store_api.specs.declared.moves.Move.TheVariants.{End, Done}
 use Rattle.chain.specs.declared.kept.Kept.{Kept}
 use Rattle.row_versions.specs.declared.version.Version.{Version}
 use Rattle.row_versions.specs.Chains.{first_seen}
-use Rattle.coded_rows.specs.Records.{IsRecordWith, IsClustered}
-use Rattle.coded_rows.proofs.RowRecords.{no_record}
+use Rattle.law_coded_rows.specs.Records.{IsRecordWith, IsClustered}
+use Rattle.law_coded_rows.proofs.RowRecords.{no_record}
 use Rattle.sql_plan.specs.Visits.{kind_at, index_key}
 use Rattle.world.specs.State.{WorldState, index_of}
 use Rattle.world.specs.Indexes.{Calls}

@@ -5,12 +5,12 @@ use Rattle.inno_types.specs.declared.value.Value.{Value}
 use Rattle.inno_types.specs.declared.value.Schema.{Schema}
 use Rattle.store_api.specs.declared.answers.Version.{Version as Coded}
 use Rattle.entries.specs.Pairs.{Pair}
-use Rattle.entries.specs.Index.{IsBelow}
+use Rattle.inno_types.specs.Order.{IsBelow}
 use Rattle.entries.specs.Calls.{HasKey as IsAtKey}
 use Rattle.chain.specs.declared.kept.Kept.{Kept}
 use Rattle.row_versions.specs.declared.version.Version.{Version}
 use Rattle.row_versions.specs.Chains.{older}
-use Rattle.coded_rows.specs.Records.{LeadTo}
+use Rattle.law_coded_rows.specs.Records.{LeadTo}
 use Rattle.sql_plan.specs.Visits.{is_within, index_key}
 use Rattle.world.specs.State.{WorldState, index_of}
 use Rattle.world.specs.Undoing.{IsUnchanged}

@@ -5,7 +5,7 @@ use Rattle.inno_types.specs.declared.value.Schema.{Schema}
 use Rattle.chain.specs.declared.kept.Kept.{Kept}
 use Rattle.row_versions.specs.declared.version.Version.{Version}
 use Rattle.row_versions.specs.Chains.{first_seen}
-use Rattle.coded_rows.specs.Records.{LeadTo, IsRecordWith}
+use Rattle.law_coded_rows.specs.Records.{LeadTo, IsRecordWith}
 use Rattle.row_search.specs.declared.sight.Sight.{Sight}
 use Rattle.row_search.specs.declared.phase.Phase.{Phase}
 use Rattle.row_search.specs.declared.phase.Phase.TheVariants.{Look, Walk}

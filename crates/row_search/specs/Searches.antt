@@ -11,7 +11,7 @@ use Rattle.entries.specs.Calls.{HasKey as IsAtKey}
 use Rattle.chain.specs.declared.kept.Kept.{Kept}
 use Rattle.row_versions.specs.declared.version.Version.{Version}
 use Rattle.row_versions.specs.Chains.{first_seen}
-use Rattle.coded_rows.specs.Records.{LeadTo, IsRecordWith}
+use Rattle.law_coded_rows.specs.Records.{LeadTo, IsRecordWith}
 use Rattle.sql_plan.specs.Visits.{is_within, kind_at, primary_key}
 use Rattle.world.specs.State.{WorldState, index_of}
 use Rattle.row_search.specs.declared.scan.Scan.{Scan}

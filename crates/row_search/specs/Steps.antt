@@ -2,10 +2,11 @@
 use Rattle.std.specs.Prelude.{◌≡◌, ◌≢◌, ℕ, List, IsTrue}
 use Rattle.inno_types.specs.declared.value.Value.{Value}
 use Rattle.inno_types.specs.declared.value.Schema.{Schema}
-use Rattle.mtr.specs.declared.answers.Visit.TheVariants as unseen
-use Rattle.entries.specs.declared.answers.Move.{Move}
-use Rattle.entries.specs.declared.answers.Move.TheVariants.{Failed, Again, Bad, NoMemory}
-use Rattle.entries.specs.Index.{Index, AreKept, IsBelow}
+use Rattle.store_api.specs.declared.visits.Visit.TheVariants as unseen
+use Rattle.store_api.specs.declared.moves.Move.{Move}
+use Rattle.store_api.specs.declared.moves.Move.TheVariants.{Failed, Again, Bad, NoMemory}
+use Rattle.entries.specs.Index.{Index, AreKept}
+use Rattle.inno_types.specs.Order.{IsBelow}
 use Rattle.entries.specs.Calls.{Delays, Leaves}
 use Rattle.chain.specs.Versions.{Versions, Stays}
 use Rattle.chain.specs.Calls.{IsUnseen}

@@ -1,9 +1,9 @@
 -- What a search does with the pair, and with the version, that it was given.
 use Rattle.std.specs.Prelude.{◌≡◌, ◌==◌, ℕ, List, if◌then◌else◌}
 use Rattle.store_api.specs.declared.answers.Version.{Version}
-use Rattle.entries.specs.declared.answers.Move.{Move}
-use Rattle.entries.specs.declared.answers.Move.TheVariants as move
-use Rattle.mtr.specs.declared.answers.Visit.TheVariants.{Failed, Again, Bad}
+use Rattle.store_api.specs.declared.moves.Move.{Move}
+use Rattle.store_api.specs.declared.moves.Move.TheVariants as move
+use Rattle.store_api.specs.declared.visits.Visit.TheVariants.{Failed, Again, Bad}
 use Rattle.chain.specs.declared.answers.ChainBad.{ChainBad}
 use Rattle.chain.specs.declared.answers.ChainBad.TheVariants.{Visit, NoMemory}
 use Rattle.row_search.specs.declared.side.Side.{Side}

@@ -16,7 +16,7 @@ fn is_storable(kind: Kind, value: &Value) -> bool
     match (kind, value) {
         (_, Value::Null) | (Kind::BigInt, Value::Int(_)) => true,
         (Kind::VarBinary(size), Value::Text(text)) => text.len() <= usize::from(size),
-        _ => false,
+        (Kind::BigInt, Value::Text(_)) | (Kind::VarBinary(_), Value::Int(_)) => false,
     }
 }
 

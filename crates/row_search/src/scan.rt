@@ -1,7 +1,6 @@
 //! The steps of a search, one function for each, with at most one call of the world.
 
 ghost use Rattle.std.specs.Prelude.{◌≡◌, ◌<◌, ◌≤◌};
-ghost use Rattle.world.specs.State.{index_of};
 ghost use Rattle.row_search.specs.Visits.{IsGivenPhase};
 ghost use Rattle.row_search.specs.Searches.{IsSearching};
 ghost use Rattle.row_search.specs.Tables.{HoldsTable};
@@ -13,13 +12,10 @@ use crate::phase::Phase;
 use crate::search::{Reached, RowSearch};
 use crate::side::Side;
 use crate::sight::Sight;
-use entries::Move;
 use inno_types::{Bytes, Range, Schema};
 use std::alloc::Global;
-use world::World;
-
-/// The longest value of a record.
-const MOST_BYTES_OF_VALUE: usize = 1024;
+use store_api::{MOST_BYTES_OF_VALUE, Move};
+use world::{World, index_number};
 
 /// What is searched, how its rows are read, and those that were found. `which` is 0 for the table's clustered index, and
 /// the number of a secondary key from 1.
@@ -30,13 +26,6 @@ pub struct Scan {
     pub range: Range,
     pub sight: Sight,
     pub rows: Vec<FoundRow>,
-}
-
-/// The number of a table's index.
-pub(crate) fn index_number(table: u8, which: u8) -> u32
-    ensures { result ≡ index_of table which }
-{
-    8 * u32::from(table) + u32::from(which)
 }
 
 impl Scan {

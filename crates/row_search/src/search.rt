@@ -11,13 +11,13 @@ ghost use Rattle.row_search.specs.Steps.{Searches};
 
 use crate::found::FoundRow;
 use crate::phase::Phase;
-use crate::scan::{Scan, index_number};
+use crate::scan::Scan;
 use crate::sight::Sight;
-use entries::Move;
 use inno_types::Schema;
 use sql_plan::Plan;
 use std::alloc::Global;
-use world::World;
+use store_api::Move;
+use world::{World, index_number};
 
 /// A search for rows.
 #[derive(Drop)]

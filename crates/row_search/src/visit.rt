@@ -10,16 +10,14 @@ use crate::bounds::{copy_of, primary_of};
 use crate::entry::is_entry_of;
 use crate::found::{FoundRow, sort_by_key};
 use crate::phase::Phase;
-use crate::scan::{Scan, index_number};
+use crate::scan::Scan;
 use crate::search::{Reached, RowSearch};
 use chain::ChainBad;
-use entries::Move;
 use inno_types::{Bytes, Row, Schema};
-use mtr::Visit;
 use row_codec::{RowBad, decode};
 use std::alloc::Global;
-use store_api::Version;
-use world::World;
+use store_api::{Move, Version, Visit};
+use world::{World, index_number};
 
 fn move_of(why: ChainBad) -> Move
     ensures { result ≡ move_for why }

@@ -1,3 +1,3 @@
-pub mod Soundness
-pub mod Numbers
+pub mod Meaning
+pub mod Sound
 pub mod Started

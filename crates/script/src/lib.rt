@@ -2,15 +2,10 @@
 //! All of it is over bytes in memory. Nothing here meets the engine or the outside.
 #![tactic(auto)]
 
-mod line;
 mod printing;
 mod reading;
 mod script;
 
-pub use line::Line;
 pub use printing::transcript;
-pub use reading::read_script;
-pub use script::{Script, ScriptBad, ScriptItem};
-
-#[cfg(test)]
-mod tests;
+pub use reading::{one_meaning, read_script};
+pub use script::{Directives, Script, ScriptBad, ScriptItem, Tick};

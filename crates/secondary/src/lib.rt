@@ -5,8 +5,6 @@
 mod entry;
 mod fields;
 mod laws;
-#[cfg(test)]
-mod tests;
 
 pub use entry::{entry_from, has_secondary};
 pub use laws::an_entry_has_at_most_67_bytes;

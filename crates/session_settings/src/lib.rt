@@ -4,7 +4,5 @@
 
 mod saves;
 mod settings;
-#[cfg(test)]
-mod tests;
 
 pub use settings::SessionSettings;

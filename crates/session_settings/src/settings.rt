@@ -113,7 +113,15 @@ impl SessionSettings {
             Stmt::SetAutocommit(on) => self.autocommit = *on,
             Stmt::SetLevel { scope, level } => self.set_level(*scope, *level),
             Stmt::RollbackTo { savepoint } => drop_later(&mut self.saves, savepoint),
-            _ => {}
+            Stmt::CreateTable { .. }
+            | Stmt::Select { .. }
+            | Stmt::Insert { .. }
+            | Stmt::Update { .. }
+            | Stmt::Delete { .. }
+            | Stmt::Begin { .. }
+            | Stmt::Commit
+            | Stmt::Rollback
+            | Stmt::Savepoint { .. } => {}
         }
     }
 

@@ -4,10 +4,10 @@ use Rattle.inno_types.specs.declared.value.Schema.{Schema}
 use Rattle.inno_db.specs.declared.change.Change.{Change}
 use Rattle.inno_model.specs.declared.event.Event.{Event}
 use Rattle.inno_model.specs.declared.event.Event.TheVariants.{Opened, Changed}
-use Rattle.past_agreement.specs.Order.{created}
-use Rattle.fitting_rows.specs.Storable.{AreStorable}
-use Rattle.fitting_rows.specs.Fitting.{FitsTables}
-use Rattle.fitting_rows.specs.Numbers.{ChangeHas64Bits}
+use Rattle.law_past_agreement.specs.Order.{created}
+use Rattle.law_fitting_rows.specs.Storable.{AreStorable}
+use Rattle.law_fitting_rows.specs.Fitting.{FitsTables}
+use Rattle.law_fitting_rows.specs.Numbers.{ChangeHas64Bits}
 
 -- the change fits these tables, and its numbers have 64 bits
 abbrev pub FitsWell : List Schema → Change → Type 0

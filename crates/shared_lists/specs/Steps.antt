@@ -8,9 +8,9 @@ use Rattle.inno_db.specs.declared.change.Change.TheVariants.{Put}
 use Rattle.inno_model.specs.declared.event.Event.{Event}
 use Rattle.inno_model.specs.declared.event.Event.TheVariants as events
 use Rattle.inno_model.specs.Past.{changed, commits, view_of}
-use Rattle.past_agreement.specs.Order.{created}
-use Rattle.past_agreement.specs.Rows.{seen}
-use Rattle.tables_as_db.specs.Tables.{with_all_tables}
+use Rattle.law_past_agreement.specs.Order.{created}
+use Rattle.law_past_agreement.specs.Rows.{seen}
+use Rattle.law_past_agreement.specs.DatabaseTables.{with_all_tables}
 use Rattle.sql_plan.specs.declared.choice.Plan.{Plan}
 use Rattle.sql_plan.specs.Plans.{whole_index}
 use Rattle.sql_plan.specs.Visits.{is_within, index_key}

@@ -2,8 +2,8 @@
 use Rattle.std.proofs.Common.{◌≡◌, ℕ, ◌≤◌, List, [], ◌∷◌, Option, Some, None, ap, ◌∙◌, subst, arith}
 use Rattle.std.specs.Prelude.{IsTrue}
 use Rattle.page_format.specs.Words.{u32_at}
-use Rattle.mtr.specs.declared.answers.SpaceBad.{SpaceBad}
-use Rattle.mtr.specs.declared.answers.SpaceBad.TheVariants.{Full, Visit, NoMemory}
+use Rattle.store_api.specs.declared.visits.SpaceBad.{SpaceBad}
+use Rattle.store_api.specs.declared.visits.SpaceBad.TheVariants.{Full, Visit, NoMemory}
 use Rattle.mtr.specs.Seen.{MtrState, capacity_of, IsWithin, with_bytes}
 use Rattle.mtr.specs.Calls.{Goes, SamePages, SeesAt, Consults}
 use Rattle.mtr.proofs.Consulting.{goes_then, visits_then, consults_then, reason_later}

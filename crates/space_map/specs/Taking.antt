@@ -1,8 +1,8 @@
 -- What taking a page and giving one back make of the pages, and why neither is done.
 use Rattle.std.specs.Prelude.{◌≡◌, ◌≢◌, ℕ, ◌<◌, ◌≤◌, List, [], ◌∷◌, IsTrue}
 use Rattle.page_format.specs.Words.{u32_at}
-use Rattle.mtr.specs.declared.answers.SpaceBad.{SpaceBad}
-use Rattle.mtr.specs.declared.answers.SpaceBad.TheVariants.{Full, Visit, NoMemory}
+use Rattle.store_api.specs.declared.visits.SpaceBad.{SpaceBad}
+use Rattle.store_api.specs.declared.visits.SpaceBad.TheVariants.{Full, Visit, NoMemory}
 use Rattle.mtr.specs.Seen.{MtrState, Visits, with_bytes}
 use Rattle.mtr.specs.Calls.{Goes, SeesAt, Spends, IsReason}
 use Rattle.space_map.specs.Map.{map_page, byte_of, mark_of, IsFree}

@@ -8,6 +8,3 @@ mod parts;
 mod space;
 
 pub use space::{free_count, give, take};
-
-#[cfg(test)]
-mod tests;

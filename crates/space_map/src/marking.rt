@@ -8,7 +8,8 @@ ghost use Rattle.space_map.specs.Taking.{map_pages, Marks, IsGiveReason};
 
 use crate::bits::{BITS, COVERED, with_bit};
 use crate::parts::FIRST;
-use mtr::{Mtr, SpaceBad};
+use mtr::Mtr;
+use store_api::SpaceBad;
 
 /// Sets or clears a page's bit.
 pub fn set_mark<M: Mtr>(m: &mut M, page: u32, used: bool) -> Result<(), SpaceBad>

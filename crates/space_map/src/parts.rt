@@ -8,7 +8,8 @@ ghost use Rattle.space_map.specs.Map.{mark_of, IsFirstFree, free_among};
 ghost use Rattle.space_map.specs.Taking.{map_pages, Miscounts};
 
 use crate::bits::{COVERED, count_free, first_free};
-use mtr::{Mtr, Visit, capacity};
+use mtr::{Mtr, capacity};
+use store_api::{MOST_PAGES, Visit};
 
 /// The first page of the map.
 pub const FIRST: u32 = 2;
@@ -16,10 +17,8 @@ pub const FIRST: u32 = 2;
 /// How many parts there are.
 pub const PARTS: u32 = 3;
 
-/// The fewest pages of a file, and the most.
+/// The fewest pages of a file.
 const FEWEST: u32 = 21;
-
-const MOST: u32 = 65536;
 
 /// How many pages there are, if page 0 says a number that a file can have.
 pub fn page_count<M: Mtr>(m: &mut M) -> Result<u32, Visit>
@@ -30,7 +29,7 @@ pub fn page_count<M: Mtr>(m: &mut M) -> Result<u32, Visit>
     ensures reason { IfErr result (IsReason map_pages Miscounts (M.state m.old) (M.state m.new)) }
 {
     let count = capacity(m)?;
-    if count < FEWEST || count > MOST {
+    if count < FEWEST || count > MOST_PAGES {
         return Err(Visit::Bad { page: 0, rule: 1 });
     }
     Ok(count)

@@ -9,7 +9,8 @@ ghost use Rattle.space_map.specs.Taking.{map_pages, HasPageCount, Miscounts, Mar
 
 use crate::marking::set_mark;
 use crate::parts::{count_all, find_free, page_count};
-use mtr::{Mtr, SpaceBad, Visit};
+use mtr::Mtr;
+use store_api::{SpaceBad, Visit};
 
 /// Takes the first free page. What stands on it is left to the caller.
 pub fn take<M: Mtr>(m: &mut M) -> Result<u32, SpaceBad>

@@ -13,7 +13,7 @@ use Rattle.inno_db.specs.Database.{Database, Place, key_of, rows_of}
 use Rattle.inno_db.specs.Names.{table_place}
 use Rattle.inno_db.specs.Outcome.{outcome, matching}
 use Rattle.inno_model.specs.declared.event.Event.{Event}
-use Rattle.inno_model.specs.Outcome.{place_of}
+use Rattle.inno_db.specs.Changes.{place_of}
 use Rattle.inno_model.specs.Past.{own, view_of, opening, changed, committed}
 use Rattle.sql_history.specs.Items.{base, point, own_before, HasMade}
 use Rattle.sql_history.specs.Statements.{Sight, schemas_now}

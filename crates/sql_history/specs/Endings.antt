@@ -2,14 +2,8 @@
 use Rattle.std.specs.Prelude.{◌≡◌, ℕ, List, [], Bool, true, false, Option, Some, None, is_some}
 use Rattle.inno_types.specs.declared.lock.Level.{Level}
 use Rattle.inno_model.specs.declared.event.Event.{Event}
-use Rattle.inno_model.specs.Past.{before_item, did, begins_txn, commits_txn, rolls_back_txn, level, own}
+use Rattle.inno_model.specs.Past.{before_item, did, begins_txn, commits_txn, rolls_back_txn, level, own, IsOpen, IsClosed}
 use Rattle.sql_history.specs.Items.{undoes}
-
-abbrev pub IsOpen : ℕ → List Event → Type 0
-IsOpen s past = is_some (level s past) ≡ true
-
-abbrev pub IsClosed : ℕ → List Event → Type 0
-IsClosed s past = level s past ≡ None
 
 -- The item neither opens nor ends a transaction.
 pub record StaysIn (s : ℕ) (past : List Event) : Type 0 where

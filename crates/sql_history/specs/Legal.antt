@@ -16,16 +16,15 @@ use Rattle.inno_db.specs.Database.{Database, Place}
 use Rattle.inno_db.specs.Outcome.{outcome}
 use Rattle.inno_model.specs.declared.event.Event.{Event}
 use Rattle.inno_model.specs.declared.event.Event.TheVariants as events
-use Rattle.inno_model.specs.Outcome.{place_of}
-use Rattle.inno_model.specs.Loose.{Spares, Sometime}
-use Rattle.inno_model.specs.Legal.{awaits_ack}
-use Rattle.inno_model.specs.Past.{started, under_way, before_item, of_item, did, begins_txn, takes_view, commits_txn, rolls_back_txn, begins, level, own, view_of, oldest}
+use Rattle.inno_db.specs.Changes.{place_of, Spares}
+use Rattle.inno_model.specs.Moments.{Sometime}
+use Rattle.inno_model.specs.Past.{started, under_way, before_item, of_item, did, begins_txn, takes_view, commits_txn, rolls_back_txn, begins, level, own, view_of, oldest, awaits_ack, IsOpen, IsClosed}
 use Rattle.sql_history.specs.Items.{Language, Asks, is_over, own_before, base, point, HasMade}
 use Rattle.sql_history.specs.Settings.{Setting, HasSet, next_level, made_at}
 use Rattle.sql_history.specs.Statements.{Sight, is_on_rows, is_select, sight_of, refused_at_once}
 use Rattle.sql_history.specs.LooseReading.{newest}
 use Rattle.sql_history.specs.Answers.{MaySee, Answers, BreaksOff}
-use Rattle.sql_history.specs.Endings.{IsOpen, IsClosed, StaysIn, Opens, Commits, RollsBack, Goes, BacksOut}
+use Rattle.sql_history.specs.Endings.{StaysIn, Opens, Commits, RollsBack, Goes, BacksOut}
 use Rattle.sql_history.specs.Waiting.{IsFitting, IsWaitOf, IsVictim, is_victim, NamesCycle, request_in}
 use Rattle.sql_history.specs.Counts.{has_stopped, last_moment, signals, signals_asked, signals_done, rows_of_reply, rows_kept, most_rows}
 use Rattle.lock_rules.specs.Conflicts.{conflicts}

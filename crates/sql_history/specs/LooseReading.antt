@@ -7,8 +7,8 @@ use Rattle.inno_db.specs.declared.change.Change.{Change}
 use Rattle.inno_db.specs.Database.{Database, Place}
 use Rattle.inno_model.specs.declared.event.Event.{Event}
 use Rattle.inno_model.specs.declared.event.Event.TheVariants.{Begin, Started, Ended, Changed, Undone, RolledBack}
-use Rattle.inno_model.specs.Outcome.{place_of}
-use Rattle.inno_model.specs.Loose.{Throughout, Sometime}
+use Rattle.inno_db.specs.Changes.{place_of}
+use Rattle.inno_model.specs.Moments.{Throughout, Sometime}
 use Rattle.inno_model.specs.Past.{own, under_way, commits, committed, opening, changed}
 
 -- the sessions that have begun transactions, each once

@@ -20,15 +20,14 @@ use Rattle.inno_db.specs.declared.change.Change.TheVariants.{Create, Put, Remove
 use Rattle.inno_db.specs.declared.limits.TheConstants.{MOST_TABLES}
 use Rattle.inno_model.specs.declared.event.Event.{Event}
 use Rattle.inno_model.specs.declared.event.Event.TheVariants as events
-use Rattle.inno_model.specs.Past.{is_of, started, under_way, level, own, opening, begins, commits, committed}
-use Rattle.inno_model.specs.Legal.{IsOpen}
+use Rattle.inno_model.specs.Past.{is_of, started, under_way, level, own, opening, begins, commits, committed, IsOpen}
 use Rattle.sql_grammar.specs.Grammar.{Spells}
 use Rattle.sql_history.specs.Items.{Asks}
 use Rattle.sql_history.specs.Settings.{Setting, HasSet, at_first, at_begin, at_end, saved, set_by}
 use Rattle.sql_history.specs.Counts.{has_stopped, last_moment, rows_of_entry, rows_kept, rows_of_reply, most_rows}
 use Rattle.sql_history.specs.Legal.{MayFollow, PaysCommit, MayBegin, MayView, MayChange, MayUndo, MayCommit, MayRollBack, is_leaving, IsWithin, EndsBy, owed_by, owes_commit}
-use Rattle.past_agreement.specs.Order.{created, is_creation, IsOfRow, IsTabled, IsUndoable, MayCome}
-use Rattle.past_agreement.proofs.Ids.{ids_of}
+use Rattle.law_past_agreement.specs.Order.{created, is_creation, IsOfRow, IsTabled, IsUndoable, MayCome}
+use Rattle.law_past_agreement.proofs.Ids.{ids_of}
 use Rattle.sql_plan.specs.declared.choice.Plan.{Plan}
 use Rattle.shared_lists.specs.declared.answers.Reading.{Reading}
 use Rattle.shared_lists.specs.declared.answers.Searched.{Searched}

@@ -18,7 +18,8 @@ use Rattle.shared_lists.specs.Tasks.{Task, Idle, asked, left_by}
 use Rattle.shared_lists.specs.State.{State, IsNow, Adds, Closes, Turns, Stays, task_of, writer_without}
 use Rattle.shared_lists.specs.Steps.{Searches, GoesOn, Enters, Changes, TakesBack}
 use Rattle.sql_lists.specs.Steps.{Moves, StaysRunning, changes_rows}
-use Rattle.sql_lists.specs.Going.{IsBelow, left, to_close, to_roll_back}
+use Rattle.sql_lists.specs.Going.{left, to_close, to_roll_back}
+use Rattle.inno_types.specs.Order.{IsBelow}
 
 -- ---- steps that add nothing
 

@@ -8,7 +8,7 @@ use Rattle.inno_db.specs.declared.change.Change.TheVariants.{Create, Put, Remove
 use Rattle.inno_model.specs.declared.event.Event.{Event}
 use Rattle.inno_model.specs.declared.event.Event.TheVariants as events
 use Rattle.inno_model.specs.Past.{own, oldest, commits, committed, opening}
-use Rattle.past_agreement.specs.Order.{IsTabled, IsUndoable}
+use Rattle.law_past_agreement.specs.Order.{IsTabled, IsUndoable}
 use Rattle.sql_lists.specs.Kept.{made, AreInOrder, IsInOrder}
 
 tabled_more : (m n : ℕ) → m ≤ n → (change : Change) → IsTabled m change → IsTabled n change

@@ -13,7 +13,7 @@ use Rattle.inno_model.specs.declared.event.Event.{Event}
 use Rattle.inno_model.specs.declared.event.Event.TheVariants as events
 use Rattle.inno_model.specs.Past.{own, oldest, commits, committed, opening, changed}
 use Rattle.sql_history.specs.Statements.{schemas_now}
-use Rattle.past_agreement.specs.Order.{created, is_creation, IsUndoable}
+use Rattle.law_past_agreement.specs.Order.{created, is_creation, IsUndoable}
 use Rattle.sql_lists.specs.Kept.{IsOnlyMaker, AreStanding, made}
 use Rattle.sql_lists.proofs.Staying.{committed_more}
 

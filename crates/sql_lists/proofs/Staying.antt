@@ -7,7 +7,7 @@ use Rattle.inno_types.specs.declared.stmt.Stmt.{Stmt}
 use Rattle.inno_model.specs.declared.event.Event.{Event}
 use Rattle.inno_model.specs.declared.event.Event.TheVariants as events
 use Rattle.inno_model.specs.Past.{is_of, under_way, before_item, closes, own, commits, committed, opening, changed}
-use Rattle.inno_model.specs.Loose.{starts}
+use Rattle.inno_model.specs.Moments.{starts}
 use Rattle.sql_grammar.specs.Grammar.{Spells}
 use Rattle.sql_history.specs.Items.{of_turn, is_over, point, before_turn, own_before, base}
 use Rattle.sql_history.specs.Legal.{Takes}

@@ -4,13 +4,9 @@ use Rattle.inno_model.specs.declared.event.Event.{Event}
 use Rattle.inno_model.specs.Past.{level, own, view_of}
 use Rattle.shared_lists.specs.Tasks.{undo_to_go}
 use Rattle.shared_lists.specs.State.{State, task_of}
+use Rattle.inno_types.specs.Order.{IsBelow}
 use Rattle.sql_lists.specs.declared.advance.Advance.{Advance}
 use Rattle.sql_lists.specs.declared.advance.Advance.TheVariants as advance
-
--- a list is below another where its first number that differs is the smaller one
-abbrev pub IsBelow : List ℕ → List ℕ → Type 0
-IsBelow (a ∷ later) (b ∷ others) = (a < b) ⊎ ((a ≡ b) × IsBelow later others)
-IsBelow list other = ⊥
 
 -- fifteen numbers: how many phases are left, and what is left of this one. (Who drives a statement puts one before them.)
 abbrev pub left : ℕ → ℕ → ℕ → ℕ → List ℕ

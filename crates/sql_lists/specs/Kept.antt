@@ -10,16 +10,14 @@ use Rattle.inno_db.specs.declared.limits.TheConstants.{MOST_TABLES}
 use Rattle.inno_types.specs.declared.value.Schema.{Schema}
 use Rattle.inno_db.specs.declared.change.Change.{Change}
 use Rattle.inno_db.specs.declared.change.Change.TheVariants.{Create}
-use Rattle.inno_model.specs.Past.{under_way, of_item, own, commits, committed, opening}
-use Rattle.inno_model.specs.Legal.{awaits_ack}
+use Rattle.inno_model.specs.Past.{under_way, of_item, own, commits, committed, opening, awaits_ack, IsClosed}
 use Rattle.sql_grammar.specs.Grammar.{Spells}
 use Rattle.sql_history.specs.Settings.{Setting, HasSet, at_first}
 use Rattle.sql_history.specs.Counts.{has_stopped, last_moment, rows_kept, most_rows}
-use Rattle.sql_history.specs.Endings.{IsClosed}
 use Rattle.sql_history.specs.Legal.{IsLegal, EndsBy, owes_commit}
 use Rattle.sql_history.specs.Statements.{schemas_now}
-use Rattle.past_agreement.specs.Agreement.{IsSound}
-use Rattle.past_agreement.specs.Order.{created, is_creation, IsTabled}
+use Rattle.law_past_agreement.specs.Agreement.{IsSound}
+use Rattle.law_past_agreement.specs.Order.{created, is_creation, IsTabled}
 
 -- no other session is making a table
 abbrev pub IsOnlyMaker : ℕ → List Event → Type 0

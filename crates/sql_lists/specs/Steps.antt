@@ -8,11 +8,10 @@ use Rattle.inno_types.specs.declared.lock.Mode.TheVariants.{X}
 use Rattle.inno_types.specs.declared.stmt.Stmt.{Stmt}
 use Rattle.inno_model.specs.declared.event.Event.{Event}
 use Rattle.inno_model.specs.declared.event.Event.TheVariants.{Changed, Ended}
-use Rattle.inno_model.specs.Past.{is_of, started, of_item, own, level, txn}
+use Rattle.inno_model.specs.Past.{is_of, started, of_item, own, level, txn, IsOpen}
 use Rattle.sql_grammar.specs.Grammar.{Spells}
-use Rattle.sql_history.specs.Endings.{IsOpen}
 use Rattle.sql_history.specs.Legal.{Takes}
-use Rattle.past_agreement.specs.Order.{IsOfRow}
+use Rattle.law_past_agreement.specs.Order.{IsOfRow}
 use Rattle.shared_lists.specs.Tasks.{Idle}
 use Rattle.shared_lists.specs.State.{State, task_of, Stays}
 use Rattle.sql_lists.specs.declared.advance.Advance.{Advance}

@@ -8,16 +8,15 @@ ghost use Rattle.inno_types.specs.declared.reply.Reply.TheVariants.{Done};
 ghost use Rattle.inno_types.specs.declared.stmt.Stmt.TheVariants.{Savepoint as SavepointStmt};
 ghost use Rattle.inno_types.specs.declared.lock.Level.TheVariants.{Serializable};
 ghost use Rattle.inno_model.specs.declared.event.Event.TheVariants.{Begin, Started, View, Changed as ChangedEvent, Ended, Committed, Acked, RolledBack};
-ghost use Rattle.inno_model.specs.Past.{under_way, level, own, started, begins, view_of, txn};
-ghost use Rattle.inno_model.specs.Legal.{IsOpen};
+ghost use Rattle.inno_model.specs.Past.{under_way, level, own, started, begins, view_of, txn, IsOpen};
 ghost use Rattle.sql_grammar.specs.Grammar.{Spells};
 ghost use Rattle.sql_history.specs.Items.{Asks};
 ghost use Rattle.sql_history.specs.Settings.{HasSet};
 ghost use Rattle.sql_history.specs.Counts.{rows_kept, rows_of_reply, most_rows};
 ghost use Rattle.sql_history.specs.Legal.{IsLegal, MayBegin, MayView, MayChange, MayUndo, MayCommit, MayRollBack, is_leaving};
-ghost use Rattle.fitting_rows.specs.Storable.{IsStorable};
-ghost use Rattle.past_agreement.specs.Order.{created, IsOfRow, IsTabled, IsUndoable};
-ghost use Rattle.past_agreement.specs.Agreement.{IsSound};
+ghost use Rattle.law_fitting_rows.specs.Storable.{IsStorable};
+ghost use Rattle.law_past_agreement.specs.Order.{created, IsOfRow, IsTabled, IsUndoable};
+ghost use Rattle.law_past_agreement.specs.Agreement.{IsSound};
 ghost use Rattle.shared_lists.specs.Fitting.{FitsWell, FitsThen};
 ghost use Rattle.shared_lists.specs.Tasks.{Idle, Searching, is_changing, asked, steps_left, MayTakeBack};
 ghost use Rattle.shared_lists.specs.State.{IsFirst, IsNow, Adds, Closes, Turns, Stays, task_of, writer_without};
@@ -34,10 +33,7 @@ use shared_lists::{Changed, Reading, Searched, SharedLists, Undone};
 use sql_plan::Plan;
 use std::alloc::Global;
 use std::marker::Model;
-use store_api::NoMemory;
-
-/// How many rows a history may hold.
-const MOST_ROWS: u64 = 1_000_000;
+use store_api::{MOST_ROWS, NoMemory};
 
 #[derive(Drop)]
 pub struct SqlLists<L: SharedLists> {

@@ -10,6 +10,3 @@ mod row;
 pub use choice::{Plan, choose};
 pub use part::Bounding;
 pub use row::{AssignBad, assign, holds};
-
-#[cfg(test)]
-mod tests;

@@ -12,7 +12,7 @@ use Rattle.sql_grammar.specs.declared.token.Word.{Word}
 use Rattle.sql_grammar.specs.declared.token.Word.TheVariants as word
 use Rattle.sql_grammar.specs.declared.token.Token.{Token}
 use Rattle.sql_grammar.specs.declared.token.Token.TheVariants.{Bare}
-use Rattle.sql_grammar.specs.Words.{capitals, spelling}
+use Rattle.sql_grammar.specs.Words.{capitals, spelling, reserved, others}
 use Rattle.sql_grammar.specs.Tokens.{after_blank, token_at, sign_at, word_token, AreTokens}
 use Rattle.sql_grammar.specs.Tokens as spelled
 use Rattle.sql_grammar.specs.Grammar.{Spells, Statement}
@@ -200,9 +200,6 @@ all_endings = ending.Nothing ∷ ending.Zero ∷ ending.ZeroTuple ∷ ending.InZ
 abbrev pub all_token_ends : List TokenEnd
 all_token_ends = token.Nothing ∷ token.Underscore ∷ token.Equal ∷ token.Minus ∷ token.EndOfComment ∷ token.Comment ∷ token.Backquote ∷ token.Name ∷ token.Backquotes ∷ token.Quote ∷ token.Text ∷ token.DoubleQuote ∷ token.DoubleText ∷ []
 
-abbrev pub all_words : List Word
-all_words = word.And ∷ word.Between ∷ word.BigInt ∷ word.Create ∷ word.Delete ∷ word.Exists ∷ word.For ∷ word.From ∷ word.If ∷ word.In ∷ word.Index ∷ word.Insert ∷ word.Into ∷ word.Is ∷ word.Key ∷ word.Lock ∷ word.Not ∷ word.Null ∷ word.Or ∷ word.Primary ∷ word.Select ∷ word.Set ∷ word.Table ∷ word.To ∷ word.Update ∷ word.Values ∷ word.VarBinary ∷ word.Where ∷ word.With ∷ word.Autocommit ∷ word.Begin ∷ word.Commit ∷ word.Committed ∷ word.Consistent ∷ word.Engine ∷ word.InnoDb ∷ word.Isolation ∷ word.Level ∷ word.Mode ∷ word.Off ∷ word.On ∷ word.Read ∷ word.Repeatable ∷ word.Rollback ∷ word.Savepoint ∷ word.Serializable ∷ word.Session ∷ word.Share ∷ word.Snapshot ∷ word.Start ∷ word.Transaction ∷ word.Uncommitted ∷ word.Value ∷ word.Work ∷ []
-
 pub has_ending : (e : Ending) → Contains all_endings e
 has_ending ending.Nothing = (0, omega arith, refl)
 has_ending ending.Zero = (1, omega arith, refl)
@@ -265,61 +262,62 @@ has_token_end token.Text = (10, omega arith, refl)
 has_token_end token.DoubleQuote = (11, omega arith, refl)
 has_token_end token.DoubleText = (12, omega arith, refl)
 
-pub has_word : (w : Word) → Contains all_words w
-has_word word.And = (0, omega arith, refl)
-has_word word.Between = (1, omega arith, refl)
-has_word word.BigInt = (2, omega arith, refl)
-has_word word.Create = (3, omega arith, refl)
-has_word word.Delete = (4, omega arith, refl)
-has_word word.Exists = (5, omega arith, refl)
-has_word word.For = (6, omega arith, refl)
-has_word word.From = (7, omega arith, refl)
-has_word word.If = (8, omega arith, refl)
-has_word word.In = (9, omega arith, refl)
-has_word word.Index = (10, omega arith, refl)
-has_word word.Insert = (11, omega arith, refl)
-has_word word.Into = (12, omega arith, refl)
-has_word word.Is = (13, omega arith, refl)
-has_word word.Key = (14, omega arith, refl)
-has_word word.Lock = (15, omega arith, refl)
-has_word word.Not = (16, omega arith, refl)
-has_word word.Null = (17, omega arith, refl)
-has_word word.Or = (18, omega arith, refl)
-has_word word.Primary = (19, omega arith, refl)
-has_word word.Select = (20, omega arith, refl)
-has_word word.Set = (21, omega arith, refl)
-has_word word.Table = (22, omega arith, refl)
-has_word word.To = (23, omega arith, refl)
-has_word word.Update = (24, omega arith, refl)
-has_word word.Values = (25, omega arith, refl)
-has_word word.VarBinary = (26, omega arith, refl)
-has_word word.Where = (27, omega arith, refl)
-has_word word.With = (28, omega arith, refl)
-has_word word.Autocommit = (29, omega arith, refl)
-has_word word.Begin = (30, omega arith, refl)
-has_word word.Commit = (31, omega arith, refl)
-has_word word.Committed = (32, omega arith, refl)
-has_word word.Consistent = (33, omega arith, refl)
-has_word word.Engine = (34, omega arith, refl)
-has_word word.InnoDb = (35, omega arith, refl)
-has_word word.Isolation = (36, omega arith, refl)
-has_word word.Level = (37, omega arith, refl)
-has_word word.Mode = (38, omega arith, refl)
-has_word word.Off = (39, omega arith, refl)
-has_word word.On = (40, omega arith, refl)
-has_word word.Read = (41, omega arith, refl)
-has_word word.Repeatable = (42, omega arith, refl)
-has_word word.Rollback = (43, omega arith, refl)
-has_word word.Savepoint = (44, omega arith, refl)
-has_word word.Serializable = (45, omega arith, refl)
-has_word word.Session = (46, omega arith, refl)
-has_word word.Share = (47, omega arith, refl)
-has_word word.Snapshot = (48, omega arith, refl)
-has_word word.Start = (49, omega arith, refl)
-has_word word.Transaction = (50, omega arith, refl)
-has_word word.Uncommitted = (51, omega arith, refl)
-has_word word.Value = (52, omega arith, refl)
-has_word word.Work = (53, omega arith, refl)
+-- a key word is in one of the two lists
+has_word : (w : Word) → Contains reserved w ⊎ Contains others w
+has_word word.And = inl (0, omega arith, refl)
+has_word word.Between = inl (1, omega arith, refl)
+has_word word.BigInt = inl (2, omega arith, refl)
+has_word word.Create = inl (3, omega arith, refl)
+has_word word.Delete = inl (4, omega arith, refl)
+has_word word.Exists = inl (5, omega arith, refl)
+has_word word.For = inl (6, omega arith, refl)
+has_word word.From = inl (7, omega arith, refl)
+has_word word.If = inl (8, omega arith, refl)
+has_word word.In = inl (9, omega arith, refl)
+has_word word.Index = inl (10, omega arith, refl)
+has_word word.Insert = inl (11, omega arith, refl)
+has_word word.Into = inl (12, omega arith, refl)
+has_word word.Is = inl (13, omega arith, refl)
+has_word word.Key = inl (14, omega arith, refl)
+has_word word.Lock = inl (15, omega arith, refl)
+has_word word.Not = inl (16, omega arith, refl)
+has_word word.Null = inl (17, omega arith, refl)
+has_word word.Or = inl (18, omega arith, refl)
+has_word word.Primary = inl (19, omega arith, refl)
+has_word word.Select = inl (20, omega arith, refl)
+has_word word.Set = inl (21, omega arith, refl)
+has_word word.Table = inl (22, omega arith, refl)
+has_word word.To = inl (23, omega arith, refl)
+has_word word.Update = inl (24, omega arith, refl)
+has_word word.Values = inl (25, omega arith, refl)
+has_word word.VarBinary = inl (26, omega arith, refl)
+has_word word.Where = inl (27, omega arith, refl)
+has_word word.With = inl (28, omega arith, refl)
+has_word word.Autocommit = inr (0, omega arith, refl)
+has_word word.Begin = inr (1, omega arith, refl)
+has_word word.Commit = inr (2, omega arith, refl)
+has_word word.Committed = inr (3, omega arith, refl)
+has_word word.Consistent = inr (4, omega arith, refl)
+has_word word.Engine = inr (5, omega arith, refl)
+has_word word.InnoDb = inr (6, omega arith, refl)
+has_word word.Isolation = inr (7, omega arith, refl)
+has_word word.Level = inr (8, omega arith, refl)
+has_word word.Mode = inr (9, omega arith, refl)
+has_word word.Off = inr (10, omega arith, refl)
+has_word word.On = inr (11, omega arith, refl)
+has_word word.Read = inr (12, omega arith, refl)
+has_word word.Repeatable = inr (13, omega arith, refl)
+has_word word.Rollback = inr (14, omega arith, refl)
+has_word word.Savepoint = inr (15, omega arith, refl)
+has_word word.Serializable = inr (16, omega arith, refl)
+has_word word.Session = inr (17, omega arith, refl)
+has_word word.Share = inr (18, omega arith, refl)
+has_word word.Snapshot = inr (19, omega arith, refl)
+has_word word.Start = inr (20, omega arith, refl)
+has_word word.Transaction = inr (21, omega arith, refl)
+has_word word.Uncommitted = inr (22, omega arith, refl)
+has_word word.Value = inr (23, omega arith, refl)
+has_word word.Work = inr (24, omega arith, refl)
 
 -- by one of all, or by none
 pub tried : {A : Type 0} (P : A → Type 0) (xs : List A) → ((x : A) → Contains xs x) → (b : Bool) → Decides b (Any P xs) → Decides b ((x : A) × P x)
@@ -335,6 +333,20 @@ by_word bytes b w e d h = ((λ f. word_begins bytes (h.0 f)), (λ g. either (beg
     either : GoesOnByToken bytes ⊎ GoesOnByWord bytes → w ≡ true
     either (inl t) = let f : false ≡ true = sym e ∙ d.1 t in absurd (cc)
     either (inr t) = h.1 t
+
+-- by a reserved word, or by another one
+pub by_one_of : (bytes : List ℕ) (words : List Word) (b : Bool) → b ≡ true → Decides b (Any (λ w. GoesOn bytes (spelling w)) words) → Decides true (GoesOnByWord bytes)
+by_one_of bytes words b e d = ((λ f. let a = d.0 e in (a.1, a.4)), (λ g. refl))
+
+by_either : (bytes : List ℕ) (first second : List Word) (b w : Bool) → first ≡ reserved → second ≡ others → b ≡ false → Decides b (Any (λ w. GoesOn bytes (spelling w)) first) → Decides w (Any (λ w. GoesOn bytes (spelling w)) second) → Decides w (GoesOnByWord bytes)
+by_either bytes first second b w p q e d h = ((λ f. let a = h.0 f in (a.1, a.4)), (λ g. either g (has_word g.0)))
+  where
+    either : (g : GoesOnByWord bytes) → Contains reserved g.0 ⊎ Contains others g.0 → w ≡ true
+    either g (inl a) =
+        let c = subst (λ (ws : List Word). Contains ws g.0) (sym p) a in
+        let f : false ≡ true = sym e ∙ d.1 (c.0, g.0, c.1, c.2, g.1) in
+        absurd (cc)
+    either g (inr a) = let c = subst (λ (ws : List Word). Contains ws g.0) (sym q) a in h.1 (c.0, g.0, c.1, c.2, g.1)
 
 -- ---- texts with an end
 
@@ -397,6 +409,10 @@ tried_ok P xs has (Err e) d = tt
 pub by_word_ok : {E : Type 0} (bytes : List ℕ) (b : Bool) (r : Result Bool E) → b ≡ false → Decides b (GoesOnByToken bytes) → IfOk r (λ w. Decides w (GoesOnByWord bytes)) → IfOk r (λ w. Decides w (Begins bytes))
 by_word_ok bytes b (Ok w) e d h = by_word bytes b w e d h
 by_word_ok bytes b (Err x) e d h = tt
+
+pub by_either_ok : {E : Type 0} (bytes : List ℕ) (first second : List Word) (b : Bool) (r : Result Bool E) → first ≡ reserved → second ≡ others → b ≡ false → Decides b (Any (λ w. GoesOn bytes (spelling w)) first) → IfOk r (λ w. Decides w (Any (λ w. GoesOn bytes (spelling w)) second)) → IfOk r (λ w. Decides w (GoesOnByWord bytes))
+by_either_ok bytes first second b (Ok w) p q e d h = by_either bytes first second b w p q e d h
+by_either_ok bytes first second b (Err x) p q e d h = tt
 
 pub read_cuts_ok : {E : Type 0} (text bytes e : List ℕ) (unread : ℕ) (us : List Token) (d : ℕ) (r : Result Bool E) → text ≡ ended bytes e → ((others : List Token) → AreTokens text others → (unread ≡ 0) × (others ≡ us)) → AreTokens text us → d ≡ level 0 us → IfOk r (λ b. Decides b (IsFinished text d)) → IfOk r (λ b. Decides b (IsCutOff bytes e))
 read_cuts_ok text bytes e unread us d (Ok b) same only whole depth f = read_cuts text bytes e unread us d b same only whole depth f

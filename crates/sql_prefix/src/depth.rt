@@ -1,4 +1,5 @@
 //! How many brackets are open behind some tokens.
+//! Nothing else is looked at: brackets that no statement has count too.
 
 ghost use Rattle.std.specs.Prelude.{◌≡◌, ◌<◌};
 ghost use Rattle.sql_prefix.specs.Fronts as fronts;

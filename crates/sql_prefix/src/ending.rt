@@ -1,4 +1,5 @@
 //! Ways to finish a statement, and whether one of them finishes a text.
+//! Each way is tried with the parser itself, so no rule of the grammar stands here again.
 
 ghost use Rattle.std.specs.Prelude.{◌≡◌, ◌++◌, replicate, IfOk, Any};
 ghost use Rattle.std.specs.Bool.{Decides};

@@ -1,4 +1,5 @@
 //! The tree that the bytes of a statement spell, or the place up to which they begin one.
+//! What callers call to read a statement; the parser below gives a coarser place.
 
 ghost use Rattle.std.specs.Prelude.{◌≡◌, IfOk, IfErr, min};
 ghost use Rattle.std.specs.Bool.{Decides};
@@ -17,7 +18,10 @@ pub(crate) fn is_statement(alloc: Global, bytes: &[u8]) -> Result<bool, AllocErr
     ensures { IfOk result (λ b. Decides b (IsStatement bytes.now)) }
 {
     match sql_text::parse(alloc, bytes) {
-        Ok(_) => Ok(true),
+        Ok(stmt) => {
+            drop(stmt);
+            Ok(true)
+        }
         Err(ParseBad::Syntax { .. }) => Ok(false),
         Err(ParseBad::NoMemory) => Err(AllocError),
     }

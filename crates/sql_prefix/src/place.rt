@@ -1,4 +1,5 @@
-//! The longest front of some bytes that begins a statement.
+//! The longest front of some bytes that begins a statement, found by halves.
+//! The place of a refusal comes from here.
 
 ghost use Rattle.std.specs.Prelude.{◌≡◌, ◌+◌, ◌-◌, ◌<◌, IfOk};
 ghost use Rattle.sql_prefix.specs.Prefix.{IsBetween, IsLongestPrefix};

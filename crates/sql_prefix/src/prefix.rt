@@ -1,4 +1,5 @@
-//! Whether bytes begin some statement.
+//! Whether bytes begin some statement: each end of the last token is tried, and each rest of a key word.
+//! The key words are those of `sql_tokens`.
 
 ghost use Rattle.std.specs.Prelude.{◌≡◌, ◌≤◌, ◌++◌, [], ◌∷◌, length, IfOk, Any};
 ghost use Rattle.std.specs.Bool.{Decides};
@@ -9,7 +10,7 @@ ghost use Rattle.sql_prefix.specs.Prefix.{ends_in as ends_so, Begins, GoesOn, Go
 use crate::depth::depth_of;
 use crate::ending::is_finished;
 use sql_grammar::Word;
-use sql_tokens::lex;
+use sql_tokens::{lex, other_words, reserved_words, spelling};
 use std::alloc::{AllocError, Global};
 
 /// What may finish the last token or comment of a text, apart from the rest of a key word.
@@ -63,124 +64,6 @@ fn token_end(end: TokenEnd) -> &'static [u8]
         TokenEnd::Text => b"x'",
         TokenEnd::DoubleQuote => b"\"",
         TokenEnd::DoubleText => b"x\"",
-    }
-}
-
-const WORDS: [Word; 54] = [
-    Word::And,
-    Word::Between,
-    Word::BigInt,
-    Word::Create,
-    Word::Delete,
-    Word::Exists,
-    Word::For,
-    Word::From,
-    Word::If,
-    Word::In,
-    Word::Index,
-    Word::Insert,
-    Word::Into,
-    Word::Is,
-    Word::Key,
-    Word::Lock,
-    Word::Not,
-    Word::Null,
-    Word::Or,
-    Word::Primary,
-    Word::Select,
-    Word::Set,
-    Word::Table,
-    Word::To,
-    Word::Update,
-    Word::Values,
-    Word::VarBinary,
-    Word::Where,
-    Word::With,
-    Word::Autocommit,
-    Word::Begin,
-    Word::Commit,
-    Word::Committed,
-    Word::Consistent,
-    Word::Engine,
-    Word::InnoDb,
-    Word::Isolation,
-    Word::Level,
-    Word::Mode,
-    Word::Off,
-    Word::On,
-    Word::Read,
-    Word::Repeatable,
-    Word::Rollback,
-    Word::Savepoint,
-    Word::Serializable,
-    Word::Session,
-    Word::Share,
-    Word::Snapshot,
-    Word::Start,
-    Word::Transaction,
-    Word::Uncommitted,
-    Word::Value,
-    Word::Work,
-];
-
-fn spelling(word: Word) -> &'static [u8]
-    ensures { result.now ≡ key_words.spelling word }
-{
-    match word {
-        Word::And => b"AND",
-        Word::Between => b"BETWEEN",
-        Word::BigInt => b"BIGINT",
-        Word::Create => b"CREATE",
-        Word::Delete => b"DELETE",
-        Word::Exists => b"EXISTS",
-        Word::For => b"FOR",
-        Word::From => b"FROM",
-        Word::If => b"IF",
-        Word::In => b"IN",
-        Word::Index => b"INDEX",
-        Word::Insert => b"INSERT",
-        Word::Into => b"INTO",
-        Word::Is => b"IS",
-        Word::Key => b"KEY",
-        Word::Lock => b"LOCK",
-        Word::Not => b"NOT",
-        Word::Null => b"NULL",
-        Word::Or => b"OR",
-        Word::Primary => b"PRIMARY",
-        Word::Select => b"SELECT",
-        Word::Set => b"SET",
-        Word::Table => b"TABLE",
-        Word::To => b"TO",
-        Word::Update => b"UPDATE",
-        Word::Values => b"VALUES",
-        Word::VarBinary => b"VARBINARY",
-        Word::Where => b"WHERE",
-        Word::With => b"WITH",
-        Word::Autocommit => b"AUTOCOMMIT",
-        Word::Begin => b"BEGIN",
-        Word::Commit => b"COMMIT",
-        Word::Committed => b"COMMITTED",
-        Word::Consistent => b"CONSISTENT",
-        Word::Engine => b"ENGINE",
-        Word::InnoDb => b"INNODB",
-        Word::Isolation => b"ISOLATION",
-        Word::Level => b"LEVEL",
-        Word::Mode => b"MODE",
-        Word::Off => b"OFF",
-        Word::On => b"ON",
-        Word::Read => b"READ",
-        Word::Repeatable => b"REPEATABLE",
-        Word::Rollback => b"ROLLBACK",
-        Word::Savepoint => b"SAVEPOINT",
-        Word::Serializable => b"SERIALIZABLE",
-        Word::Session => b"SESSION",
-        Word::Share => b"SHARE",
-        Word::Snapshot => b"SNAPSHOT",
-        Word::Start => b"START",
-        Word::Transaction => b"TRANSACTION",
-        Word::Uncommitted => b"UNCOMMITTED",
-        Word::Value => b"VALUE",
-        Word::Work => b"WORK",
     }
 }
 
@@ -277,7 +160,10 @@ fn goes_on_by_one_word(alloc: Global, words: &[Word], bytes: &[u8]) -> Result<bo
 fn goes_on_by_word(alloc: Global, bytes: &[u8]) -> Result<bool, AllocError>
     ensures { IfOk result (λ b. Decides b (GoesOnByWord bytes.now)) }
 {
-    goes_on_by_one_word(alloc, &WORDS, bytes)
+    if goes_on_by_one_word(alloc, reserved_words(), bytes)? {
+        return Ok(true);
+    }
+    goes_on_by_one_word(alloc, other_words(), bytes)
 }
 
 /// Whether some statement of the grammar begins with the bytes.

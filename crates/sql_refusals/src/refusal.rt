@@ -7,13 +7,13 @@ ghost use Rattle.inno_db.specs.Names.{table_place};
 ghost use Rattle.inno_db.specs.Typing.{tuple_fits, set_known, set_fits};
 ghost use Rattle.inno_db.specs.Refusals.{schema_named, name_refusal, create_refusal, selected_known, select_refusal, names_known, is_named_twice, names_twice, width_of, is_left_out, leaves_out, insert_refusal, update_refusal, delete_refusal, refusal};
 
-use crate::declaration::declare;
 use crate::typing::{fits_set, fits_tuple, fits_where, knows_all, knows_set, knows_where};
 use inno_db::MOST_TABLES;
 use inno_types::{
     Bytes, Column, Columns, Definitions, Filter, Listed, Names, Schema, Selected, Sets, SqlError,
     Stmt, Tuples,
 };
+use sql_declarations::declare;
 use sql_values::{is_same_column, place_of_name, place_of_table};
 use std::alloc::{AllocError, Global};
 

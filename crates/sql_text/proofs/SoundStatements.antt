@@ -14,10 +14,9 @@ use Rattle.sql_grammar.specs.declared.token.Token.{Token}
 use Rattle.sql_grammar.specs.declared.token.Token.TheVariants.{Key, Bare, Compare, Comma, Star}
 use Rattle.sql_grammar.specs.Grammar.{Name, Lit, Commas, Tuple, Condition, Loose, Where, Expression, Assignment, Choice, Locking, Statement}
 use Rattle.sql_grammar.specs.Grammar as grammar
-use Rattle.sql_text.specs.Parts.{name_at, after_comma, commas_at, end_of}
-use Rattle.sql_text.specs.Statements as read
-use Rattle.sql_text.specs.Whole as whole
-use Rattle.sql_text.proofs.Sound.{bind, name_sound, items_sound}
+use Rattle.sql_literals.specs.Parts.{◌>>=◌, name_at, after_comma, commas_at, end_of}
+use Rattle.sql_text.specs.Whole as read
+use Rattle.sql_literals.proofs.Sound.{bind, weaker, name_sound, items_sound, end_sound, ends_sound}
 
 -- what holds of what is read, where it is read
 pub at_ok : {A : Type 0} (P : A → Type 0) (r : Result A (List Token)) (a : A) → IfOk r P → r ≡ Ok a → P a
@@ -28,33 +27,25 @@ name_read xs ys name e = at_ok (λ r. Name xs r.0 r.1) (name_at xs) (name, ys) (
 
 -- ---- SELECT, UPDATE and DELETE
 
-from_sound : (xs : List Token) → IfOk (whole.after_from xs) (λ ys. xs ≡ Key word.From ∷ ys)
+from_sound : (xs : List Token) → IfOk (read.after_from xs) (λ ys. xs ≡ Key word.From ∷ ys)
 from_sound [] = tt
 from_sound (Key word.From ∷ ys) = refl
 from_sound (other ∷ ys) = tt
 
-set_word_sound : (xs : List Token) → IfOk (whole.after_set xs) (λ ys. xs ≡ Key word.Set ∷ ys)
+set_word_sound : (xs : List Token) → IfOk (read.after_set xs) (λ ys. xs ≡ Key word.Set ∷ ys)
 set_word_sound [] = tt
 set_word_sound (Key word.Set ∷ ys) = refl
 set_word_sound (other ∷ ys) = tt
 
-equal_sound : (xs : List Token) → IfOk (whole.after_equal xs) (λ ys. xs ≡ Compare Equal ∷ ys)
+equal_sound : (xs : List Token) → IfOk (read.after_equal xs) (λ ys. xs ≡ Compare Equal ∷ ys)
 equal_sound [] = tt
 equal_sound (Compare Equal ∷ ys) = refl
 equal_sound (other ∷ ys) = tt
-
-pub end_sound : (xs : List Token) → IfOk (end_of xs) (λ _. xs ≡ [])
-end_sound [] = refl
-end_sound (x ∷ xs) = tt
 
 choice_sound : (xs : List Token) → IfOk (read.choice_at xs) (λ r. Choice xs r.0 r.1)
 unfolding read.choice_at
 choice_sound (Star ∷ rest) = grammar.all
 choice_sound xs = bind (commas_at name_at xs) (λ names. Ok (Columns names.0, names.1)) (λ r. Commas Name xs r.0 r.1) (λ r. Choice xs r.0 r.1) (items_sound name_at Name name_sound (length xs) xs) (λ names c. grammar.some c)
-
-pub ends_sound : {A : Type 0} (a : A) (P : A → Type 0) (xs : List Token) → (xs ≡ [] → P a) → IfOk (read.ends_as a xs) P
-ends_sound a P [] h = h refl
-ends_sound a P (x ∷ xs) h = tt
 
 mode_sound : (xs : List Token) (a : List ℕ) → IfOk (read.mode_of xs) (λ lock. Locking (Key word.Lock ∷ Key word.In ∷ Bare (Some word.Share) a ∷ xs) lock)
 unfolding read.mode_of
@@ -89,37 +80,51 @@ locking_sound (Key word.For ∷ xs) = for_lock_sound xs
 locking_sound (Key word.Lock ∷ xs) = in_share_mode_sound xs
 locking_sound (other ∷ xs) = tt
 
-where_sound : (xs rest : List Token) → whole.behind_where xs ≡ Some rest → xs ≡ Key word.Where ∷ rest
+where_sound : (xs rest : List Token) → read.behind_where xs ≡ Some rest → xs ≡ Key word.Where ∷ rest
 where_sound [] rest e = cc
 where_sound (Key word.Where ∷ xs) rest e = let same : xs ≡ rest = cc in ap (λ (r : List Token). Key word.Where ∷ r) same
 where_sound (other ∷ xs) rest e = cc
 
-pub where_spelled : (xs behind rest : List Token) (f : Filter) → whole.behind_where xs ≡ Some behind → Condition Loose behind f rest → Where xs (Some f) rest
+pub where_spelled : (xs behind rest : List Token) (f : Filter) → read.behind_where xs ≡ Some behind → Condition Loose behind f rest → Where xs (Some f) rest
 where_spelled xs behind rest f e c = subst (λ (ts : List Token). Where ts (Some f) rest) (sym (where_sound xs behind e)) (grammar.those c)
 
-pub select_spelled : (xs r1 from r2 r3 : List Token) (selected : Selected) (table : List ℕ) (f : Option Filter) (lock : Option Mode) → read.choice_at xs ≡ Ok (selected, r1) → whole.after_from r1 ≡ Ok from → name_at from ≡ Ok (table, r2) → Where r2 f r3 → read.locking_of r3 ≡ Ok lock
+from_table_sound : (xs : List Token) → IfOk (read.from_table_at xs) (λ r. (from : List Token) × (xs ≡ Key word.From ∷ from) × Name from r.0 r.1)
+unfolding read.from_table_at
+from_table_sound xs =
+    bind (read.after_from xs) (λ from. name_at from) (λ ys. xs ≡ Key word.From ∷ ys) (λ r. (from : List Token) × (xs ≡ Key word.From ∷ from) × Name from r.0 r.1) (from_sound xs)
+    (λ from e. weaker (name_at from) (λ r. Name from r.0 r.1) (λ r. (from : List Token) × (xs ≡ Key word.From ∷ from) × Name from r.0 r.1) (name_sound from) (λ r n. (from, e, n)))
+
+set_table_sound : (xs : List Token) → IfOk (read.set_table_at xs) (λ r. Name xs r.0 (Key word.Set ∷ r.1))
+unfolding read.set_table_at
+set_table_sound xs =
+    bind (name_at xs) (λ table. read.after_set table.1 >>= λ rest. Ok (table.0, rest)) (λ r. Name xs r.0 r.1) (λ r. Name xs r.0 (Key word.Set ∷ r.1)) (name_sound xs)
+    (λ table n. bind (read.after_set table.1) (λ rest. Ok (table.0, rest)) (λ ys. table.1 ≡ Key word.Set ∷ ys) (λ r. Name xs r.0 (Key word.Set ∷ r.1)) (set_word_sound table.1)
+    (λ ys e. subst (λ (ts : List Token). Name xs table.0 ts) e n))
+
+pub where_lock_spelled : (xs rest : List Token) (f : Option Filter) (lock : Option Mode) → Where xs f rest → read.locking_of rest ≡ Ok lock → (rest : List Token) × Where xs f rest × Locking rest lock
+where_lock_spelled xs rest f lock w l = (rest, w, at_ok (λ lock. Locking rest lock) (read.locking_of rest) lock (locking_sound rest) l)
+
+pub last_where_spelled : (xs rest : List Token) (f : Option Filter) → Where xs f rest → end_of rest ≡ Ok tt → Where xs f []
+last_where_spelled xs rest f w z = subst (λ (ts : List Token). Where xs f ts) (at_ok (λ _. rest ≡ []) (end_of rest) tt (end_sound rest) z) w
+
+pub select_spelled : (xs r1 r2 : List Token) (selected : Selected) (table : List ℕ) (f : Option Filter) (lock : Option Mode) → read.choice_at xs ≡ Ok (selected, r1) → read.from_table_at r1 ≡ Ok (table, r2) → (rest : List Token) × Where r2 f rest × Locking rest lock
     → Statement (Key word.Select ∷ xs) (stmt.Select selected table f lock)
-select_spelled xs r1 from r2 r3 selected table f lock a b n w l =
+select_spelled xs r1 r2 selected table f lock a b w =
     let c = at_ok (λ r. Choice xs r.0 r.1) (read.choice_at xs) (selected, r1) (choice_sound xs) a in
-    let e = at_ok (λ ys. r1 ≡ Key word.From ∷ ys) (whole.after_from r1) from (from_sound r1) b in
-    grammar.select (subst (λ (ts : List Token). Choice xs selected ts) e c) (name_read from r2 table n) w (at_ok (λ lock. Locking r3 lock) (read.locking_of r3) lock (locking_sound r3) l)
+    let t = at_ok (λ r. (from : List Token) × (r1 ≡ Key word.From ∷ from) × Name from r.0 r.1) (read.from_table_at r1) (table, r2) (from_table_sound r1) b in
+    grammar.select (subst (λ (ts : List Token). Choice xs selected ts) t.1 c) t.2 w.1 w.2
 
-pub update_spelled : (xs r1 right r2 r3 : List Token) (table : List ℕ) (sets : List Set) (f : Option Filter) → name_at xs ≡ Ok (table, r1) → whole.after_set r1 ≡ Ok right → Commas Assignment right sets r2 → Where r2 f r3 → end_of r3 ≡ Ok tt
-    → Statement (Key word.Update ∷ xs) (stmt.Update table sets f)
-update_spelled xs r1 right r2 r3 table sets f n b c w z =
-    let e = at_ok (λ ys. r1 ≡ Key word.Set ∷ ys) (whole.after_set r1) right (set_word_sound r1) b in
-    let none = at_ok (λ _. r3 ≡ []) (end_of r3) tt (end_sound r3) z in
-    grammar.update (subst (λ (ts : List Token). Name xs table ts) e (name_read xs r1 table n)) c (subst (λ (ts : List Token). Where r2 f ts) none w)
+pub update_spelled : (xs right rest : List Token) (table : List ℕ) (sets : List Set) (f : Option Filter) → read.set_table_at xs ≡ Ok (table, right) → Commas Assignment right sets rest → Where rest f [] → Statement (Key word.Update ∷ xs) (stmt.Update table sets f)
+update_spelled xs right rest table sets f n c w = grammar.update (at_ok (λ r. Name xs r.0 (Key word.Set ∷ r.1)) (read.set_table_at xs) (table, right) (set_table_sound xs) n) c w
 
-pub delete_spelled : (xs from r1 r2 : List Token) (table : List ℕ) (f : Option Filter) → whole.after_from xs ≡ Ok from → name_at from ≡ Ok (table, r1) → Where r1 f r2 → end_of r2 ≡ Ok tt → Statement (Key word.Delete ∷ xs) (stmt.Delete table f)
-delete_spelled xs from r1 r2 table f b n w z =
-    let e = at_ok (λ ys. xs ≡ Key word.From ∷ ys) (whole.after_from xs) from (from_sound xs) b in
-    let none = at_ok (λ _. r2 ≡ []) (end_of r2) tt (end_sound r2) z in
-    subst (λ (ts : List Token). Statement (Key word.Delete ∷ ts) (stmt.Delete table f)) (sym e) (grammar.delete (name_read from r1 table n) (subst (λ (ts : List Token). Where r1 f ts) none w))
+pub delete_spelled : (xs rest : List Token) (table : List ℕ) (f : Option Filter) → read.from_table_at xs ≡ Ok (table, rest) → Where rest f [] → Statement (Key word.Delete ∷ xs) (stmt.Delete table f)
+delete_spelled xs rest table f b w =
+    let t = at_ok (λ r. (from : List Token) × (xs ≡ Key word.From ∷ from) × Name from r.0 r.1) (read.from_table_at xs) (table, rest) (from_table_sound xs) b in
+    subst (λ (ts : List Token). Statement (Key word.Delete ∷ ts) (stmt.Delete table f)) (sym t.1) (grammar.delete t.2 w)
 
-pub assignment_spelled : (xs r1 right rest : List Token) (column : List ℕ) (value : Expr) → name_at xs ≡ Ok (column, r1) → whole.after_equal r1 ≡ Ok right → Expression Loose right value rest → Assignment xs (record { column = column; value = value }) rest
+pub assignment_spelled : (xs r1 right rest : List Token) (column : List ℕ) (value : Expr) → name_at xs ≡ Ok (column, r1) → read.after_equal r1 ≡ Ok right → Expression Loose right value rest → Assignment xs (record { column = column; value = value }) rest
 assignment_spelled xs r1 right rest column value n b x =
-    let e = at_ok (λ ys. r1 ≡ Compare Equal ∷ ys) (whole.after_equal r1) right (equal_sound r1) b in
+    let e = at_ok (λ ys. r1 ≡ Compare Equal ∷ ys) (read.after_equal r1) right (equal_sound r1) b in
     grammar.assign (subst (λ (ts : List Token). Name xs column ts) e (name_read xs r1 column n)) x
 
 -- ---- assignments one after the other

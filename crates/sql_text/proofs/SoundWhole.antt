@@ -6,14 +6,12 @@ use Rattle.sql_grammar.specs.declared.token.Word.TheVariants as word
 use Rattle.sql_grammar.specs.declared.token.Token.{Token}
 use Rattle.sql_grammar.specs.declared.token.Token.TheVariants.{Key, Bare}
 use Rattle.sql_grammar.specs.Grammar.{Statement}
-use Rattle.sql_text.specs.declared.refusal.Refusal.{Refusal}
-use Rattle.sql_text.specs.Parts.{Gives}
-use Rattle.sql_text.specs.Statements.{create_of}
+use Rattle.sql_literals.specs.declared.refusal.Refusal.{Refusal}
+use Rattle.sql_literals.specs.Parts.{Gives, read_it}
 use Rattle.sql_text.specs.Whole as whole
-use Rattle.sql_text.specs.Whole.{read_it, first_of, behind_key, behind_word, statement_of}
-use Rattle.sql_text.proofs.Settled.{fails_bind}
-use Rattle.sql_text.proofs.Sound.{bind}
-use Rattle.sql_text.proofs.SoundPlain.{create_sound, begin_sound, start_sound, commit_sound, rollback_sound, savepoint_statement_sound}
+use Rattle.sql_text.specs.Whole.{first_of, behind_key, behind_word, statement_of}
+use Rattle.sql_literals.proofs.Refused.{fails_bind}
+use Rattle.sql_simple_statements.proofs.Sound.{begin_sound, start_sound, commit_sound, rollback_sound, savepoint_statement_sound}
 
 pub gives_unit : {A : Type 0} (result : Result A Refusal) (r : Result A (List Token)) → Gives (λ s. s) result r → Gives (λ _. tt) result (read_it r)
 gives_unit (Ok s) r h = rw h refl
@@ -22,17 +20,6 @@ gives_unit (Err e) r h = fails_bind e r (λ a. Ok tt) h
 pub gives_spelled : {A : Type 0} (result : Result A Refusal) (r : Result A (List Token)) (P : A → Type 0) → Gives (λ s. s) result r → IfOk r P → IfOk result P
 gives_spelled (Ok s) r P h k = subst (λ (r : Result _ (List Token)). IfOk r P) h k
 gives_spelled (Err e) r P h k = tt
-
-table_sound : (xs : List Token) → IfOk (whole.after_table xs) (λ ys. xs ≡ Key word.Table ∷ ys)
-table_sound [] = tt
-table_sound (Key word.Table ∷ ys) = refl
-table_sound (other ∷ ys) = tt
-
-pub create_statement_sound : (xs : List Token) → IfOk (whole.create_statement_of xs) (λ s. Statement (Key word.Create ∷ xs) s)
-unfolding whole.create_statement_of
-create_statement_sound xs =
-    bind (whole.after_table xs) (λ rest. create_of rest) (λ ys. xs ≡ Key word.Table ∷ ys) (λ s. Statement (Key word.Create ∷ xs) s) (table_sound xs)
-    (λ ys e. subst (λ (ts : List Token). IfOk (create_of ys) (λ s. Statement (Key word.Create ∷ ts) s)) (sym e) (create_sound ys))
 
 word_sound : (w : Word) (name : List ℕ) (all xs : List Token) → IfOk (behind_word w all xs) (λ s. Statement (Bare (Some w) name ∷ xs) s)
 unfolding behind_word

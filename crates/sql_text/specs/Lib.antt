@@ -1,7 +1,2 @@
-pub mod Parts
-pub mod Statements
-pub mod Atoms
-pub mod Conditions
-pub mod Expressions
-pub mod Whole
 pub mod Parsed
+pub mod Whole

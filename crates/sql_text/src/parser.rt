@@ -1,13 +1,14 @@
-//! The tree that the bytes of a statement spell.
+//! The tree that the bytes of a statement spell: what callers of this crate call.
+//! The place of a refusal is that of a token; `sql_prefix` finds the exact byte.
 
 ghost use Rattle.std.specs.Prelude.{◌≡◌, IfOk, IfErr};
 ghost use Rattle.sql_grammar.specs.Grammar.{Spells};
 ghost use Rattle.sql_text.specs.Parsed.{IsRefused, IsSyntaxWithin};
 ghost use Rattle.sql_text.specs.declared.parser.ParseBad.TheVariants.{NoMemory};
 
-use crate::refusal::Refusal;
 use crate::statement::statement;
 use inno_types::Stmt;
+use sql_literals::Refusal;
 use sql_tokens::{Lexed, lex};
 use std::alloc::{AllocError, Global};
 use thiserror::Error;
@@ -42,6 +43,7 @@ pub fn parse(alloc: Global, bytes: &[u8]) -> Result<Stmt, ParseBad>
             if lexed.unread == 0 {
                 return Ok(stmt);
             }
+            drop(stmt);
             Err(syntax(bytes.len(), lexed.unread))
         }
         Err(Refusal::Unexpected { left }) => Err(syntax(bytes.len(), bytes_left(&lexed, left))),

@@ -1,35 +1,31 @@
-//! SELECT, UPDATE and DELETE: the statements with conditions.
+//! SELECT, UPDATE and DELETE: the statements with conditions, each from behind its first word.
+//! Conditions and right sides are read below; here they are joined to statements.
 
-ghost use Rattle.std.specs.Prelude.{◌≡◌, ◌∷◌, IfOk};
+ghost use Rattle.std.specs.Prelude.{◌≡◌, [], ◌∷◌, List, IfOk};
 ghost use Rattle.std.specs.Option.{option_map};
+ghost use Rattle.sql_grammar.specs.declared.token.Token.{Token};
 ghost use Rattle.sql_grammar.specs.declared.token.Token.TheVariants.{Key};
 ghost use Rattle.sql_grammar.specs.declared.token.Word.TheVariants as words;
-ghost use Rattle.sql_grammar.specs.Grammar.{Where, Assignment, Commas, Statement};
-ghost use Rattle.sql_text.specs.Parts.{Gives, commas_at};
+ghost use Rattle.sql_grammar.specs.Grammar.{Where, Locking, Assignment, Commas, Statement};
+ghost use Rattle.sql_literals.specs.Parts.{Gives, commas_at};
 ghost use Rattle.sql_text.specs.Whole as read;
 
-use crate::condition::condition;
-use crate::expression::expression;
-use crate::insert::{choice, locking};
-use crate::list::after_comma;
-use crate::literal::name;
-use crate::refusal::{Refusal, unexpected};
-use crate::set::end;
-use inno_types::{Comparison, Filter, Set, Sets, Stmt};
+use crate::selected::{choice, locking};
+use inno_types::{Bytes, Comparison, Filter, Mode, Set, Sets, Stmt};
+use sql_conditions::{condition, expression};
 use sql_grammar::{Token, Word};
+use sql_literals::{Refusal, after_comma, end, name, unexpected};
 use std::alloc::Global;
 
 /// What stands behind SELECT.
 #[tactic(auto, unfolding(crate::specs::Whole::select_of))]
-pub fn select(alloc: Global, tokens: &[Token]) -> Result<Stmt, Refusal>
+pub(crate) fn select(alloc: Global, tokens: &[Token]) -> Result<Stmt, Refusal>
     ensures exact { Gives (λ _. tt) result (read.select_of tokens.now) }
     ensures spelled { IfOk result (λ s. Statement (Key words.Select ∷ tokens.now) s) }
 {
     let (selected, rest) = choice(alloc, tokens)?;
-    let from = after_from(rest)?;
-    let (table, rest) = name(from)?;
-    let (filter, rest) = where_clause(alloc, rest)?;
-    let lock = locking(rest)?;
+    let (table, rest) = from_table(rest)?;
+    let (filter, lock) = where_lock(alloc, rest)?;
     Ok(Stmt::Select {
         selected,
         table,
@@ -40,15 +36,13 @@ pub fn select(alloc: Global, tokens: &[Token]) -> Result<Stmt, Refusal>
 
 /// What stands behind UPDATE.
 #[tactic(auto, unfolding(crate::specs::Whole::update_of))]
-pub fn update(alloc: Global, tokens: &[Token]) -> Result<Stmt, Refusal>
+pub(crate) fn update(alloc: Global, tokens: &[Token]) -> Result<Stmt, Refusal>
     ensures exact { Gives (λ _. tt) result (read.update_of tokens.now) }
     ensures spelled { IfOk result (λ s. Statement (Key words.Update ∷ tokens.now) s) }
 {
-    let (table, rest) = name(tokens)?;
-    let right = after_set(rest)?;
-    let (sets, rest) = assignments(alloc, right)?;
-    let (filter, rest) = where_clause(alloc, rest)?;
-    end(rest)?;
+    let (table, rest) = set_table(tokens)?;
+    let (sets, rest) = assignments(alloc, rest)?;
+    let filter = last_where(alloc, rest)?;
     Ok(Stmt::Update {
         table,
         sets,
@@ -58,15 +52,54 @@ pub fn update(alloc: Global, tokens: &[Token]) -> Result<Stmt, Refusal>
 
 /// What stands behind DELETE.
 #[tactic(auto, unfolding(crate::specs::Whole::delete_of))]
-pub fn delete(alloc: Global, tokens: &[Token]) -> Result<Stmt, Refusal>
+pub(crate) fn delete(alloc: Global, tokens: &[Token]) -> Result<Stmt, Refusal>
     ensures exact { Gives (λ _. tt) result (read.delete_of tokens.now) }
     ensures spelled { IfOk result (λ s. Statement (Key words.Delete ∷ tokens.now) s) }
 {
-    let from = after_from(tokens)?;
-    let (table, rest) = name(from)?;
-    let (filter, rest) = where_clause(alloc, rest)?;
-    end(rest)?;
+    let (table, rest) = from_table(tokens)?;
+    let filter = last_where(alloc, rest)?;
     Ok(Stmt::Delete { table, filter })
+}
+
+/// The table behind FROM.
+#[tactic(auto, unfolding(crate::specs::Whole::from_table_at))]
+fn from_table(tokens: &[Token]) -> Result<(Bytes, &[Token]), Refusal>
+    ensures { Gives (λ x. (x.0, x.1.now)) result (read.from_table_at tokens.now) }
+{
+    let from = after_from(tokens)?;
+    name(from)
+}
+
+/// The table behind UPDATE, with its SET.
+#[tactic(auto, unfolding(crate::specs::Whole::set_table_at))]
+fn set_table(tokens: &[Token]) -> Result<(Bytes, &[Token]), Refusal>
+    ensures { Gives (λ x. (x.0, x.1.now)) result (read.set_table_at tokens.now) }
+{
+    let (table, rest) = name(tokens)?;
+    let rest = after_set(rest)?;
+    Ok((table, rest))
+}
+
+/// A condition, and the lock behind it.
+#[tactic(auto, unfolding(crate::specs::Whole::where_lock_of))]
+fn where_lock(alloc: Global, tokens: &[Token]) -> Result<(Option<Filter>, Option<Mode>), Refusal>
+    ensures exact { Gives (λ _. tt) result (read.where_lock_of tokens.now) }
+    ensures spelled { IfOk result (λ x. (rest : List Token) × Where tokens.now x.0 rest × Locking rest x.1) }
+{
+    let (filter, rest) = where_clause(alloc, tokens)?;
+    let lock = locking(rest)?;
+    Ok((filter, lock))
+}
+
+/// A condition, and nothing behind it.
+#[tactic(auto, unfolding(crate::specs::Whole::last_where_of))]
+fn last_where(alloc: Global, tokens: &[Token]) -> Result<Option<Filter>, Refusal>
+    ensures exact { Gives (λ _. tt) result (read.last_where_of tokens.now) }
+    ensures spelled { IfOk result (λ filter. Where tokens.now filter []) }
+{
+    let (filter, rest) = where_clause(alloc, tokens)?;
+    end(rest)?;
+    Ok(filter)
 }
 
 #[tactic(auto, unfolding(crate::specs::Whole::after_where))]

@@ -1,20 +1,19 @@
-//! A whole statement, by its first words.
+//! A whole statement, by its first word. What stands behind the word is read by its own function;
+//! only the parser takes statements from here.
 
 ghost use Rattle.std.specs.Prelude.{◌≡◌, ◌∷◌, IfOk};
 ghost use Rattle.sql_grammar.specs.declared.token.Token.TheVariants.{Key};
 ghost use Rattle.sql_grammar.specs.declared.token.Word.TheVariants as words;
 ghost use Rattle.sql_grammar.specs.Grammar.{Statement};
-ghost use Rattle.sql_text.specs.Parts.{Gives};
-ghost use Rattle.sql_text.specs.Statements as plain;
+ghost use Rattle.sql_literals.specs.Parts.{Gives, read_it};
+ghost use Rattle.sql_simple_statements.specs.Statements as simple;
 ghost use Rattle.sql_text.specs.Whole as read;
 
-use crate::create::create;
-use crate::insert::insert;
-use crate::refusal::{Refusal, unexpected};
 use crate::select::{delete, select, update};
-use crate::set::{after_work, end, last_name, rollback, set, start};
 use inno_types::Stmt;
 use sql_grammar::{Token, Word};
+use sql_literals::{Refusal, unexpected};
+use sql_simple_statements::{begin, commit, create_table, insert, rollback, savepoint, set, start};
 use std::alloc::Global;
 
 /// The statement that all of the tokens spell.
@@ -71,32 +70,15 @@ fn create_statement(alloc: Global, tokens: &[Token]) -> Result<Stmt, Refusal>
     create_table(alloc, tokens)
 }
 
-#[tactic(auto, unfolding(crate::specs::Whole::create_statement_of))]
-fn create_table(alloc: Global, tokens: &[Token]) -> Result<Stmt, Refusal>
-    ensures { Gives (λ s. s) result (read.create_statement_of tokens.now) }
-{
-    let rest = after_table(tokens)?;
-    create(alloc, rest)
-}
-
-fn after_table(tokens: &[Token]) -> Result<&[Token], Refusal>
-    ensures { Gives (λ r. r.now) result (read.after_table tokens.now) }
-{
-    match tokens {
-        [Token::Key(Word::Table), rest @ ..] => Ok(rest),
-        _ => Err(unexpected(tokens)),
-    }
-}
-
 fn insert_statement(alloc: Global, tokens: &[Token]) -> Result<Stmt, Refusal>
-    ensures exact { Gives (λ _. tt) result (read.read_it (plain.insert_of tokens.now)) }
+    ensures exact { Gives (λ _. tt) result (read_it (simple.insert_of tokens.now)) }
     ensures spelled { IfOk result (λ s. Statement (Key words.Insert ∷ tokens.now) s) }
 {
     insert(alloc, tokens)
 }
 
 fn set_statement(tokens: &[Token]) -> Result<Stmt, Refusal>
-    ensures exact { Gives (λ _. tt) result (read.read_it (plain.set_of tokens.now)) }
+    ensures exact { Gives (λ _. tt) result (read_it (simple.set_of tokens.now)) }
     ensures spelled { IfOk result (λ s. Statement (Key words.Set ∷ tokens.now) s) }
 {
     set(tokens)
@@ -110,32 +92,8 @@ fn behind_word(word: Word, tokens: &[Token], rest: &[Token]) -> Result<Stmt, Ref
         Word::Begin => begin(rest),
         Word::Start => start(rest),
         Word::Commit => commit(rest),
-        Word::Rollback => rollback(after_work(rest)),
+        Word::Rollback => rollback(rest),
         Word::Savepoint => savepoint(rest),
         _ => Err(unexpected(tokens)),
     }
-}
-
-#[tactic(auto, unfolding(crate::specs::Whole::begin_of))]
-fn begin(tokens: &[Token]) -> Result<Stmt, Refusal>
-    ensures { Gives (λ s. s) result (read.begin_of tokens.now) }
-{
-    end(after_work(tokens))?;
-    Ok(Stmt::Begin { snapshot: false })
-}
-
-#[tactic(auto, unfolding(crate::specs::Whole::commit_of))]
-fn commit(tokens: &[Token]) -> Result<Stmt, Refusal>
-    ensures { Gives (λ s. s) result (read.commit_of tokens.now) }
-{
-    end(after_work(tokens))?;
-    Ok(Stmt::Commit)
-}
-
-#[tactic(auto, unfolding(crate::specs::Whole::savepoint_statement_of))]
-fn savepoint(tokens: &[Token]) -> Result<Stmt, Refusal>
-    ensures { Gives (λ s. s) result (read.savepoint_statement_of tokens.now) }
-{
-    let name = last_name(tokens)?;
-    Ok(Stmt::Savepoint { name })
 }

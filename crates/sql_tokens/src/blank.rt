@@ -1,4 +1,5 @@
-//! White space and comments.
+//! White space and comments: what stands between tokens and is passed over.
+//! A `/*` that nothing closes is no blank.
 
 ghost use Rattle.std.specs.Prelude.{◌≡◌, IsTrue, ◌↔◌};
 ghost use Rattle.std.specs.Option.{option_map};

@@ -1,4 +1,5 @@
 //! Which bytes are white space, digits or parts of words, and how far a run of them goes.
+//! Only bytes are looked at: what a run means is said by `token` and `word`.
 
 ghost use Rattle.std.specs.Prelude.{◌≡◌, IsTrue, ◌↔◌};
 ghost use Rattle.std.specs.List.{prefix_len};

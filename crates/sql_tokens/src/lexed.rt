@@ -1,4 +1,5 @@
-//! All tokens of some bytes.
+//! All tokens of some bytes, and how many bytes stand from each of them on.
+//! Parsers take their tokens from here.
 
 ghost use Rattle.std.specs.Prelude.{◌≡◌, ℕ, List, length, IfOk};
 ghost use Rattle.sql_grammar.specs.declared.token.Token.{Token};

@@ -1,4 +1,5 @@
 //! What stands between quotes: names, whose backquotes may be doubled, and texts with their escapes.
+//! Only `token` calls these, behind the opening quote.
 
 ghost use Rattle.std.specs.Prelude.{◌≡◌, ◌++◌, IfOk, OnOk};
 ghost use Rattle.std.specs.Option.{option_map};

@@ -1,4 +1,5 @@
-//! One token at the front of the bytes.
+//! One token at the front of the bytes. Blanks before it are not passed over here;
+//! `lexed` does that.
 
 ghost use Rattle.std.specs.Prelude.{◌≡◌, IfOk, true};
 ghost use Rattle.std.specs.Option.{option_map};

@@ -1,4 +1,5 @@
-//! Bare words: which key word they spell, in any case of letters.
+//! Bare words: which key word they spell, in any case of letters; and the one table of key words.
+//! Who tries or writes key words takes them from here.
 
 ghost use Rattle.std.specs.Prelude.{◌≡◌, map, IfOk};
 ghost use Rattle.sql_grammar.specs.Tokens as spelled;
@@ -68,16 +69,30 @@ const OTHERS: [Word; 25] = [
     Word::Work,
 ];
 
+/// The words that must be quoted to be names.
+pub fn reserved_words() -> &'static [Word]
+    ensures { result.now ≡ spelled_words.reserved }
+{
+    &RESERVED
+}
+
+/// The words that have a meaning in their place, and may be names elsewhere.
+pub fn other_words() -> &'static [Word]
+    ensures { result.now ≡ spelled_words.others }
+{
+    &OTHERS
+}
+
 /// The token of a bare word.
 #[tactic(auto, unfolding(sql_grammar::specs::Tokens::word_token))]
 pub(crate) fn word_token(alloc: Global, bytes: &[u8]) -> Result<Token, AllocError>
     ensures { IfOk result (λ token. token ≡ spelled.word_token bytes.now) }
 {
     let capitals = capitals(alloc, bytes)?;
-    match word_among(&RESERVED, &capitals) {
+    match word_among(reserved_words(), &capitals) {
         Some(word) => Ok(Token::Key(word)),
         None => {
-            let meaning = word_among(&OTHERS, &capitals);
+            let meaning = word_among(other_words(), &capitals);
             let written = Vec::from_slice(alloc, bytes)?;
             Ok(Token::Bare(meaning, Bytes::from_vec(written)))
         }
@@ -101,7 +116,8 @@ fn word_among(words: &[Word], capitals: &[u8]) -> Option<Word>
     None
 }
 
-fn spelling(word: Word) -> &'static [u8]
+/// The word in capital letters.
+pub fn spelling(word: Word) -> &'static [u8]
     ensures { result.now ≡ spelled_words.spelling word }
 {
     match word {

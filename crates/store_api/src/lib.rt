@@ -4,8 +4,14 @@
 
 mod answers;
 mod disk;
+mod limits;
+mod moves;
 mod outside;
+mod visits;
 
 pub use answers::{Asked, MountBad, Progress, Standing, Undo, Version};
 pub use disk::{Area, Disk};
+pub use limits::{MOST_BYTES_OF_KEY, MOST_BYTES_OF_VALUE, MOST_PAGES, MOST_ROWS, MOST_SESSIONS};
+pub use moves::Move;
 pub use outside::{Clock, Failed, Gate, NoMemory, Sink, Source, Worker};
+pub use visits::{FindBad, FreshBad, SpaceBad, Visit};

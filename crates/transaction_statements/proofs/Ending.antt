@@ -10,16 +10,14 @@ use Rattle.inno_types.specs.declared.reply.SqlError.TheVariants.{NoSavepoint}
 use Rattle.inno_types.specs.declared.stmt.Stmt.{Stmt}
 use Rattle.inno_types.specs.declared.stmt.Stmt.TheVariants as stmt
 use Rattle.inno_model.specs.declared.event.Event.{Event}
-use Rattle.inno_model.specs.Legal.{awaits_ack}
-use Rattle.inno_model.specs.Past.{before_item, of_item, did, begins_txn, takes_view, commits_txn, rolls_back_txn, level, own, oldest, under_way}
-use Rattle.inno_model.specs.Loose.{Sometime}
+use Rattle.inno_model.specs.Moments.{Sometime}
+use Rattle.inno_model.specs.Past.{before_item, of_item, did, begins_txn, takes_view, commits_txn, rolls_back_txn, level, own, oldest, under_way, awaits_ack, IsOpen, IsClosed}
 use Rattle.std.specs.Prelude.{is_some, length, ◌-◌}
 use Rattle.inno_db.specs.declared.change.Change.{Change}
 use Rattle.transaction_statements.proofs.Staying.{still, made_still}
 use Rattle.sql_grammar.specs.Grammar.{Spells}
 use Rattle.sql_history.specs.Settings.{Setting, made_at}
 use Rattle.sql_history.specs.Statements.{refused_at_once}
-use Rattle.sql_history.specs.Endings.{IsOpen, IsClosed}
 use Rattle.sql_history.specs.Waiting.{is_victim}
 use Rattle.sql_history.specs.Legal.{Takes, EndsTaken, EndsSavepoint, EndsAutocommit}
 use Rattle.sql_lists.specs.Kept.{MayReply, SetsQuietly}

@@ -10,11 +10,9 @@ use Rattle.inno_types.specs.declared.reply.Reply.{Reply}
 use Rattle.inno_types.specs.declared.stmt.Stmt.TheVariants as stmt
 use Rattle.inno_model.specs.declared.event.Event.{Event}
 use Rattle.inno_model.specs.declared.event.Event.TheVariants as events
-use Rattle.inno_model.specs.Legal.{awaits_ack}
-use Rattle.inno_model.specs.Past.{is_of, started, did, begins_txn, commits_txn, rolls_back_txn, level, own, begins}
+use Rattle.inno_model.specs.Past.{is_of, started, did, begins_txn, commits_txn, rolls_back_txn, level, own, begins, awaits_ack, IsOpen}
 use Rattle.sql_grammar.specs.Grammar.{Spells}
 use Rattle.sql_history.specs.Settings.{made_at}
-use Rattle.sql_history.specs.Endings.{IsOpen}
 use Rattle.sql_history.specs.Legal.{MayBegin, MayView, MayUndo, MayRollBack}
 use Rattle.shared_lists.specs.declared.answers.Undone.{Undone}
 use Rattle.shared_lists.specs.declared.answers.Undone.TheVariants as undone

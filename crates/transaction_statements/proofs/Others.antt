@@ -5,15 +5,14 @@ use Rattle.std.specs.List.{AllByRecursion, list_any}
 use Rattle.inno_types.specs.declared.stmt.Stmt.{Stmt}
 use Rattle.inno_types.specs.declared.stmt.Stmt.TheVariants as stmt
 use Rattle.inno_model.specs.declared.event.Event.{Event}
-use Rattle.inno_model.specs.Legal.{awaits_ack}
-use Rattle.inno_model.specs.Past.{is_of, under_way, of_item, did, begins_txn, takes_view, commits_txn, rolls_back_txn, level, own, oldest}
+use Rattle.inno_model.specs.Past.{is_of, under_way, of_item, did, begins_txn, takes_view, commits_txn, rolls_back_txn, level, own, oldest, awaits_ack, IsClosed}
 use Rattle.inno_model.proofs.Untouched.{IsUntouched, untouched}
 use Rattle.sql_grammar.specs.Grammar.{Spells}
 use Rattle.sql_history.specs.Settings.{Setting, HasSet}
 use Rattle.sql_history.specs.Waiting.{is_victim}
-use Rattle.sql_history.specs.Endings.{IsClosed, StaysIn}
+use Rattle.sql_history.specs.Endings.{StaysIn}
 use Rattle.sql_history.specs.Legal.{Takes, CommittedFirst, LeavesIt, MayLeaveOpen}
-use Rattle.past_agreement.specs.Order.{IsOfRow}
+use Rattle.law_past_agreement.specs.Order.{IsOfRow}
 use Rattle.shared_lists.specs.State.{State, task_of}
 use Rattle.sql_lists.specs.Kept.{SetsQuietly}
 use Rattle.sql_lists.specs.Steps.{Adding, HasRowsAlone}

@@ -9,17 +9,15 @@ use Rattle.inno_types.specs.declared.stmt.Stmt.TheVariants as stmt
 use Rattle.inno_db.specs.declared.change.Change.{Change}
 use Rattle.inno_model.specs.declared.event.Event.{Event}
 use Rattle.inno_model.specs.declared.event.Event.TheVariants as events
-use Rattle.inno_model.specs.Legal.{awaits_ack}
-use Rattle.inno_model.specs.Loose.{Sometime}
-use Rattle.inno_model.specs.Past.{of_item, did, begins_txn, commits_txn, rolls_back_txn, closes, level, own, oldest}
+use Rattle.inno_model.specs.Moments.{Sometime}
+use Rattle.inno_model.specs.Past.{of_item, did, begins_txn, commits_txn, rolls_back_txn, closes, level, own, oldest, awaits_ack, IsOpen}
 use Rattle.sql_grammar.specs.Grammar.{Spells}
 use Rattle.sql_history.specs.Items.{own_before, of_turn, is_over}
 use Rattle.sql_history.specs.Settings.{Setting, HasSet, made_at}
 use Rattle.sql_history.specs.Statements.{refused_at_once}
-use Rattle.sql_history.specs.Endings.{IsOpen}
 use Rattle.sql_history.specs.Waiting.{is_victim}
 use Rattle.sql_history.specs.Legal.{MayCommit, CommitsBy}
-use Rattle.past_agreement.specs.Order.{IsOfRow, IsUndoable}
+use Rattle.law_past_agreement.specs.Order.{IsOfRow, IsUndoable}
 use Rattle.shared_lists.specs.State.{State}
 use Rattle.sql_lists.specs.Steps.{HasRowsAlone, IsTaken}
 use Rattle.sql_lists.proofs.Staying.{point_now, point_before}

@@ -5,12 +5,11 @@ use Rattle.inno_types.specs.declared.reply.Reply.TheVariants.{Done}
 use Rattle.inno_types.specs.declared.stmt.Stmt.{Stmt}
 use Rattle.inno_types.specs.declared.stmt.Stmt.TheVariants as stmt
 use Rattle.inno_model.specs.declared.event.Event.{Event}
-use Rattle.inno_model.specs.Legal.{awaits_ack}
-use Rattle.inno_model.specs.Past.{under_way, before_item, of_item, did, begins_txn, commits_txn, rolls_back_txn, own, oldest}
+use Rattle.inno_model.specs.Past.{under_way, before_item, of_item, did, begins_txn, commits_txn, rolls_back_txn, own, oldest, awaits_ack, IsOpen, IsClosed}
 use Rattle.sql_grammar.specs.Grammar.{Spells}
 use Rattle.sql_history.specs.Items.{Asks, point, own_before}
 use Rattle.sql_history.specs.Settings.{Setting, HasSet, made_at}
-use Rattle.sql_history.specs.Endings.{IsOpen, IsClosed, StaysIn}
+use Rattle.sql_history.specs.Endings.{StaysIn}
 use Rattle.sql_history.specs.Waiting.{is_victim}
 use Rattle.sql_history.specs.Legal.{Takes, EndsTaken, LeavesIt, CommittedFirst}
 use Rattle.sql_lists.specs.Kept.{SetsQuietly}

@@ -3,10 +3,8 @@ use Rattle.std.specs.Prelude.{◌≡◌, ℕ, ◌<◌, true, false, List, [], No
 use Rattle.inno_types.specs.declared.lock.Level.TheVariants.{RepeatableRead}
 use Rattle.inno_types.specs.declared.stmt.Stmt.TheVariants as stmt
 use Rattle.inno_model.specs.declared.event.Event.{Event}
-use Rattle.inno_model.specs.Legal.{awaits_ack}
-use Rattle.inno_model.specs.Past.{of_item, did, takes_view, commits_txn, level, own, view_of}
+use Rattle.inno_model.specs.Past.{of_item, did, takes_view, commits_txn, level, own, view_of, awaits_ack, IsClosed}
 use Rattle.sql_history.specs.Settings.{Setting, next_level, made_at}
-use Rattle.sql_history.specs.Endings.{IsClosed}
 use Rattle.shared_lists.specs.Tasks.{Task, Idle, Undoing}
 use Rattle.shared_lists.specs.State.{State, task_of}
 use Rattle.sql_lists.specs.Kept.{SetsQuietly}

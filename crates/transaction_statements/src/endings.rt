@@ -28,6 +28,7 @@ pub fn finish<L: SharedLists>(
     ensures over { result.1 ≡ Advance.Done DoneReply }
 {
     lists.end_done(session, &stmt);
+    drop(stmt);
     (TransactionStatement::Failed, Advance::Done(Reply::Done))
 }
 

@@ -1,8 +1,7 @@
 //! The steps of ROLLBACK and of ROLLBACK TO. A change is taken back by several of them.
 
 ghost use Rattle.std.specs.Prelude.{◌≡◌, ◌<◌, length};
-ghost use Rattle.inno_model.specs.Past.{own};
-ghost use Rattle.sql_history.specs.Endings.{IsOpen};
+ghost use Rattle.inno_model.specs.Past.{own, IsOpen};
 ghost use Rattle.shared_lists.specs.Tasks.{Idle};
 ghost use Rattle.shared_lists.specs.State.{task_of};
 ghost use Rattle.sql_lists.specs.Steps.{IsTaken, Steps};

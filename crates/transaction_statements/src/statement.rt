@@ -72,7 +72,11 @@ impl TransactionStatement {
             Stmt::SetLevel { scope, level } => TransactionStatement::Quiet {
                 stmt: Stmt::SetLevel { scope, level },
             },
-            _ => unreachable!(),
+            Stmt::CreateTable { .. }
+            | Stmt::Select { .. }
+            | Stmt::Insert { .. }
+            | Stmt::Update { .. }
+            | Stmt::Delete { .. } => unreachable!(),
         }
     }
 

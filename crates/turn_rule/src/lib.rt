@@ -9,6 +9,3 @@ mod turn;
 
 pub use gate::{Gate, Pass};
 pub use rule::{Claim, View};
-
-#[cfg(test)]
-mod tests;

@@ -2,8 +2,8 @@
 use Rattle.std.proofs.Common.{◌≡◌, ◌≢◌, inr, ℕ, true, false, List, Option, Some, None, refl, sym, ap, ◌∙◌, length}
 use Rattle.std.specs.Prelude.{IsSome, IfSome, is_some}
 use Rattle.std.proofs.lemmas.Bool.{true≢false, eq-eqb}
-use Rattle.entries.specs.declared.answers.Move.{Move}
-use Rattle.entries.specs.declared.answers.Move.TheVariants.{At, End, Done, Step, Latch, Again, Full, TooDeep, Failed, Bad, NoMemory}
+use Rattle.store_api.specs.declared.moves.Move.{Move}
+use Rattle.store_api.specs.declared.moves.Move.TheVariants.{At, End, Done, Step, Latch, Again, Full, TooDeep, Failed, Bad, NoMemory}
 use Rattle.entries.specs.Pairs.{Pair, value_of}
 use Rattle.entries.specs.Index.{Told}
 use Rattle.entries.specs.Calls.{Fetches, NextKeys, Replaces, Removes, IsResized, is_as_long}

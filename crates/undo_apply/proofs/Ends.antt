@@ -12,15 +12,15 @@ use Rattle.chain.specs.declared.kept.Kept.{Kept}
 use Rattle.row_versions.specs.declared.place.Place.{Place}
 use Rattle.row_versions.specs.declared.version.Version.{Version}
 use Rattle.row_versions.specs.Chains.{Chains, older, Pops}
-use Rattle.coded_rows.specs.Edits.{clustered_index, Puts}
-use Rattle.coded_rows.specs.Entries.{entry_of as entry_said}
-use Rattle.coded_rows.specs.Records.{shown, IsCodeOf, LeadTo}
-use Rattle.coded_rows.specs.Steps.{PutsRecord}
-use Rattle.coded_rows.proofs.Pairs.{value_now}
-use Rattle.coded_rows.proofs.RowRecords.{pointer_followed, one_lead}
-use Rattle.coded_rows.proofs.Keys.{change_over}
-use Rattle.coded_rows.proofs.Steps.{record_taken_back, record_removed}
-use Rattle.coded_rows.proofs.Tables.{popped_here}
+use Rattle.law_coded_rows.specs.Edits.{clustered_index, Puts}
+use Rattle.law_coded_rows.specs.Entries.{entry_of as entry_said}
+use Rattle.law_coded_rows.specs.Records.{shown, IsCodeOf, LeadTo}
+use Rattle.law_coded_rows.specs.Steps.{PutsRecord}
+use Rattle.law_coded_rows.proofs.Pairs.{value_now}
+use Rattle.law_coded_rows.proofs.RowRecords.{pointer_followed, one_lead}
+use Rattle.law_coded_rows.proofs.Keys.{change_over}
+use Rattle.law_coded_rows.proofs.Steps.{record_taken_back, record_removed}
+use Rattle.law_coded_rows.proofs.Tables.{popped_here}
 use Rattle.undo_apply.specs.Told.{Rows}
 use Rattle.undo_apply.specs.Standing.{TellsOf, IsNewest, said_but, AreCodedBut, LeadsBack, was_before, versions_before, IsLagging, IsUnderWay, IsTakenBack}
 use Rattle.undo_apply.proofs.Telling.{pairs_after}

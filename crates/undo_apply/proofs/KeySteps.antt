@@ -6,8 +6,8 @@ use Rattle.std.proofs.lemmas.Bool.{true≢false, cond-true, cond-false, cases_eq
 use Rattle.inno_types.specs.declared.value.Schema.{Schema}
 use Rattle.store_api.specs.declared.answers.Undo.{Undo}
 use Rattle.store_api.specs.declared.answers.Version.{Version as Coded}
-use Rattle.entries.specs.declared.answers.Move.{Move}
-use Rattle.entries.specs.declared.answers.Move.TheVariants.{At, End, Done, Step, Latch, Again, Full, TooDeep, Failed, Bad, NoMemory}
+use Rattle.store_api.specs.declared.moves.Move.{Move}
+use Rattle.store_api.specs.declared.moves.Move.TheVariants.{At, End, Done, Step, Latch, Again, Full, TooDeep, Failed, Bad, NoMemory}
 use Rattle.entries.specs.Pairs.{Pair, value_of}
 use Rattle.entries.specs.Index.{Index, HasGone}
 use Rattle.entries.specs.Calls.{NextKeys, Removes}
@@ -16,9 +16,9 @@ use Rattle.row_versions.specs.declared.place.Place.{Place}
 use Rattle.row_versions.specs.declared.version.Version.{Version}
 use Rattle.row_versions.specs.Chains.{Chains}
 use Rattle.secondary.specs.Entries.{entry_of}
-use Rattle.coded_rows.specs.Edits.{key_index, with_value}
-use Rattle.coded_rows.specs.Entries.{value_in}
-use Rattle.coded_rows.specs.Records.{shown, IsCodeOf}
+use Rattle.law_coded_rows.specs.Edits.{key_index, with_value}
+use Rattle.law_coded_rows.specs.Entries.{value_in}
+use Rattle.law_coded_rows.specs.Records.{shown, IsCodeOf}
 use Rattle.world.specs.State.{WorldState}
 use Rattle.world.specs.Indexes.{Calls, Changes, ReplacesWith}
 use Rattle.row_changes.specs.Pairs.{RowsStay, PutsPair}

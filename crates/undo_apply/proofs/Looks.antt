@@ -6,8 +6,8 @@ use Rattle.std.proofs.lemmas.Bool.{true≢false}
 use Rattle.inno_types.specs.declared.value.Schema.{Schema}
 use Rattle.store_api.specs.declared.answers.Undo.{Undo}
 use Rattle.store_api.specs.declared.answers.Version.{Version as Coded}
-use Rattle.entries.specs.declared.answers.Move.{Move}
-use Rattle.entries.specs.declared.answers.Move.TheVariants.{Done, Step}
+use Rattle.store_api.specs.declared.moves.Move.{Move}
+use Rattle.store_api.specs.declared.moves.Move.TheVariants.{Done, Step}
 use Rattle.row_codec.specs.Rows.{IsRecordOf, IsVersion, head_code, others_code}
 use Rattle.chain.specs.declared.kept.Kept.{Kept}
 use Rattle.chain.specs.Versions.{IsPointer}
@@ -15,7 +15,7 @@ use Rattle.row_versions.specs.declared.place.Place.{Place}
 use Rattle.row_versions.specs.declared.version.Version.{Version}
 use Rattle.row_versions.specs.Chains.{Chains}
 use Rattle.secondary.specs.Entries.{entry_of}
-use Rattle.coded_rows.specs.Records.{IsCodeOf, LeadTo}
+use Rattle.law_coded_rows.specs.Records.{IsCodeOf, LeadTo}
 use Rattle.world.specs.State.{WorldState}
 use Rattle.world.specs.Undoing.{IsUnchanged}
 use Rattle.row_changes.specs.Pairs.{RowsStay}

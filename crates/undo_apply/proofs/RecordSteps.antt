@@ -6,8 +6,8 @@ use Rattle.std.proofs.lemmas.Bool.{cond-false, ne_eqb}
 use Rattle.inno_types.specs.declared.value.Schema.{Schema}
 use Rattle.store_api.specs.declared.answers.Undo.{Undo}
 use Rattle.store_api.specs.declared.answers.Version.{Version as Coded}
-use Rattle.entries.specs.declared.answers.Move.{Move}
-use Rattle.entries.specs.declared.answers.Move.TheVariants.{At, End, Done, Step, Latch, Again, Full, TooDeep, Failed, Bad, NoMemory}
+use Rattle.store_api.specs.declared.moves.Move.{Move}
+use Rattle.store_api.specs.declared.moves.Move.TheVariants.{At, End, Done, Step, Latch, Again, Full, TooDeep, Failed, Bad, NoMemory}
 use Rattle.entries.specs.Pairs.{value_of}
 use Rattle.entries.specs.Calls.{is_done, Fetches, NextKeys, Removes}
 use Rattle.row_codec.proofs.Stored.{length-version_code}
@@ -15,9 +15,9 @@ use Rattle.chain.specs.declared.kept.Kept.{Kept}
 use Rattle.row_versions.specs.declared.place.Place.{Place}
 use Rattle.row_versions.specs.declared.version.Version.{Version}
 use Rattle.row_versions.specs.Chains.{Chains}
-use Rattle.coded_rows.specs.Edits.{clustered_index}
-use Rattle.coded_rows.specs.Records.{shown, IsCodeOf, LeadTo}
-use Rattle.coded_rows.proofs.RowRecords.{pointer_followed}
+use Rattle.law_coded_rows.specs.Edits.{clustered_index}
+use Rattle.law_coded_rows.specs.Records.{shown, IsCodeOf, LeadTo}
+use Rattle.law_coded_rows.proofs.RowRecords.{pointer_followed}
 use Rattle.world.specs.State.{WorldState}
 use Rattle.world.specs.Indexes.{Calls, Changes, ReplacesWith}
 use Rattle.row_changes.specs.Pairs.{RowsStay, PutsPair}

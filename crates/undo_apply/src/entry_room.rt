@@ -11,10 +11,7 @@ use secondary::entry_from;
 use std::alloc::Global;
 use std::marker::Model;
 use std::mem;
-use store_api::NoMemory;
-
-/// The longest entry.
-const MOST_BYTES: usize = 67;
+use store_api::{MOST_BYTES_OF_KEY, NoMemory};
 
 /// Room for the entry of a record. The calls of indexes take lists of bytes, and what room a list has nobody knows: so
 /// there is one of each length, which is written over in place. Contracts see the entry that was written last.
@@ -44,8 +41,8 @@ impl EntryRoom {
     pub(crate) fn new(alloc: Global) -> Result<EntryRoom, NoMemory> {
         Ok(EntryRoom {
             alloc,
-            entry: Vec::with_capacity(alloc, MOST_BYTES)?,
-            other: Vec::with_capacity(alloc, MOST_BYTES)?,
+            entry: Vec::with_capacity(alloc, MOST_BYTES_OF_KEY)?,
+            other: Vec::with_capacity(alloc, MOST_BYTES_OF_KEY)?,
             lists: lists_of_each_length(alloc)?,
             last: 0,
         })
@@ -106,8 +103,8 @@ impl EntryRoom {
 fn lists_of_each_length(alloc: Global) -> Result<Vec<Bytes>, NoMemory>
     ensures { IfOk result (λ lists. AreOfEachLength lists.items) }
 {
-    let mut lists = Vec::with_capacity(alloc, MOST_BYTES + 1)?;
-    for len in 0..MOST_BYTES + 1 {
+    let mut lists = Vec::with_capacity(alloc, MOST_BYTES_OF_KEY + 1)?;
+    for len in 0..MOST_BYTES_OF_KEY + 1 {
         lists.push(Bytes::from_vec(vec![in alloc; 0; len]?))?;
     }
     Ok(lists)

@@ -17,10 +17,8 @@ use crate::entry_room::EntryRoom;
 use crate::moves::{go_on, go_on_or_end, go_to};
 use crate::record_bytes::{is_marked, pointer_of};
 use crate::work_room::{Stage, WorkRoom};
-use entries::Move;
-use mtr::Visit;
-use store_api::Undo;
-use world::World;
+use store_api::{Move, Undo, Visit};
+use world::{World, index_number};
 
 /// The undo record of a new row.
 const NEW_ROW: u8 = 1;
@@ -29,7 +27,7 @@ const NEW_ROW: u8 = 1;
 fn entries_of(undo: &Undo, which: u8) -> u32
     ensures { result ≡ 8 * undo.now.table + (1 + which) }
 {
-    8 * u32::from(undo.table) + (1 + u32::from(which))
+    index_number(undo.table, which) + 1
 }
 
 /// Whether there was a row before the change.

@@ -9,8 +9,6 @@ mod moves;
 mod record_bytes;
 mod record_steps;
 mod taking_back;
-#[cfg(test)]
-mod tests;
 mod work_room;
 
 pub use entry_room::EntryRoom;

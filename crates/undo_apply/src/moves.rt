@@ -4,7 +4,7 @@ ghost use Rattle.std.specs.Prelude.{◌≡◌};
 ghost use Rattle.undo_apply.specs.Moves.{WentOn, WentOnOrEnded, Ended};
 
 use crate::work_room::{Stage, WorkRoom};
-use entries::Move;
+use store_api::Move;
 
 /// The stage is another from now on.
 pub(crate) fn go_to(room: &mut WorkRoom, next: Stage) -> Move

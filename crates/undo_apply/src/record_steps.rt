@@ -8,9 +8,8 @@ ghost use Rattle.undo_apply.specs.Stages.{IsPuttingBack, PutsBack};
 
 use crate::moves::{end, go_on_or_end, go_to};
 use crate::work_room::{Stage, WorkRoom};
-use entries::Move;
-use store_api::Undo;
-use world::World;
+use store_api::{Move, Undo};
+use world::{World, index_number};
 
 /// The undo record of a new row.
 const NEW_ROW: u8 = 1;
@@ -19,7 +18,7 @@ const NEW_ROW: u8 = 1;
 fn records_of(undo: &Undo) -> u32
     ensures { result ≡ 8 * undo.now.table }
 {
-    8 * u32::from(undo.table)
+    index_number(undo.table, 0)
 }
 
 /// Whether these bytes are the version that was there before the change.

@@ -9,8 +9,7 @@ ghost use Rattle.undo_apply.specs.Stages.{IsPuttingBack, PutsBack};
 use crate::key_steps::{await_entries, look_at_key, mark, remove_entry, unmark, walk};
 use crate::record_steps::{await_records, find, put_record};
 use crate::work_room::{Stage, WorkRoom};
-use entries::Move;
-use store_api::Undo;
+use store_api::{Move, Undo};
 use world::World;
 
 /// One step of the taking back of the change that an undo record tells of. After `Step`, `Latch` and `Again` the same call is

@@ -7,11 +7,7 @@ ghost use Rattle.undo_apply.specs.Rooms.{IsWhole};
 use crate::entry_room::EntryRoom;
 use inno_types::Bytes;
 use std::alloc::Global;
-use store_api::NoMemory;
-
-const MOST_BYTES_OF_KEY: usize = 67;
-
-const MOST_BYTES_OF_VALUE: usize = 1024;
+use store_api::{MOST_BYTES_OF_KEY, MOST_BYTES_OF_VALUE, NoMemory};
 
 /// What is done next. Keys are counted from 0.
 #[derive(Clone, Copy, Debug, PartialEq, Eq)]

@@ -3,3 +3,5 @@ pub mod Indexes
 pub mod Undoing
 pub mod Sessions
 pub mod Told
+pub mod EngineCalls
+pub mod Memory

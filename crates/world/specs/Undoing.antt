@@ -2,9 +2,10 @@
 use Rattle.std.specs.Prelude.{◌≡◌, ◌≢◌, ℕ, ◌<◌, ◌≤◌, vec_capacity, Bool, true, IsTrue, List, [], ◌∷◌, Option, None, Some, is_some}
 use Rattle.store_api.specs.Causes.{Rose}
 use Rattle.store_api.specs.declared.answers.Undo.{Undo}
-use Rattle.entries.specs.declared.answers.Move.{Move}
-use Rattle.entries.specs.declared.answers.Move.TheVariants.{Done, Step, Latch, Again, Full, Failed, Bad, NoMemory}
-use Rattle.entries.specs.Index.{Paged, IsAsBefore, InPages, IsBelow}
+use Rattle.store_api.specs.declared.moves.Move.{Move}
+use Rattle.store_api.specs.declared.moves.Move.TheVariants.{Done, Step, Latch, Again, Full, Failed, Bad, NoMemory}
+use Rattle.entries.specs.Index.{Paged, IsAsBefore, InPages}
+use Rattle.inno_types.specs.Order.{IsBelow}
 use Rattle.chain.specs.Versions.{Stays}
 use Rattle.world.specs.declared.undo_room.UndoRoom.{UndoRoom}
 use Rattle.world.specs.State.{WorldState, Session, Work, Logged, IsSession, HasWork, with_session, with_work}

@@ -1,9 +1,14 @@
 //! A world: the indexes, older versions, undo logs, transactions, sessions and the history of one engine, whatever they
-//! are kept in. Statements, rollback and purge are generic over this trait.
+//! are kept in. Statements, rollback and purge are generic over `World`; `EngineWorld` adds what the engine alone asks:
+//! sessions, items, tables and the history itself.
 #![tactic(auto)]
 
+mod engine_world;
+mod index_numbers;
 mod undo_room;
 mod world;
 
+pub use engine_world::EngineWorld;
+pub use index_numbers::index_number;
 pub use undo_room::UndoRoom;
 pub use world::World;

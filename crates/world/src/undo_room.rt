@@ -4,12 +4,7 @@ ghost use Rattle.std.specs.Prelude.{IfOk};
 ghost use Rattle.world.specs.Undoing.{HoldsRecord};
 
 use std::alloc::Global;
-use store_api::NoMemory;
-
-/// The longest key and the longest value of a record.
-const MOST_BYTES_OF_KEY: usize = 67;
-
-const MOST_BYTES_OF_VALUE: usize = 1024;
+use store_api::{MOST_BYTES_OF_KEY, MOST_BYTES_OF_VALUE, NoMemory};
 
 /// An undo record as it is read: of which kind (1 tells of a new row, 2 keeps the version that was replaced), of which
 /// table, and the clustered key and value.

@@ -14,10 +14,8 @@ ghost use Rattle.world.specs.Sessions.{IsShown, begun, identified, ended, with_s
 
 use crate::undo_room::UndoRoom;
 use chain::ChainBad;
-use entries::Move;
 use inno_types::{Bytes, Ids, Level, Row, Schema, Value};
-use mtr::Visit;
-use store_api::{NoMemory, Standing, Undo, Version};
+use store_api::{Move, NoMemory, Standing, Undo, Version, Visit};
 
 /// All that the sessions of one engine share. An actor is a session by its number.
 pub trait World {

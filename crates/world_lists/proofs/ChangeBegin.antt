@@ -4,8 +4,8 @@ use Rattle.std.specs.Prelude.{slice_get, slice_index_or}
 use Rattle.inno_types.specs.declared.value.Column.{Column}
 use Rattle.inno_types.specs.declared.value.Schema.{Schema}
 use Rattle.inno_db.specs.declared.change.Change.{Change}
-use Rattle.inno_model.specs.Legal.{IsOpen}
-use Rattle.past_agreement.specs.Order.{created}
+use Rattle.inno_model.specs.Past.{IsOpen}
+use Rattle.law_past_agreement.specs.Order.{created}
 use Rattle.key_codec.specs.Keys.{IsOfKind}
 use Rattle.world.specs.State.{WorldState}
 use Rattle.world.specs.declared.undo_room.UndoRoom.{UndoRoom}
@@ -22,9 +22,9 @@ use Rattle.desks.specs.declared.desk.Doing.TheVariants.{Changing}
 use Rattle.desks.specs.Desks.{with_doing}
 use Rattle.desks.specs.Shown.{lists_of}
 use Rattle.desks.specs.Holding.{IsHeld}
-use Rattle.held_changes.specs.Beginning.{IsEditable, IsKeyOfEdit, begun}
-use Rattle.held_changes.proofs.Begun.{can_be_keyed, begins}
-use Rattle.held_changes.proofs.Showing.{begun_turns, begun_task}
+use Rattle.law_held_changes.specs.Beginning.{IsEditable, IsKeyOfEdit, begun}
+use Rattle.law_held_changes.proofs.Begun.{can_be_keyed, begins}
+use Rattle.law_held_changes.proofs.Showing.{begun_turns, begun_task}
 use Rattle.world_lists.proofs.ChangeTasks.{nothing_if}
 
 -- what a session needs that begins a change

@@ -2,7 +2,7 @@
 use Rattle.std.proofs.Common.{◌≡◌, ℕ, ◌<◌, length, Some, subst, arith}
 use Rattle.std.specs.Prelude.{slice_get}
 use Rattle.inno_types.specs.declared.value.Schema.{Schema}
-use Rattle.entries.specs.declared.answers.Move.{Move}
+use Rattle.store_api.specs.declared.moves.Move.{Move}
 use Rattle.row_versions.specs.Chains.{Chains}
 use Rattle.world.specs.State.{WorldState}
 use Rattle.row_changes.specs.declared.row_change.RowChange.{RowChange}

@@ -5,13 +5,13 @@ use Rattle.std.proofs.lemmas.Option.{slice_get_within}
 use Rattle.inno_model.specs.declared.event.Event.TheVariants.{Undone}
 use Rattle.inno_model.specs.Past.{own}
 use Rattle.store_api.specs.declared.answers.Undo.{Undo}
-use Rattle.entries.specs.declared.answers.Move.{Move}
-use Rattle.entries.specs.declared.answers.Move.TheVariants.{Done, Step}
-use Rattle.past_agreement.specs.Order.{MayCome}
+use Rattle.store_api.specs.declared.moves.Move.{Move}
+use Rattle.store_api.specs.declared.moves.Move.TheVariants.{Done, Step}
+use Rattle.law_past_agreement.specs.Order.{MayCome}
 use Rattle.world.specs.State.{WorldState, Session, Work, IsSession, HasWork, standing_of}
 use Rattle.world.specs.declared.undo_room.UndoRoom.{UndoRoom}
 use Rattle.world.specs.Undoing.{read_into, ReadsLast, IsCutBack}
-use Rattle.engine_world.specs.Memory.{IsInMemory}
+use Rattle.world.specs.Memory.{IsInMemory}
 use Rattle.undo_apply.specs.declared.work_room.WorkRoom.{WorkRoom}
 use Rattle.shared_lists.specs.Tasks.{MayTakeBack}
 use Rattle.shared_lists.specs.Tasks as tasks
@@ -24,12 +24,12 @@ use Rattle.desks.specs.Desks.{doing_at, with_doing}
 use Rattle.desks.specs.Shown.{lists_of}
 use Rattle.desks.specs.Undoing.{undo_left_in}
 use Rattle.desks.specs.Holding.{IsHeld, RowsHeldBy}
-use Rattle.held_undoing.specs.Undoing.{IsReady, HasPutBack}
-use Rattle.held_undoing.specs.Seen.{lists_held, TakesBackIn}
-use Rattle.held_undoing.proofs.Putting.{held_on}
-use Rattle.held_undoing.proofs.Reading.{held_begun}
-use Rattle.held_undoing.proofs.Showing.{ready_if, shows_begun, shows_went, shows_hindered, shows_undone}
-use Rattle.held_undoing.proofs.TakenBack.{own_number, has_logged, may_add, held_then}
+use Rattle.law_held_undoing.specs.Undoing.{IsReady, HasPutBack}
+use Rattle.law_held_undoing.specs.Seen.{lists_held, TakesBackIn}
+use Rattle.law_held_undoing.proofs.Putting.{held_on}
+use Rattle.law_held_undoing.proofs.Reading.{held_begun}
+use Rattle.law_held_undoing.proofs.Showing.{ready_if, shows_begun, shows_went, shows_hindered, shows_undone}
+use Rattle.law_held_undoing.proofs.TakenBack.{own_number, has_logged, may_add, held_then}
 use Rattle.world_lists.specs.Parts.{DropsNewest}
 use Rattle.world_lists.proofs.ChangeTasks.{shows_undoing}
 

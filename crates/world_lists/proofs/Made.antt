@@ -9,22 +9,21 @@ use Rattle.inno_types.specs.declared.reply.Reply.{Reply}
 use Rattle.inno_types.specs.declared.stmt.Stmt.{Stmt}
 use Rattle.inno_model.specs.declared.event.Event.{Event}
 use Rattle.inno_model.specs.declared.event.Event.TheVariants.{Started, Ended, View, Committed, Acked, RolledBack}
-use Rattle.inno_model.specs.Past.{own, txn, started, under_way, of_item}
-use Rattle.inno_model.specs.Legal.{IsOpen, awaits_ack}
+use Rattle.inno_model.specs.Past.{own, txn, started, under_way, of_item, IsOpen, awaits_ack}
 use Rattle.inno_model.proofs.Commits.{begins_few}
 use Rattle.sql_history.specs.Settings.{Setting, at_first, set_by}
 use Rattle.sql_history.specs.Counts.{rows_of_reply}
 use Rattle.txn_table.specs.Txns.{Txns}
-use Rattle.past_agreement.specs.Order.{MayCome}
+use Rattle.law_past_agreement.specs.Order.{MayCome}
 use Rattle.world.specs.State.{WorldState, Session, Work, IsSession, HasWork, txn_of}
 use Rattle.world.specs.Told.{IsTold}
 use Rattle.world.specs.Sessions.{change_txn, with_save}
 use Rattle.world.specs.declared.undo_room.UndoRoom.{UndoRoom}
-use Rattle.world_agreement.specs.Steps.{viewed, committed, rolled_back}
+use Rattle.law_world_agreement.specs.Steps.{viewed, committed, rolled_back}
 use Rattle.undo_apply.specs.declared.work_room.WorkRoom.{WorkRoom}
-use Rattle.engine_world.specs.Calls.{item_started, item_ended, acknowledged, with_setting}
+use Rattle.world.specs.EngineCalls.{item_started, item_ended, acknowledged, with_setting}
 use Rattle.row_changes.specs.Records.{IsListed}
-use Rattle.changing_rows.proofs.Listed.{listed_of}
+use Rattle.law_changing_rows.proofs.Listed.{listed_of}
 use Rattle.shared_lists.specs.Tasks.{Idle}
 use Rattle.shared_lists.specs.State.{Lists, task_of, Adds, Closes, Stays, writer_without}
 use Rattle.desks.specs.declared.desk.Desk.{Desk}
@@ -32,12 +31,12 @@ use Rattle.desks.specs.declared.desk.Doing.TheVariants.{Nothing}
 use Rattle.desks.specs.Desks.{fresh_desk, desk_at, doing_at, with_start}
 use Rattle.desks.specs.Holding.{IsHeld}
 use Rattle.desks.specs.Shown.{seen_of, shown}
-use Rattle.held_entries.specs.Seen.{settings_of}
+use Rattle.law_held_entries.specs.Seen.{settings_of}
 use Rattle.desks.proofs.Showing.{task_is}
-use Rattle.held_entries.proofs.Seen.{left_same, rests_of, now_of, settings_by}
-use Rattle.held_entries.proofs.Items.{started_held, ended_held, acked_held, unentered_held}
-use Rattle.held_entries.proofs.Transactions.{txn_here, txn_elsewhere, viewed_held, saved_held, committed_held, rolled_back_held}
-use Rattle.held_entries.proofs.Sessions.{start_here}
+use Rattle.law_held_entries.proofs.Seen.{left_same, rests_of, now_of, settings_by}
+use Rattle.law_held_entries.proofs.Items.{started_held, ended_held, acked_held, unentered_held}
+use Rattle.law_held_entries.proofs.Transactions.{txn_here, txn_elsewhere, viewed_held, saved_held, committed_held, rolled_back_held}
+use Rattle.law_held_entries.proofs.Sessions.{start_here}
 use Rattle.world_lists.proofs.Answering.{desk_read, few_more}
 use Rattle.desks.specs.Undoing.{undo_left_in}
 use Rattle.world_lists.proofs.Standings.{there, open_has, txn_is}

@@ -4,18 +4,17 @@ use Rattle.std.specs.Prelude.{◌≤◌, is_some, IfSome}
 use Rattle.std.proofs.lemmas.Option.{slice_get_within, get_or_from_slice_get}
 use Rattle.inno_types.specs.declared.lock.Level.{Level}
 use Rattle.inno_types.specs.declared.value.Schema.{Schema}
-use Rattle.inno_model.specs.Past.{level, view_of}
-use Rattle.inno_model.specs.Legal.{IsOpen}
+use Rattle.inno_model.specs.Past.{level, view_of, IsOpen}
 use Rattle.read_view.specs.Sight.{Sight as ReadSight}
 use Rattle.sql_plan.specs.declared.choice.Plan.{Plan}
 use Rattle.row_versions.specs.Chains.{Chains}
-use Rattle.past_agreement.specs.Order.{created}
-use Rattle.past_agreement.specs.Agreement.{SlotAgrees, WriterAgrees}
+use Rattle.law_past_agreement.specs.Order.{created}
+use Rattle.law_past_agreement.specs.Agreement.{SlotAgrees, WriterAgrees}
 use Rattle.world.specs.State.{WorldState, Session}
 use Rattle.world.specs.Told.{IsTold}
 use Rattle.world.specs.declared.undo_room.UndoRoom.{UndoRoom}
-use Rattle.world_agreement.specs.Agreement.{Agrees}
-use Rattle.world_agreement.proofs.Settled.{slot_if, slot_at}
+use Rattle.law_world_agreement.specs.Agreement.{Agrees}
+use Rattle.law_world_agreement.proofs.Settled.{slot_if, slot_at}
 use Rattle.row_search.specs.declared.sight.Sight.{Sight}
 use Rattle.row_search.specs.declared.sight.Sight.TheVariants as sights
 use Rattle.undo_apply.specs.declared.work_room.WorkRoom.{WorkRoom}
@@ -30,10 +29,10 @@ use Rattle.desks.specs.Desks.{doing_at, with_doing}
 use Rattle.desks.specs.Holding.{IsHeld, IsOwnView, SightHolds}
 use Rattle.desks.specs.Shown.{reading_of, seen_of}
 use Rattle.desks.specs.Undoing.{undo_left_in}
-use Rattle.held_searches.specs.Begun.{HasView, IsBegun}
-use Rattle.held_searches.proofs.Begins.{has_view, begun}
+use Rattle.law_held_searches.specs.Begun.{HasView, IsBegun}
+use Rattle.law_held_searches.proofs.Begins.{has_view, begun}
 use Rattle.desks.proofs.Showing.{task_is, idle_shown}
-use Rattle.held_searches.proofs.Callers.{turns_to_search}
+use Rattle.law_held_searches.proofs.Callers.{turns_to_search}
 
 -- ---- who reads
 

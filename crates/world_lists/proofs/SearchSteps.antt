@@ -2,7 +2,7 @@
 use Rattle.std.proofs.Common.{◌≡◌, ◌≢◌, inl, inr, ℕ, Bool, true, false, List, map, Option, refl, sym, ap, subst, ◌∙◌}
 use Rattle.inno_types.specs.declared.value.Value.{Value}
 use Rattle.inno_model.specs.declared.event.Event.{Event}
-use Rattle.entries.specs.declared.answers.Move.{Move}
+use Rattle.store_api.specs.declared.moves.Move.{Move}
 use Rattle.entries.specs.Calls.{Leaves}
 use Rattle.sql_plan.specs.declared.choice.Plan.{Plan}
 use Rattle.world.specs.State.{WorldState}
@@ -28,12 +28,12 @@ use Rattle.desks.specs.Desks.{doing_at, with_doing}
 use Rattle.desks.specs.Holding.{IsHeld}
 use Rattle.desks.specs.Shown.{reading_of, seen_of}
 use Rattle.desks.specs.Undoing.{undo_left_in}
-use Rattle.held_searches.specs.Moving.{MovesPlaces}
-use Rattle.held_searches.specs.TakenUp.{ComesAnew, IsTakenUp, MayStep, IsSearchOf, plan_of}
-use Rattle.held_searches.proofs.AtDesks.{doing_twice}
+use Rattle.law_held_searches.specs.Moving.{MovesPlaces}
+use Rattle.law_held_searches.specs.TakenUp.{ComesAnew, IsTakenUp, MayStep, IsSearchOf, plan_of}
+use Rattle.law_held_searches.proofs.AtDesks.{doing_twice}
 use Rattle.desks.proofs.Showing.{task_is}
-use Rattle.held_searches.proofs.Callers.{turns_now, search_shown, has_desk, searches_on}
-use Rattle.held_searches.proofs.Stepping.{steps, went, ended, waited, given_up}
+use Rattle.law_held_searches.proofs.Callers.{turns_now, search_shown, has_desk, searches_on}
+use Rattle.law_held_searches.proofs.Stepping.{steps, went, ended, waited, given_up}
 
 -- what stands at desks after the session's task was taken and another given
 pub desks_given : (s : ℕ) (doing : Doing) (desks between after : List Desk) → between ≡ with_doing s Nothing desks → after ≡ with_doing s doing between → after ≡ with_doing s doing desks

@@ -2,15 +2,14 @@
 use Rattle.std.proofs.Common.{◌≡◌, ◌≢◌, ℕ, zero, suc, ◌<◌, Bool, true, false, Option, Some, None, List, [], ◌∷◌, length, map, refl, sym, ap, subst, ◌∙◌, arith}
 use Rattle.std.specs.Prelude.{slice_get, is_some, option_map}
 use Rattle.std.specs.List.{list_any}
-use Rattle.inno_model.specs.Past.{own, level, txn, view_of}
-use Rattle.inno_model.specs.Legal.{IsOpen}
-use Rattle.past_agreement.specs.Order.{created, is_creation}
-use Rattle.past_agreement.specs.Rows.{place_in}
-use Rattle.past_agreement.specs.Agreement.{IsIdle, IsWorkOf, ViewAgrees, WriterAgrees}
+use Rattle.inno_model.specs.Past.{own, level, txn, view_of, IsOpen}
+use Rattle.law_past_agreement.specs.Order.{created, is_creation}
+use Rattle.law_past_agreement.specs.Rows.{place_in}
+use Rattle.law_past_agreement.specs.Agreement.{IsIdle, IsWorkOf, ViewAgrees, WriterAgrees}
 use Rattle.world.specs.State.{WorldState, Session, Work, Seen, IsSession, HasWork, standing_of, txn_of, own_of, level_of}
-use Rattle.world_agreement.specs.Agreement.{sight_of, work_at}
-use Rattle.world_agreement.proofs.Opening.{idle_of}
-use Rattle.world_agreement.proofs.Ending.{work_of}
+use Rattle.law_world_agreement.specs.Agreement.{sight_of, work_at}
+use Rattle.law_world_agreement.proofs.Opening.{idle_of}
+use Rattle.law_world_agreement.proofs.Ending.{work_of}
 use Rattle.desks.specs.declared.desk.Desk.{Desk}
 use Rattle.world_lists.proofs.Strangers.{joined_of_open}
 use Rattle.desks.specs.Holding.{IsHeld, MakesTables}

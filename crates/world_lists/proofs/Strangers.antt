@@ -3,9 +3,8 @@ use Rattle.std.proofs.Common.{◌≡◌, ℕ, ◌+◌, ◌<◌, ◌≤◌, Bool,
 use Rattle.std.specs.Prelude.{is_some}
 use Rattle.std.proofs.lemmas.Bool.{cases_lt}
 use Rattle.inno_types.specs.declared.lock.Level.{Level}
-use Rattle.inno_model.specs.Past.{own, level, under_way, of_item}
-use Rattle.inno_model.specs.Legal.{IsOpen, awaits_ack}
-use Rattle.past_agreement.specs.Agreement.{owed_by, owed_by_txn, owed_by_item}
+use Rattle.inno_model.specs.Past.{own, level, under_way, of_item, IsOpen, awaits_ack}
+use Rattle.law_past_agreement.specs.Agreement.{owed_by, owed_by_txn, owed_by_item}
 use Rattle.world.specs.State.{WorldState}
 
 owes : (l : Option Level) (changes : ℕ) (waits : Bool) (item : ℕ) → owed_by_txn l changes waits + item ≡ 0 → is_some l ≡ true → ⊥

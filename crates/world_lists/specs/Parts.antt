@@ -12,8 +12,8 @@ use Rattle.row_changes.specs.Rows.{IsChangingRow, ChangesRow}
 use Rattle.shared_lists.specs.declared.answers.Changed.{Changed}
 use Rattle.shared_lists.specs.declared.answers.Changed.TheVariants.{Went, Entered, Done, NoMemory}
 use Rattle.desks.specs.declared.desk.Doing.{Doing}
-use Rattle.held_changes.specs.Making.{doing_after}
-use Rattle.held_changes.specs.Leaving.{LeavesIndexes}
+use Rattle.law_held_changes.specs.Making.{doing_after}
+use Rattle.law_held_changes.specs.Leaving.{LeavesIndexes}
 
 -- whether the history tells the change
 abbrev pub is_told : RowChange → Bool

@@ -1,4 +1,4 @@
-//! Copies of schemas, and the keys at which rows are changed.
+//! The keys at which rows are changed.
 
 ghost use Rattle.std.specs.Prelude.{◌≡◌, IfOk, Some, slice_get};
 ghost use Rattle.inno_types.specs.declared.value.Column.{Column};
@@ -6,50 +6,11 @@ ghost use Rattle.key_codec.specs.Keys.{IsOfKind, key_code};
 ghost use Rattle.row_changes.specs.Rows.{primary_of};
 
 use inno_db::{key_of_row, to_value};
-use inno_types::{Bytes, Column, Columns, Key, Keys, Listed, Schema};
+use inno_types::{Bytes, Schema};
 use key_codec::put_key;
 use row_changes::RowEdit;
-use std::alloc::{AllocError, Global};
+use std::alloc::Global;
 use store_api::NoMemory;
-
-/// The same schema.
-pub fn copy_schema(alloc: Global, schema: &Schema) -> Result<Schema, AllocError>
-    ensures { IfOk result (λ copy. copy ≡ schema.now) }
-{
-    Ok(Schema {
-        name: schema.name.copied()?,
-        columns: copy_columns(alloc, &schema.columns)?,
-        primary: schema.primary,
-        keys: copy_keys(alloc, &schema.keys)?,
-    })
-}
-
-fn copy_columns(alloc: Global, columns: &Columns) -> Result<Columns, AllocError>
-    ensures { IfOk result (λ copy. copy ≡ columns.now) }
-{
-    let mut copy = Vec::new(alloc);
-    for column in columns.as_slice() {
-        copy.push(Column {
-            name: column.name.copied()?,
-            kind: column.kind,
-            not_null: column.not_null,
-        })?;
-    }
-    Ok(Listed::from_vec(copy))
-}
-
-fn copy_keys(alloc: Global, keys: &Keys) -> Result<Keys, AllocError>
-    ensures { IfOk result (λ copy. copy ≡ keys.now) }
-{
-    let mut copy = Vec::new(alloc);
-    for key in keys.as_slice() {
-        copy.push(Key {
-            name: key.name.copied()?,
-            column: key.column,
-        })?;
-    }
-    Ok(Listed::from_vec(copy))
-}
 
 /// The bytes of the key at which a row is put or removed.
 pub fn key_of_edit(alloc: Global, schema: &Schema, edit: &RowEdit) -> Result<Bytes, NoMemory>

@@ -1,16 +1,15 @@
 //! The lists themselves.
 
-ghost use Rattle.std.specs.Prelude.{◌≡◌, IfOk};
-ghost use Rattle.engine_world.specs.Calls.{IsNew};
+ghost use Rattle.std.specs.Prelude.{◌≡◌, ◌<◌, ◌^◌, length, IfOk};
+ghost use Rattle.world.specs.EngineCalls.{IsNew};
 ghost use Rattle.shared_lists.specs.State.{IsFirst};
 
 use desks::Desk;
-use engine_world::EngineWorld;
 use std::alloc::Global;
 use std::marker::Model;
 use store_api::NoMemory;
 use undo_apply::WorkRoom;
-use world::UndoRoom;
+use world::{EngineWorld, UndoRoom};
 
 /// The lists over a world.
 #[derive(Drop)]
@@ -63,4 +62,11 @@ impl<W: EngineWorld> WorldLists<W> {
             room: WorkRoom::new(alloc)?,
         })
     }
+}
+
+/// The history has room for more entries, which proofs read here. It does nothing.
+pub fn is_short<W: EngineWorld>(world: &W)
+    ensures few { length (W.state world.now).past < 2 ^ 63 }
+{
+    let _few = world.history();
 }

@@ -5,13 +5,12 @@ ghost use Rattle.row_versions.specs.Chains.{Chains};
 ghost use Rattle.world.specs.State.{Session, IsSession};
 ghost use Rattle.desks.specs.Desks.{is_quiet};
 ghost use Rattle.desks.specs.Holding.{IsOwnView};
-ghost use Rattle.held_searches.specs.Begun.{HasView};
-ghost use Rattle.held_searches.specs.Moving.{MovesPlaces};
-ghost use Rattle.held_searches.specs.Newest.{TellsTable, AreRead};
-ghost use Rattle.held_searches.specs.TakenUp.{MayStep, ComesAnew};
+ghost use Rattle.law_held_searches.specs.Begun.{HasView};
+ghost use Rattle.law_held_searches.specs.Moving.{MovesPlaces};
+ghost use Rattle.law_held_searches.specs.Newest.{TellsTable, AreRead};
+ghost use Rattle.law_held_searches.specs.TakenUp.{MayStep, ComesAnew};
 
 use desks::{Desk, Doing};
-use engine_world::EngineWorld;
 use inno_types::{Ids, Rows, Schema};
 use read_view::ReadView;
 use row_search::{FoundRow, Reached, RowSearch, Sight};
@@ -19,6 +18,7 @@ use shared_lists::Searched;
 use sql_plan::Plan;
 use std::alloc::Global;
 use store_api::NoMemory;
+use world::EngineWorld;
 
 /// Whether no change of a row is under way, so that all keys say what is there.
 pub fn is_quiet(writer: Option<u32>, desks: &[Desk]) -> bool

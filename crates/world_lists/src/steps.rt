@@ -1,12 +1,10 @@
-//! The calls that statements make. Each ends with a look at the history, whose length is bounded.
+//! The calls that statements make.
 
-use crate::keys::{copy_schema, key_of_edit};
-use crate::lists::WorldLists;
+use crate::keys::key_of_edit;
+use crate::lists::{WorldLists, is_short};
 use crate::reading::{found_rows, is_quiet, newest_rows, own_sight, rows_of, taken_up};
 use crate::undoing::{edit_of, is_undoing, step_change, take_newest_back};
 use desks::{Desk, Doing, TableSearch, give_doing, take_doing};
-use engine_world::EngineWorld;
-use entries::Move;
 use inno_db::Change;
 use inno_model::History;
 use inno_types::{Bytes, Ids, Item, Level, Listed, Reply, Rows, Schema, Stmt};
@@ -15,15 +13,8 @@ use row_search::{Reached, RowSearch, Sight};
 use session_settings::SessionSettings;
 use shared_lists::{Changed, Reading, Searched, SharedLists, Undone};
 use sql_plan::Plan;
-use store_api::NoMemory;
-
-/// The most sessions.
-const MOST_SESSIONS: usize = 68;
-
-/// The longest key and the longest value of an undo record.
-const MOST_BYTES_OF_KEY: usize = 67;
-
-const MOST_BYTES_OF_VALUE: usize = 1024;
+use store_api::{MOST_BYTES_OF_KEY, MOST_BYTES_OF_VALUE, MOST_SESSIONS, Move, NoMemory};
+use world::EngineWorld;
 
 impl<W: EngineWorld> SharedLists for WorldLists<W> {
     ghost lists = { λ l. l };
@@ -104,14 +95,14 @@ impl<W: EngineWorld> SharedLists for WorldLists<W> {
         }
         self.world.start(session, before + 1, item)?;
         self.desks[session as usize].started = before + 1;
-        let _few = self.world.history();
+        is_short(&self.world);
         Ok(())
     }
 
     fn end(&mut self, session: u32, reply: Reply) {
         let j = self.desks[session as usize].started;
         self.world.end_item(session, j, reply);
-        let _few = self.world.history();
+        is_short(&self.world);
     }
 
     fn set(&mut self, session: u32, stmt: &Stmt) {
@@ -128,7 +119,7 @@ impl<W: EngineWorld> SharedLists for WorldLists<W> {
         self.world.event_room(session)?;
         let txn = self.world.begin(session, level)?;
         self.world.add_begin(session, txn, level).unwrap();
-        let _few = self.world.history();
+        is_short(&self.world);
         Ok(())
     }
 
@@ -137,7 +128,7 @@ impl<W: EngineWorld> SharedLists for WorldLists<W> {
         self.world.active(&mut active)?;
         let next = self.world.next_id();
         self.world.add_view(session, &active, next)?;
-        let _few = self.world.history();
+        is_short(&self.world);
         Ok(())
     }
 
@@ -157,7 +148,7 @@ impl<W: EngineWorld> SharedLists for WorldLists<W> {
         self.world.add_table(session, schema)?;
         give_first_id(&mut self.world, txn, id);
         self.has_made_table = true;
-        let _few = self.world.history();
+        is_short(&self.world);
         Ok(())
     }
 
@@ -168,12 +159,12 @@ impl<W: EngineWorld> SharedLists for WorldLists<W> {
         let makes = still_makes(self.writer, self.has_made_table, session);
         self.has_made_table = makes;
         self.writer = without(self.writer, session);
-        let _few = self.world.history();
+        is_short(&self.world);
     }
 
     fn ack(&mut self, session: u32) {
         self.world.ack(session);
-        let _few = self.world.history();
+        is_short(&self.world);
     }
 
     fn roll_back(&mut self, session: u32) {
@@ -183,7 +174,7 @@ impl<W: EngineWorld> SharedLists for WorldLists<W> {
         let makes = still_makes(self.writer, self.has_made_table, session);
         self.has_made_table = makes;
         self.writer = without(self.writer, session);
-        let _few = self.world.history();
+        is_short(&self.world);
     }
 
     fn begin_search(
@@ -193,7 +184,7 @@ impl<W: EngineWorld> SharedLists for WorldLists<W> {
         plan: Plan,
         reading: Reading,
     ) -> Result<(), NoMemory> {
-        let schema = copy_schema(self.alloc, &self.world.tables().as_slice()[table as usize])?;
+        let schema = self.world.tables().as_slice()[table as usize].copied()?;
         let sight = match reading {
             Reading::View => own_sight(self.alloc, &self.world, session)?,
             Reading::Newest => Sight::Newest,
@@ -241,7 +232,8 @@ impl<W: EngineWorld> SharedLists for WorldLists<W> {
     }
 
     fn stop_search(&mut self, session: u32) {
-        let Doing::Searching(on) = take_doing(&mut self.desks, session) else {
+        let doing = take_doing(&mut self.desks, session);
+        let Doing::Searching(on) = doing else {
             unreachable!()
         };
         let TableSearch {
@@ -252,12 +244,15 @@ impl<W: EngineWorld> SharedLists for WorldLists<W> {
         } = on;
         let search = taken_up(search, cuts != self.cuts);
         search.give_up(&mut self.world, session, &schema);
+        drop(schema);
     }
 
     fn read_newest(&mut self, session: u32, table: u8, plan: Plan) -> Result<Rows, NoMemory> {
-        let schema = copy_schema(self.alloc, &self.world.tables().as_slice()[table as usize])?;
+        let schema = self.world.tables().as_slice()[table as usize].copied()?;
         let plan = plan_read(is_quiet(self.writer, &self.desks), plan);
-        let found = newest_rows(self.alloc, &mut self.world, session, table, plan, &schema)?;
+        let found = newest_rows(self.alloc, &mut self.world, session, table, plan, &schema);
+        drop(schema);
+        let found = found?;
         rows_of(self.alloc, found)
     }
 
@@ -273,12 +268,13 @@ impl<W: EngineWorld> SharedLists for WorldLists<W> {
     }
 
     fn change(&mut self, session: u32) -> Changed {
-        let Doing::Changing(change) = take_doing(&mut self.desks, session) else {
+        let doing = take_doing(&mut self.desks, session);
+        let Doing::Changing(change) = doing else {
             unreachable!()
         };
         let (doing, changed) = step_change(self.alloc, &mut self.world, session, change);
         give_doing(&mut self.desks, session, doing);
-        let _few = self.world.history();
+        is_short(&self.world);
         changed
     }
 
@@ -295,10 +291,10 @@ impl<W: EngineWorld> WorldLists<W> {
     ghost use Rattle.std.specs.Prelude.{◌≡◌, ℕ, ◌-◌, ◌<◌, length};
     ghost use Rattle.inno_model.specs.declared.event.Event.TheVariants.{Undone as UndoneEvent};
     ghost use Rattle.inno_model.specs.Past.{own};
-    ghost use Rattle.past_agreement.specs.Order.{MayCome};
+    ghost use Rattle.law_past_agreement.specs.Order.{MayCome};
     ghost use Rattle.shared_lists.specs.Tasks.{Undoing, MayTakeBack};
     ghost use Rattle.shared_lists.specs.State.{task_of};
-    ghost use Rattle.held_undoing.specs.Seen.{TakesBackIn};
+    ghost use Rattle.law_held_undoing.specs.Seen.{TakesBackIn};
 
     /// Reads the undo record of the session's newest change.
     fn read_record(&mut self, session: u32) -> Undone
@@ -349,7 +345,7 @@ ghost use Rattle.std.specs.Prelude.{◌≡◌, ◌≢◌, ◌-◌, ◌<◌, ◌^
 ghost use Rattle.txn_table.specs.Txns.{is_there, id_at};
 ghost use Rattle.world.specs.Sessions.{identified};
 ghost use Rattle.shared_lists.specs.State.{writer_without};
-ghost use Rattle.held_searches.specs.Newest.{plan_read};
+ghost use Rattle.law_held_searches.specs.Newest.{plan_read};
 
 /// Gives the transaction its id, where it has none.
 fn give_first_id<W: EngineWorld>(world: &mut W, txn: u64, id: u64)

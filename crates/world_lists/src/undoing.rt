@@ -7,30 +7,29 @@ ghost use Rattle.row_versions.specs.Chains.{Chains};
 ghost use Rattle.world.specs.State.{Session, Work, IsSession, HasWork, standing_of};
 ghost use Rattle.world.specs.Told.{TellsTogether};
 ghost use Rattle.world.specs.Undoing.{read_into, IsCutBack};
-ghost use Rattle.past_agreement.specs.Order.{IsOfRow};
+ghost use Rattle.law_past_agreement.specs.Order.{IsOfRow};
 ghost use Rattle.row_changes.specs.Edits.{change_of};
 ghost use Rattle.row_changes.specs.Rows.{IsChangingRow, table_of};
 ghost use Rattle.inno_model.specs.Past.{own};
 ghost use Rattle.desks.specs.Desks.{doing_at};
 ghost use Rattle.desks.specs.Holding.{IsHeld};
 ghost use Rattle.undo_apply.specs.Stages.{IsPuttingBack};
-ghost use Rattle.held_changes.specs.Leaving.{LeavesIndexes};
-ghost use Rattle.held_changes.specs.Making.{given_up};
-ghost use Rattle.held_undoing.specs.Undoing.{HasPutBack};
-ghost use Rattle.held_undoing.specs.Seen.{lists_held, TakesBackIn};
+ghost use Rattle.law_held_changes.specs.Leaving.{LeavesIndexes};
+ghost use Rattle.law_held_changes.specs.Making.{given_up};
+ghost use Rattle.law_held_undoing.specs.Undoing.{HasPutBack};
+ghost use Rattle.law_held_undoing.specs.Seen.{lists_held, TakesBackIn};
 ghost use Rattle.world_lists.specs.Parts.{StepsChange, DropsNewest, is_told, answer_for};
 
+use crate::lists::is_short;
 use desks::{Desk, Doing, give_doing};
-use engine_world::EngineWorld;
-use entries::Move;
 use inno_db::Change;
 use inno_types::Bytes;
 use row_changes::{Reached, RowChange, RowEdit};
 use shared_lists::{Changed, Undone};
 use std::alloc::Global;
-use store_api::Undo;
+use store_api::{Move, Undo};
 use undo_apply::{WorkRoom, put_back};
-use world::UndoRoom;
+use world::{EngineWorld, UndoRoom, index_number};
 
 /// Whether the session takes a change back.
 pub fn is_undoing(desks: &[Desk], session: u32) -> bool
@@ -108,9 +107,9 @@ fn leave_table<W: EngineWorld>(world: &mut W, session: u32, table: u8)
     requires { (schema : Schema) × (slice_get (W.state world.old).schemas table ≡ Some schema) × (length schema.keys < 5) }
     ensures { LeavesIndexes session (W.state world.old) (W.state world.new) }
 {
-    let keys = world.tables().as_slice()[table as usize].keys.len() as u32;
+    let keys = world.tables().as_slice()[table as usize].keys.len() as u8;
     for which in 0..keys + 1 {
-        world.leave(8 * u32::from(table) + which, session);
+        world.leave(index_number(table, which), session);
     }
 }
 
@@ -212,7 +211,7 @@ pub fn take_newest_back<W: EngineWorld>(
         Move::Done => {
             drop_newest(world, session);
             give_doing(desks, session, Doing::Nothing);
-            let _few = world.history();
+            is_short(world);
             *cuts += 1;
             Undone::Undone
         }

@@ -12,21 +12,21 @@ use Rattle.inno_db.specs.declared.change.Change.{Change}
 use Rattle.inno_db.specs.declared.change.Change.TheVariants.{Create, Put, Remove}
 use Rattle.inno_db.specs.Database.{Database, Place}
 use Rattle.inno_db.specs.Outcome.{outcome}
-use Rattle.inno_model.specs.Loose.{Spares}
+use Rattle.inno_db.specs.Changes.{Spares}
 use Rattle.inno_model.specs.declared.event.Event.{Event}
 use Rattle.inno_model.specs.declared.event.Event.TheVariants as events
 use Rattle.inno_model.specs.Past.{own}
-use Rattle.db_laws.specs.RowChanges.{AreOfTables, AreApplicable}
-use Rattle.db_laws.proofs.Applicable.{outcome-AreApplicable}
+use Rattle.law_db.specs.RowChanges.{AreOfTables, AreApplicable}
+use Rattle.law_db.proofs.Applicable.{outcome-AreApplicable}
 use Rattle.sql_grammar.specs.Grammar.{Spells}
 use Rattle.sql_history.specs.Items.{own_before, base, undoes}
 use Rattle.sql_history.specs.LooseReading.{newest}
 use Rattle.sql_history.specs.Counts.{rows_of_entry, rows_kept, most_rows}
 use Rattle.sql_history.specs.Legal.{IsWriting, ChangesBy, MayChange}
-use Rattle.past_agreement.specs.Order.{created, IsTabled, IsOfRow}
-use Rattle.past_agreement.specs.Agreement.{IsSound}
-use Rattle.fitting_rows.proofs.Spelled.{spelled-Has64Bits}
-use Rattle.fitting_history.proofs.Databases.{latest_coded, statement_fits}
+use Rattle.law_past_agreement.specs.Order.{created, IsTabled, IsOfRow}
+use Rattle.law_past_agreement.specs.Agreement.{IsSound}
+use Rattle.law_fitting_rows.proofs.Spelled.{spelled-Has64Bits}
+use Rattle.law_found_rows.proofs.FittingDatabases.{latest_coded, statement_fits}
 use Rattle.shared_lists.specs.Fitting.{FitsWell, FitsThen}
 use Rattle.sql_lists.specs.Kept.{IsInOrder}
 use Rattle.write_statement.specs.declared.machine.Work.{Work}

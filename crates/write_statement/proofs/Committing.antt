@@ -12,16 +12,15 @@ use Rattle.inno_db.specs.declared.change.Change.{Change}
 use Rattle.inno_db.specs.Outcome.{outcome}
 use Rattle.inno_model.specs.declared.event.Event.{Event}
 use Rattle.inno_model.specs.declared.event.Event.TheVariants as events
-use Rattle.inno_model.specs.Past.{before_item, of_item, begins_txn, commits_txn, rolls_back_txn, level, own, started}
-use Rattle.inno_model.specs.Legal.{awaits_ack}
+use Rattle.inno_model.specs.Past.{before_item, of_item, begins_txn, commits_txn, rolls_back_txn, level, own, started, awaits_ack, IsClosed}
 use Rattle.sql_grammar.specs.Grammar.{Spells}
 use Rattle.sql_history.specs.Items.{own_before, base, point, HasMade, undoes}
 use Rattle.sql_history.specs.Settings.{Either}
 use Rattle.sql_history.specs.Answers.{MakesFor}
-use Rattle.sql_history.specs.Endings.{IsClosed, Commits, Goes, BacksOut}
+use Rattle.sql_history.specs.Endings.{Commits, Goes, BacksOut}
 use Rattle.sql_history.specs.Legal.{IsSettled, CommitsBy, MayCommit, is_alone}
 use Rattle.sql_history.specs.Waiting.{is_victim}
-use Rattle.past_agreement.specs.Order.{IsOfRow}
+use Rattle.law_past_agreement.specs.Order.{IsOfRow}
 use Rattle.shared_lists.specs.Tasks.{Idle}
 use Rattle.shared_lists.specs.State.{State, Adds, Closes, task_of}
 use Rattle.sql_lists.specs.Kept.{MayReply}

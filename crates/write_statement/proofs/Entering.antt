@@ -8,7 +8,7 @@ use Rattle.inno_model.specs.Past.{own, started}
 use Rattle.sql_grammar.specs.Grammar.{Spells}
 use Rattle.sql_history.specs.Counts.{rows_kept, most_rows}
 use Rattle.sql_history.specs.Legal.{MayChange}
-use Rattle.past_agreement.specs.Order.{created, IsTabled, IsOfRow}
+use Rattle.law_past_agreement.specs.Order.{created, IsTabled, IsOfRow}
 use Rattle.shared_lists.specs.Tasks.{Task, MayTakeBack, asked, left_by}
 use Rattle.shared_lists.specs.State.{State, Turns, task_of}
 use Rattle.shared_lists.specs.Steps.{Enters}

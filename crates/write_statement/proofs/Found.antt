@@ -23,18 +23,18 @@ use Rattle.inno_db.specs.Typing.{filter_fits, set_fits, set_known, where_fits, w
 use Rattle.inno_db.proofs.Outcomes.{table_read}
 use Rattle.inno_model.specs.declared.event.Event.{Event}
 use Rattle.inno_model.specs.Past.{own, commits, committed, opening, changed}
-use Rattle.past_agreement.specs.Order.{created, is_creation}
-use Rattle.past_agreement.specs.Rows.{seen}
-use Rattle.past_agreement.specs.Agreement.{IsSound}
-use Rattle.past_agreement.proofs.Tables.{key_stays}
-use Rattle.tables_as_db.specs.Tables.{with_all_tables}
+use Rattle.law_past_agreement.specs.Order.{created, is_creation}
+use Rattle.law_past_agreement.specs.Rows.{seen}
+use Rattle.law_past_agreement.specs.Agreement.{IsSound}
+use Rattle.law_past_agreement.proofs.Tables.{key_stays}
+use Rattle.law_past_agreement.specs.DatabaseTables.{with_all_tables}
 use Rattle.sql_history.specs.Items.{own_before, base}
 use Rattle.sql_history.specs.Legal.{IsWriting}
-use Rattle.fitting_history.proofs.Databases.{unchanged_coded}
-use Rattle.found_rows.specs.Plans.{SearchesFor, IsOpenRange}
-use Rattle.found_rows.proofs.Covered.{reads_enough, open_range}
-use Rattle.found_rows.proofs.Fits.{fitting_rows_fit}
-use Rattle.found_rows.proofs.Passing.{passing_map, rows_of-passing}
+use Rattle.law_found_rows.proofs.FittingDatabases.{unchanged_coded}
+use Rattle.law_found_rows.specs.Plans.{SearchesFor, IsOpenRange}
+use Rattle.law_found_rows.proofs.Covered.{reads_enough, open_range}
+use Rattle.law_found_rows.proofs.Fits.{fitting_rows_fit}
+use Rattle.law_found_rows.proofs.Passing.{passing_map, rows_of-passing}
 use Rattle.shared_lists.specs.Fitting.{FitsThen}
 use Rattle.shared_lists.specs.State.{State}
 use Rattle.sql_plan.specs.declared.choice.Plan.{Plan}

@@ -16,17 +16,17 @@ use Rattle.inno_db.specs.Database.{Database}
 use Rattle.inno_db.specs.Outcome.{outcome}
 use Rattle.inno_model.specs.declared.event.Event.{Event}
 use Rattle.inno_model.specs.declared.event.Event.TheVariants as events
-use Rattle.inno_model.specs.Loose.{Sometime}
-use Rattle.inno_model.specs.Past.{before_item, of_item, begins_txn, commits_txn, rolls_back_txn, level, own, oldest, started}
-use Rattle.inno_model.specs.Legal.{awaits_ack}
+use Rattle.inno_model.specs.Moments.{Sometime}
+use Rattle.inno_types.specs.Order.{IsBelow}
+use Rattle.inno_model.specs.Past.{before_item, of_item, begins_txn, commits_txn, rolls_back_txn, level, own, oldest, started, awaits_ack, IsOpen}
 use Rattle.sql_grammar.specs.Grammar.{Spells}
 use Rattle.sql_history.specs.Items.{own_before, base, point, HasMade}
 use Rattle.sql_history.specs.Settings.{Setting, Either}
-use Rattle.sql_history.specs.Endings.{IsOpen, Goes, BacksOut, RollsBack}
+use Rattle.sql_history.specs.Endings.{Goes, BacksOut, RollsBack}
 use Rattle.sql_history.specs.Legal.{IsWriting, UndoesBy, MayUndo, RollsBackBy, MayRollBack, LeavesIt, MayLeaveOpen, is_alone}
 use Rattle.sql_history.specs.Waiting.{is_victim}
 use Rattle.sql_history.specs.Counts.{rows_kept, most_rows}
-use Rattle.past_agreement.specs.Order.{IsOfRow, IsUndoable}
+use Rattle.law_past_agreement.specs.Order.{IsOfRow, IsUndoable}
 use Rattle.shared_lists.specs.declared.answers.Undone.{Undone}
 use Rattle.shared_lists.specs.declared.answers.Undone.TheVariants as undone
 use Rattle.shared_lists.specs.Tasks.{Task, Idle, MayTakeBack}
@@ -34,7 +34,6 @@ use Rattle.shared_lists.specs.State.{State, Closes, task_of}
 use Rattle.shared_lists.specs.Steps.{TakesBack}
 use Rattle.sql_lists.specs.Kept.{MayReply}
 use Rattle.sql_lists.specs.Steps.{Moves, Steps}
-use Rattle.sql_lists.specs.Going.{IsBelow}
 use Rattle.sql_lists.specs.declared.advance.Advance.TheVariants as advance
 use Rattle.sql_lists.proofs.Staying.{point_now}
 use Rattle.write_statement.specs.declared.machine.Work.{Work}

@@ -10,18 +10,16 @@ use Rattle.inno_types.specs.declared.reply.Item.TheVariants.{Sql}
 use Rattle.inno_types.specs.declared.reply.Reply.TheVariants.{NoMemory}
 use Rattle.inno_model.specs.declared.event.Event.{Event}
 use Rattle.inno_model.specs.declared.event.Event.TheVariants as events
-use Rattle.inno_model.specs.Past.{is_of, before_item, of_item, did, begins_txn, commits_txn, rolls_back_txn, closes, begins, level, own, started}
-use Rattle.inno_model.specs.Legal.{awaits_ack}
-use Rattle.inno_model.specs.Loose.{starts, Sometime}
+use Rattle.inno_model.specs.Past.{is_of, before_item, of_item, did, begins_txn, commits_txn, rolls_back_txn, closes, begins, level, own, started, awaits_ack, IsOpen, IsClosed}
+use Rattle.inno_model.specs.Moments.{starts, Sometime}
 use Rattle.inno_model.proofs.Untouched.{untouched}
 use Rattle.sql_grammar.specs.Grammar.{Spells}
 use Rattle.sql_history.specs.Items.{of_turn, before_turn, own_before, point, undoes}
 use Rattle.sql_history.specs.Settings.{Setting, HasSet, next_level}
 use Rattle.sql_history.specs.Statements.{refused_at_once}
-use Rattle.sql_history.specs.Endings.{IsOpen, IsClosed}
 use Rattle.sql_history.specs.Legal.{Takes, IsWriting, MayBegin, BeginsBy, LeavesIt, WantsMemory}
 use Rattle.sql_history.specs.Waiting.{is_victim}
-use Rattle.past_agreement.specs.Order.{IsOfRow}
+use Rattle.law_past_agreement.specs.Order.{IsOfRow}
 use Rattle.shared_lists.specs.State.{State, Adds}
 use Rattle.sql_lists.specs.Steps.{IsTaken, Moves}
 use Rattle.sql_lists.specs.Kept.{MayReply}

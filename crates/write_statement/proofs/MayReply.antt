@@ -8,8 +8,7 @@ use Rattle.inno_types.specs.declared.reply.Reply.{Reply}
 use Rattle.inno_types.specs.declared.reply.Reply.TheVariants as replies
 use Rattle.inno_db.specs.Outcome.{outcome}
 use Rattle.inno_model.specs.declared.event.Event.{Event}
-use Rattle.inno_model.specs.Past.{of_item, did, before_item, level}
-use Rattle.inno_model.specs.Legal.{awaits_ack}
+use Rattle.inno_model.specs.Past.{of_item, did, before_item, level, awaits_ack}
 use Rattle.sql_grammar.specs.Grammar.{Spells}
 use Rattle.sql_history.specs.Items.{base, point, HasMade}
 use Rattle.sql_history.specs.Answers.{Answers, MakesFor}

@@ -10,9 +10,8 @@ use Rattle.inno_db.specs.declared.change.Change.{Change}
 use Rattle.inno_db.proofs.Outcomes.{table_read}
 use Rattle.inno_model.specs.declared.event.Event.{Event}
 use Rattle.inno_model.specs.declared.event.Event.TheVariants as events
-use Rattle.inno_model.specs.Past.{is_of, under_way, before_item, of_item, did, begins_txn, commits_txn, rolls_back_txn, level, own}
-use Rattle.inno_model.specs.Legal.{awaits_ack}
-use Rattle.inno_model.specs.Loose.{Sometime}
+use Rattle.inno_model.specs.Past.{is_of, under_way, before_item, of_item, did, begins_txn, commits_txn, rolls_back_txn, level, own, awaits_ack}
+use Rattle.inno_model.specs.Moments.{Sometime}
 use Rattle.inno_model.proofs.Untouched.{untouched}
 use Rattle.sql_grammar.specs.Grammar.{Spells}
 use Rattle.sql_history.specs.Items.{is_over, own_before, base, point, HasMade, undoes}
@@ -22,7 +21,7 @@ use Rattle.sql_history.specs.Legal.{Takes}
 use Rattle.sql_history.specs.Waiting.{is_victim}
 use Rattle.shared_lists.specs.Tasks.{Idle, is_changing, asked, MayTakeBack}
 use Rattle.shared_lists.specs.State.{State, task_of}
-use Rattle.past_agreement.specs.Order.{created, IsOfRow}
+use Rattle.law_past_agreement.specs.Order.{created, IsOfRow}
 use Rattle.sql_lists.specs.Steps.{Adding, IsTaken, StaysRunning, changes_rows}
 use Rattle.sql_lists.proofs.Staying.{other_of, not_starting, at_work, point_now, point_stays, IsSteady, steady_on, base_on}
 use Rattle.write_statement.specs.declared.machine.Search.{Search}

@@ -8,16 +8,15 @@ use Rattle.inno_types.specs.declared.stmt.Stmt.{Stmt}
 use Rattle.inno_types.specs.declared.reply.Reply.{Reply}
 use Rattle.inno_model.specs.declared.event.Event.{Event}
 use Rattle.inno_model.specs.declared.event.Event.TheVariants as events
-use Rattle.inno_model.specs.Past.{is_of, before_item, of_item, did, begins_txn, commits_txn, rolls_back_txn, closes, level, own}
-use Rattle.inno_model.specs.Legal.{awaits_ack}
-use Rattle.inno_model.specs.Loose.{Sometime}
+use Rattle.inno_model.specs.Past.{is_of, before_item, of_item, did, begins_txn, commits_txn, rolls_back_txn, closes, level, own, awaits_ack}
+use Rattle.inno_model.specs.Moments.{Sometime}
 use Rattle.sql_grammar.specs.Grammar.{Spells}
 use Rattle.sql_history.specs.Items.{of_turn, before_turn, is_over, own_before, point}
 use Rattle.sql_history.specs.Settings.{Setting, HasSet}
 use Rattle.sql_history.specs.Statements.{refused_at_once}
 use Rattle.sql_history.specs.Legal.{Takes}
 use Rattle.sql_history.specs.Waiting.{is_victim}
-use Rattle.past_agreement.specs.Order.{IsOfRow}
+use Rattle.law_past_agreement.specs.Order.{IsOfRow}
 use Rattle.sql_lists.proofs.Staying.{is_within, item_within, before_within, starts_not, point_now, point_before, point_stays}
 use Rattle.write_statement.specs.Running.{Joins, HasOpened, InTxn, IsWorking, HasReply}
 use Rattle.write_statement.proofs.Replies.{reply_stays}

@@ -6,10 +6,9 @@ use Rattle.inno_types.specs.declared.reply.Reply.{Reply}
 use Rattle.inno_types.specs.declared.reply.Reply.TheVariants as replies
 use Rattle.inno_db.specs.Outcome.{outcome}
 use Rattle.inno_model.specs.declared.event.Event.{Event}
-use Rattle.inno_model.specs.Loose.{Sometime}
-use Rattle.inno_model.specs.Past.{level}
+use Rattle.inno_model.specs.Moments.{Sometime}
+use Rattle.inno_model.specs.Past.{level, IsOpen}
 use Rattle.sql_history.specs.Items.{base, point, HasMade}
-use Rattle.sql_history.specs.Endings.{IsOpen}
 use Rattle.sql_history.specs.Counts.{rows_kept}
 use Rattle.write_statement.specs.Running.{MayAnswer, HasReply}
 

@@ -16,7 +16,7 @@ use Rattle.shared_lists.specs.Tasks.{Task, Idle, Searching}
 use Rattle.shared_lists.specs.State.{State, Turns, Stays, task_of}
 use Rattle.shared_lists.specs.Steps.{AreRowsSeen, Searches}
 use Rattle.sql_history.specs.Counts.{rows_kept, most_rows}
-use Rattle.past_agreement.specs.Order.{created}
+use Rattle.law_past_agreement.specs.Order.{created}
 use Rattle.sql_plan.specs.declared.choice.Plan.{Plan}
 use Rattle.sql_lists.specs.Steps.{Steps}
 use Rattle.sql_lists.specs.declared.advance.Advance.{Advance}

@@ -12,14 +12,14 @@ use Rattle.inno_types.specs.declared.lock.Level.TheVariants.{ReadUncommitted, Re
 use Rattle.inno_db.specs.declared.change.Change.{Change}
 use Rattle.inno_db.specs.Database.{Database, Place}
 use Rattle.inno_db.specs.Outcome.{outcome}
-use Rattle.inno_model.specs.Outcome.{place_of}
+use Rattle.inno_db.specs.Changes.{place_of}
+use Rattle.inno_model.specs.Past.{IsOpen}
 use Rattle.inno_model.specs.declared.event.Event.{Event}
 use Rattle.sql_history.specs.Items.{base}
 use Rattle.sql_history.specs.Settings.{Setting}
 use Rattle.sql_history.specs.Statements.{Sight, is_on_rows, locking_sight}
 use Rattle.sql_history.specs.LooseReading.{IsLooseReading}
 use Rattle.sql_history.specs.Answers.{MaySee, IsSameWhere, ChangesLatest}
-use Rattle.sql_history.specs.Endings.{IsOpen}
 use Rattle.sql_history.specs.Legal.{IsWriting, sight_in}
 
 pub of_writing : (P : Stmt → Type 0) → ((table : List ℕ) (columns : Option (List (List ℕ))) (tuples : List (List Literal)) → P (stmt.Insert table columns tuples)) → ((table : List ℕ) (sets : List Set) (condition : Option Filter) → P (stmt.Update table sets condition)) → ((table : List ℕ) (condition : Option Filter) → P (stmt.Delete table condition)) → (statement : Stmt) → IsWriting statement → P statement

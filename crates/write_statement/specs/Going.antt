@@ -5,7 +5,8 @@ use Rattle.shared_lists.specs.Tasks.{steps_left, undo_to_go}
 use Rattle.shared_lists.specs.State.{State, task_of}
 use Rattle.sql_lists.specs.declared.advance.Advance.{Advance}
 use Rattle.sql_lists.specs.declared.advance.Advance.TheVariants as advance
-use Rattle.sql_lists.specs.Going.{IsBelow, left}
+use Rattle.sql_lists.specs.Going.{left}
+use Rattle.inno_types.specs.Order.{IsBelow}
 use Rattle.write_statement.specs.declared.machine.WriteStatement.{WriteStatement}
 use Rattle.write_statement.specs.declared.machine.WriteStatement.TheVariants as machine
 

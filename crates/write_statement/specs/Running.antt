@@ -12,17 +12,16 @@ use Rattle.inno_db.specs.Outcome.{outcome}
 use Rattle.inno_db.proofs.Outcomes.{table_read}
 use Rattle.inno_model.specs.declared.event.Event.{Event}
 use Rattle.inno_model.specs.declared.event.Event.TheVariants.{Changed}
-use Rattle.inno_model.specs.Loose.{Sometime}
-use Rattle.inno_model.specs.Legal.{awaits_ack}
-use Rattle.inno_model.specs.Past.{before_item, of_item, did, begins_txn, commits_txn, rolls_back_txn, level, own, commits}
+use Rattle.inno_model.specs.Moments.{Sometime}
+use Rattle.inno_model.specs.Past.{before_item, of_item, did, begins_txn, commits_txn, rolls_back_txn, level, own, commits, awaits_ack, IsOpen, IsClosed}
 use Rattle.sql_grammar.specs.Grammar.{Spells}
 use Rattle.sql_history.specs.Items.{is_over, own_before, base, point, HasMade, undoes}
 use Rattle.sql_history.specs.Settings.{Setting, Either}
-use Rattle.sql_history.specs.Endings.{IsOpen, IsClosed, RollsBack, Goes, BacksOut}
+use Rattle.sql_history.specs.Endings.{RollsBack, Goes, BacksOut}
 use Rattle.sql_history.specs.Legal.{Takes, IsWriting}
 use Rattle.sql_history.specs.Waiting.{is_victim}
 use Rattle.sql_history.specs.Counts.{rows_of_entry, rows_kept, most_rows}
-use Rattle.past_agreement.specs.Order.{created, IsOfRow}
+use Rattle.law_past_agreement.specs.Order.{created, IsOfRow}
 use Rattle.plain_sql.specs.Finding.{IsReadFrom}
 use Rattle.shared_lists.specs.declared.answers.Reading.TheVariants.{Newest}
 use Rattle.shared_lists.specs.Tasks.{Task, Idle, Searching, is_changing, asked, MayTakeBack}

@@ -3,7 +3,7 @@
 ghost use Rattle.std.specs.Prelude.{◌≡◌, ◌<◌, ◌+◌, [], ◌∷◌, ◌++◌, length};
 ghost use Rattle.inno_model.specs.declared.event.Event.TheVariants.{Changed as ChangedEvent};
 ghost use Rattle.sql_history.specs.Counts.{rows_of_entry};
-ghost use Rattle.past_agreement.specs.Order.{IsOfRow};
+ghost use Rattle.law_past_agreement.specs.Order.{IsOfRow};
 ghost use Rattle.shared_lists.specs.Tasks.{Idle};
 ghost use Rattle.shared_lists.specs.State.{task_of};
 ghost use Rattle.sql_lists.specs.Steps.{Steps};
@@ -107,6 +107,8 @@ fn break_off(rows: u64, work: Work) -> (WriteStatement, Advance)
 }
 
 /// All changes are made. A refused statement takes them back, and one with a transaction of its own commits it.
+/// That a statement is refused is known before its first change, and it makes its changes all the same: once rows are
+/// locked one by one, a statement meets its refusal amid its work, and goes back from there.
 fn made_all<L: SharedLists>(
     work: Work,
     session: u32,

@@ -4,10 +4,9 @@ ghost use Rattle.std.specs.Prelude.{◌≡◌, ◌≢◌, ◌<◌, ◌≤◌, If
 ghost use Rattle.inno_db.proofs.Outcomes.{table_read};
 ghost use Rattle.inno_db.specs.declared.limits.TheConstants.{MOST_TABLES};
 ghost use Rattle.inno_types.specs.declared.value.Schema.{Schema};
-ghost use Rattle.inno_model.specs.Past.{own};
-ghost use Rattle.sql_history.specs.Endings.{IsOpen, IsClosed};
-ghost use Rattle.past_agreement.specs.Order.{created};
-ghost use Rattle.fitting_rows.specs.Storable.{AreStorable};
+ghost use Rattle.inno_model.specs.Past.{own, IsOpen, IsClosed};
+ghost use Rattle.law_past_agreement.specs.Order.{created};
+ghost use Rattle.law_fitting_rows.specs.Storable.{AreStorable};
 ghost use Rattle.shared_lists.specs.Tasks.{Idle};
 ghost use Rattle.shared_lists.specs.State.{task_of};
 ghost use Rattle.sql_lists.specs.Steps.{Steps};
@@ -65,7 +64,10 @@ fn open<L: SharedLists>(
     let level = setting.next_level();
     match lists.begin(session, level) {
         Ok(()) => (WriteStatement::Locking { stmt, alone }, Advance::Went),
-        Err(_) => (WriteStatement::Unopened, Advance::NoMemory),
+        Err(_) => {
+            drop(stmt);
+            (WriteStatement::Unopened, Advance::NoMemory)
+        }
     }
 }
 
@@ -106,7 +108,10 @@ fn wait_for<L: SharedLists>(
             WriteStatement::Locking { stmt, alone },
             Advance::Waiting { by, blockers },
         ),
-        Err(_) => give_up(alone, lists.lists().change_count(session)),
+        Err(_) => {
+            drop(stmt);
+            give_up(alone, lists.lists().change_count(session))
+        }
     }
 }
 
@@ -130,7 +135,9 @@ fn begin_search<L: SharedLists>(
         Some(table) => search_table(alloc, table, stmt, alone, before, session, lists),
         None => {
             let rows = Rows::new(alloc);
-            answer(alloc, &stmt, alone, before, &rows, session, lists)
+            let answered = answer(alloc, &stmt, alone, before, &rows, session, lists);
+            drop(stmt);
+            answered
         }
     }
 }
@@ -154,6 +161,7 @@ fn search_table<L: SharedLists>(
     ensures nears { Nears to_go session lists.old (WriteStatement.Locking stmt alone) lists.new result.0 result.1 }
 {
     let Ok(plan) = plan_in(alloc, lists.lists().schemas(), table, &stmt) else {
+        drop(stmt);
         return give_up(alone, before);
     };
     match lists.begin_search(session, table, plan, Reading::Newest) {
@@ -166,7 +174,10 @@ fn search_table<L: SharedLists>(
             };
             (WriteStatement::Searching(search), Advance::Went)
         }
-        Err(_) => give_up(alone, before),
+        Err(_) => {
+            drop(stmt);
+            give_up(alone, before)
+        }
     }
 }
 
@@ -204,6 +215,13 @@ fn table_of(stmt: &Stmt) -> Option<&Bytes>
         | Stmt::Insert { table, .. }
         | Stmt::Update { table, .. }
         | Stmt::Delete { table, .. } => Some(table),
-        _ => None,
+        Stmt::CreateTable { .. }
+        | Stmt::Begin { .. }
+        | Stmt::Commit
+        | Stmt::Rollback
+        | Stmt::RollbackTo { .. }
+        | Stmt::Savepoint { .. }
+        | Stmt::SetAutocommit(_)
+        | Stmt::SetLevel { .. } => None,
     }
 }

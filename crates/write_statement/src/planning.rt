@@ -28,7 +28,18 @@ pub fn plan_for(alloc: Global, schema: &Schema, stmt: &Stmt) -> Result<Plan, NoM
             filter: Some(filter),
             ..
         } => plan_by_keys(alloc, schema, filter),
-        _ => Ok(Plan::whole()),
+        Stmt::Update { filter: None, .. }
+        | Stmt::Delete { filter: None, .. }
+        | Stmt::CreateTable { .. }
+        | Stmt::Select { .. }
+        | Stmt::Insert { .. }
+        | Stmt::Begin { .. }
+        | Stmt::Commit
+        | Stmt::Rollback
+        | Stmt::RollbackTo { .. }
+        | Stmt::Savepoint { .. }
+        | Stmt::SetAutocommit(_)
+        | Stmt::SetLevel { .. } => Ok(Plan::whole()),
     }
 }
 

@@ -24,14 +24,20 @@ pub fn step_searching<L: SharedLists>(
     ensures steps { Steps IsRunning session lists.old lists.new result.0 result.1 }
     ensures nears { Nears to_go session lists.old (WriteStatement.Searching search) lists.new result.0 result.1 }
 {
+    let alone = search.alone;
+    let before = search.before;
     if search.visited == u64::MAX {
         lists.stop_search(session);
-        return give_up(search.alone, search.before);
+        drop(search);
+        return give_up(alone, before);
     }
     match lists.search(session) {
         Searched::Went => went_on(search),
         Searched::Found(rows) => answer_found(alloc, search, rows, session, lists),
-        Searched::NoMemory => give_up(search.alone, search.before),
+        Searched::NoMemory => {
+            drop(search);
+            give_up(alone, before)
+        }
     }
 }
 
@@ -62,7 +68,7 @@ fn answer_found<L: SharedLists>(
 {
     // that the rows are enough follows from what the lists say of their history
     let _ = lists.lists();
-    answer(
+    let answered = answer(
         alloc,
         &search.stmt,
         search.alone,
@@ -70,5 +76,7 @@ fn answer_found<L: SharedLists>(
         &rows,
         session,
         lists,
-    )
+    );
+    drop(search);
+    answered
 }

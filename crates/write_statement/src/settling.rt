@@ -49,6 +49,11 @@ fn plain_copy(reply: &Reply) -> Result<Reply, NoMemory>
 {
     match reply {
         Reply::Count(_) | Reply::Fail(_) => Ok(reply.copied()?),
-        _ => Err(NoMemory),
+        Reply::Done
+        | Reply::Rows(_)
+        | Reply::RunLimit { .. }
+        | Reply::NotSignalled { .. }
+        | Reply::Stopped
+        | Reply::NoMemory => Err(NoMemory),
     }
 }

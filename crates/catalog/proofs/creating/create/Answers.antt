@@ -1,4 +1,4 @@
-use Rattle.std.proofs.Common.{◌+◌, List, ℕ, [], length, sym, ap, subst, arith}
+use Rattle.std.proofs.Common.{◌+◌, List, ℕ, [], length, subst, arith}
 use Rattle.std.proofs.lemmas.Result.{err_from_is_err_and}
 use Rattle.catalog.specs.Creating.{asked_pages, PutsEntry}
 use Rattle.catalog.proofs.Entered.{creates}

@@ -1,6 +1,6 @@
 use Rattle.std.proofs.lemmas.Result.{err_from_is_err_and}
-use Rattle.catalog_entry.specs.Reading.{u32_at, list_at}
-use Rattle.catalog_entry.proofs.Loop.{goes_on, ends, is_done}
+use Rattle.schema_codec.specs.Reading.{u32_at, list_at}
+use Rattle.schema_codec.proofs.Loop.{goes_on, ends, is_done}
 use Rattle.catalog_entry.proofs.reading.roots_of.Goals as goal
 
 pub returns-in_err-item : goal.returns-in_err-item

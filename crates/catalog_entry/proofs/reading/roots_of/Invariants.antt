@@ -1,6 +1,6 @@
 use Rattle.std.proofs.Common.{◌≡◌, ◌-◌}
-use Rattle.catalog_entry.specs.Reading.{u32_at, list_at}
-use Rattle.catalog_entry.proofs.Loop.{with_front}
+use Rattle.schema_codec.specs.Reading.{u32_at, list_at}
+use Rattle.schema_codec.proofs.Loop.{with_front}
 use Rattle.catalog_entry.proofs.reading.roots_of.Given as goal
 
 abbrev pub invariant-loop : goal.invariant-loop

@@ -1,6 +1,6 @@
 use Rattle.std.proofs.Common.{◌≡◌, ◌++◌, take}
 use Rattle.std.specs.List.{flat_map}
-use Rattle.catalog_entry.specs.Numbers.{u32_bytes}
+use Rattle.schema_codec.specs.Numbers.{u32_bytes}
 use Rattle.catalog_entry.proofs.write.put_roots.Given as goal
 
 abbrev pub invariant-loop-root : goal.invariant-loop-root

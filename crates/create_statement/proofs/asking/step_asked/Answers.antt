@@ -1,6 +1,6 @@
 use Rattle.std.proofs.Common.{sym, ap, ◌∙◌}
 use Rattle.sql_history.specs.Items.{base}
-use Rattle.past_agreement.specs.Order.{created}
+use Rattle.law_past_agreement.specs.Order.{created}
 use Rattle.shared_lists.specs.State.{State}
 use Rattle.create_statement.proofs.Tables.{tables_met, makes_none}
 use Rattle.create_statement.proofs.asking.step_asked.Goals as goal

@@ -1,4 +1,4 @@
-use Rattle.std.proofs.Common.{◌≡◌, ◌∙◌, sym, subst, length, List, arith}
+use Rattle.std.proofs.Common.{◌≡◌, ◌∙◌, refl, sym, subst, length, List, arith}
 use Rattle.std.specs.Prelude.{All}
 use Rattle.script.specs.declared.script.ScriptItem.{ScriptItem}
 use Rattle.innod.specs.Sessions.{HasStarted, IsStatement}
@@ -15,7 +15,7 @@ pub returns-in_err-resize-clause-follows : goal.returns-in_err-resize-clause-fol
 returns-in_err-resize-clause-follows g c = follows_nothing c.args.script.now.items (g.E.Sessions.shown c.join_all.new.engine).past c.join_all.ensures.nothing
 
 pub play_items-requires-clause-statements : goal.play_items-requires-clause-statements
-play_items-requires-clause-statements g c = subst (λ (list : List ScriptItem). All IsStatement list) (sym c.as_slice-2.ensures) c.requires.playable.statements
+play_items-requires-clause-statements g c = subst (λ (list : List ScriptItem). All IsStatement list) (sym c.as_slice-2.ensures) (c.requires.playable.statements refl)
 
 pub returns-clause-follows : goal.returns-clause-follows
 returns-clause-follows g c =

@@ -1,7 +1,7 @@
 use Rattle.std.proofs.Common.{rules}
 use Rattle.std.proofs.lemmas.List.Elements.{All-nil}
 use Rattle.log_format.specs.Group.{IsRecord}
-use Rattle.log_format.proofs.Each.{one_more, all_of_them, item_of}
+use Rattle.schema_codec.proofs.Each.{one_more, all_of_them, item_of}
 use Rattle.log_format.proofs.fits.records_fit.Goals as goal
 
 pub loop-item-init : goal.loop-item-init

@@ -2,7 +2,7 @@ use Rattle.std.proofs.Common.{◌<◌, length, arith}
 use Rattle.std.proofs.lemmas.Bool.Decides.{nat_tests}
 use Rattle.std.proofs.lemmas.List.Elements.{All-nil}
 use Rattle.log_format.specs.Group.{IsValue}
-use Rattle.log_format.proofs.Each.{one_more, all_of_them, item_of}
+use Rattle.schema_codec.proofs.Each.{one_more, all_of_them, item_of}
 use Rattle.log_format.proofs.fits.values_fit.Goals as goal
 
 pub loop-item-init : goal.loop-item-init

@@ -1,6 +1,7 @@
 use Rattle.std.proofs.Common.{◌≡◌, ◌-◌}
-use Rattle.log_format.specs.Reading.{record_at, list_at}
-use Rattle.log_format.proofs.Loop.{with_front}
+use Rattle.schema_codec.specs.Reading.{list_at}
+use Rattle.log_format.specs.Reading.{record_at}
+use Rattle.schema_codec.proofs.Loop.{with_front}
 use Rattle.log_format.proofs.reading.records_of.Given as goal
 
 abbrev pub invariant-loop : goal.invariant-loop

@@ -1,6 +1,7 @@
 use Rattle.std.proofs.lemmas.Result.{err_from_is_err_and}
-use Rattle.log_format.specs.Reading.{value_at, list_at}
-use Rattle.log_format.proofs.Loop.{goes_on, ends, is_done}
+use Rattle.schema_codec.specs.Reading.{list_at}
+use Rattle.log_format.specs.Reading.{value_at}
+use Rattle.schema_codec.proofs.Loop.{goes_on, ends, is_done}
 use Rattle.log_format.proofs.reading.values_of.Goals as goal
 
 pub returns-in_err-item : goal.returns-in_err-item

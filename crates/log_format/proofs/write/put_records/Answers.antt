@@ -2,7 +2,7 @@ use Rattle.std.proofs.Common.{[], arith, sym}
 use Rattle.std.proofs.lemmas.List.{append-nil}
 use Rattle.std.proofs.lemmas.Result.{err_from_is_err_and}
 use Rattle.log_format.specs.Group.{record_bytes}
-use Rattle.log_format.proofs.Puts.{head_only, one_put, is_short, all_put}
+use Rattle.schema_codec.proofs.Puts.{head_only, one_put, is_short, all_put}
 use Rattle.log_format.proofs.write.put_records.Goals as goal
 
 pub loop-item-init : goal.loop-item-init

@@ -1,7 +1,7 @@
 use Rattle.std.proofs.Common.{[], ◌∷◌, length, arith}
 use Rattle.std.proofs.lemmas.Result.{err_from_is_err_and}
 use Rattle.log_format.specs.Group.{value_bytes}
-use Rattle.log_format.proofs.Puts.{head_only, one_put, is_short, all_put}
+use Rattle.schema_codec.proofs.Puts.{head_only, one_put, is_short, all_put}
 use Rattle.log_format.proofs.write.put_values.Goals as goal
 
 pub loop-item-init : goal.loop-item-init

@@ -1,6 +1,6 @@
 use Rattle.std.proofs.Common.{[], ◌∷◌, length}
 use Rattle.log_format.specs.Group.{value_bytes}
-use Rattle.log_format.proofs.Puts.{PutSoFar}
+use Rattle.schema_codec.proofs.Puts.{PutSoFar}
 use Rattle.log_format.proofs.write.put_values.Given as goal
 
 abbrev pub invariant-loop-item : goal.invariant-loop-item

@@ -1,5 +1,5 @@
 use Rattle.std.proofs.Common.{◌≡◌}
-use Rattle.past_agreement.specs.Order.{created}
+use Rattle.law_past_agreement.specs.Order.{created}
 use Rattle.read_statement.proofs.Searched.{seen_outcome}
 use Rattle.read_statement.proofs.answering.outcome_by.Goals as goal
 

@@ -13,7 +13,7 @@ returns-then-has_view-clause-steps g c =
     let some : is_some (view_of c.args.session c.args.lists.now.past) ≡ true = cc in
     (moves_none c.args.session c.args.lists.now, (r.0, r.1, has_view c.args.session c.args.lists.now.past is some, r.3), refl)
 
-pub returns-in_default-clause-steps : goal.returns-in_default-clause-steps
-returns-in_default-clause-steps g c =
+pub returns-in-Some-Serializable-clause-steps : goal.returns-in-Some-Serializable-clause-steps
+returns-in-Some-Serializable-clause-steps g c =
     let r = c.requires.running in
     fails c.args.session c.args.lists.now c.args.lists.now c.args.stmt c.args.alone (rests c.args.session c.args.lists.now c.args.lists.now r.3 (stays_none c.args.session c.args.lists.now)) r.0 (λ is. r.1)

@@ -1,7 +1,7 @@
 use Rattle.std.proofs.Common.{◌≡◌, subst, sym}
-use Rattle.fitting_rows.specs.Storable.{AreStorable}
-use Rattle.past_agreement.specs.Order.{created}
-use Rattle.fitting_history.proofs.Changes.{tables_storable}
+use Rattle.law_fitting_rows.specs.Storable.{AreStorable}
+use Rattle.law_past_agreement.specs.Order.{created}
+use Rattle.law_found_rows.proofs.FittingChanges.{tables_storable}
 use Rattle.read_statement.proofs.planning.plan_search.Goals as goal
 
 pub plan_among-requires-clause-storable : goal.plan_among-requires-clause-storable

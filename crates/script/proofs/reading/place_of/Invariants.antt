@@ -1,5 +1,5 @@
 use Rattle.std.proofs.Common.{◌≡◌, ◌+◌, drop}
-use Rattle.script.specs.Lines.{number_of}
+use Rattle.script.specs.Reading.{number_of}
 use Rattle.script.proofs.reading.place_of.Given as goal
 
 -- the place is among the names that are left

@@ -1,52 +1,45 @@
-use Rattle.std.proofs.Common.{ap, subst, ◌+◌, length, take, drop, arith, rules}
-use Rattle.script.specs.Lines.{ReadAs}
-use Rattle.script.specs.Script.{IsBadAt}
-use Rattle.script.proofs.Soundness.{no_script, unended, unread, next_so_far}
-use Rattle.script.proofs.Numbers.{names_few, playable}
+use Rattle.std.proofs.Common.{◌≡◌, sym, subst}
+use Rattle.std.proofs.lemmas.Result.{err_from_is_err_and}
+use Rattle.std.specs.Prelude.{Ok}
+use Rattle.script.specs.declared.script.Script.{Script}
+use Rattle.script.specs.declared.script.ScriptBad.{ScriptBad}
+use Rattle.script.specs.Reading.{finished, IsTold}
+use Rattle.script.specs.Script.{Spells, IsPlayable, IsRefused}
+use Rattle.script.proofs.Meaning.{leads_on, refused_by_step, refused_at_end, spelled_at_end, if_ok, if_err}
+use Rattle.script.proofs.Sound.{step_sound, finished_playable}
 use Rattle.script.proofs.reading.read_script.Goals as goal
 
-pub returns-then-is_empty-clause-playable : goal.returns-then-is_empty-clause-playable
-returns-then-is_empty-clause-playable c =
-    let tells = c.loop-line.invariant.tells in
-    playable c.loop-line.reading.script.names c.loop-line.reading.script.items c.loop-line.invariant.lines tells.names tells.items
+pub loop-reading-preserved : goal.loop-reading-preserved
+loop-reading-preserved c =
+    let before = c.loop-reading.invariant in
+    let told = c.in_ok-step.ensures.told in
+    record {
+      placed = c.in_ok-step.ensures.placed;
+      sound = step_sound c.args.allowed c.args.bytes.now c.loop-reading.reading c.step.new.self before.sound told;
+      leads = leads_on c.args.allowed c.args.bytes.now c.loop-reading.reading c.step.new.self c.loop-reading-test.true told before.leads;
+    }
 
-pub returns-in_default-clause-refused : goal.returns-in_default-clause-refused
-returns-in_default-clause-refused c =
-    let so_far = c.loop-line.invariant in
-    let bad : IsBadAt c.loop-line.line c.args.bytes.now = record {
-      lines = so_far.lines;
-      are_lines = so_far.are_lines;
-      rest = c.loop-line.rest.now;
-      parts = so_far.parts;
-      present = search (arith, rules, c.if-is_empty.false, c.is_empty.ensures);
-      bad = unended c.loop-line.rest.now c.in_default.ensures;
-      counted = so_far.counted;
-    } in
-    (bad, no_script c.loop-line.line c.args.bytes.now bad)
+pub returns-in_err-step-clause-refused : goal.returns-in_err-step-clause-refused
+returns-in_err-step-clause-refused c =
+    let bad = c.in_err-step.field-0.0 in
+    let refused = refused_by_step c.args.allowed c.args.bytes.now c.loop-reading.reading bad c.loop-reading-test.true c.in_err-step.ensures.told c.loop-reading.invariant.leads in
+    let passed = err_from_is_err_and c.from_residual-in_err-step.result c.from_residual-in_err-step.ensures.1 in
+    rw passed.1 (subst (IsRefused c.args.allowed c.args.bytes.now) (sym passed.2) refused)
 
-pub returns-in_default-2-clause-refused : goal.returns-in_default-2-clause-refused
-returns-in_default-2-clause-refused c =
-    let so_far = c.loop-line.invariant in
-    let end = c.in-Some.end in
-    let bad : IsBadAt c.loop-line.line c.args.bytes.now = record {
-      lines = so_far.lines;
-      are_lines = so_far.are_lines;
-      rest = c.loop-line.rest.now;
-      parts = so_far.parts;
-      present = search (arith, rules, c.if-is_empty.false, c.is_empty.ensures);
-      bad = unread c.loop-line.rest.now (take end c.loop-line.rest.now) (drop (end + 1) c.loop-line.rest.now) c.in-Some.ensures.1 c.in-Some.ensures.2
-          (subst (ReadAs (take end c.loop-line.rest.now)) c.in_default-2.is c.in_ok-told.ensures);
-      counted = so_far.counted;
-    } in
-    (bad, no_script c.loop-line.line c.args.bytes.now bad)
+pub returns-clause-spells : goal.returns-clause-spells
+returns-clause-spells c =
+    let reading = c.loop-reading.reading in
+    if_ok (λ (script : Script). finished c.args.bytes.now reading ≡ Ok script) (Spells c.args.allowed c.args.bytes.now) c.finish.result
+    (λ script is. spelled_at_end c.args.allowed c.args.bytes.now reading script c.loop-reading-test.false is c.loop-reading.invariant.leads) c.finish.ensures.ok
 
-pub add-requires : goal.add-requires
-add-requires c =
-    omega (arith, names_few c.loop-line.invariant.lines, ap length c.loop-line.invariant.tells.names, c.loop-line.invariant.counted, c.loop-line-test.true)
+pub returns-clause-playable : goal.returns-clause-playable
+returns-clause-playable c =
+    let reading = c.loop-reading.reading in
+    if_ok (λ (script : Script). finished c.args.bytes.now reading ≡ Ok script) (IsPlayable c.args.allowed) c.finish.result
+    (λ script is. finished_playable c.args.allowed c.args.bytes.now reading script c.loop-reading.invariant.sound is) c.finish.ensures.ok
 
-pub loop-line-preserved : goal.loop-line-preserved
-loop-line-preserved c =
-    let rest = c.loop-line.rest.now in
-    let end = c.in-Some.end in
-    let read = subst (ReadAs (take end rest)) c.in-Some-2.is c.in_ok-told.ensures in
-    next_so_far c.args.bytes.now rest c.loop-line.line end c.in-Some-2.told c.loop-line.reading c.add.new.self c.loop-line.invariant read.0 read.1 c.in-Some.ensures.2 c.in_ok-add.ensures
+pub returns-clause-refused : goal.returns-clause-refused
+returns-clause-refused c =
+    let reading = c.loop-reading.reading in
+    if_err (λ (bad : ScriptBad). IsTold bad (finished c.args.bytes.now reading)) (IsRefused c.args.allowed c.args.bytes.now) c.finish.result
+    (λ bad is. refused_at_end c.args.allowed c.args.bytes.now reading bad c.loop-reading-test.false is c.loop-reading.invariant.leads) c.finish.ensures.err

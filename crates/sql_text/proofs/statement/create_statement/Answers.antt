@@ -2,8 +2,9 @@ use Rattle.sql_grammar.specs.declared.token.Word.TheVariants as word
 use Rattle.sql_grammar.specs.declared.token.Token.TheVariants.{Key}
 use Rattle.std.proofs.Common.{◌∷◌}
 use Rattle.sql_grammar.specs.Grammar.{Statement}
-use Rattle.sql_text.specs.Whole.{create_statement_of}
-use Rattle.sql_text.proofs.SoundWhole.{gives_unit, gives_spelled, create_statement_sound}
+use Rattle.sql_simple_statements.specs.Statements.{create_statement_of}
+use Rattle.sql_simple_statements.proofs.Sound.{create_statement_sound}
+use Rattle.sql_text.proofs.SoundWhole.{gives_unit, gives_spelled}
 use Rattle.sql_text.proofs.statement.create_statement.Goals as goal
 
 pub returns-clause-exact : goal.returns-clause-exact

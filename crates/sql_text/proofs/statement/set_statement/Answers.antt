@@ -2,8 +2,8 @@ use Rattle.sql_grammar.specs.declared.token.Word.TheVariants as word
 use Rattle.sql_grammar.specs.declared.token.Token.TheVariants.{Key}
 use Rattle.std.proofs.Common.{◌∷◌}
 use Rattle.sql_grammar.specs.Grammar.{Statement}
-use Rattle.sql_text.specs.Statements.{set_of}
-use Rattle.sql_text.proofs.SoundPlain.{set_sound}
+use Rattle.sql_simple_statements.specs.Statements.{set_of}
+use Rattle.sql_simple_statements.proofs.Sound.{set_sound}
 use Rattle.sql_text.proofs.SoundWhole.{gives_unit, gives_spelled}
 use Rattle.sql_text.proofs.statement.set_statement.Goals as goal
 

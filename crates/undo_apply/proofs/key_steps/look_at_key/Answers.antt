@@ -1,6 +1,6 @@
 use Rattle.std.proofs.Common.{◌≡◌, ◌∙◌, ℕ, ◌^◌, ◌<◌, ◌≤◌, Bool, List, ◌++◌, subst, refl, sym, arith}
 use Rattle.row_codec.specs.Rows.{head_code, IsRecordOf}
-use Rattle.entries.specs.declared.answers.Move.TheVariants.{Step}
+use Rattle.store_api.specs.declared.moves.Move.TheVariants.{Step}
 use Rattle.undo_apply.specs.declared.work_room.WorkRoom.{WorkRoom}
 use Rattle.undo_apply.specs.declared.work_room.Stage.{Stage}
 use Rattle.undo_apply.specs.declared.work_room.Stage.TheVariants.{Walk, Unmark, AwaitRecords, Record}

@@ -1,6 +1,6 @@
 use Rattle.std.proofs.Common.{Bool, subst, Ok}
-use Rattle.entries.specs.declared.answers.Move.TheVariants.{Step, Again, Failed, Bad}
-use Rattle.mtr.specs.declared.answers.Visit.{Visit}
+use Rattle.store_api.specs.declared.moves.Move.TheVariants.{Step, Again, Failed, Bad}
+use Rattle.store_api.specs.declared.visits.Visit.{Visit}
 use Rattle.chain.specs.Calls.{ShowsBytes, IsUnseen}
 use Rattle.undo_apply.specs.declared.work_room.Stage.TheVariants.{Walk, Await}
 use Rattle.undo_apply.specs.Moves.{at_stage}

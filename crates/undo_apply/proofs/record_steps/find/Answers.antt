@@ -1,6 +1,6 @@
 use Rattle.std.proofs.Common.{◌≡◌, ◌∙◌, ℕ, List, Some, subst, sym}
 use Rattle.std.proofs.lemmas.Bool.{true≢false}
-use Rattle.entries.specs.declared.answers.Move.TheVariants.{Done, End, Step}
+use Rattle.store_api.specs.declared.moves.Move.TheVariants.{Done, End, Step}
 use Rattle.entries.specs.Calls.{Fetches}
 use Rattle.world.specs.Indexes.{Calls}
 use Rattle.undo_apply.specs.declared.work_room.Stage.TheVariants.{Key}

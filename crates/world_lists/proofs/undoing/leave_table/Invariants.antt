@@ -1,4 +1,4 @@
-use Rattle.held_changes.specs.Leaving.{LeavesIndexes}
+use Rattle.law_held_changes.specs.Leaving.{LeavesIndexes}
 use Rattle.world_lists.proofs.undoing.leave_table.Given as goal
 
 -- those before this one are left

@@ -1,6 +1,6 @@
 use Rattle.std.proofs.Common.{subst}
 use Rattle.store_api.specs.declared.answers.Undo.{Undo}
-use Rattle.held_undoing.specs.Undoing.{HasPutBack}
+use Rattle.law_held_undoing.specs.Undoing.{HasPutBack}
 use Rattle.world_lists.proofs.undoing.step_undo.Goals as goal
 
 pub returns-clause-put : goal.returns-clause-put

@@ -1,5 +1,5 @@
 use Rattle.std.proofs.Common.{◌+◌, Vec, Global, ap}
-use Rattle.entries.specs.declared.answers.Move.TheVariants.{Step}
+use Rattle.store_api.specs.declared.moves.Move.TheVariants.{Step}
 use Rattle.shared_lists.specs.declared.answers.Undone.TheVariants.{Went, Undone, NoMemory}
 use Rattle.desks.specs.declared.desk.Desk.{Desk}
 use Rattle.world_lists.proofs.ChangeUndo.{StepsBack, named, is_logged, is_session, has_changes, has_still, step_is_not_done, step_on, step_went, step_hindered, end_held, end_shown}
@@ -41,7 +41,7 @@ returns-clause-held g c = λ writer made held.
           named c.args.session writer made old desks undo other room next end now w.give_doing.new.desks.items c.match-step_undo.desks.items (c.args.cuts.now + 1) c.match-step_undo.cuts Undone c.match-step_undo.result
           (ap (λ world. g.W.World.state world) w.world-is) (ap (λ (v : Vec Desk Global). v.items) w.desks-is) w.cuts-is w.result-is
           (record {
-            held = end_held c.args.session old mid writer made desks c.args.cuts.now undo room next held c.requires.joined c.requires.busy w.in-Done.ensures.put end w.drop_newest.ensures w.give_doing.new.desks.items w.give_doing.ensures other memory w.history-few.ensures.few;
+            held = end_held c.args.session old mid writer made desks c.args.cuts.now undo room next held c.requires.joined c.requires.busy w.in-Done.ensures.put end w.drop_newest.ensures w.give_doing.new.desks.items w.give_doing.ensures other memory w.is_short.ensures.few;
             takes = end_shown c.args.session old mid writer made desks c.args.cuts.now undo room next held c.requires.joined c.requires.busy w.in-Done.ensures.put end w.drop_newest.ensures w.give_doing.new.desks.items w.give_doing.ensures other;
           })
       | in-Step w ↦
@@ -80,7 +80,7 @@ returns-clause-takes g c = λ writer made held.
           named c.args.session writer made old desks undo other room next end now w.give_doing.new.desks.items c.match-step_undo.desks.items (c.args.cuts.now + 1) c.match-step_undo.cuts Undone c.match-step_undo.result
           (ap (λ world. g.W.World.state world) w.world-is) (ap (λ (v : Vec Desk Global). v.items) w.desks-is) w.cuts-is w.result-is
           (record {
-            held = end_held c.args.session old mid writer made desks c.args.cuts.now undo room next held c.requires.joined c.requires.busy w.in-Done.ensures.put end w.drop_newest.ensures w.give_doing.new.desks.items w.give_doing.ensures other memory w.history-few.ensures.few;
+            held = end_held c.args.session old mid writer made desks c.args.cuts.now undo room next held c.requires.joined c.requires.busy w.in-Done.ensures.put end w.drop_newest.ensures w.give_doing.new.desks.items w.give_doing.ensures other memory w.is_short.ensures.few;
             takes = end_shown c.args.session old mid writer made desks c.args.cuts.now undo room next held c.requires.joined c.requires.busy w.in-Done.ensures.put end w.drop_newest.ensures w.give_doing.new.desks.items w.give_doing.ensures other;
           })
       | in-Step w ↦

@@ -1,6 +1,6 @@
 use Rattle.std.proofs.Common.{subst, sym, ap, ◌∙◌, refl}
 use Rattle.shared_lists.specs.State.{State}
-use Rattle.past_agreement.specs.Order.{created}
+use Rattle.law_past_agreement.specs.Order.{created}
 use Rattle.plain_sql.specs.Finding.{IsReadFrom}
 use Rattle.sql_lists.proofs.Moving.{moves_none}
 use Rattle.write_statement.proofs.Found.{settled}

@@ -1,7 +1,7 @@
 use Rattle.std.proofs.Common.{subst, sym, ap, ◌∙◌}
-use Rattle.past_agreement.specs.Order.{created}
-use Rattle.fitting_rows.specs.Storable.{AreStorable}
-use Rattle.fitting_history.proofs.Changes.{tables_storable}
+use Rattle.law_past_agreement.specs.Order.{created}
+use Rattle.law_fitting_rows.specs.Storable.{AreStorable}
+use Rattle.law_found_rows.proofs.FittingChanges.{tables_storable}
 use Rattle.shared_lists.specs.State.{State}
 use Rattle.write_statement.proofs.Turning.{turns_none, turns_stayed, early_given_up, begins_search}
 use Rattle.write_statement.proofs.opening.search_table.Goals as goal

@@ -1,7 +1,7 @@
 use Rattle.std.proofs.Common.{◌≡◌, false, length, Some, refl, ap, arith}
 use Rattle.std.specs.Prelude.{slice_get}
 use Rattle.world.specs.State.{Session}
-use Rattle.list_world.specs.Owed.{owed_of, bit}
+use Rattle.world_parts.specs.Owed.{owed_of, bit}
 use Rattle.list_world.proofs.Sound.{there_of, read_of, part_le, sound_set, promised_same}
 use Rattle.list_world.proofs.engine_calls.ListWorldEngineWorld.ack.Goals as goal
 

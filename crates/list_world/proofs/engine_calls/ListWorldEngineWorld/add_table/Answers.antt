@@ -1,11 +1,11 @@
 use Rattle.std.proofs.Common.{◌≡◌, ◌+◌, ◌<◌, ◌≤◌, ◌^◌, length, length-append, Some, refl, sym, ◌∙◌, arith, [], ◌∷◌, ◌++◌}
 use Rattle.std.specs.Prelude.{slice_get, slice_set}
 use Rattle.world.specs.State.{Session, Work, HasWork}
-use Rattle.list_world.specs.Owed.{owed_of, owed_by_all}
+use Rattle.world_parts.specs.Owed.{owed_of, owed_by_all}
 use Rattle.list_world.specs.Parts.{Parts, world_of, AreAdded}
-use Rattle.list_world.specs.Rooms.{working}
+use Rattle.world_parts.specs.Rooms.{working}
 use Rattle.list_world.proofs.Sound.{there_of, read_of, part_le, sound_set, sound_tables, promised_same}
-use Rattle.list_world.proofs.Owing.{same_txn, owes_made, owes_own}
+use Rattle.world_parts.proofs.Owing.{same_txn, owes_made, owes_own}
 use Rattle.list_world.proofs.Tables.{makes_table}
 use Rattle.list_world.proofs.engine_calls.ListWorldEngineWorld.add_table.Goals as goal
 

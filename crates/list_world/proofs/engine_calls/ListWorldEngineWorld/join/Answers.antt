@@ -1,6 +1,6 @@
 use Rattle.std.proofs.Common.{length, refl, ap, arith}
 use Rattle.list_world.specs.Parts.{Parts}
-use Rattle.engine_world.specs.Calls.{fresh_session}
+use Rattle.world.specs.EngineCalls.{fresh_session}
 use Rattle.list_world.proofs.Sound.{sound_joined}
 use Rattle.list_world.proofs.engine_calls.ListWorldEngineWorld.join.Goals as goal
 

@@ -2,7 +2,7 @@ use Rattle.std.proofs.Common.{◌≡◌, ◌+◌, ◌<◌, ◌≤◌, ◌^◌, t
 use Rattle.std.specs.Prelude.{slice_get}
 use Rattle.std.proofs.lemmas.Option.{slice_get_read}
 use Rattle.world.specs.State.{Session}
-use Rattle.list_world.specs.Owed.{owed_by_all}
+use Rattle.world_parts.specs.Owed.{owed_by_all}
 use Rattle.list_world.specs.Parts.{Parts}
 use Rattle.list_world.proofs.Sound.{read_of, sound_set, promised_same}
 use Rattle.list_world.proofs.engine_calls.ListWorldEngineWorld.start.Goals as goal

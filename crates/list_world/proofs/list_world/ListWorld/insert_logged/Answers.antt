@@ -1,7 +1,7 @@
 use Rattle.std.proofs.Common.{◌≡◌, length, Some, refl, ap}
 use Rattle.std.specs.Prelude.{slice_get, slice_set}
 use Rattle.std.proofs.lemmas.Option.{slice_get_read}
-use Rattle.entries.specs.declared.answers.Move.TheVariants.{Done}
+use Rattle.store_api.specs.declared.moves.Move.TheVariants.{Done}
 use Rattle.entries.specs.Lists.{shown}
 use Rattle.world.specs.State.{IsIndex}
 use Rattle.world.specs.Indexes.{InsertsWith, IsLogged}

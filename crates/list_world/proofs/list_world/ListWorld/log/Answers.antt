@@ -2,12 +2,12 @@ use Rattle.std.proofs.Common.{◌≡◌, ◌<◌, length, Some, refl, ap, sym, �
 use Rattle.std.specs.Prelude.{slice_get}
 use Rattle.world.specs.State.{Session, Work, HasWork}
 use Rattle.list_world.specs.Parts.{Parts, world_of}
-use Rattle.list_world.specs.Rooms.{working}
+use Rattle.world_parts.specs.Rooms.{working}
 use Rattle.list_world.proofs.Sound.{there_of, read_of, sound_quiet, promised_filled}
-use Rattle.list_world.proofs.Owing.{same_txn, same_owed}
+use Rattle.world_parts.proofs.Owing.{same_txn, same_owed}
 use Rattle.std.proofs.Common.{◌==◌}
-use Rattle.list_world.specs.Slots.{filled_if}
-use Rattle.list_world.specs.Brought.{KeepsOnly}
+use Rattle.world_parts.specs.Slots.{filled_if}
+use Rattle.world_parts.specs.Brought.{KeepsOnly}
 use Rattle.list_world.proofs.Indexed.{keeps}
 use Rattle.list_world.proofs.list_world.ListWorld.log.Goals as goal
 

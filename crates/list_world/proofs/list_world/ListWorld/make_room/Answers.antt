@@ -5,7 +5,7 @@ use Rattle.list_world.specs.Parts.{Parts, world_of}
 use Rattle.list_world.proofs.Sound.{sound_quiet, promised_taken, sound_taken}
 use Rattle.std.proofs.lemmas.Option.{slice_get_read}
 use Rattle.world.specs.Undoing.{IsUnchanged}
-use Rattle.list_world.proofs.Places.{kept_taken, set_same}
+use Rattle.world_parts.proofs.Places.{kept_taken, set_same}
 use Rattle.list_world.proofs.Results.{err_of}
 use Rattle.list_world.proofs.Indexed.{as_before}
 use Rattle.list_world.proofs.list_world.ListWorld.make_room.Goals as goal

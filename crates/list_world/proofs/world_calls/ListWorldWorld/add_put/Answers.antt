@@ -2,11 +2,11 @@ use Rattle.std.proofs.Common.{◌≡◌, ◌+◌, ◌<◌, ◌≤◌, ◌^◌, f
 use Rattle.std.specs.Prelude.{slice_get, slice_set}
 use Rattle.std.proofs.Math.Facts.{Fits-of_lt}
 use Rattle.world.specs.State.{Session, HasWork}
-use Rattle.list_world.specs.Owed.{owed_of, owed_by_all, puts_of, puts_of_all, bit}
+use Rattle.world_parts.specs.Owed.{owed_of, owed_by_all, puts_of, puts_of_all, bit}
 use Rattle.list_world.specs.Parts.{world_of, ArePromised}
-use Rattle.list_world.specs.Rooms.{working}
+use Rattle.world_parts.specs.Rooms.{working}
 use Rattle.list_world.proofs.Sound.{there_of, read_of, part_le, sound_set, promised_same, OpensNone}
-use Rattle.list_world.proofs.Owing.{bit_le, same_txn, owes_changed, owes_count, puts_few, row_counts, row_fits}
+use Rattle.world_parts.proofs.Owing.{bit_le, same_txn, owes_changed, owes_count, puts_few, row_counts, row_fits}
 use Rattle.list_world.proofs.world_calls.ListWorldWorld.add_put.Goals as goal
 
 pub changed-requires : goal.changed-requires

@@ -1,11 +1,11 @@
 use Rattle.std.proofs.Common.{add-zero, ◌≡◌, ◌+◌, ◌<◌, ◌≤◌, ◌^◌, false, length, Some, refl, ap, sym, ◌∙◌, arith}
 use Rattle.std.specs.Prelude.{slice_get, slice_set}
 use Rattle.world.specs.State.{Session, HasWork}
-use Rattle.list_world.specs.Owed.{owed_of, owed_by_all, bit}
+use Rattle.world_parts.specs.Owed.{owed_of, owed_by_all, bit}
 use Rattle.list_world.specs.Parts.{world_of, ArePromised}
-use Rattle.list_world.specs.Rooms.{working}
+use Rattle.world_parts.specs.Rooms.{working}
 use Rattle.list_world.proofs.Sound.{there_of, read_of, part_le, sound_set, promised_same, OpensNone}
-use Rattle.list_world.proofs.Owing.{bit_le, same_txn, owes_changed, owes_count}
+use Rattle.world_parts.proofs.Owing.{bit_le, same_txn, owes_changed, owes_count}
 use Rattle.list_world.proofs.world_calls.ListWorldWorld.add_remove.Goals as goal
 
 pub changed-requires : goal.changed-requires

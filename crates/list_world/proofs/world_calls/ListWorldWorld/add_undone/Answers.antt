@@ -1,11 +1,11 @@
 use Rattle.std.proofs.Common.{◌≡◌, ◌-◌, length, Some, refl, sym, ◌∙◌, arith}
 use Rattle.std.specs.Prelude.{slice_get, slice_set}
 use Rattle.world.specs.State.{HasWork}
-use Rattle.list_world.specs.Owed.{owed_of}
+use Rattle.world_parts.specs.Owed.{owed_of}
 use Rattle.list_world.specs.Parts.{world_of, ArePromised}
-use Rattle.list_world.specs.Rooms.{working}
+use Rattle.world_parts.specs.Rooms.{working}
 use Rattle.list_world.proofs.Sound.{there_of, read_of, part_le, sound_set, promised_same, OpensNone}
-use Rattle.list_world.proofs.Owing.{same_txn, owes_undone, owes_own}
+use Rattle.world_parts.proofs.Owing.{same_txn, owes_undone, owes_own}
 use Rattle.list_world.proofs.world_calls.ListWorldWorld.add_undone.Goals as goal
 
 pub add-requires : goal.add-requires

@@ -2,9 +2,9 @@ use Rattle.std.proofs.Common.{◌≡◌, length, Some, refl, ap, sym, ◌∙◌,
 use Rattle.std.specs.Prelude.{slice_get}
 use Rattle.world.specs.State.{Session, Work, HasWork}
 use Rattle.list_world.specs.Parts.{world_of}
-use Rattle.list_world.specs.Rooms.{working}
+use Rattle.world_parts.specs.Rooms.{working}
 use Rattle.list_world.proofs.Sound.{there_of, read_of, sound_quiet, promised_spent}
-use Rattle.list_world.proofs.Owing.{same_txn, same_owed}
+use Rattle.world_parts.proofs.Owing.{same_txn, same_owed}
 use Rattle.world.specs.Undoing.{older}
 use Rattle.list_world.proofs.Logs.{cons_of}
 use Rattle.list_world.proofs.world_calls.ListWorldWorld.cut_back.Goals as goal

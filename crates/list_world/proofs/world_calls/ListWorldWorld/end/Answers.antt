@@ -2,9 +2,9 @@ use Rattle.std.proofs.Common.{◌≡◌, length, None, refl, arith}
 use Rattle.world.specs.State.{Session}
 use Rattle.list_world.proofs.Sound.{sound_quiet, promised_same}
 use Rattle.sql_history.specs.Settings.{at_end}
-use Rattle.list_world.specs.Holding.{Holds, NoneHolds}
-use Rattle.list_world.proofs.Places.{element}
-use Rattle.list_world.proofs.Held.{held, unheld}
+use Rattle.world_parts.specs.Holding.{Holds, NoneHolds}
+use Rattle.world_parts.proofs.Places.{element}
+use Rattle.world_parts.proofs.Held.{held, unheld}
 use Rattle.list_world.proofs.world_calls.ListWorldWorld.end.Goals as goal
 
 pub invariant_of-self : goal.invariant_of-self

@@ -1,10 +1,10 @@
 use Rattle.std.proofs.Common.{◌≡◌, ◌+◌, ◌<◌, ◌≤◌, ◌^◌, true, length, Some, refl, ap, arith}
 use Rattle.std.specs.Prelude.{slice_get}
 use Rattle.world.specs.State.{Session}
-use Rattle.list_world.specs.Owed.{owed_by_all}
+use Rattle.world_parts.specs.Owed.{owed_by_all}
 use Rattle.list_world.specs.Parts.{Parts}
 use Rattle.list_world.proofs.Sound.{read_of, sound_set, promised_same}
-use Rattle.list_world.proofs.Owing.{bit_le, puts_few}
+use Rattle.world_parts.proofs.Owing.{bit_le, puts_few}
 use Rattle.std.proofs.lemmas.Option.{slice_get_read}
 use Rattle.list_world.proofs.world_calls.ListWorldWorld.event_room.Goals as goal
 

@@ -2,9 +2,9 @@ use Rattle.std.proofs.Common.{◌≡◌, true, false, length, refl, ap, sym, ◌
 use Rattle.world.specs.State.{Session}
 use Rattle.list_world.proofs.Sound.{there_of, sound_quiet, promised_same}
 use Rattle.sql_history.specs.Settings.{back_to, made_at}
-use Rattle.list_world.specs.Holding.{Holds, NoneHolds}
-use Rattle.list_world.proofs.Places.{element}
-use Rattle.list_world.proofs.Held.{held, is_txn, same_holder}
+use Rattle.world_parts.specs.Holding.{Holds, NoneHolds}
+use Rattle.world_parts.proofs.Places.{element}
+use Rattle.world_parts.proofs.Held.{held, is_txn, same_holder}
 use Rattle.std.proofs.lemmas.Option.{slice_get_within}
 use Rattle.list_world.proofs.world_calls.ListWorldWorld.find_savepoint.Goals as goal
 

@@ -1,11 +1,11 @@
 use Rattle.std.proofs.Common.{◌≡◌, length, refl, sym, ◌∙◌, arith}
 use Rattle.world.specs.State.{Session}
 use Rattle.list_world.proofs.Sound.{sound_quiet, promised_same}
-use Rattle.list_world.proofs.Owing.{same_owed_id, same_txn_id}
+use Rattle.world_parts.proofs.Owing.{same_owed_id, same_txn_id}
 use Rattle.world.specs.Sessions.{work_with_id}
-use Rattle.list_world.specs.Holding.{Holds, NoneHolds}
-use Rattle.list_world.proofs.Places.{element}
-use Rattle.list_world.proofs.Held.{held, unheld}
+use Rattle.world_parts.specs.Holding.{Holds, NoneHolds}
+use Rattle.world_parts.proofs.Places.{element}
+use Rattle.world_parts.proofs.Held.{held, unheld}
 use Rattle.list_world.proofs.world_calls.ListWorldWorld.give_id.Goals as goal
 
 pub invariant_of-self : goal.invariant_of-self

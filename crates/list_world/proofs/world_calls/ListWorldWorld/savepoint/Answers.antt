@@ -2,10 +2,10 @@ use Rattle.std.proofs.Common.{◌≡◌, true, length, refl, arith}
 use Rattle.world.specs.State.{Session}
 use Rattle.list_world.proofs.Sound.{sound_quiet, promised_same}
 use Rattle.sql_history.specs.Settings.{saved}
-use Rattle.list_world.specs.Holding.{Holds, NoneHolds}
-use Rattle.list_world.proofs.Places.{element, set_same}
+use Rattle.world_parts.specs.Holding.{Holds, NoneHolds}
+use Rattle.world_parts.proofs.Places.{element, set_same}
 use Rattle.list_world.proofs.Results.{ok_then, either_way}
-use Rattle.list_world.proofs.Held.{held, unheld}
+use Rattle.world_parts.proofs.Held.{held, unheld}
 use Rattle.list_world.proofs.world_calls.ListWorldWorld.savepoint.Goals as goal
 
 pub invariant_of-self-in-Some : goal.invariant_of-self-in-Some

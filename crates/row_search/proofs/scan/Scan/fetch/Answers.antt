@@ -1,6 +1,6 @@
 use Rattle.std.proofs.Common.{sym, ap, subst, refl, ◌≡◌, ◌∙◌, ℕ, List}
-use Rattle.entries.specs.declared.answers.Move.{Move}
-use Rattle.entries.specs.declared.answers.Move.TheVariants.{Done, End, NoMemory}
+use Rattle.store_api.specs.declared.moves.Move.{Move}
+use Rattle.store_api.specs.declared.moves.Move.TheVariants.{Done, End, NoMemory}
 use Rattle.entries.specs.Index.{Index}
 use Rattle.entries.specs.Calls.{Fetches}
 use Rattle.world.specs.State.{index_of}

@@ -7,7 +7,7 @@ use Rattle.row_search.specs.declared.phase.Phase.TheVariants.{Keep}
 use Rattle.row_search.specs.Ranges.{primary_part}
 use Rattle.row_search.specs.Steps.{Searches}
 use Rattle.row_search.proofs.Worlds.{unchanged_itself}
-use Rattle.entries.specs.declared.answers.Move.TheVariants.{NoMemory}
+use Rattle.store_api.specs.declared.moves.Move.TheVariants.{NoMemory}
 use Rattle.row_search.specs.Owners.{IsOwner}
 use Rattle.row_search.proofs.Exits.{waits}
 use Rattle.row_search.proofs.AtPair.{other_goes, own_goes, keep_waits}

@@ -5,7 +5,7 @@ use Rattle.row_search.specs.declared.phase.Phase.{Phase}
 use Rattle.row_search.specs.declared.phase.Phase.TheVariants.{Look}
 use Rattle.row_search.specs.Ranges.{primary_part}
 use Rattle.row_search.specs.Steps.{Searches}
-use Rattle.entries.specs.declared.answers.Move.TheVariants.{NoMemory}
+use Rattle.store_api.specs.declared.moves.Move.TheVariants.{NoMemory}
 use Rattle.row_codec.specs.Rows.{IsRecordOf}
 use Rattle.row_search.proofs.Worlds.{unchanged_itself}
 use Rattle.row_search.proofs.Exits.{waits}

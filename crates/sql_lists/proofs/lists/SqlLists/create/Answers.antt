@@ -5,7 +5,7 @@ use Rattle.inno_model.specs.declared.event.Event.TheVariants as events
 use Rattle.inno_model.specs.Past.{own}
 use Rattle.sql_grammar.specs.Grammar.{Spells}
 use Rattle.sql_history.specs.Legal.{MayChange}
-use Rattle.past_agreement.specs.Order.{created}
+use Rattle.law_past_agreement.specs.Order.{created}
 use Rattle.shared_lists.specs.State.{State, Lists}
 use Rattle.sql_lists.proofs.Keeping.{by_result, kept_create}
 use Rattle.sql_lists.proofs.lists.SqlLists.create.Goals as goal

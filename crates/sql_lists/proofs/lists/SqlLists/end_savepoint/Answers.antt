@@ -1,8 +1,7 @@
 use Rattle.std.proofs.Common.{◌<◌, length, get_or, true, sym, subst}
 use Rattle.inno_types.specs.declared.reply.Reply.TheVariants as replies
 use Rattle.inno_types.specs.declared.stmt.Stmt.TheVariants as stmts
-use Rattle.inno_model.specs.Past.{level, own}
-use Rattle.inno_model.specs.Legal.{IsOpen}
+use Rattle.inno_model.specs.Past.{level, own, IsOpen}
 use Rattle.sql_grammar.specs.Grammar.{Spells}
 use Rattle.sql_history.specs.Items.{Asks}
 use Rattle.sql_history.specs.Settings.{Setting, at_first, saved}

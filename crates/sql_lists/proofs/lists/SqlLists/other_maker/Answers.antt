@@ -2,7 +2,7 @@ use Rattle.std.proofs.Common.{◌≡◌, false, sym, ap, subst, ◌∙◌, inl, 
 use Rattle.std.specs.List.{list_any}
 use Rattle.std.proofs.lemmas.Bool.Decides.{eqb_tells}
 use Rattle.inno_model.specs.Past.{own}
-use Rattle.past_agreement.specs.Order.{is_creation}
+use Rattle.law_past_agreement.specs.Order.{is_creation}
 use Rattle.shared_lists.specs.State.{State, Lists}
 use Rattle.sql_lists.proofs.lists.SqlLists.other_maker.Goals as goal
 

@@ -1,8 +1,7 @@
 use Rattle.std.proofs.Common.{◌≢◌, Some, sym, subst}
 use Rattle.inno_types.specs.declared.lock.Level.TheVariants.{Serializable}
 use Rattle.inno_model.specs.declared.event.Event.TheVariants as events
-use Rattle.inno_model.specs.Past.{level}
-use Rattle.inno_model.specs.Legal.{IsOpen}
+use Rattle.inno_model.specs.Past.{level, IsOpen}
 use Rattle.sql_grammar.specs.Grammar.{Spells}
 use Rattle.sql_history.specs.Legal.{MayView}
 use Rattle.shared_lists.specs.State.{State, Lists}

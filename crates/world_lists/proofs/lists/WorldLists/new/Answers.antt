@@ -1,8 +1,8 @@
 use Rattle.std.proofs.Common.{List, None, false, refl, sym, ap, subst}
 use Rattle.desks.specs.declared.desk.Desk.{Desk}
 use Rattle.desks.specs.Holding.{IsHeld}
-use Rattle.held_entries.proofs.Joining.{first_held}
-use Rattle.held_entries.specs.Seen.{settings_of}
+use Rattle.law_held_entries.proofs.Joining.{first_held}
+use Rattle.law_held_entries.specs.Seen.{settings_of}
 use Rattle.world_lists.proofs.lists.WorldLists.new.Goals as goal
 
 pub invariant_of-result : goal.invariant_of-result

@@ -1,7 +1,7 @@
 use Rattle.std.proofs.Common.{length, ◌-◌, subst}
 use Rattle.inno_model.specs.Past.{own}
 use Rattle.shared_lists.specs.State.{Lists}
-use Rattle.held_undoing.specs.Seen.{lists_held, TakesBackIn}
+use Rattle.law_held_undoing.specs.Seen.{lists_held, TakesBackIn}
 use Rattle.world_lists.proofs.lists.WorldLists.take_back.Goals as goal
 
 pub returns : goal.returns

@@ -3,8 +3,8 @@ use Rattle.std.specs.Prelude.{slice_set}
 use Rattle.inno_model.specs.declared.event.Event.TheVariants.{Acked}
 use Rattle.world.specs.State.{WorldState, Session, IsSession}
 use Rattle.world.specs.Told.{IsTold}
-use Rattle.engine_world.specs.Calls.{acknowledged}
-use Rattle.held_entries.proofs.Seen.{settings_same}
+use Rattle.world.specs.EngineCalls.{acknowledged}
+use Rattle.law_held_entries.proofs.Seen.{settings_same}
 use Rattle.world_lists.proofs.Made.{its_session, adds, unset, same_rows, acked_made, may_ack}
 use Rattle.world_lists.proofs.steps.WorldListsSharedLists.ack.Goals as goal
 
@@ -25,7 +25,7 @@ invariant_of-self g c =
     let session : Session = mine.0 in
     let is : IsSession c.args.session session old = mine.1 in
     let told : IsTold old = (g.met.W.EngineWorld.tells l.world).told in
-    acked_made c.args.session old l.writer l.has_made_table l.desks.items l.cuts l.undo l.room c.args.self.now c.self.invariant c.self.view_is c.requires.idle told c.requires.joined session is (g.W.World.state c.ack.new.self) c.requires.may c.history-few.ensures.few (c.ack.ensures session is)
+    acked_made c.args.session old l.writer l.has_made_table l.desks.items l.cuts l.undo l.room c.args.self.now c.self.invariant c.self.view_is c.requires.idle told c.requires.joined session is (g.W.World.state c.ack.new.self) c.requires.may c.is_short.ensures.few (c.ack.ensures session is)
 
 pub returns-clause-adds : goal.returns-clause-adds
 returns-clause-adds g c =

@@ -2,20 +2,19 @@ use Rattle.std.proofs.Common.{◌≡◌, ◌+◌, true, false, Some, ◌∷◌, 
 use Rattle.std.specs.Prelude.{slice_get, slice_set}
 use Rattle.std.proofs.lemmas.List.{length-set}
 use Rattle.sql_history.specs.Settings.{at_begin}
-use Rattle.inno_model.specs.Past.{begins}
-use Rattle.inno_model.specs.Legal.{IsClosed}
+use Rattle.inno_model.specs.Past.{begins, IsClosed}
 use Rattle.inno_model.specs.declared.event.Event.TheVariants.{Begin}
 use Rattle.txn_table.specs.Txns.{Txns}
 use Rattle.world.specs.State.{WorldState, Session, IsSession, HasWork}
 use Rattle.world.specs.Told.{IsTold}
 use Rattle.world.specs.Sessions.{begun, with_room, fresh_work, begin_added}
-use Rattle.world_agreement.specs.Steps.{opened, session_begun}
-use Rattle.world_agreement.proofs.Opening.{set_here, set_other}
+use Rattle.law_world_agreement.specs.Steps.{opened, session_begun}
+use Rattle.law_world_agreement.proofs.Opening.{set_here, set_other}
 use Rattle.shared_lists.specs.State.{Lists}
 use Rattle.desks.specs.Holding.{IsHeld}
-use Rattle.held_entries.proofs.Seen.{settings_same, settings_by}
-use Rattle.held_entries.proofs.Items.{unentered_held}
-use Rattle.held_entries.proofs.Transactions.{opened_held}
+use Rattle.law_held_entries.proofs.Seen.{settings_same, settings_by}
+use Rattle.law_held_entries.proofs.Items.{unentered_held}
+use Rattle.law_held_entries.proofs.Transactions.{opened_held}
 use Rattle.world_lists.proofs.Standings.{closed_none}
 use Rattle.world_lists.proofs.Answering.{few_more}
 use Rattle.world_lists.proofs.Made.{on_err, of_ok, past_here, its_session, at_rest, adds, stays, stays_same, unset, reset, same_rows, few_begun}
@@ -171,7 +170,7 @@ invariant_of-self-2 g c =
     subst (λ (w : WorldState). IsHeld w l.writer l.has_made_table l.desks.items l.cuts l.undo l.room) (sym new_is)
     (opened_held l.writer l.has_made_table l.cuts l.undo l.room mid l.desks.items mid_held c.args.session (at_rest c.args.session old l.writer l.has_made_table l.desks.items l.cuts l.undo l.room c.args.self.now c.self.invariant c.self.view_is c.requires.idle) told_mid roomed at_mid c.args.level (closed_none old l.writer l.has_made_table l.desks.items l.cuts l.undo l.room c.self.invariant c.args.session session is (past_here c.args.session old l.writer l.has_made_table l.desks.items l.cuts l.undo l.room c.args.self.now c.self.invariant c.self.view_is (IsClosed c.args.session) c.requires.may.1))
     (subst (λ h. IsClosed c.args.session h) (sym past_is) (past_here c.args.session old l.writer l.has_made_table l.desks.items l.cuts l.undo l.room c.args.self.now c.self.invariant c.self.view_is (IsClosed c.args.session) c.requires.may.1))
-    (few_more mid.past (Begin c.args.session (mid.txns.begun + 1) c.args.level) (g.W.World.state c.add_begin.new.self) c.history-few.ensures.few (ap (λ (w : WorldState). w.past) new_is)))
+    (few_more mid.past (Begin c.args.session (mid.txns.begun + 1) c.args.level) (g.W.World.state c.add_begin.new.self) c.is_short.ensures.few (ap (λ (w : WorldState). w.past) new_is)))
 
 pub returns-clause-ok : goal.returns-clause-ok
 returns-clause-ok g c =

@@ -8,7 +8,7 @@ use Rattle.desks.specs.Holding.{IsHeld}
 use Rattle.world_lists.proofs.Made.{past_here, its_work, at_rest, its_listed, its_txn}
 use Rattle.inno_db.specs.declared.change.Change.TheVariants.{Create}
 use Rattle.inno_model.specs.declared.event.Event.TheVariants.{Changed}
-use Rattle.engine_world.specs.Calls.{MakesTable}
+use Rattle.world.specs.EngineCalls.{MakesTable}
 use Rattle.row_changes.specs.Records.{IsListed}
 use Rattle.row_changes.specs.Entering.{GivesId}
 use Rattle.shared_lists.specs.State.{Adds}
@@ -67,7 +67,7 @@ invariant_of-self-2 g c =
     (created_now c.args.session c.args.schema old mid makes listed (g.W.World.state c.give_first_id.new.world) gives l.has_made_table l.cuts l.undo l.room l.desks.items
     (subst (λ (writer : Option ℕ). IsHeld old writer l.has_made_table l.desks.items l.cuts l.undo l.room) (writer_now c.args.session old l.writer l.has_made_table l.desks.items l.cuts l.undo l.room c.args.self.now c.self.invariant c.self.view_is c.requires.locked) c.self.invariant)
     (at_rest c.args.session old l.writer l.has_made_table l.desks.items l.cuts l.undo l.room c.args.self.now c.self.invariant c.self.view_is c.requires.idle) (g.met.W.EngineWorld.tells l.world).told (g.met.W.EngineWorld.tells c.give_first_id.new.world).told
-    c.requires.storable c.history-few.ensures.few (past_here c.args.session old l.writer l.has_made_table l.desks.items l.cuts l.undo l.room c.args.self.now c.self.invariant c.self.view_is (λ h. own c.args.session h ≡ []) c.requires.first))
+    c.requires.storable c.is_short.ensures.few (past_here c.args.session old l.writer l.has_made_table l.desks.items l.cuts l.undo l.room c.args.self.now c.self.invariant c.self.view_is (λ h. own c.args.session h ≡ []) c.requires.first))
 
 pub returns-clause-ok : goal.returns-clause-ok
 returns-clause-ok g c =

@@ -5,9 +5,9 @@ use Rattle.inno_model.specs.Past.{started}
 use Rattle.inno_model.specs.declared.event.Event.TheVariants.{Ended}
 use Rattle.world.specs.State.{WorldState, Session, IsSession}
 use Rattle.world.specs.Told.{IsTold}
-use Rattle.engine_world.specs.Calls.{item_ended}
+use Rattle.world.specs.EngineCalls.{item_ended}
 use Rattle.shared_lists.specs.State.{Lists}
-use Rattle.held_entries.proofs.Seen.{settings_same}
+use Rattle.law_held_entries.proofs.Seen.{settings_same}
 use Rattle.world_lists.proofs.Made.{its_session, adds, unset, ended_made, desk_started, may_reply}
 use Rattle.world_lists.proofs.steps.WorldListsSharedLists.end.Goals as goal
 
@@ -28,7 +28,7 @@ invariant_of-self g c =
     let session : Session = mine.0 in
     let is : IsSession c.args.session session old = mine.1 in
     let told : IsTold old = (g.met.W.EngineWorld.tells l.world).told in
-    ended_made c.args.session old l.writer l.has_made_table l.desks.items l.cuts l.undo l.room c.args.self.now c.self.invariant c.self.view_is c.requires.idle told c.requires.joined session is (g.W.World.state c.end_item.new.self) c.index.result.now.started c.args.reply (c.requires.may.0, c.requires.may.1, desk_started c.args.session old l.writer l.has_made_table l.desks.items l.cuts l.undo l.room c.args.self.now c.self.invariant c.self.view_is c.requires.joined c.index.result.now c.index.ensures) c.history-few.ensures.few (c.end_item.ensures session is)
+    ended_made c.args.session old l.writer l.has_made_table l.desks.items l.cuts l.undo l.room c.args.self.now c.self.invariant c.self.view_is c.requires.idle told c.requires.joined session is (g.W.World.state c.end_item.new.self) c.index.result.now.started c.args.reply (c.requires.may.0, c.requires.may.1, desk_started c.args.session old l.writer l.has_made_table l.desks.items l.cuts l.undo l.room c.args.self.now c.self.invariant c.self.view_is c.requires.joined c.index.result.now c.index.ensures) c.is_short.ensures.few (c.end_item.ensures session is)
 
 pub returns-clause-adds : goal.returns-clause-adds
 returns-clause-adds g c =

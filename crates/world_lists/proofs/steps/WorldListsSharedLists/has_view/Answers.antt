@@ -3,8 +3,7 @@ use Rattle.std.specs.Prelude.{is_some}
 use Rattle.world.specs.State.{WorldState, Session, IsSession}
 use Rattle.shared_lists.specs.State.{Lists}
 use Rattle.world_lists.proofs.Standings.{there, open_work, view_is}
-use Rattle.inno_model.specs.Past.{view_of}
-use Rattle.inno_model.specs.Legal.{IsOpen}
+use Rattle.inno_model.specs.Past.{view_of, IsOpen}
 use Rattle.world_lists.proofs.steps.WorldListsSharedLists.has_view.Goals as goal
 
 pub returns : goal.returns

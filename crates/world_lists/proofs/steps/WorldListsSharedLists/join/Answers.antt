@@ -1,11 +1,11 @@
 use Rattle.std.proofs.Common.{◌≡◌, ◌<◌, List, [], ◌∷◌, ◌++◌, length, sym, ap, subst, ◌∙◌, arith}
 use Rattle.world.specs.State.{WorldState}
 use Rattle.world.specs.Told.{IsTold}
-use Rattle.engine_world.specs.Calls.{joined}
+use Rattle.world.specs.EngineCalls.{joined}
 use Rattle.desks.specs.declared.desk.Desk.{Desk}
 use Rattle.desks.specs.Desks.{fresh_desk, doing_at}
 use Rattle.desks.specs.Holding.{IsHeld}
-use Rattle.held_entries.proofs.Joining.{joined_held, one_more}
+use Rattle.law_held_entries.proofs.Joining.{joined_held, one_more}
 use Rattle.world_lists.proofs.Made.{pushed, tasks_same}
 use Rattle.world_lists.proofs.steps.WorldListsSharedLists.join.Goals as goal
 

@@ -7,8 +7,8 @@ use Rattle.world.specs.State.{WorldState}
 use Rattle.row_search.specs.declared.found.FoundRow.{FoundRow}
 use Rattle.shared_lists.specs.Steps.{AreNewestRows}
 use Rattle.desks.specs.Desks.{is_quiet}
-use Rattle.held_searches.specs.Newest.{plan_read}
-use Rattle.held_searches.proofs.Staying.{held_idle}
+use Rattle.law_held_searches.specs.Newest.{plan_read}
+use Rattle.law_held_searches.proofs.Staying.{held_idle}
 use Rattle.world_lists.proofs.SearchBegins.{copied, writer_within, table_there, idle_now}
 use Rattle.world_lists.proofs.SearchNewest.{answered, nothing_seen, tells_now, read_now}
 use Rattle.world_lists.proofs.steps.WorldListsSharedLists.read_newest.Goals as goal
@@ -25,8 +25,8 @@ is_quiet-requires g c =
     let l = c.self.inside in
     rw c.deref.ensures.value (writer_within c.args.session (g.W.World.state l.world) l.writer l.has_made_table l.desks.items l.cuts l.undo l.room c.args.self.now c.self.invariant c.self.view_is)
 
-pub newest_rows-requires : goal.newest_rows-requires
-newest_rows-requires g c =
+pub newest_rows-found-requires : goal.newest_rows-found-requires
+newest_rows-found-requires g c =
     let l = c.self.inside in
     let state : WorldState = g.W.World.state l.world in
     let schema : Schema = c.requires.there.0 in
@@ -45,27 +45,27 @@ pub invariant_of-self : goal.invariant_of-self
 invariant_of-self g c =
     let l = c.self.inside in
     let state : WorldState = g.W.World.state l.world in
-    held_idle c.args.session state (g.W.World.state c.newest_rows.new.world) l.writer l.has_made_table l.desks.items l.cuts l.undo l.room c.self.invariant
-    (idle_now c.args.session state l.writer l.has_made_table l.desks.items l.cuts l.undo l.room c.args.self.now c.self.invariant c.self.view_is c.requires.idle) c.newest_rows.ensures.moves (g.met.W.EngineWorld.tells c.newest_rows.new.world).told
+    held_idle c.args.session state (g.W.World.state c.newest_rows-found.new.world) l.writer l.has_made_table l.desks.items l.cuts l.undo l.room c.self.invariant
+    (idle_now c.args.session state l.writer l.has_made_table l.desks.items l.cuts l.undo l.room c.args.self.now c.self.invariant c.self.view_is c.requires.idle) c.newest_rows-found.ensures.moves (g.met.W.EngineWorld.tells c.newest_rows-found.new.world).told
 
 pub returns-in_err-found-clause-same : goal.returns-in_err-found-clause-same
 returns-in_err-found-clause-same g c =
     let l = c.self.inside in
-    nothing_seen c.args.session (g.W.World.state l.world) l.writer l.has_made_table l.desks.items l.cuts l.undo l.room c.args.self.now c.self.invariant c.self.view_is (g.W.World.state c.newest_rows.new.world) c.newest_rows.ensures.moves
-    (g.met.W.EngineWorld.tells c.newest_rows.new.world).told
+    nothing_seen c.args.session (g.W.World.state l.world) l.writer l.has_made_table l.desks.items l.cuts l.undo l.room c.args.self.now c.self.invariant c.self.view_is (g.W.World.state c.newest_rows-found.new.world) c.newest_rows-found.ensures.moves
+    (g.met.W.EngineWorld.tells c.newest_rows-found.new.world).told
 
 pub invariant_of-self-2 : goal.invariant_of-self-2
 invariant_of-self-2 g c =
     let l = c.self.inside in
     let state : WorldState = g.W.World.state l.world in
-    held_idle c.args.session state (g.W.World.state c.newest_rows.new.world) l.writer l.has_made_table l.desks.items l.cuts l.undo l.room c.self.invariant
-    (idle_now c.args.session state l.writer l.has_made_table l.desks.items l.cuts l.undo l.room c.args.self.now c.self.invariant c.self.view_is c.requires.idle) c.newest_rows.ensures.moves (g.met.W.EngineWorld.tells c.newest_rows.new.world).told
+    held_idle c.args.session state (g.W.World.state c.newest_rows-found.new.world) l.writer l.has_made_table l.desks.items l.cuts l.undo l.room c.self.invariant
+    (idle_now c.args.session state l.writer l.has_made_table l.desks.items l.cuts l.undo l.room c.args.self.now c.self.invariant c.self.view_is c.requires.idle) c.newest_rows-found.ensures.moves (g.met.W.EngineWorld.tells c.newest_rows-found.new.world).told
 
 pub returns-clause-same : goal.returns-clause-same
 returns-clause-same g c =
     let l = c.self.inside in
-    nothing_seen c.args.session (g.W.World.state l.world) l.writer l.has_made_table l.desks.items l.cuts l.undo l.room c.args.self.now c.self.invariant c.self.view_is (g.W.World.state c.newest_rows.new.world) c.newest_rows.ensures.moves
-    (g.met.W.EngineWorld.tells c.newest_rows.new.world).told
+    nothing_seen c.args.session (g.W.World.state l.world) l.writer l.has_made_table l.desks.items l.cuts l.undo l.room c.args.self.now c.self.invariant c.self.view_is (g.W.World.state c.newest_rows-found.new.world) c.newest_rows-found.ensures.moves
+    (g.met.W.EngineWorld.tells c.newest_rows-found.new.world).told
 
 pub returns-clause-found : goal.returns-clause-found
 returns-clause-found g c =

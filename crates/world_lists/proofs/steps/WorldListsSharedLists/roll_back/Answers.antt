@@ -6,8 +6,8 @@ use Rattle.inno_model.specs.declared.event.Event.TheVariants.{RolledBack}
 use Rattle.world.specs.State.{WorldState, Session, Work, HasWork}
 use Rattle.world.specs.Told.{IsTold}
 use Rattle.world.specs.Sessions.{ended}
-use Rattle.world_agreement.specs.Steps.{rolled_back}
-use Rattle.world_agreement.proofs.Opening.{set_here, set_other}
+use Rattle.law_world_agreement.specs.Steps.{rolled_back}
+use Rattle.law_world_agreement.proofs.Opening.{set_here, set_other}
 use Rattle.shared_lists.specs.State.{Lists, Stays}
 use Rattle.desks.specs.Holding.{IsHeld}
 use Rattle.world_lists.proofs.Made.{its_work, closes, reset, same_rows, rolled_back_made, its_txn, txn_settings, may_end}
@@ -33,7 +33,7 @@ invariant_of-self g c =
     let has : HasWork c.args.session session work old = mine.2 in
     let told : IsTold old = (g.met.W.EngineWorld.tells l.world).told in
     subst (λ (later : Option ℕ). IsHeld (g.W.World.state c.end.new.self) later c.still_makes-makes.result l.desks.items l.cuts l.undo l.room) (sym c.without-self-inside.ensures)
-    (rolled_back_made c.args.session old l.writer l.has_made_table l.desks.items l.cuts l.undo l.room c.args.self.now c.self.invariant c.self.view_is c.requires.idle told c.requires.joined session has.session_is (g.W.World.state c.end.new.self) c.still_makes-makes.result work has.work_is c.requires.may.1 c.still_makes-makes.ensures.mine c.still_makes-makes.ensures.theirs c.history-few.ensures.few (c.end.ensures ∙ ap (λ n. ended n (g.W.World.state c.add_rolled_back.new.self)) (c.txn_of-txn.ensures ∙ its_txn c.args.session old l.writer l.has_made_table l.desks.items l.cuts l.undo l.room c.args.self.now c.self.invariant c.self.view_is session work has) ∙ ap (ended work.txn) (c.add_rolled_back.ensures session work has)))
+    (rolled_back_made c.args.session old l.writer l.has_made_table l.desks.items l.cuts l.undo l.room c.args.self.now c.self.invariant c.self.view_is c.requires.idle told c.requires.joined session has.session_is (g.W.World.state c.end.new.self) c.still_makes-makes.result work has.work_is c.requires.may.1 c.still_makes-makes.ensures.mine c.still_makes-makes.ensures.theirs c.is_short.ensures.few (c.end.ensures ∙ ap (λ n. ended n (g.W.World.state c.add_rolled_back.new.self)) (c.txn_of-txn.ensures ∙ its_txn c.args.session old l.writer l.has_made_table l.desks.items l.cuts l.undo l.room c.args.self.now c.self.invariant c.self.view_is session work has) ∙ ap (ended work.txn) (c.add_rolled_back.ensures session work has)))
 
 pub returns-clause-closes : goal.returns-clause-closes
 returns-clause-closes g c =

@@ -2,8 +2,8 @@ use Rattle.std.proofs.Common.{◌≡◌, sym, arith}
 use Rattle.std.proofs.lemmas.Bool.Decides.{nat_tests}
 use Rattle.desks.specs.declared.desk.Doing.TheVariants.{Searching}
 use Rattle.desks.specs.Desks.{doing_at}
-use Rattle.held_searches.specs.Moving.{MovesPlaces}
-use Rattle.held_searches.specs.TakenUp.{IsTakenUp}
+use Rattle.law_held_searches.specs.Moving.{MovesPlaces}
+use Rattle.law_held_searches.specs.TakenUp.{IsTakenUp}
 use Rattle.world_lists.proofs.SearchSteps.{desks_given, taken_by, may_step_now, went_held, went_seen, ended_held, ended_seen, hindered_moves, given_up_held, given_up_seen}
 use Rattle.world_lists.proofs.steps.WorldListsSharedLists.search.Goals as goal
 

@@ -3,8 +3,8 @@ use Rattle.std.specs.Prelude.{slice_set}
 use Rattle.sql_history.specs.Settings.{Setting, set_by}
 use Rattle.world.specs.State.{WorldState, Session, IsSession}
 use Rattle.world.specs.Told.{IsTold}
-use Rattle.engine_world.specs.Calls.{with_setting}
-use Rattle.held_entries.proofs.Seen.{settings_now}
+use Rattle.world.specs.EngineCalls.{with_setting}
+use Rattle.law_held_entries.proofs.Seen.{settings_now}
 use Rattle.world_lists.proofs.Made.{its_session, stays, reset, same_rows, set_made}
 use Rattle.world_lists.proofs.steps.WorldListsSharedLists.set.Goals as goal
 

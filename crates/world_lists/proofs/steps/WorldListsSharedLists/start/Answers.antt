@@ -4,11 +4,11 @@ use Rattle.inno_model.specs.Past.{started}
 use Rattle.inno_model.specs.declared.event.Event.TheVariants.{Started}
 use Rattle.world.specs.State.{WorldState, Session, IsSession}
 use Rattle.world.specs.Told.{IsTold}
-use Rattle.engine_world.specs.Calls.{item_started}
+use Rattle.world.specs.EngineCalls.{item_started}
 use Rattle.desks.specs.declared.desk.Desk.{Desk}
 use Rattle.desks.specs.Desks.{doing_at}
 use Rattle.desks.specs.Holding.{IsHeld}
-use Rattle.held_entries.proofs.Seen.{settings_same}
+use Rattle.law_held_entries.proofs.Seen.{settings_same}
 use Rattle.world_lists.proofs.Made.{on_err, its_session, adds, stays_same, unset, same_rows, started_made, desk_started, desks_started, doing_started}
 use Rattle.world_lists.proofs.steps.WorldListsSharedLists.start.Goals as goal
 
@@ -27,7 +27,7 @@ invariant_of-self-2 g c =
     let is : IsSession c.args.session session old = mine.1 in
     let told : IsTold old = (g.met.W.EngineWorld.tells l.world).told in
     subst (λ (desks : List Desk). IsHeld (g.W.World.state c.start.new.self) l.writer l.has_made_table desks l.cuts l.undo l.room) (sym (desks_started c.args.session old l.writer l.has_made_table l.desks.items l.cuts l.undo l.room c.args.self.now c.self.invariant c.self.view_is c.requires.joined c.index.result.now c.index_mut.result.now c.index.ensures c.index_mut.ensures.value))
-    (started_made c.args.session old l.writer l.has_made_table l.desks.items l.cuts l.undo l.room c.args.self.now c.self.invariant c.self.view_is c.requires.at_rest told c.requires.joined session is (g.W.World.state c.start.new.self) (c.index.result.now.started + 1) c.args.item c.requires.idle (ap (λ n. n + 1) (desk_started c.args.session old l.writer l.has_made_table l.desks.items l.cuts l.undo l.room c.args.self.now c.self.invariant c.self.view_is c.requires.joined c.index.result.now c.index.ensures)) c.history-few.ensures.few (c.in_ok-start.ensures.ok session is))
+    (started_made c.args.session old l.writer l.has_made_table l.desks.items l.cuts l.undo l.room c.args.self.now c.self.invariant c.self.view_is c.requires.at_rest told c.requires.joined session is (g.W.World.state c.start.new.self) (c.index.result.now.started + 1) c.args.item c.requires.idle (ap (λ n. n + 1) (desk_started c.args.session old l.writer l.has_made_table l.desks.items l.cuts l.undo l.room c.args.self.now c.self.invariant c.self.view_is c.requires.joined c.index.result.now c.index.ensures)) c.is_short.ensures.few (c.in_ok-start.ensures.ok session is))
 
 pub returns-clause-ok : goal.returns-clause-ok
 returns-clause-ok g c =

@@ -4,8 +4,8 @@ use Rattle.txn_table.specs.Txns.{ids_of}
 use Rattle.world.specs.State.{WorldState, Session, Work, HasWork}
 use Rattle.world.specs.Told.{IsTold}
 use Rattle.world.specs.Sessions.{view_added}
-use Rattle.world_agreement.specs.Steps.{viewed}
-use Rattle.held_entries.proofs.Seen.{settings_same}
+use Rattle.law_world_agreement.specs.Steps.{viewed}
+use Rattle.law_held_entries.proofs.Seen.{settings_same}
 use Rattle.world_lists.proofs.Made.{on_err, its_work, adds, stays_same, unset, same_rows, viewed_made}
 use Rattle.world_lists.proofs.steps.WorldListsSharedLists.take_view.Goals as goal
 
@@ -34,7 +34,7 @@ invariant_of-self-2 g c =
     let work : Work = mine.1 in
     let has : HasWork c.args.session session work old = mine.2 in
     let told : IsTold old = (g.met.W.EngineWorld.tells l.world).told in
-    viewed_made c.args.session old l.writer l.has_made_table l.desks.items l.cuts l.undo l.room c.args.self.now c.self.invariant c.self.view_is c.requires.idle told c.requires.joined session has.session_is (g.W.World.state c.add_view.new.self) work has.work_is c.history-few.ensures.few (c.in_ok-add_view.ensures.ok session work has ∙ ap (λ (a : List ℕ). view_added c.args.session a c.next_id-next.result session work old) c.in_ok-active.ensures.ok ∙ ap (λ n. view_added c.args.session (ids_of old.txns.open_txns) n session work old) c.next_id-next.ensures)
+    viewed_made c.args.session old l.writer l.has_made_table l.desks.items l.cuts l.undo l.room c.args.self.now c.self.invariant c.self.view_is c.requires.idle told c.requires.joined session has.session_is (g.W.World.state c.add_view.new.self) work has.work_is c.is_short.ensures.few (c.in_ok-add_view.ensures.ok session work has ∙ ap (λ (a : List ℕ). view_added c.args.session a c.next_id-next.result session work old) c.in_ok-active.ensures.ok ∙ ap (λ n. view_added c.args.session (ids_of old.txns.open_txns) n session work old) c.next_id-next.ensures)
 
 pub returns-clause-ok : goal.returns-clause-ok
 returns-clause-ok g c =

@@ -1,5 +1,0 @@
-use Rattle.db_laws.proofs.Applicable.{outcome-AreApplicable}
-use Rattle.db_laws.proofs.outcomes_can_be_made.Goals as goal
-
-pub returns : goal.returns
-returns c = λ stmt db. outcome-AreApplicable stmt db

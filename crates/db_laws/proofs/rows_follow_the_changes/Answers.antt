@@ -1,5 +1,0 @@
-use Rattle.db_laws.proofs.Rows.{rows_of-apply}
-use Rattle.db_laws.proofs.rows_follow_the_changes.Goals as goal
-
-pub returns : goal.returns
-returns c = λ table schema db changes keyed is there. rows_of-apply table schema db changes keyed is there

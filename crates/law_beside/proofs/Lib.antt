@@ -1,0 +1,4 @@
+pub mod Passing
+pub mod Apart
+pub mod Searching
+pub mod Inserting

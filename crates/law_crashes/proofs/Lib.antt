@@ -1,0 +1,6 @@
+pub mod Commits
+pub mod Durable
+pub mod Keeps
+pub mod Mount
+pub mod Prefix
+pub mod Records

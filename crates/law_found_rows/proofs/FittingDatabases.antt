@@ -1,0 +1,115 @@
+-- Databases of a history whose changes fitted when they were made.
+use Rattle.std.proofs.Common.{◌≡◌, ◌≢◌, ℕ, ◌<◌, List, [], ◌∷◌, ◌++◌, length, sym, ap, subst, ◌∙◌}
+use Rattle.std.specs.Prelude.{All}
+use Rattle.std.specs.List.{list_any}
+use Rattle.std.specs.FinMap.{from_entries, insert}
+use Rattle.std.proofs.lemmas.List.{append-nil, append_assoc}
+use Rattle.std.proofs.lemmas.List.Elements.{All-nil, All-cons, All-head, All-tail, All-append, All-weaker}
+use Rattle.inno_types.specs.declared.value.Value.{Value}
+use Rattle.inno_types.specs.declared.value.Schema.{Schema}
+use Rattle.inno_types.specs.declared.stmt.Stmt.{Stmt}
+use Rattle.inno_db.specs.declared.change.Change.{Change}
+use Rattle.inno_db.specs.declared.change.Change.TheVariants.{Create, Put, Remove}
+use Rattle.inno_db.specs.Database.{Database, RowMap, key_in}
+use Rattle.inno_db.specs.Outcome.{outcome}
+use Rattle.inno_model.specs.declared.event.Event.{Event}
+use Rattle.inno_model.specs.Past.{own, commits, committed, opening, changed}
+use Rattle.law_past_agreement.specs.Order.{created, is_creation}
+use Rattle.law_past_agreement.specs.Rows.{seen}
+use Rattle.law_past_agreement.specs.Agreement.{IsSound}
+use Rattle.law_past_agreement.proofs.Tables.{key_stays}
+use Rattle.law_past_agreement.specs.DatabaseTables.{with_all_tables}
+use Rattle.sql_history.specs.Items.{own_before, base}
+use Rattle.sql_lists.specs.Kept.{made, AreInOrder, IsInOrder, AreStanding}
+use Rattle.law_fitting_rows.specs.Storable.{AreStorable}
+use Rattle.law_fitting_rows.specs.Fitting.{FitsTables, AreFitting}
+use Rattle.law_fitting_rows.specs.Numbers.{ChangeHas64Bits, RowsHave64Bits, Stores64Bits}
+use Rattle.law_fitting_rows.proofs.Applying.{AreFitting-apply_one, AreFitting-changed, AreFitting-no_rows}
+use Rattle.law_fitting_rows.proofs.Numbers.{changed-Has64Bits, empty-Has64Bits, outcome-Has64Bits}
+use Rattle.law_fitting_rows.proofs.Outcomes.{outcome-FitsTables}
+use Rattle.shared_lists.specs.Fitting.{FitsWell, FitsThen}
+use Rattle.law_found_rows.specs.Databases.{CanBeCoded}
+use Rattle.law_found_rows.proofs.FittingChanges.{tables_storable, own_fits, own_before_fits, committed_fits}
+
+-- ---- the two parts of what fits
+
+tables_fit : (schemas : List Schema) (changes : List Change) → All (FitsWell schemas) changes → All (FitsTables schemas) changes
+tables_fit schemas changes all = All-weaker (FitsWell schemas) (FitsTables schemas) (λ change fits. fits.0) changes all
+
+numbers_fit : (schemas : List Schema) (changes : List Change) → All (FitsWell schemas) changes → All ChangeHas64Bits changes
+numbers_fit schemas changes all = All-weaker (FitsWell schemas) ChangeHas64Bits (λ change fits. fits.1) changes all
+
+both_fit : (schemas : List Schema) (changes : List Change) → All (FitsTables schemas) changes → All ChangeHas64Bits changes → All (FitsWell schemas) changes
+both_fit schemas [] tables numbers = All-nil (FitsWell schemas)
+both_fit schemas (change ∷ changes) tables numbers =
+    All-cons (FitsWell schemas) change changes (All-head (FitsTables schemas) change changes tables, All-head ChangeHas64Bits change changes numbers)
+    (both_fit schemas changes (All-tail (FitsTables schemas) change changes tables) (All-tail ChangeHas64Bits change changes numbers))
+
+pub statement_fits : (stmt : Stmt) (db : Database) → CanBeCoded db → Stores64Bits stmt → All (FitsWell db.schemas) (outcome stmt db).changes
+statement_fits stmt db coded stores = both_fit db.schemas (outcome stmt db).changes (outcome-FitsTables db coded.fitting stmt) (outcome-Has64Bits db coded.numbers stmt stores)
+
+-- ---- over all tables
+
+no_rows_fit : (schemas : List Schema) (rows : RowMap) → rows ≡ from_entries [] → AreStorable schemas → AreFitting (record { schemas = schemas; rows = rows })
+no_rows_fit schemas rows none storable = subst (λ (r : RowMap). AreFitting (record { schemas = schemas; rows = r })) (sym none) (AreFitting-no_rows schemas storable)
+
+no_rows_numbers : (schemas : List Schema) (rows : RowMap) → rows ≡ from_entries [] → RowsHave64Bits (record { schemas = schemas; rows = rows })
+no_rows_numbers schemas rows none = subst (λ (r : RowMap). RowsHave64Bits (record { schemas = schemas; rows = r })) (sym none) (empty-Has64Bits schemas)
+
+pub seen_coded : (past : List Event) (s n : ℕ) → FitsThen past → IsSound past → CanBeCoded (changed (with_all_tables past) (seen past s n))
+seen_coded past s n fits sound =
+    let all = All-append (FitsWell (created past)) (own s past) (committed n past) (own_fits past s fits sound.0) (committed_fits past n fits sound.0) in
+    record {
+      fitting = AreFitting-changed (with_all_tables past) (seen past s n) (no_rows_fit (created past) (opening past).rows sound.1 (tables_storable past fits)) (tables_fit (created past) (seen past s n) all);
+      numbers = changed-Has64Bits (with_all_tables past) (seen past s n) (no_rows_numbers (created past) (opening past).rows sound.1) (numbers_fit (created past) (seen past s n) all);
+    }
+
+-- ---- over the tables that changes make themselves
+
+-- the tables of a database after changes
+schemas_after : (db : Database) (changes : List Change) → (changed db changes).schemas ≡ db.schemas ++ made changes
+schemas_after db [] = sym (append-nil db.schemas)
+schemas_after db (Create schema ∷ changes) = ap (λ (schemas : List Schema). schemas ++ schema ∷ []) (schemas_after db changes) ∙ append_assoc db.schemas (made changes) (schema ∷ [])
+schemas_after db (Put table row ∷ changes) = schemas_after db changes
+schemas_after db (Remove table key ∷ changes) = schemas_after db changes
+
+module _ (db : Database) (none : db.rows ≡ from_entries []) (tables : List Schema) (storable : AreStorable tables) where
+  key_after : (more : List Schema) (earlier : List Change) (table : ℕ) (row : List Value) → tables ≡ (db.schemas ++ made earlier) ++ more → table < length (db.schemas ++ made earlier) → key_in tables table row ≡ key_in (changed db earlier).schemas table row
+  key_after more earlier table row is lt =
+      ap (λ (l : List Schema). key_in l table row) is ∙ key_stays (db.schemas ++ made earlier) more table row lt ∙ sym (ap (λ (l : List Schema). key_in l table row) (schemas_after db earlier))
+
+  -- the rows fit all tables, of which some may have been made later
+  rows_fit : (more : List Schema) (changes : List Change) → tables ≡ (db.schemas ++ made changes) ++ more → AreInOrder db.schemas changes → All (FitsTables tables) changes → AreFitting (record { schemas = tables; rows = (changed db changes).rows })
+  rows_fit more [] is in_order all = no_rows_fit tables db.rows none storable
+  rows_fit more (Create schema ∷ earlier) is in_order all =
+      let later : tables ≡ (db.schemas ++ made earlier) ++ (schema ∷ more) = is ∙ (ap (λ (l : List Schema). l ++ more) (sym (append_assoc db.schemas (made earlier) (schema ∷ []))) ∙ append_assoc (db.schemas ++ made earlier) (schema ∷ []) more) in
+      rows_fit (schema ∷ more) earlier later in_order.1 (All-tail (FitsTables tables) (Create schema) earlier all)
+  rows_fit more (Put table row ∷ earlier) is in_order all =
+      let before = rows_fit more earlier is in_order.1 (All-tail (FitsTables tables) (Put table row) earlier all) in
+      subst (λ (key : Value). AreFitting (record { schemas = tables; rows = insert (changed db earlier).rows (table, key) row })) (key_after more earlier table row is in_order.0)
+      (AreFitting-apply_one (record { schemas = tables; rows = (changed db earlier).rows }) (Put table row) before (All-head (FitsTables tables) (Put table row) earlier all))
+  rows_fit more (Remove table key ∷ earlier) is in_order all =
+      let before = rows_fit more earlier is in_order.1 (All-tail (FitsTables tables) (Remove table key) earlier all) in
+      AreFitting-apply_one (record { schemas = tables; rows = (changed db earlier).rows }) (Remove table key) before (All-head (FitsTables tables) (Remove table key) earlier all)
+
+order_of_rest : (tables : List Schema) (later changes : List Change) → AreInOrder tables (later ++ changes) → AreInOrder tables changes
+order_of_rest tables [] changes in_order = in_order
+order_of_rest tables (change ∷ later) changes in_order = order_of_rest tables later changes in_order.1
+
+pub latest_coded : (past : List Event) (s : ℕ) (later : List Change) → FitsThen past → IsSound past → IsInOrder past → own s past ≡ later ++ own_before s past → created past ≡ (base s past).schemas → CanBeCoded (base s past)
+latest_coded past s later fits sound in_order parts tables =
+    let changes = own_before s past ++ committed (commits past) past in
+    let all = All-append (FitsWell (created past)) (own_before s past) (committed (commits past) past) (own_before_fits past s fits sound.0) (committed_fits past (commits past) fits sound.0) in
+    let mine : AreInOrder (opening past).schemas (later ++ changes) =
+    subst (AreInOrder (opening past).schemas) (append_assoc later (own_before s past) (committed (commits past) past)) (subst (λ (own : List Change). AreInOrder (opening past).schemas (own ++ committed (commits past) past)) parts (in_order s)) in
+    let is : created past ≡ ((opening past).schemas ++ made changes) ++ [] = tables ∙ schemas_after (opening past) changes ∙ sym (append-nil ((opening past).schemas ++ made changes)) in
+    record {
+      fitting = subst (λ (schemas : List Schema). AreFitting (record { schemas = schemas; rows = (changed (opening past) changes).rows })) tables
+          (rows_fit (opening past) sound.1 (created past) (tables_storable past fits) [] changes is (order_of_rest (opening past).schemas later changes mine) (tables_fit (created past) changes all));
+      numbers = changed-Has64Bits (opening past) changes (no_rows_numbers (opening past).schemas (opening past).rows sound.1) (numbers_fit (created past) changes all);
+    }
+
+pub unchanged_coded : (past : List Event) (s : ℕ) → FitsThen past → IsSound past → IsInOrder past → AreStanding past → ((other : ℕ) → other ≢ s → own other past ≡ []) → own s past ≡ own_before s past → CanBeCoded (base s past)
+unchanged_coded past s fits sound in_order stands alone unchanged =
+    let tables : created past ≡ (changed (opening past) (own s past ++ committed (commits past) past)).schemas = stands.tables s (λ other differs. ap (list_any is_creation) (alone other differs)) in
+    latest_coded past s [] fits sound in_order unchanged (tables ∙ ap (λ changes. (changed (opening past) (changes ++ committed (commits past) past)).schemas) unchanged)

@@ -1,0 +1,89 @@
+-- A step of another session leaves what a view shows.
+use Rattle.std.proofs.Common.{◌≡◌, ◌≢◌, ◌∙◌, sym, ap, subst, refl, ℕ, ◌≤◌, true, false, cond, List, [], ◌∷◌, ◌++◌, length, Option, Some, inl, inr, arith}
+use Rattle.std.proofs.lemmas.Bool.Decides.{nat_tests}
+use Rattle.std.proofs.lemmas.List.{append-nil}
+use Rattle.std.specs.Prelude.{option_map}
+use Rattle.std.specs.List.{AllByRecursion}
+use Rattle.inno_types.specs.declared.value.Value.{Value}
+use Rattle.inno_types.specs.declared.value.Schema.{Schema}
+use Rattle.inno_db.specs.declared.change.Change.{Change}
+use Rattle.inno_db.specs.declared.change.Change.TheVariants as changes
+use Rattle.inno_model.specs.declared.event.Event.{Event}
+use Rattle.inno_model.specs.declared.event.Event.TheVariants as events
+use Rattle.inno_model.specs.Past.{is_of, own, commits, committed, view_of}
+use Rattle.inno_model.proofs.Untouched.{untouched}
+use Rattle.inno_model.proofs.Commits.{committed_stays, view_within}
+use Rattle.row_versions.specs.declared.place.Place.{Place}
+use Rattle.row_versions.specs.Chains.{Chains, first_seen, sees}
+use Rattle.law_coded_rows.specs.Tables.{in_table}
+use Rattle.law_past_agreement.specs.Order.{created, IsTabled, IsOrdered}
+use Rattle.law_past_agreement.specs.Rows.{is_at, row_at, row_of, seen, row_seen}
+use Rattle.law_past_agreement.specs.Agreement.{ViewAgrees}
+use Rattle.law_past_agreement.proofs.Tables.{at_stays, own_tabled, committed_tabled}
+use Rattle.law_found_rows.proofs.Latest.{at_key}
+use Rattle.world.specs.State.{WorldState, Session, Work, Seen, HasWork}
+use Rattle.law_world_agreement.specs.Agreement.{sight_of, Agrees}
+use Rattle.law_world_agreement.proofs.Ending.{work_of}
+use Rattle.law_world_agreement.proofs.Readers.{seen_by_view}
+use Rattle.row_search.specs.declared.sight.Sight.TheVariants as sights
+use Rattle.row_search.specs.Sights.{rows_seen}
+use Rattle.law_found_rows.specs.Pasts.{AddsAtMostOne}
+
+-- ---- one entry more
+
+-- an entry of one session is no other's
+other_of : (e : Event) (t s : ℕ) → is_of t e ≡ true → t ≢ s → is_of s e ≡ false
+other_of e t s mine differ = grind (arith, nat_tests, mine, differ)
+
+-- an entry of a session adds a table at most
+grown : (t : ℕ) (e : Event) (h : List Event) → is_of t e ≡ true → (more : List Schema) × (created (e ∷ h) ≡ created h ++ more)
+grown t (events.Opened db) h mine = (let x = mine in cc)
+grown t (events.Changed u (changes.Create schema)) h mine = (schema ∷ [], refl)
+grown t (events.Changed u (changes.Put table row)) h mine = ([], sym (append-nil (created h)))
+grown t (events.Changed u (changes.Remove table key)) h mine = ([], sym (append-nil (created h)))
+grown t e h mine = ([], sym (append-nil (created h)))
+
+row_at_so : (schemas more : List Schema) (place : Place) (cs : List Change) → AllByRecursion (IsTabled (length schemas)) cs → row_at (is_at (schemas ++ more) place) cs ≡ row_at (is_at schemas place) cs
+row_at_so schemas more place [] all = refl
+row_at_so schemas more place (c ∷ cs) all = rw (at_stays schemas more place c all.0) (ap (λ later. cond (is_at schemas place c) (row_of c) later) (row_at_so schemas more place cs all.1))
+
+all_joined : (P : Change → Type 0) (xs ys : List Change) → AllByRecursion P xs → AllByRecursion P ys → AllByRecursion P (xs ++ ys)
+all_joined P [] ys all other = other
+all_joined P (x ∷ xs) ys all other = (all.0, all_joined P xs ys all.1 other)
+
+-- what a view shows of a place
+entry_leaves : (t s n : ℕ) (e : Event) (h : List Event) (place : Place) → IsOrdered h → is_of t e ≡ true → t ≢ s → n ≤ commits h → row_seen (e ∷ h) s n place ≡ row_seen h s n place
+entry_leaves t s n e h place ordered mine differ within =
+    let more = grown t e h mine in
+    let same_own : own s (e ∷ h) ≡ own s h = (untouched e h s (other_of e t s mine differ)).own_is in
+    let same_seen : seen (e ∷ h) s n ≡ seen h s n = ap (λ cs. cs ++ committed n (e ∷ h)) same_own ∙ ap (λ cs. own s h ++ cs) (committed_stays e h n within) in
+    let tabled : AllByRecursion (IsTabled (length (created h))) (seen h s n)
+    = all_joined (IsTabled (length (created h))) (own s h) (committed n h) (own_tabled h ordered s) (committed_tabled h ordered n) in
+    ap (λ cs. row_at (is_at (created (e ∷ h)) place) cs) same_seen
+    ∙ (ap (λ (l : List Schema). row_at (is_at l place) (seen h s n)) more.1 ∙ row_at_so (created h) more.0 place (seen h s n) tabled)
+
+module _ (t s : ℕ) (old new : List Event) (ordered : IsOrdered old) (differ : t ≢ s) where
+  pub view_stays : AddsAtMostOne t old new → view_of s new ≡ view_of s old
+  view_stays (inl same) = ap (view_of s) same
+  view_stays (inr adds) = ap (view_of s) adds.2 ∙ (untouched adds.0 old s (other_of adds.0 t s adds.1 differ)).view_is
+
+  pub row_stays : (n : ℕ) (place : Place) → n ≤ commits old → AddsAtMostOne t old new → row_seen new s n place ≡ row_seen old s n place
+  row_stays n place within (inl same) = ap (λ h. row_seen h s n place) same
+  row_stays n place within (inr adds) = ap (λ h. row_seen h s n place) adds.2 ∙ entry_leaves t s n adds.0 old place ordered adds.1 differ within
+
+-- ---- in a world
+
+pub same_rows : (before after : Chains) (writer later : Option ℕ) (old new : WorldState) (s t table : ℕ) (session session_now : Session) (work work_now : Work) (view : Seen)
+    → Agrees before writer old → Agrees after later new → HasWork s session work old → HasWork s session_now work_now new
+    → work.view ≡ Some view → work_now.view ≡ Some view → work_now.id ≡ work.id → t ≢ s → AddsAtMostOne t old.past new.past
+    → (value : Value) → rows_seen (sights.View (sight_of view) work.id) (in_table table after) value ≡ rows_seen (sights.View (sight_of view) work.id) (in_table table before) value
+same_rows before after writer later old new s t table session session_now work work_now view was agrees had has is is_now same_id differ adds value =
+    let v : ViewAgrees old.past s (Some (sight_of view)) = subst (λ o. ViewAgrees old.past s (option_map sight_of o)) is (work_of before writer old s session work was had).view_is in
+    let n = v.0 in
+    let at : view_of s old.past ≡ Some n = v.1.is-view in
+    let place : Place = at_key table value in
+    let at_now : view_of s new.past ≡ Some n = view_stays t s old.past new.past was.lists.ordered differ adds ∙ at in
+    ap (λ id. first_seen (sees id (sight_of view)) (in_table table after value)) (sym same_id)
+    ∙ (seen_by_view after later new agrees s n session_now work_now view place has is_now at_now
+    ∙ (row_stays t s old.past new.past was.lists.ordered differ n place (view_within old.past s n at) adds
+    ∙ sym (seen_by_view before writer old was s n session work view place had is at)))

@@ -1,0 +1,4 @@
+pub mod Finding
+pub mod Pasts
+pub mod Plans
+pub mod Databases

@@ -1,0 +1,90 @@
+-- Steps that move a session's places leave all rows, and may follow one another.
+use Rattle.std.proofs.Common.{◌≡◌, ⊎_elim, ℕ, List, Option, Some, None, refl, sym, ap, subst, ◌∙◌}
+use Rattle.std.proofs.lemmas.Bool.{cases_eq}
+use Rattle.entries.specs.Pairs.{Pair}
+use Rattle.entries.specs.Index.{AreKept}
+use Rattle.entries.specs.Calls.{Leaves}
+use Rattle.chain.specs.Versions.{Versions, Stays}
+use Rattle.world.specs.State.{WorldState}
+use Rattle.world.specs.Told.{IsTold, LeavesRows}
+use Rattle.world.specs.Indexes.{Calls}
+use Rattle.world.specs.Undoing.{IsUnchanged}
+use Rattle.row_search.specs.Steps.{OnlyMoves}
+use Rattle.law_changing_rows.proofs.Leaving.{left_told}
+use Rattle.law_held_searches.specs.Moving.{MovesPlaces}
+
+-- ---- pairs and versions
+
+kept_same : (old new : Option (List Pair)) → new ≡ old → AreKept old new
+kept_same old None same = record {}
+kept_same None (Some new) same = absurd (cc)
+kept_same (Some old) (Some new) same = cc
+
+kept_then : (old between new : Option (List Pair)) → AreKept old between → AreKept between new → AreKept old new
+kept_then old between None first second = record {}
+kept_then old None (Some new) first second = absurd second
+kept_then None (Some between) (Some new) first second = absurd first
+kept_then (Some old) (Some between) (Some new) first second = second ∙ first
+
+stays_same : (versions : Versions) → Stays versions versions
+stays_same versions = record { told = λ told. told; kept = λ told. refl }
+
+stays_then : (old between new : Versions) → Stays old between → Stays between new → Stays old new
+stays_then old between new first second = record { told = λ told. first.told (second.told told); kept = λ told. second.kept told ∙ first.kept (second.told told) }
+
+-- ---- which steps are such
+
+pub none_moves : (s : ℕ) (state : WorldState) → MovesPlaces s state state
+none_moves s state = record { pairs = λ index. kept_same _ _ refl; places = λ other index differs. refl; versions = stays_same state.versions; rest = refl }
+
+pub moves_then : (s : ℕ) (old between new : WorldState) → MovesPlaces s old between → MovesPlaces s between new → MovesPlaces s old new
+moves_then s old between new first second = record {
+  pairs = λ index. kept_then (old.indexes index).pairs (between.indexes index).pairs (new.indexes index).pairs (first.pairs index) (second.pairs index);
+  places = λ other index differs. second.places other index differs ∙ first.places other index differs;
+  versions = stays_then old.versions between.versions new.versions first.versions second.versions;
+  rest = second.rest ∙ ap (λ (state : WorldState). record state { indexes = new.indexes; versions = new.versions; paged = new.paged }) first.rest;
+}
+
+pub moves_in_one : (s index : ℕ) (old new : WorldState) → OnlyMoves s index old new → MovesPlaces s old new
+moves_in_one s index old new moves = record {
+  pairs = moves.pairs;
+  places = λ other at differs.
+      ⊎_elim
+      (λ here. subst (λ (i : ℕ). (new.indexes i).place other ≡ (old.indexes i).place other) (sym here) (moves.others other differs))
+      (λ elsewhere. ap (λ place. place other) (moves.places at elsewhere))
+      (cases_eq at index);
+  versions = moves.versions;
+  rest = moves.rest;
+}
+
+pub moves_nothing : (s : ℕ) (old new : WorldState) → IsUnchanged old new → MovesPlaces s old new
+moves_nothing s old new same = record {
+  pairs = λ index. (same.indexes index).pairs;
+  places = λ other index differs. ap (λ place. place other) (same.indexes index).place;
+  versions = same.versions;
+  rest = same.rest;
+}
+
+pub leaving_moves : (s index : ℕ) (old new : WorldState) → Calls index (Leaves s) old new → MovesPlaces s old new
+leaving_moves s index old new calls = record {
+  pairs = λ at.
+      ⊎_elim
+      (λ here. subst (λ (i : ℕ). AreKept (old.indexes i).pairs (new.indexes i).pairs) (sym here) (kept_same (old.indexes index).pairs (new.indexes index).pairs calls.index_is.here.pairs))
+      (λ elsewhere. (calls.index_is.elsewhere at elsewhere).pairs)
+      (cases_eq at index);
+  places = λ other at differs.
+      ⊎_elim
+      (λ here. subst (λ (i : ℕ). (new.indexes i).place other ≡ (old.indexes i).place other) (sym here) (calls.index_is.here.others other differs))
+      (λ elsewhere. ap (λ place. place other) (calls.index_is.elsewhere at elsewhere).place)
+      (cases_eq at index);
+  versions = calls.beside.versions;
+  rest = calls.beside.rest;
+}
+
+-- ---- what they leave
+
+pub moves_leave : (s : ℕ) (old new : WorldState) → MovesPlaces s old new → LeavesRows old new
+moves_leave s old new moves = record { schemas = ap (λ (state : WorldState). state.schemas) moves.rest; pairs = moves.pairs; versions = moves.versions }
+
+pub moves_told : (s : ℕ) (old new : WorldState) → MovesPlaces s old new → IsTold new → IsTold old
+moves_told s old new moves = left_told old new (moves_leave s old new moves)

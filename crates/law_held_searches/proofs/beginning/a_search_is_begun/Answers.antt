@@ -1,0 +1,14 @@
+use Rattle.law_held_searches.proofs.Begins.{new_search, begun, columns_held}
+use Rattle.law_held_searches.proofs.beginning.a_search_is_begun.Goals as goal
+
+pub returns-clause-new : goal.returns-clause-new
+returns-clause-new c = new_search
+
+pub returns-clause-held : goal.returns-clause-held
+returns-clause-held c = begun
+
+pub returns-clause-tables : goal.returns-clause-tables
+returns-clause-tables c = λ state writer made desks cuts undo room held. held.agrees.lists.tables
+
+pub returns-clause-few : goal.returns-clause-few
+returns-clause-few c = λ state writer made desks cuts undo room table schema held told there. (columns_held state writer made desks cuts undo room table schema held told there).few

@@ -1,0 +1,44 @@
+-- A whole search of the newest rows, within one call: how far it has come.
+use Rattle.std.specs.Prelude.{◌≡◌, ◌⊎◌, ℕ, ◌≤◌, Bool, if◌then◌else◌, List, length, Some, slice_get}
+use Rattle.inno_types.specs.declared.value.Schema.{Schema}
+use Rattle.row_versions.specs.Chains.{Chains}
+use Rattle.law_coded_rows.specs.Tables.{Said, what_is_there, HasItsColumns, in_table}
+use Rattle.sql_plan.specs.declared.choice.Plan.{Plan}
+use Rattle.sql_plan.specs.Plans.{whole_index}
+use Rattle.sql_plan.specs.Visits.{is_within, index_key}
+use Rattle.world.specs.State.{WorldState}
+use Rattle.row_changes.specs.Told.{AreRowsAs}
+use Rattle.row_search.specs.declared.found.FoundRow.{FoundRow}
+use Rattle.row_search.specs.declared.search.RowSearch.{RowSearch}
+use Rattle.row_search.specs.declared.sight.Sight.TheVariants.{Newest}
+use Rattle.row_search.specs.Sights.{rows_seen}
+use Rattle.row_search.specs.FoundRows.{AreFound, RiseByKey}
+use Rattle.law_found_rows.specs.Finding.{IsFinding}
+use Rattle.law_held_searches.specs.Moving.{MovesPlaces}
+use Rattle.law_held_searches.specs.Begun.{IsScanOf}
+
+-- the plan that is searched by: all of the table while keys may lag
+abbrev pub plan_read : Bool → Plan → Plan
+plan_read quiet plan = if quiet then plan else whole_index
+
+-- The table is there, and so are its rows, of which the searched index tells: each key does, or the clustered index is searched.
+pub record TellsTable (chains : Chains) (table : ℕ) (plan : Plan) (schema : Schema) (state : WorldState) : Type 0 where
+  pub there : slice_get state.schemas table ≡ Some schema
+  pub columns : HasItsColumns schema
+  pub which : plan.which ≤ length schema.keys
+  pub said : Said
+  pub coded : AreRowsAs chains said state
+  pub tells : (said ≡ what_is_there chains) ⊎ (plan.which ≡ 0)
+
+-- Since it began only the session's places have moved, and of the rows that were there then it has found what it came past.
+pub record IsReadingNewest (chains : Chains) (s table : ℕ) (plan : Plan) (schema : Schema) (first state : WorldState) (search : RowSearch) : Type 0 where
+  pub readable : TellsTable chains table plan schema first
+  pub moves : MovesPlaces s first state
+  pub scan : IsScanOf table plan Newest search.scan
+  pub finds : IsFinding s schema state chains search
+
+-- The newest rows of the table in the plan's range, each once, in the order of their keys.
+pub record AreRead (chains : Chains) (table : ℕ) (plan : Plan) (schema : Schema) (first : WorldState) (rows : List FoundRow) : Type 0 where
+  pub readable : TellsTable chains table plan schema first
+  pub found : AreFound schema plan.which (rows_seen Newest (in_table table chains)) (λ row. is_within plan.range (index_key schema plan.which row)) rows
+  pub rise : RiseByKey rows

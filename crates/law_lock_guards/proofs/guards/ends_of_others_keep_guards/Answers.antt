@@ -1,0 +1,5 @@
+use Rattle.law_lock_guards.proofs.Guarding as lemmas
+use Rattle.law_lock_guards.proofs.guards.ends_of_others_keep_guards.Goals as goal
+
+pub returns : goal.returns
+returns c txn other index records key granted waiting differ was = lemmas.guards_kept txn index records key granted _ (lemmas.ended_locks txn index other granted waiting differ) was

@@ -1,0 +1,151 @@
+-- The newest record of a log tells of the newest version of its place, so a taking back may begin.
+use Rattle.std.proofs.Common.{◌≡◌, inl, inr, ⊎_elim, ℕ, Bool, true, false, cond, List, ◌∷◌, Option, Some, None, refl, sym, ap, subst, ◌∙◌, arith, slice_get, length}
+use Rattle.std.proofs.lemmas.Bool.{cases_order}
+use Rattle.inno_types.specs.declared.value.Value.{Value}
+use Rattle.inno_types.specs.declared.value.Column.{Column}
+use Rattle.inno_types.specs.declared.value.Schema.{Schema}
+use Rattle.inno_db.specs.declared.change.Change.{Change}
+use Rattle.key_codec.specs.Keys.{HasKey, key_code}
+use Rattle.entries.specs.Pairs.{Pair}
+use Rattle.chain.specs.declared.kept.Kept.{Kept}
+use Rattle.row_versions.specs.declared.place.Place.{Place}
+use Rattle.row_versions.specs.declared.version.Version.{Version}
+use Rattle.row_versions.specs.Chains.{Chains, versions_at, is_same_place, older}
+use Rattle.law_coded_rows.specs.Entries.{entry_of, TellAlike}
+use Rattle.law_coded_rows.specs.Records.{shown}
+use Rattle.law_coded_rows.specs.Tables.{Said, in_table, AreCodedAs, LagAt, what_is_there}
+use Rattle.law_coded_rows.proofs.Values.{one_key, same_place}
+use Rattle.law_coded_rows.proofs.Keys.{said_alike}
+use Rattle.law_past_agreement.specs.Rows.{place_in}
+use Rattle.world.specs.State.{WorldState, Logged}
+use Rattle.world.specs.Told.{IsTold, pairs_of}
+use Rattle.row_changes.specs.declared.entry_put.EntryPut.{EntryPut}
+use Rattle.row_changes.specs.declared.keys_change.KeysChange.{KeysChange}
+use Rattle.row_changes.specs.Told.{HasRows}
+use Rattle.row_changes.specs.Edits.{IsKeyAt}
+use Rattle.row_changes.specs.Keys.{IsChangingKeys, IsPushed, HasRowsSoFar, SaySoFar, gone, said_next}
+use Rattle.undo_apply.specs.declared.work_room.WorkRoom.{WorkRoom}
+use Rattle.undo_apply.specs.declared.work_room.Stage.{Stage}
+use Rattle.undo_apply.specs.declared.work_room.Stage.TheVariants.{Find}
+use Rattle.undo_apply.specs.Rooms.{IsWhole}
+use Rattle.undo_apply.specs.Told.{rows_of}
+use Rattle.undo_apply.specs.Standing.{TellsOf, IsNewest, versions_before, said_but, AreCodedBut, IsLagging, IsUnderWay}
+use Rattle.undo_apply.specs.Stages.{FitsKeys, StageHolds, IsPuttingBack}
+use Rattle.undo_apply.proofs.Places.{newest_read}
+use Rattle.law_logged_changes.specs.Logs.{records_of, HasRecord, Stands, IsLogOf}
+use Rattle.law_logged_changes.proofs.Logs.{newest_stands}
+
+-- ---- the place and its newest version
+
+abbrev at : ℕ → Value → Place
+at table value = record { table = table; key = value }
+
+-- ---- keys that lag at the place alone
+
+module _ (schemas : List Schema) (pairs : ℕ → List Pair) (kept : ℕ → Option Kept) (chains : Chains) (place : Place) (said : Said) where
+  but_alike : LagAt place chains said → (table which column : ℕ) (value : Value) (t : Bool) → is_same_place place (at table value) ≡ t
+      → TellAlike column (said table which value) (cond t (said place.table which place.key) (in_table table chains value))
+  but_alike lag table which column value true same = λ other. ap (λ (p : Place). entry_of column other (said p.table which p.key)) (sym (same_place place (at table value) same))
+  but_alike lag table which column value false apart = λ other. ap (entry_of column other) (lag table which value apart)
+
+  as_but : AreCodedAs schemas pairs kept chains said → LagAt place chains said → AreCodedBut schemas pairs kept chains place (λ which. said place.table which place.key)
+  as_but are lag =
+      said_alike schemas pairs kept chains said (said_but chains place (λ which. said place.table which place.key)) are
+      (λ table which schema key there also value. but_alike lag table which key.column value (is_same_place place (at table value)) refl)
+
+-- ---- the newest record
+
+module _ (chains : Chains) (state : WorldState) (logged : Logged) (place : Place) (schema : Schema) (tells : TellsOf logged.undo schema place state.schemas) (has : HasRecord schema (records_of state) state.versions.kept_at logged) where
+  pub newest_is : IsNewest logged.undo schema (pairs_of state) state.versions.kept_at has.bytes has.coded
+  newest_is = record { there = has.there; code_is = has.code_is; before = has.before }
+
+  versions_are : (said : Said) → AreCodedAs state.schemas (pairs_of state) state.versions.kept_at chains said → versions_at place chains ≡ shown has.coded ∷ versions_before chains place
+  versions_are said are = (newest_read logged.undo schema place state.schemas tells (pairs_of state) state.versions.kept_at chains has.bytes has.coded are.clustered newest_is).0
+
+  pub way_from : (said : Said) → AreCodedAs state.schemas (pairs_of state) state.versions.kept_at chains said → LagAt place chains said
+      → ((which : ℕ) → IsLagging (shown has.coded) (versions_before chains place) (said place.table which place.key))
+      → IsUnderWay chains place logged.undo schema (rows_of state) has.bytes has.coded 0 (IsLagging (shown has.coded) (versions_before chains place))
+  way_from said are lag lags = record {
+    newest = newest_is;
+    said = λ which. said place.table which place.key;
+    coded_but = as_but state.schemas (pairs_of state) state.versions.kept_at chains place said are lag;
+    says = record { first = λ which less. absurd (omega (arith, less)); here = lags 0; others = λ which more. lags which };
+  }
+
+  pub way_settled : HasRows chains state → IsTold state → IsUnderWay chains place logged.undo schema (rows_of state) has.bytes has.coded 0 (IsLagging (shown has.coded) (versions_before chains place))
+  way_settled rows told =
+      way_from (what_is_there chains) (rows told) (λ table which value apart. refl) (λ which. inr (versions_are (what_is_there chains) (rows told)))
+
+  next_lags : (newest : Version) (put : Option EntryPut) (row : Option (List Value)) (before : List Version) → IsLagging newest before (said_next put row before)
+  next_lags newest None row before = inl (inl refl)
+  next_lags newest (Some put) None before = inl (inl refl)
+  next_lags newest (Some put) (Some row) before = inl (inr (gone, refl, refl))
+
+  -- where a change of the place hasn't come to its end, its keys lag too
+  so_far : (said : Said) (done : ℕ) (put : Option EntryPut) (row : Option (List Value)) (before : List Version) → versions_before chains place ≡ before → SaySoFar chains place done (said_next put row before) before said
+      → versions_at place chains ≡ shown has.coded ∷ versions_before chains place → (which : ℕ) → IsLagging (shown has.coded) (versions_before chains place) (said place.table which place.key)
+  so_far said done put row before same says is which =
+      let Lags : List Version → Type 0 = λ versions. IsLagging (shown has.coded) (versions_before chains place) versions in
+      ⊎_elim
+      (λ here. subst Lags (sym (ap (λ (w : ℕ). said place.table w place.key) here ∙ says.here))
+      (subst (λ (b : List Version). IsLagging (shown has.coded) b (said_next put row before)) (sym same) (next_lags (shown has.coded) put row before)))
+      (λ rest. ⊎_elim
+      (λ less. inr (says.first which less ∙ is))
+      (λ more. inl (inl (says.later which more ∙ sym same))) rest)
+      (cases_order which done)
+
+  pub way_lagging : (keys : KeysChange) → IsChangingKeys chains state keys → keys.table ≡ logged.undo.table → keys.key ≡ logged.undo.key → IsTold state
+      → IsUnderWay chains place logged.undo schema (rows_of state) has.bytes has.coded 0 (IsLagging (shown has.coded) (versions_before chains place))
+  way_lagging keys is table_is key_is told =
+      let rows = subst (λ (p : Place). HasRowsSoFar chains p keys.which (said_next keys.put keys.before is.older) is.older state) here is.rows told in
+      let pushed = subst (λ (p : Place). IsPushed chains p is.older keys.after) here is.pushed in
+      way_from rows.0 rows.1 rows.2.lag
+      (so_far rows.0 keys.which keys.put keys.before is.older (ap older pushed.versions) rows.2 (versions_are rows.0 rows.1))
+    where
+      one_schema : is.schema ≡ schema
+      one_schema = let there : slice_get state.schemas logged.undo.table ≡ Some is.schema = ap (slice_get state.schemas) (sym table_is) ∙ is.table.there in let also = tells.there in cc
+
+      key_at : IsKeyAt schema is.value logged.undo.key
+      key_at = subst (λ (k : List ℕ). IsKeyAt schema is.value k) key_is (subst (λ (x : Schema). IsKeyAt x is.value keys.key) one_schema is.at)
+
+      one_value : is.value ≡ place.key
+      one_value =
+          let column : key_at.column ≡ tells.primary = let first = key_at.primary in let second = tells.primary_is in cc in
+          one_key tells.primary.kind is.value place.key
+          (subst (λ (c : Column). HasKey c.kind is.value) column key_at.has_key) tells.has_key
+          (sym (subst (λ (c : Column). logged.undo.key ≡ key_code c.kind is.value) column key_at.spelled) ∙ tells.key_is)
+
+      here : at keys.table is.value ≡ place
+      here = let table = table_is ∙ sym tells.table_is in λ i. record { table = table i; key = one_value i }
+
+-- ---- a taking back begins
+
+some_place : (found : Option Place) (a b : Place) → found ≡ Some a → found ≡ Some b → a ≡ b
+some_place found a b first second = cc
+
+begins : (chains : Chains) (place : Place) (room : WorkRoom) (state : WorldState) (logged : Logged) (schema : Schema) → TellsOf logged.undo schema place state.schemas → IsWhole room → room.stage ≡ Find
+    → (IsTold state → StageHolds chains place logged.undo schema (rows_of state) room.newest.items Find) → IsPuttingBack chains place logged.undo room state
+begins chains place room state logged schema tells whole stage holds = record {
+  schema = schema;
+  tells = tells;
+  whole = whole;
+  fits = subst (λ (s : Stage). FitsKeys (length schema.keys) logged.undo s) (sym stage) (record {});
+  holds = λ told. subst (λ (s : Stage). StageHolds chains place logged.undo schema (rows_of state) room.newest.items s) (sym stage) (holds told);
+}
+
+module _ (chains : Chains) (state : WorldState) (logged : Logged) (log : List Logged) (change : Change) (own : List Change) (place : Place) (room : WorkRoom) (log_is : IsLogOf state (logged ∷ log) (change ∷ own)) (place_is : place_in state.schemas change ≡ Some place) where
+  pub top : Stands (IsTold state) state.schemas (records_of state) state.versions.kept_at logged log change
+  top = (newest_stands (IsTold state) state.schemas (records_of state) state.versions.kept_at logged log change own place place_is log_is).0
+
+  pub tells_of_it : TellsOf logged.undo top.schema place state.schemas
+  tells_of_it = subst (λ (p : Place). TellsOf logged.undo top.schema p state.schemas) (some_place (place_in state.schemas change) top.place place top.place_is place_is) top.tells
+
+  pub begins_settled : HasRows chains state → IsWhole room → room.stage ≡ Find → IsPuttingBack chains place logged.undo room state
+  begins_settled rows whole stage =
+      begins chains place room state logged top.schema tells_of_it whole stage
+      (λ told. let has = top.record_is told in inl (has.bytes, has.coded, way_settled chains state logged place top.schema tells_of_it has rows told))
+
+  pub begins_lagging : (keys : KeysChange) → IsChangingKeys chains state keys → keys.table ≡ logged.undo.table → keys.key ≡ logged.undo.key → IsWhole room → room.stage ≡ Find → IsPuttingBack chains place logged.undo room state
+  begins_lagging keys is table_is key_is whole stage =
+      begins chains place room state logged top.schema tells_of_it whole stage
+      (λ told. let has = top.record_is told in inl (has.bytes, has.coded, way_lagging chains state logged place top.schema tells_of_it has keys is table_is key_is told))

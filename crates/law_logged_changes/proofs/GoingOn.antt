@@ -1,0 +1,97 @@
+-- Until a taking back is done, entries of keys alone change.
+use Rattle.std.proofs.Common.{◌≡◌, ◌≢◌, inl, inr, ⊎_elim, ℕ, List, [], refl, sym, ap, subst, ◌∙◌, arith}
+use Rattle.std.specs.Prelude.{slice_get}
+use Rattle.inno_db.specs.declared.change.Change.{Change}
+use Rattle.inno_model.specs.Past.{own}
+use Rattle.store_api.specs.declared.answers.Undo.{Undo}
+use Rattle.store_api.specs.declared.moves.Move.{Move}
+use Rattle.store_api.specs.declared.moves.Move.TheVariants.{At, End, Done, Step, Latch, Again, Full, TooDeep, Failed, Bad, NoMemory}
+use Rattle.row_versions.specs.declared.place.Place.{Place}
+use Rattle.row_versions.specs.Chains.{Chains}
+use Rattle.world.specs.State.{WorldState, Session, Work, Logged, HasWork}
+use Rattle.undo_apply.specs.declared.work_room.WorkRoom.{WorkRoom}
+use Rattle.undo_apply.specs.Stages.{GoesOn, IsHindered, IsDone, PutsBack}
+use Rattle.undo_apply.proofs.Columns.{few_keys}
+use Rattle.law_logged_changes.specs.Logs.{IsLogOf, LogsAgree}
+use Rattle.law_logged_changes.specs.Steps.{LeavesRecords, LeavesLogs, OfAll, ChangesPairsAlone}
+use Rattle.law_logged_changes.proofs.Logs.{empty_log}
+use Rattle.law_logged_changes.proofs.Leaving.{stay_leaves, entry_leaves, log_left, all_left}
+
+-- ---- sessions and the history stay
+
+pub work_beside : (u : ℕ) (session : Session) (work : Work) (old new : WorldState) → ChangesPairsAlone old new → HasWork u session work new → HasWork u session work old
+work_beside u session work old new rest has = record { session_is = sym (ap (λ (state : WorldState). slice_get state.sessions u) rest) ∙ has.session_is; work_is = has.work_is }
+
+pub work_again : (u : ℕ) (session : Session) (work : Work) (old new : WorldState) → ChangesPairsAlone old new → HasWork u session work old → HasWork u session work new
+work_again u session work old new rest has = record { session_is = ap (λ (state : WorldState). slice_get state.sessions u) rest ∙ has.session_is; work_is = has.work_is }
+
+pub own_beside : (u : ℕ) (old new : WorldState) → ChangesPairsAlone old new → own u new.past ≡ own u old.past
+own_beside u old new rest = ap (λ (state : WorldState). own u state.past) rest
+
+pub logs_beside : (old new : WorldState) → ChangesPairsAlone old new → LeavesLogs OfAll old new
+logs_beside old new rest u session work of has = inl (record {
+  session = session;
+  before = work;
+  has_work = work_beside u session work old new rest has;
+  log_is = refl;
+  own_is = own_beside u old new rest;
+})
+
+-- a session without changes has an empty log, whatever becomes of rows
+pub none_yet : (u : ℕ) (work : Work) (old new : WorldState) → own u old.past ≡ [] → own u new.past ≡ [] → IsLogOf old work.log (own u old.past) → IsLogOf new work.log (own u new.past)
+none_yet u work old new none now log =
+    let empty = empty_log _ old.schemas _ old.versions.kept_at work.log (own u old.past) none log in
+    subst (λ (changes : List Change). IsLogOf new work.log changes) (sym now) empty
+
+-- ---- the steps
+
+module _ (chains : Chains) (place : Place) (actor : ℕ) (undo : Undo) (room next : WorkRoom) (old new : WorldState) where
+  hindered_leaves : (why : Move) → IsHindered chains place actor undo room next old new why → LeavesRecords old new × ChangesPairsAlone old new
+  hindered_leaves why is = (stay_leaves old new is.stays, is.stays.rest)
+
+  goes_leaves : GoesOn chains place undo room next old new → LeavesRecords old new × ChangesPairsAlone old new
+  goes_leaves goes =
+      let tells = goes.holds.tells in
+      let few = few_keys goes.holds.schema tells.storable in
+      ⊎_elim (λ stays. (stay_leaves old new stays, stays.rest))
+      (λ one. (entry_leaves undo.table one.0 one.2 one.3 old new (let within = one.1 in omega arith) one.4, one.4.rest))
+      (goes.changes goes.holds.schema tells.there)
+
+  step_leaves : (answer : Move) → PutsBack chains place actor undo room next old new answer → answer ≢ Done → LeavesRecords old new × ChangesPairsAlone old new
+  step_leaves Done is not_done = absurd (not_done refl)
+  step_leaves Step (inl goes) not_done = goes_leaves goes
+  step_leaves Step (inr is) not_done = hindered_leaves Step is
+  step_leaves (Latch by) is not_done = hindered_leaves (Latch by) is
+  step_leaves Again is not_done = hindered_leaves Again is
+  step_leaves Failed is not_done = hindered_leaves Failed is
+  step_leaves (Bad page rule) is not_done = hindered_leaves (Bad page rule) is
+  step_leaves End is not_done = hindered_leaves End is
+  step_leaves (At key value) is not_done = hindered_leaves (At key value) is
+  step_leaves (Full need free) is not_done = hindered_leaves (Full need free) is
+  step_leaves TooDeep is not_done = hindered_leaves TooDeep is
+  step_leaves NoMemory is not_done = hindered_leaves NoMemory is
+
+  pub done_beside : IsDone chains place undo room next old new → ChangesPairsAlone old new
+  done_beside done = ⊎_elim (λ stays. stays.rest) (λ puts. puts.rest) done.changes
+
+  beside_by : (answer : Move) → PutsBack chains place actor undo room next old new answer → ChangesPairsAlone old new
+  beside_by Done is = done_beside is
+  beside_by Step is = (step_leaves Step is (λ e. cc)).1
+  beside_by (Latch by) is = is.stays.rest
+  beside_by Again is = is.stays.rest
+  beside_by Failed is = is.stays.rest
+  beside_by (Bad page rule) is = is.stays.rest
+  beside_by End is = is.stays.rest
+  beside_by (At key value) is = is.stays.rest
+  beside_by (Full need free) is = is.stays.rest
+  beside_by TooDeep is = is.stays.rest
+  beside_by NoMemory is = is.stays.rest
+
+  pub step_logs : (answer : Move) (log : List Logged) (changes : List Change) → PutsBack chains place actor undo room next old new answer → answer ≢ Done → IsLogOf old log changes → IsLogOf new log changes
+  step_logs answer log changes is not_done stands = log_left old new log changes (step_leaves answer is not_done).0 stands
+
+  pub step_all : (answer : Move) → PutsBack chains place actor undo room next old new answer → answer ≢ Done → LogsAgree old → LogsAgree new
+  step_all answer is not_done agree = let left = step_leaves answer is not_done in all_left old new left.0 (logs_beside old new left.1) agree
+
+  pub step_beside : (answer : Move) → PutsBack chains place actor undo room next old new answer → ChangesPairsAlone old new
+  step_beside answer is = beside_by answer is

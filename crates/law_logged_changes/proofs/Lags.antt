@@ -1,0 +1,88 @@
+-- What is known of rows and keys at each stage of a taking back.
+use Rattle.std.proofs.Common.{◌≡◌, ◌⊎◌, inl, inr, ⊎_elim, ℕ, Bool, true, List, sym, ap, subst, ◌∙◌, length}
+use Rattle.std.specs.List.{list_any}
+use Rattle.std.proofs.lemmas.Bool.{cases_order}
+use Rattle.inno_types.specs.declared.value.Value.{Value}
+use Rattle.inno_types.specs.declared.value.Schema.{Schema}
+use Rattle.store_api.specs.declared.answers.Undo.{Undo}
+use Rattle.store_api.specs.declared.answers.Version.{Version as Coded}
+use Rattle.row_versions.specs.declared.place.Place.{Place}
+use Rattle.row_versions.specs.declared.version.Version.{Version}
+use Rattle.row_versions.specs.Chains.{Chains}
+use Rattle.law_coded_rows.specs.Entries.{has_value}
+use Rattle.law_coded_rows.specs.Records.{shown}
+use Rattle.law_coded_rows.specs.Tables.{AreClustered, AreCoded}
+use Rattle.world.specs.State.{WorldState}
+use Rattle.world.specs.Told.{IsTold, pairs_of}
+use Rattle.undo_apply.specs.declared.work_room.WorkRoom.{WorkRoom}
+use Rattle.undo_apply.specs.declared.work_room.Stage.{Stage}
+use Rattle.undo_apply.specs.declared.work_room.Stage.TheVariants.{Find, Key, Walk, Mark, Await, Remove, Unmark, AwaitRecords, Record}
+use Rattle.undo_apply.specs.Told.{Rows, rows_of}
+use Rattle.undo_apply.specs.Standing.{versions_before, said_but, IsLagging, SayBefore, IsUnderWay, IsTakenBack}
+use Rattle.undo_apply.specs.Stages.{StageHolds, IsPuttingBack}
+use Rattle.undo_apply.proofs.Says.{says_place, lags_there}
+use Rattle.undo_apply.proofs.There.{lagging_any}
+use Rattle.law_logged_changes.specs.Lagging.{LagsAt}
+
+-- ---- at whatever stage
+
+-- The change is being taken back, and some keys are done.
+pub record IsLagged (chains : Chains) (place : Place) (undo : Undo) (schema : Schema) (rows : Rows) : Type 0 where
+  pub bytes : List ℕ
+  pub coded : Coded
+  pub done : ℕ
+  pub way : IsUnderWay chains place undo schema rows bytes coded done (IsLagging (shown coded) (versions_before chains place))
+
+module _ (chains : Chains) (place : Place) (undo : Undo) (schema : Schema) (rows : Rows) where
+  lagged : (bytes : List ℕ) (coded : Coded) (done : ℕ) → IsUnderWay chains place undo schema rows bytes coded done (IsLagging (shown coded) (versions_before chains place)) → IsLagged chains place undo schema rows ⊎ IsTakenBack chains undo rows
+  lagged bytes coded done way = inl (record { bytes = bytes; coded = coded; done = done; way = way })
+
+  pub at_stage : (bytes : List ℕ) (stage : Stage) → StageHolds chains place undo schema rows bytes stage → IsLagged chains place undo schema rows ⊎ IsTakenBack chains undo rows
+  at_stage bytes Find (inl (read, coded, way)) = lagged read coded 0 way
+  at_stage bytes Find (inr back) = inr back
+  at_stage bytes (Key which) (coded, way) = lagged bytes coded which way
+  at_stage bytes (Walk which pointer) (coded, way, plain, rest) = lagged bytes coded which way
+  at_stage bytes (Mark which) (coded, way, rest) = lagged bytes coded which way
+  at_stage bytes (Await which) (coded, way, rest) = lagged bytes coded which way
+  at_stage bytes (Remove which) (coded, way, rest) = lagged bytes coded which way
+  at_stage bytes (Unmark which) (coded, way) = lagged bytes coded which (record {
+    newest = way.newest;
+    said = way.said;
+    coded_but = way.coded_but;
+    says = record { first = way.says.first; here = inl way.says.here; others = way.says.others };
+  })
+  at_stage bytes AwaitRecords (coded, way) = lagged bytes coded (length schema.keys) way
+  at_stage bytes Record (coded, way) = lagged bytes coded (length schema.keys) way
+
+  -- clustered indexes hold the rows all the time
+  pub clustered_at : (bytes : List ℕ) (stage : Stage) → StageHolds chains place undo schema rows bytes stage → AreClustered rows.schemas rows.pairs rows.kept chains
+  clustered_at bytes stage holds = ⊎_elim (λ lag. lag.way.coded_but.clustered) (λ back. back.all.clustered) (at_stage bytes stage holds)
+
+pub clustered_while : (chains : Chains) (place : Place) (undo : Undo) (room : WorkRoom) (state : WorldState) → IsPuttingBack chains place undo room state → IsTold state → AreClustered state.schemas (pairs_of state) state.versions.kept_at chains
+clustered_while chains place undo room state is told = clustered_at chains place undo is.schema (rows_of state) room.newest.items room.stage (is.holds told)
+
+-- ---- what readers meet
+
+abbrev any_of : ℕ → Value → List Version → Bool
+any_of column value versions = list_any (λ (version : Version). has_value column value version.row) versions
+
+said_any : (newest : Version) (before : List Version) (said : ℕ → List Version) (done : ℕ) → SayBefore done (IsLagging newest before) newest before said → (which column : ℕ) (value : Value) → any_of column value before ≡ true → any_of column value (said which) ≡ true
+said_any newest before said done says which column value some =
+    ⊎_elim (λ same. subst (λ (w : ℕ). any_of column value (said w) ≡ true) (sym same) (lagging_any column value newest before (said done) some says.here))
+    (λ rest. ⊎_elim (λ less. ap (any_of column value) (says.first which less) ∙ some)
+    (λ more. lagging_any column value newest before (said which) some (says.others which more)) rest)
+    (cases_order which done)
+
+pub lags_while : (chains : Chains) (place : Place) (undo : Undo) (room : WorkRoom) (state : WorldState) → IsPuttingBack chains place undo room state → IsTold state → LagsAt place chains state ⊎ AreCoded state.schemas (pairs_of state) state.versions.kept_at chains
+lags_while chains place undo room state is told =
+    ⊎_elim
+    (λ lag. inl (record {
+      said = said_but chains place lag.way.said;
+      coded = lag.way.coded_but;
+      lag = lags_there chains place lag.way.said;
+      older = λ which column value some.
+          subst (λ (versions : List Version). any_of column value versions ≡ true) (sym (says_place chains place lag.way.said which))
+          (said_any (shown lag.coded) (versions_before chains place) lag.way.said lag.done lag.way.says which column value some);
+    }))
+    (λ back. inr back.all)
+    (at_stage chains place undo is.schema (rows_of state) room.newest.items room.stage (is.holds told))

@@ -1,0 +1,196 @@
+-- Steps that change no record leave logs as they are.
+use Rattle.std.proofs.Common.{◌≡◌, ◌≢◌, ◌⊎◌, inl, inr, ⊎_elim, ℕ, zero, suc, ◌<◌, List, [], ◌∷◌, ◌++◌, Option, refl, sym, ap, subst, ◌∙◌, slice_get}
+use Rattle.std.proofs.lemmas.Bool.{cases_eq}
+use Rattle.std.proofs.lemmas.Option.{slice_get_within}
+use Rattle.inno_types.specs.declared.value.Schema.{Schema}
+use Rattle.inno_db.specs.declared.change.Change.{Change}
+use Rattle.inno_db.specs.declared.change.Change.TheVariants.{Create}
+use Rattle.inno_model.specs.Past.{own}
+use Rattle.entries.specs.Pairs.{value_of}
+use Rattle.chain.specs.declared.kept.Kept.{Kept}
+use Rattle.law_coded_rows.specs.Edits.{clustered_index, key_index}
+use Rattle.law_coded_rows.proofs.Pairs.{no_key}
+use Rattle.world.specs.State.{WorldState, Session, Work, Logged, HasWork}
+use Rattle.world.specs.Told.{pairs_of, IsTold, LeavesRows}
+use Rattle.row_changes.specs.Asides.{StepsAside}
+use Rattle.row_changes.specs.Pairs.{RowsStay, PutsPair}
+use Rattle.row_changes.proofs.Telling.{went, put_told}
+use Rattle.row_changes.proofs.Ids.{one_work}
+use Rattle.row_changes.proofs.Sessions.{one_session}
+use Rattle.undo_apply.proofs.Telling.{leaves_told, rows_left}
+use Rattle.law_logged_changes.specs.Pointers.{Reaches, IsNeededBy, PointersApart}
+use Rattle.law_logged_changes.specs.Logs.{records_of, IsLogOf, LogsAgree, LogsAgreeBut}
+use Rattle.law_logged_changes.specs.Steps.{LeavesRecords, LeavesLog, HasNoLog, LeavesLogs, OfAll, MayBeCut, IsToCut, HasCut, MakesTable}
+use Rattle.law_logged_changes.proofs.Logs.{all_of, Grows, Keeps, log_on}
+
+-- ---- which steps are such
+
+pub rows_leave : (old new : WorldState) → LeavesRows old new → LeavesRecords old new
+rows_leave old new leaves = record { schemas = leaves.schemas; told = leaves_told leaves; pairs = λ table. leaves.pairs (clustered_index table); versions = leaves.versions }
+
+pub stay_leaves : (old new : WorldState) → RowsStay old new → LeavesRecords old new
+stay_leaves old new stays = rows_leave old new (rows_left stays)
+
+pub entry_leaves : (table which : ℕ) (entry : List ℕ) (value : Option (List ℕ)) (old new : WorldState) → which < 4 → PutsPair (key_index table which) entry value old new → LeavesRecords old new
+entry_leaves table which entry value old new few puts = record {
+  schemas = ap (λ (s : WorldState). s.schemas) puts.rest;
+  told = put_told (key_index table which) entry value old new puts;
+  pairs = λ other. puts.elsewhere (clustered_index other) (λ same. no_key other table which few (sym same));
+  versions = puts.versions;
+}
+
+pub aside_leaves : (s : ℕ) (old new : WorldState) → StepsAside s old new → LeavesRecords old new
+aside_leaves s old new aside = rows_leave old new (record { schemas = ap (λ (state : WorldState). state.schemas) aside.rest; pairs = aside.pairs; versions = aside.versions })
+
+-- ---- what they leave
+
+pub same_clustered : (old new : WorldState) → LeavesRecords old new → IsTold new → (table : ℕ) → pairs_of new (clustered_index table) ≡ pairs_of old (clustered_index table)
+same_clustered old new leaves told table =
+    went (λ pairs. pairs) (old.indexes (clustered_index table)).pairs (new.indexes (clustered_index table)).pairs (leaves.pairs table) (told.pairs (clustered_index table))
+
+pub same_schemas_grow : (schemas others : List Schema) → others ≡ schemas → Grows schemas others
+same_schemas_grow schemas others same table schema there = ap (λ (s : List Schema). slice_get s table) same ∙ there
+
+pub log_left : (old new : WorldState) (log : List Logged) (changes : List Change) → LeavesRecords old new → IsLogOf old log changes → IsLogOf new log changes
+log_left old new log changes leaves stands =
+    log_on (IsTold old) (IsTold new) old.schemas new.schemas old.versions.kept_at new.versions.kept_at leaves.told (same_schemas_grow old.schemas new.schemas leaves.schemas)
+    (records_of old) (records_of new) log changes
+    (λ told table schema key there. ap (value_of key) (same_clustered old new leaves told table))
+    (all_of (Keeps (IsTold old) (IsTold new) old.schemas new.schemas old.versions.kept_at new.versions.kept_at leaves.told (same_schemas_grow old.schemas new.schemas leaves.schemas)) log
+    (λ logged told kind former there. ap (λ (kept : ℕ → Option Kept). kept logged.pointer) (leaves.versions.kept told.versions) ∙ there))
+    stands
+
+pub needed_left : (old new : WorldState) (table pointer : ℕ) → LeavesRecords old new → IsTold new → IsNeededBy new.schemas (pairs_of new) new.versions.kept_at table pointer → IsNeededBy old.schemas (pairs_of old) old.versions.kept_at table pointer
+needed_left old new table pointer leaves told needed = record {
+  schema = needed.schema;
+  there = ap (λ (s : List Schema). slice_get s table) (sym leaves.schemas) ∙ needed.there;
+  key = needed.key;
+  bytes = needed.bytes;
+  coded = needed.coded;
+  record_is = ap (value_of needed.key) (sym (same_clustered old new leaves told table)) ∙ needed.record_is;
+  code_is = needed.code_is;
+  further = needed.further;
+  reaches = subst (λ (kept : ℕ → Option Kept). Reaches kept needed.coded.pointer needed.further pointer) (leaves.versions.kept told.versions) needed.reaches;
+}
+
+pub apart_left : (old new : WorldState) → LeavesRecords old new → PointersApart old → PointersApart new
+apart_left old new leaves apart told table other pointer first second =
+    apart (leaves.told told) table other pointer (needed_left old new table pointer leaves told first) (needed_left old new other pointer leaves told second)
+
+-- ---- all logs
+
+log_kept : (u : ℕ) (session : Session) (work : Work) (old new : WorldState) → LeavesRecords old new → ((session : Session) (work : Work) → HasWork u session work old → IsLogOf old work.log (own u old.past))
+    → LeavesLog u work old new ⊎ HasNoLog u work new → IsLogOf new work.log (own u new.past)
+log_kept u session work old new leaves each (inl left) =
+    subst (λ (log : List Logged). IsLogOf new log (own u new.past)) (sym left.log_is)
+    (subst (λ (changes : List Change). IsLogOf new left.before.log changes) (sym left.own_is)
+    (log_left old new left.before.log (own u old.past) leaves (each left.session left.before left.has_work)))
+log_kept u session work old new leaves each (inr none) =
+    subst (λ (changes : List Change). IsLogOf new work.log changes) (sym none.own_is) none.log_is
+
+pub all_left : (old new : WorldState) → LeavesRecords old new → LeavesLogs OfAll old new → LogsAgree old → LogsAgree new
+all_left old new leaves logs agree = record {
+  each = λ u session work has. log_kept u session work old new leaves (agree.each u) (logs u session work (record {}) has);
+  apart = apart_left old new leaves agree.apart;
+}
+
+pub but_left : (s : ℕ) (old new : WorldState) (log : List Logged) (changes : List Change) → LeavesRecords old new → LeavesLogs (λ u. u ≢ s) old new → LogsAgreeBut s log changes old → LogsAgreeBut s log changes new
+but_left s old new log changes leaves logs agree = record {
+  mine = log_left old new log changes leaves agree.mine;
+  others = λ u session work differs has. log_kept u session work old new leaves (λ x w had. agree.others u x w differs had) (logs u session work differs has);
+  apart = apart_left old new leaves agree.apart;
+}
+
+pub aside_left : (s : ℕ) (old new : WorldState) → StepsAside s old new → LogsAgree old → LogsAgree new
+aside_left s old new aside agree = all_left old new (aside_leaves s old new aside) logs agree
+  where
+    past : new.past ≡ old.past
+    past = ap (λ (state : WorldState). state.past) aside.rest
+
+    logs : LeavesLogs OfAll old new
+    logs u session work of has = ⊎_elim
+        (λ same. inl (record {
+          session = aside.before;
+          before = work;
+          has_work = record {
+            session_is = ap (slice_get old.sessions) same ∙ aside.was;
+            work_is = sym aside.readied.work ∙ ap (λ (x : Session). x.work) (one_session new s aside.after session aside.is (ap (slice_get new.sessions) (sym same) ∙ has.session_is)) ∙ has.work_is;
+          };
+          log_is = refl;
+          own_is = ap (own u) past;
+        }))
+        (λ differs. inl (record {
+          session = session;
+          before = work;
+          has_work = record { session_is = sym (aside.others u differs) ∙ has.session_is; work_is = has.work_is };
+          log_is = refl;
+          own_is = ap (own u) past;
+        }))
+        (cases_eq u s)
+
+-- ---- a log that is to be cut, or has been
+
+pub may_left : (old new : WorldState) (logged : Logged) (log : List Logged) → LeavesRecords old new → MayBeCut logged log old → MayBeCut logged log new
+may_left old new logged log leaves may = record {
+  kind_is = may.kind_is;
+  unneeded = λ told kind table needed. may.unneeded (leaves.told told) kind table (needed_left old new table logged.pointer leaves told needed);
+  elsewhere = λ told. may.elsewhere (leaves.told told);
+}
+
+pub to_cut_left : (s : ℕ) (old new : WorldState) (logged : Logged) (log : List Logged) (before : List Change) (session : Session) (work : Work) → LeavesRecords old new → LeavesLogs (λ u. u ≢ s) old new → IsToCut s logged log before old
+    → HasWork s session work new → work.log ≡ logged ∷ log → IsToCut s logged log before new
+to_cut_left s old new logged log before session work leaves logs cut has is = record {
+  session = session;
+  work = work;
+  has_work = has;
+  log_is = is;
+  may = may_left old new logged log leaves cut.may;
+  logs = but_left s old new log before leaves logs cut.logs;
+}
+
+pub cut_left : (s : ℕ) (old new : WorldState) (log : List Logged) (before : List Change) (session : Session) (work : Work) → LeavesRecords old new → LeavesLogs (λ u. u ≢ s) old new → HasCut s log before old
+    → HasWork s session work new → work.log ≡ log → HasCut s log before new
+cut_left s old new log before session work leaves logs cut has is = record {
+  session = session;
+  work = work;
+  has_work = has;
+  log_is = is;
+  logs = but_left s old new log before leaves logs cut.logs;
+}
+
+-- ---- one session apart
+
+pub but_of : (s : ℕ) (state : WorldState) (session : Session) (work : Work) → LogsAgree state → HasWork s session work state → LogsAgreeBut s work.log (own s state.past) state
+but_of s state session work agree has = record { mine = agree.each s session work has; others = λ u x w differs h. agree.each u x w h; apart = agree.apart }
+
+pub all_again : (s : ℕ) (state : WorldState) (log : List Logged) (changes : List Change) → LogsAgreeBut s log changes state → own s state.past ≡ changes → ((session : Session) (work : Work) → HasWork s session work state → work.log ≡ log) → LogsAgree state
+all_again s state log changes agree own_is log_is = record {
+  each = λ u session work has. ⊎_elim
+      (λ same. subst (λ (t : ℕ). IsLogOf state work.log (own t state.past)) (sym same)
+      (subst (λ (l : List Logged). IsLogOf state l (own s state.past)) (sym (log_is session work (subst (λ (t : ℕ). HasWork t session work state) same has)))
+      (subst (λ (c : List Change). IsLogOf state log c) (sym own_is) agree.mine)))
+      (λ differs. agree.others u session work differs has) (cases_eq u s);
+  apart = agree.apart;
+}
+
+pub cut_again : (s : ℕ) (log : List Logged) (before : List Change) (state : WorldState) → HasCut s log before state → own s state.past ≡ before → LogsAgree state
+cut_again s log before state cut own_is =
+    all_again s state log before cut.logs own_is (λ session work has. ap (λ (w : Work). w.log) (one_work s session cut.session work cut.work state has cut.has_work) ∙ cut.log_is)
+
+-- ---- a table more
+
+pub more_grow : (schemas : List Schema) (schema : Schema) → Grows schemas (schemas ++ schema ∷ [])
+more_grow [] schema table found there = absurd (cc)
+more_grow (first ∷ schemas) schema zero found there = there
+more_grow (first ∷ schemas) schema (suc table) found there = more_grow schemas schema table found there
+
+pub table_made : (old new : WorldState) (schema : Schema) (log : List Logged) (changes : List Change) → MakesTable schema old new → IsLogOf old log changes → IsLogOf new log (Create schema ∷ changes)
+table_made old new schema log changes made stands =
+    let grows : Grows old.schemas new.schemas = subst (Grows old.schemas) (sym made.schemas) (more_grow old.schemas schema) in
+    log_on (IsTold old) (IsTold new) old.schemas new.schemas old.versions.kept_at new.versions.kept_at made.told grows
+    (records_of old) (records_of new) log changes
+    (λ told table found key there. ap (value_of key)
+    (went (λ pairs. pairs) (old.indexes (clustered_index table)).pairs (new.indexes (clustered_index table)).pairs (made.pairs table (slice_get_within old.schemas table found there)) (told.pairs (clustered_index table))))
+    (all_of (Keeps (IsTold old) (IsTold new) old.schemas new.schemas old.versions.kept_at new.versions.kept_at made.told grows) log
+    (λ logged told kind former there. ap (λ (kept : ℕ → Option Kept). kept logged.pointer) (made.versions.kept told.versions) ∙ there))
+    stands

@@ -1,0 +1,342 @@
+-- The step that puts a version logs it.
+use Rattle.std.proofs.Common.{◌≡◌, ◌≢◌, inl, inr, ⊎_elim, ℕ, ◌^◌, ◌<◌, true, false, List, [], ◌∷◌, Option, Some, None, refl, sym, ap, subst, ◌∙◌, arith, slice_get}
+use Rattle.std.specs.Prelude.{◌==◌, is_some}
+use Rattle.std.specs.List.{AllByRecursion}
+use Rattle.std.proofs.lemmas.Bool.{cases_eq, cond-true, cond-false, eq-eqb, ne_eqb}
+use Rattle.inno_types.specs.declared.value.Value.{Value}
+use Rattle.inno_types.specs.declared.value.Schema.{Schema}
+use Rattle.inno_db.specs.declared.change.Change.{Change}
+use Rattle.inno_db.specs.declared.change.Change.TheVariants.{Create, Put, Remove}
+use Rattle.inno_db.proofs.Keys.{key_in-at}
+use Rattle.inno_model.specs.Past.{own}
+use Rattle.inno_model.specs.declared.event.Event.TheVariants.{Changed}
+use Rattle.store_api.specs.declared.answers.Undo.{Undo}
+use Rattle.store_api.specs.declared.answers.Version.{Version as Coded}
+use Rattle.entries.specs.Pairs.{value_of}
+use Rattle.chain.specs.declared.kept.Kept.{Kept}
+use Rattle.chain.specs.Versions.{Stays}
+use Rattle.row_codec.specs.Rows.{version_code}
+use Rattle.row_versions.specs.declared.place.Place.{Place}
+use Rattle.row_versions.specs.Chains.{Chains}
+use Rattle.law_coded_rows.specs.Edits.{clustered_index, Puts}
+use Rattle.law_coded_rows.specs.Records.{IsCodeOf, KeepsMore}
+use Rattle.law_coded_rows.specs.Tables.{AreClustered}
+use Rattle.law_coded_rows.proofs.Pairs.{at_index, value_now}
+use Rattle.law_past_agreement.specs.Rows.{place_in}
+use Rattle.world.specs.State.{WorldState, Session, Work, Logged, HasWork}
+use Rattle.world.specs.Indexes.{IsUndo, KeepsVersion}
+use Rattle.world.specs.Told.{IsTold, pairs_of}
+use Rattle.row_changes.specs.declared.row_edit.RowEdit.{RowEdit}
+use Rattle.row_changes.specs.declared.row_edit.RowEdit.TheVariants as edits
+use Rattle.row_changes.specs.declared.record_change.RecordChange.{RecordChange}
+use Rattle.row_changes.specs.declared.record_change.RecordReached.TheVariants as records
+use Rattle.row_changes.specs.declared.row_change.RowChange.TheVariants.{Record}
+use Rattle.row_changes.specs.Edits.{change_of, rows_put, version_by}
+use Rattle.row_changes.specs.Records.{IsTable, IsChangingRecord, Records, RecordsEdit, PutsFirst, PutsOver, PutsVersion, ChangesRecord, undo_of_new, undo_of_former, id_for}
+use Rattle.row_changes.specs.Rows.{IsChangingRow, primary_of}
+use Rattle.row_changes.specs.Told.{HasRows}
+use Rattle.row_changes.proofs.Telling.{pairs_told, puts_pairs, tells}
+use Rattle.row_changes.proofs.Ids.{one_work}
+use Rattle.row_changes.proofs.Sessions.{one_session}
+use Rattle.row_changes.proofs.Pushed.{key_at, code_first, code_next, small_id}
+use Rattle.row_changes.proofs.Recorded.{key_short, value_short}
+use Rattle.undo_apply.specs.Standing.{TellsOf, LeadsBack, was_before}
+use Rattle.undo_apply.proofs.Places.{before_new, before_kept}
+use Rattle.law_logged_changes.specs.Pointers.{AreApart, PointersApart}
+use Rattle.law_logged_changes.specs.Logs.{RecordsAt, records_of, taken_back, Stands, LogStands, IsLogOf, LogsAgree, IsAlone}
+use Rattle.law_logged_changes.specs.Steps.{HasLogged}
+use Rattle.law_logged_changes.proofs.Logs.{all_of, all_mapped, Keeps, log_on, one_more}
+use Rattle.law_logged_changes.proofs.Leaving.{same_schemas_grow}
+use Rattle.law_logged_changes.proofs.Needs.{taken_here, taken_elsewhere, here_or_not, put_elsewhere, apart_now}
+use Rattle.law_logged_changes.proofs.GoingOn.{none_yet}
+
+-- ---- what older records keep is kept
+
+some_kept : (undo : Undo) (kept : ℕ → Option Kept) (pointer : ℕ) → undo.kind ≡ 2 → LeadsBack undo kept pointer → is_some (kept pointer) ≡ true
+some_kept undo kept pointer kind (inl new) = absurd (omega (arith, kind, new.0))
+some_kept undo kept pointer kind (inr (k, some, former, there, bytes)) = ap is_some there
+
+abbrev IsKeptYet : (ℕ → Option Kept) → Logged → Type 0
+IsKeptYet kept logged = logged.undo.kind ≡ 2 → is_some (kept logged.pointer) ≡ true
+
+stands_keeps : (told : Type 0) (schemas : List Schema) (records : RecordsAt) (kept : ℕ → Option Kept) (logged : Logged) (log : List Logged) (change : Change) → told → Stands told schemas records kept logged log change → IsKeptYet kept logged
+stands_keeps told schemas records kept logged log change at stands kind =
+    let has = stands.record_is at in
+    subst (λ (pointer : ℕ). is_some (kept pointer) ≡ true) (has.pointer_is kind) (some_kept logged.undo kept has.coded.pointer kind has.before)
+
+log_keeps : (told : Type 0) (schemas : List Schema) (records : RecordsAt) (kept : ℕ → Option Kept) (log : List Logged) (changes : List Change) → told → LogStands told schemas records kept log changes → AllByRecursion (IsKeptYet kept) log
+log_keeps told schemas records kept log [] at stands = subst (AllByRecursion (IsKeptYet kept)) (sym stands) (record {})
+log_keeps told schemas records kept log (Create schema ∷ changes) at stands = log_keeps told schemas records kept log changes at stands
+log_keeps told schemas records kept [] (Put table row ∷ changes) at stands = record {}
+log_keeps told schemas records kept [] (Remove table key ∷ changes) at stands = record {}
+log_keeps told schemas records kept (logged ∷ log) (Put table row ∷ changes) at stands =
+    (stands_keeps told schemas records kept logged log (Put table row) at stands.0, log_keeps told schemas (taken_back logged.undo records) kept log changes at stands.1)
+log_keeps told schemas records kept (logged ∷ log) (Remove table key ∷ changes) at stands =
+    (stands_keeps told schemas records kept logged log (Remove table key) at stands.0, log_keeps told schemas (taken_back logged.undo records) kept log changes at stands.1)
+
+-- ---- the step
+
+place_of_edit : (schemas : List Schema) (table : ℕ) (schema : Schema) (edit : RowEdit) → slice_get schemas table ≡ Some schema → place_in schemas (change_of table edit) ≡ Some (record { table = table; key = primary_of schema edit })
+place_of_edit schemas table schema (edits.Put row) there = ap (λ (k : Value). Some (record { table = table; key = k })) (key_in-at schemas table schema row there)
+place_of_edit schemas table schema (edits.Remove value) there = refl
+
+abbrev undo_at : RecordChange → ℕ → List ℕ → Undo
+undo_at change kind value = record { kind = kind; table = change.table; key = change.key; value = value }
+
+-- What is known of the step: the version has this record, and its undo record this kind and value.
+pub record IsLogging (s : ℕ) (old new : WorldState) (change : RecordChange) (schema : Schema) (kind : ℕ) (value bytes : List ℕ) (coded : Coded) : Type 0 where
+  pub table : IsTable change.table schema old
+  pub rows : Records s (change_of change.table change.edit) (rows_put change.edit) change.table change.key bytes (undo_at change kind value) old new
+  pub sound : IsUndo old.schemas (undo_at change kind value)
+  pub code_is : IsCodeOf schema change.key bytes coded
+  pub was : IsTold old → records_of old change.table change.key ≡ was_before (undo_at change kind value)
+  pub leads : IsTold new → LeadsBack (undo_at change kind value) new.versions.kept_at coded.pointer
+  pub pointer_is : kind ≡ 2 → coded.pointer ≡ rows.work.session.next_pointer
+  pub more : IsTold new → KeepsMore old.versions.kept_at new.versions.kept_at
+  pub fresh : IsTold new → kind ≡ 2 → old.versions.kept_at rows.work.session.next_pointer ≡ None
+  pub former_code : IsTold new → kind ≡ 2 → (former : Kept) → new.versions.kept_at coded.pointer ≡ Some former → IsCodeOf schema change.key former.bytes former.version
+  pub told : IsTold new → IsTold old
+
+module _ (s : ℕ) (chains : Chains) (old new : WorldState) (change : RecordChange) (p : IsChangingRecord s old change) (rows : HasRows chains old) (kind : ℕ) (value bytes : List ℕ) (coded : Coded) (is : IsLogging s old new change p.schema kind value bytes coded) where
+  abbrev undo : Undo
+  undo = undo_at change kind value
+
+  abbrev logged : Logged
+  logged = record { pointer = is.rows.work.session.next_pointer; undo = undo }
+
+  abbrev place : Place
+  place = record { table = change.table; key = primary_of p.schema change.edit }
+
+  same_schemas : new.schemas ≡ old.schemas
+  same_schemas = ap (λ (state : WorldState). state.schemas) is.rows.rest
+
+  same_past : new.past ≡ Changed s (change_of change.table change.edit) ∷ old.past
+  same_past = ap (λ (state : WorldState). state.past) is.rows.rest
+
+  tells_old : TellsOf undo p.schema place old.schemas
+  tells_old =
+      let at = key_at p.schema change.edit change.key p.fits in
+      record {
+        there = p.table.there;
+        storable = p.table.storable;
+        undo_is = is.sound;
+        table_is = refl;
+        primary = at.column;
+        primary_is = at.primary;
+        has_key = at.has_key;
+        key_is = at.spelled;
+      }
+
+  puts_now : IsTold new → Puts (pairs_of old) (pairs_of new) (clustered_index change.table) change.key (Some bytes)
+  puts_now told = puts_pairs (clustered_index change.table) change.key (Some bytes) old new (is.rows.here, is.rows.elsewhere) told
+
+  clustered : IsTold new → AreClustered old.schemas (pairs_of old) old.versions.kept_at chains
+  clustered told = (rows (is.told told)).clustered
+
+  record_now : IsTold new → records_of new change.table change.key ≡ Some bytes
+  record_now told =
+      ap (value_of change.key) (at_index (pairs_of old) (pairs_of new) (clustered_index change.table) change.key (Some bytes) (puts_now told))
+      ∙ value_now change.key (Some bytes) (pairs_of old (clustered_index change.table)) ((clustered told).tables change.table p.schema p.table.there).rising
+
+  records_before : IsTold new → (table : ℕ) (key : List ℕ) → records_of old table key ≡ taken_back undo (records_of new) table key
+  records_before told table key =
+      ⊎_elim
+      (λ here. ap (λ (t : ℕ). records_of old t key) here.0 ∙ ap (records_of old change.table) here.1 ∙ is.was (is.told told) ∙ sym (taken_here undo (records_of new) table key here.0 here.1))
+      (λ apart. sym (put_elsewhere undo (Some bytes) (pairs_of old) (pairs_of new) table key (puts_now told) apart) ∙ sym (taken_elsewhere undo (records_of new) table key apart))
+      (here_or_not undo table key)
+
+  -- ---- the log
+
+  stands_now : (log : List Logged) (changes : List Change) → IsLogOf old log changes → Stands (IsTold new) new.schemas (records_of new) new.versions.kept_at logged log (change_of change.table change.edit)
+  stands_now log changes stands = record {
+    place = place;
+    place_is = place_of_edit new.schemas change.table p.schema change.edit (ap (λ (schemas : List Schema). slice_get schemas change.table) same_schemas ∙ p.table.there);
+    schema = p.schema;
+    tells = subst (λ (schemas : List Schema). TellsOf undo p.schema place schemas) (sym same_schemas) tells_old;
+    record_is = λ told. record {
+      bytes = bytes;
+      coded = coded;
+      there = record_now told;
+      code_is = is.code_is;
+      before = is.leads told;
+      pointer_is = is.pointer_is;
+    };
+    elsewhere = λ told two. all_mapped (IsKeptYet old.versions.kept_at) (λ (l : Logged). l.undo.kind ≡ 2 → l.pointer ≢ logged.pointer) log
+        (λ l some kind_too same. let none : is_some (old.versions.kept_at l.pointer) ≡ false = ap (λ (pointer : ℕ). is_some (old.versions.kept_at pointer)) same ∙ ap is_some (is.fresh told two) in let there = some kind_too in cc)
+        (log_keeps (IsTold old) old.schemas (records_of old) old.versions.kept_at log changes (is.told told) stands);
+  }
+
+  log_now : (log : List Logged) (changes : List Change) → IsLogOf old log changes → IsLogOf new (logged ∷ log) (change_of change.table change.edit ∷ changes)
+  log_now log changes stands =
+      one_more (IsTold new) new.schemas (records_of new) new.versions.kept_at logged log (change_of change.table change.edit) changes (stands_now log changes stands)
+      (log_on (IsTold old) (IsTold new) old.schemas new.schemas old.versions.kept_at new.versions.kept_at is.told (same_schemas_grow old.schemas new.schemas same_schemas)
+      (records_of old) (taken_back undo (records_of new)) log changes
+      (λ told table schema key there. sym (records_before told table key))
+      (all_of (Keeps (IsTold old) (IsTold new) old.schemas new.schemas old.versions.kept_at new.versions.kept_at is.told (same_schemas_grow old.schemas new.schemas same_schemas)) log
+      (λ l told two former there. is.more told l.pointer former there))
+      stands)
+
+  own_now : own s new.past ≡ change_of change.table change.edit ∷ own s old.past
+  own_now = ap (own s) same_past ∙ cond-true (s == s) (change_of change.table change.edit ∷ own s old.past) (own s old.past) (eq-eqb s s refl)
+
+  pub has_logged : (session : Session) (work : Work) → HasWork s session work old → IsLogOf old work.log (own s old.past) → HasLogged s change work.log old new
+  has_logged session work has stands = record {
+    session = is.rows.work.session_now;
+    work = is.rows.work.work_now;
+    has_work = is.rows.work.has;
+    logged = logged;
+    log_is = log_is;
+    own_is = own_now;
+    table_is = refl;
+    key_is = refl;
+    stands = subst (λ (log : List Logged). IsLogOf new log (own s new.past)) (sym log_is)
+        (subst (λ (changes : List Change). IsLogOf new (logged ∷ work.log) changes) (sym own_now) (log_now work.log (own s old.past) stands));
+  } where
+    log_is : is.rows.work.work_now.log ≡ logged ∷ work.log
+    log_is = is.rows.work.changed.log ∙ ap (λ (w : Work). logged ∷ w.log) (one_work s is.rows.work.session session is.rows.work.work work old is.rows.work.had has)
+
+  -- ---- what rows need
+
+  pub apart_logged : PointersApart old → PointersApart new
+  apart_logged apart told =
+      subst (λ (schemas : List Schema). AreApart schemas (pairs_of new) new.versions.kept_at) (sym same_schemas)
+      (apart_now undo old.schemas p.schema new.versions.kept_at (pairs_of new) (pairs_of old) coded
+      (record { there = p.table.there; bytes = bytes; record_is = record_now told; code_is = is.code_is; before = is.leads told; without = records_before told })
+      chains old.versions.kept_at (clustered told) (is.more told) (is.former_code told)
+      (λ two. ap old.versions.kept_at (is.pointer_is two) ∙ is.fresh told two) (apart (is.told told)))
+
+  -- ---- all logs
+
+  pub all_logged : IsAlone s old → LogsAgree old → LogsAgree new
+  all_logged alone agree = record {
+    each = λ u session work has. ⊎_elim
+        (λ same.
+        let mine = has_logged is.rows.work.session is.rows.work.work is.rows.work.had (agree.each s is.rows.work.session is.rows.work.work is.rows.work.had) in
+        let here : HasWork s session work new = subst (λ (t : ℕ). HasWork t session work new) same has in
+        let one = one_work s mine.session session mine.work work new mine.has_work here in
+        subst (λ (t : ℕ). IsLogOf new work.log (own t new.past)) (sym same) (subst (λ (w : Work). IsLogOf new w.log (own s new.past)) one mine.stands))
+        (λ differs.
+        let had : HasWork u session work old = record { session_is = sym (is.rows.work.others u differs) ∙ has.session_is; work_is = has.work_is } in
+        none_yet u work old new (alone u differs) (others_own u differs) (agree.each u session work had))
+        (cases_eq u s);
+    apart = apart_logged agree.apart;
+  } where
+    others_own : (u : ℕ) → u ≢ s → own u new.past ≡ []
+    others_own u differs = ap (own u) same_past ∙ cond-false (s == u) (change_of change.table change.edit ∷ own u old.past) (own u old.past) (ne_eqb s u (λ same. differs (sym same))) ∙ alone u differs
+
+-- ---- whether there was a record
+
+pointer_by : (edit : RowEdit) (former : List Value) (writer pointer : ℕ) → (version_by edit former writer pointer).pointer ≡ pointer
+pointer_by (edits.Put row) former writer pointer = refl
+pointer_by (edits.Remove value) former writer pointer = refl
+
+none_of : (found : Option (List ℕ)) → is_some found ≡ false → found ≡ None
+none_of None is = refl
+none_of (Some bytes) is = absurd (cc)
+
+one_kept : (there : Option Kept) (a b : Kept) → there ≡ Some a → there ≡ Some b → a ≡ b
+one_kept there a b first second = cc
+
+one_schema : (found : Option Schema) (a b : Schema) → found ≡ Some a → found ≡ Some b → a ≡ b
+one_schema found a b is also = cc
+
+module _ (s : ℕ) (old new : WorldState) (change : RecordChange) (p : IsChangingRecord s old change) where
+  abbrev writer : ℕ
+  writer = id_for p.work.id old.txns.next
+
+  small : writer < 2 ^ 64
+  small = small_id p.work.id old.txns.next p.small p.listed.few
+
+  pub logging_first : (f : PutsFirst s old new change p.schema) → IsLogging s old new change p.schema 1 [] (version_code p.schema (version_by change.edit [] writer 0)) (version_by change.edit [] writer 0)
+  logging_first f = record {
+    table = p.table;
+    rows = all;
+    sound = record { kept = inl (refl, refl); key = key_short s old change p; value = omega arith };
+    code_is = code_first p.schema change.edit change.key writer p.fits f.is_put small;
+    was = λ told. none_of (records_of old change.table change.key) (tells (λ pairs. is_some (value_of change.key pairs) ≡ false) (old.indexes (clustered_index change.table)).pairs f.absent (told.pairs (clustered_index change.table)))
+        ∙ sym (before_new (undo_at change 1 []) refl);
+    leads = λ told. inl (refl, pointer_by change.edit [] writer 0);
+    pointer_is = λ two. absurd (omega (arith, two));
+    more = λ told pointer found is. ap (λ (kept : ℕ → Option Kept). kept pointer) (kept.kept told.versions) ∙ is;
+    fresh = λ told two. absurd (omega (arith, two));
+    former_code = λ told two. absurd (omega (arith, two));
+    told = λ told. record { pairs = pairs_told (clustered_index change.table) change.key (Some (version_code p.schema (version_by change.edit [] writer 0))) old new (all.here, all.elsewhere) told; versions = kept.told told.versions };
+  } where
+    all : RecordsEdit s change p.schema [] writer 0 (undo_of_new change.table change.key) old new
+    all = subst (λ (w : Work). RecordsEdit s change p.schema [] (id_for w.id old.txns.next) 0 (undo_of_new change.table change.key) old new) (one_work s f.session p.session f.work p.work old f.had p.has_work) f.records
+
+    kept : Stays old.versions new.versions
+    kept = all.work.versions
+
+  pub logging_over : (former : Coded) (o : PutsOver s old new change p.schema former)
+      → IsLogging s old new change p.schema 2 o.bytes (version_code p.schema (version_by change.edit former.row writer o.session.next_pointer)) (version_by change.edit former.row writer o.session.next_pointer)
+  logging_over former o = record {
+    table = p.table;
+    rows = all;
+    sound = record { kept = inr (refl, kept.version, kept.kept); key = key_short s old change p; value = value_short p.schema former change.key o.bytes p.table.storable (o.was.code_is.record_is.fits, o.was.code_is.record_is.key_is) o.was.code_is.record_is.value_is };
+    code_is = code_next p.schema change.edit change.key o.bytes former writer o.session.next_pointer p.fits o.was.code_is small o.small;
+    was = λ told. tells (λ pairs. value_of change.key pairs ≡ Some o.bytes) (old.indexes (clustered_index change.table)).pairs o.was.there (told.pairs (clustered_index change.table)) ∙ sym (before_kept (undo_at change 2 o.bytes) refl);
+    leads = λ told. inr (
+      refl,
+      subst (λ (pointer : ℕ). pointer ≢ 0) (sym pointer) o.leads,
+      record { version = kept.version; bytes = o.bytes },
+      ap new.versions.kept_at pointer ∙ kept.here told.versions,
+      refl,
+    );
+    pointer_is = λ two. pointer ∙ ap (λ (x : Session). x.next_pointer) (sym one);
+    more = λ told other found is. ⊎_elim
+        (λ same. let none : old.versions.kept_at o.session.next_pointer ≡ None = kept.fresh told.versions in let some : old.versions.kept_at o.session.next_pointer ≡ Some found = ap old.versions.kept_at (sym same) ∙ is in absurd (cc))
+        (λ differs. kept.elsewhere other differs told.versions ∙ is) (cases_eq other o.session.next_pointer);
+    fresh = λ told two. ap (λ (x : Session). old.versions.kept_at x.next_pointer) one ∙ kept.fresh told.versions;
+    former_code = λ told two found is.
+        let here : new.versions.kept_at (version_by change.edit former.row writer o.session.next_pointer).pointer ≡ Some (record { version = kept.version; bytes = o.bytes }) = ap new.versions.kept_at pointer ∙ kept.here told.versions in
+        let same : record { version = kept.version; bytes = o.bytes } ≡ found = one_kept (new.versions.kept_at (version_by change.edit former.row writer o.session.next_pointer).pointer) (record { version = kept.version; bytes = o.bytes }) found here is in
+        subst (λ (k : Kept). IsCodeOf p.schema change.key k.bytes k.version) same found_code;
+    told = λ told. record {
+      pairs = pairs_told (clustered_index change.table) change.key (Some (version_code p.schema (version_by change.edit former.row writer o.session.next_pointer))) old new (all.here, all.elsewhere) told;
+      versions = kept.told told.versions;
+    };
+  } where
+    all : RecordsEdit s change p.schema former.row writer o.session.next_pointer (undo_of_former change.table change.key o.bytes) old new
+    all = subst (λ (w : Work). RecordsEdit s change p.schema former.row (id_for w.id old.txns.next) o.session.next_pointer (undo_of_former change.table change.key o.bytes) old new) (one_work s o.session p.session o.work p.work old o.had p.has_work) o.records
+
+    one : all.work.session ≡ o.session
+    one = one_session old s all.work.session o.session all.work.had.session_is o.had.session_is
+
+    kept : KeepsVersion old.schemas o.session.next_pointer (undo_of_former change.table change.key o.bytes) old.versions new.versions
+    kept = subst (λ (x : Session). KeepsVersion old.schemas x.next_pointer (undo_of_former change.table change.key o.bytes) old.versions new.versions) one all.work.versions
+
+    pointer : (version_by change.edit former.row writer o.session.next_pointer).pointer ≡ o.session.next_pointer
+    pointer = pointer_by change.edit former.row writer o.session.next_pointer
+
+    found_code : IsCodeOf p.schema change.key o.bytes kept.version
+    found_code =
+        let same = one_schema (slice_get old.schemas change.table) kept.kept.schema p.schema kept.kept.there p.table.there in
+        subst (λ (x : Schema). IsCodeOf x change.key o.bytes kept.version) same (record { record_is = kept.kept.record_is; numbers = kept.kept.small })
+
+  -- whichever it is, it is logged
+  pub logging : (P : Type 0) → ((kind : ℕ) (value bytes : List ℕ) (coded : Coded) → IsLogging s old new change p.schema kind value bytes coded → P) → (before : Option (List Value)) → ChangesRecord s old new change (records.Recorded before) → P
+  logging P goal before h =
+      let one = one_schema (slice_get old.schemas change.table) h.0 p.schema h.1.there p.table.there in
+      let puts : PutsVersion s old new change p.schema before = subst (λ (x : Schema). PutsVersion s old new change x before) one h.2 in
+      ⊎_elim
+      (λ f. goal 1 [] (version_code p.schema (version_by change.edit [] writer 0)) (version_by change.edit [] writer 0) (logging_first f.0))
+      (λ o. goal 2 o.1.bytes (version_code p.schema (version_by change.edit o.0.row writer o.1.session.next_pointer)) (version_by change.edit o.0.row writer o.1.session.next_pointer) (logging_over o.0 o.1))
+      puts
+
+-- ---- the laws
+
+pub change_logged : (s : ℕ) (chains : Chains) (old new : WorldState) (change : RecordChange) (key : List ℕ) (before after : Option (List Value)) (session : Session) (work : Work) → IsChangingRow s chains old (Record change key after) → ChangesRecord s old new change (records.Recorded before)
+    → HasWork s session work old → IsLogOf old work.log (own s old.past) → HasLogged s change work.log old new
+change_logged s chains old new change key before after session work p h has stands =
+    logging s old new change p.0 (HasLogged s change work.log old new) (λ kind value bytes coded is. has_logged s chains old new change p.0 p.1 kind value bytes coded is session work has stands) before h
+
+pub change_apart : (s : ℕ) (chains : Chains) (old new : WorldState) (change : RecordChange) (key : List ℕ) (before after : Option (List Value)) → IsChangingRow s chains old (Record change key after) → ChangesRecord s old new change (records.Recorded before)
+    → PointersApart old → PointersApart new
+change_apart s chains old new change key before after p h apart =
+    logging s old new change p.0 (PointersApart new) (λ kind value bytes coded is. apart_logged s chains old new change p.0 p.1 kind value bytes coded is apart) before h
+
+pub change_all : (s : ℕ) (chains : Chains) (old new : WorldState) (change : RecordChange) (key : List ℕ) (before after : Option (List Value)) → IsChangingRow s chains old (Record change key after) → ChangesRecord s old new change (records.Recorded before)
+    → IsAlone s old → LogsAgree old → LogsAgree new
+change_all s chains old new change key before after p h alone agree =
+    logging s old new change p.0 (LogsAgree new) (λ kind value bytes coded is. all_logged s chains old new change p.0 p.1 kind value bytes coded is alone agree) before h

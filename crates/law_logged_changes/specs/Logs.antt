@@ -1,0 +1,82 @@
+-- When the undo log of a transaction is that of its changes: each change of a row has its record there, and the records put
+-- back in turn, the newest first, what was there before.
+use Rattle.std.specs.Prelude.{◌≡◌, ◌≢◌, ℕ, ◌==◌, ◌&&◌, if◌then◌else◌, List, [], ◌∷◌, Option, Some}
+use Rattle.std.specs.List.{AllByRecursion}
+use Rattle.std.specs.BTreeMap.{is_at}
+use Rattle.inno_types.specs.declared.value.Schema.{Schema}
+use Rattle.inno_db.specs.declared.change.Change.{Change}
+use Rattle.inno_db.specs.declared.change.Change.TheVariants.{Create}
+use Rattle.inno_model.specs.Past.{own}
+use Rattle.store_api.specs.declared.answers.Undo.{Undo}
+use Rattle.store_api.specs.declared.answers.Version.{Version as Coded}
+use Rattle.entries.specs.Pairs.{key_cmp, value_of}
+use Rattle.chain.specs.declared.kept.Kept.{Kept}
+use Rattle.row_versions.specs.declared.place.Place.{Place}
+use Rattle.law_coded_rows.specs.Edits.{clustered_index}
+use Rattle.law_coded_rows.specs.Records.{IsCodeOf}
+use Rattle.law_past_agreement.specs.Rows.{place_in}
+use Rattle.world.specs.State.{WorldState, Session, Work, Logged, HasWork}
+use Rattle.world.specs.Told.{IsTold, pairs_of}
+use Rattle.undo_apply.specs.Standing.{TellsOf, LeadsBack, was_before}
+use Rattle.law_logged_changes.specs.Pointers.{PointersApart}
+
+-- by table and key the bytes of the clustered record
+abbrev pub RecordsAt : Type 0
+RecordsAt = ℕ → List ℕ → Option (List ℕ)
+
+abbrev pub records_of : WorldState → RecordsAt
+records_of state table key = value_of key (pairs_of state (clustered_index table))
+
+-- at the undo record's table and key what was before the change, and elsewhere the same
+abbrev pub taken_back : Undo → RecordsAt → RecordsAt
+taken_back undo records table key = if table == undo.table && is_at (key_cmp undo.key) key then was_before undo else records table key
+
+-- The change stands: its record is there, and its pointer leads to what was before.
+pub record HasRecord (schema : Schema) (records : RecordsAt) (kept : ℕ → Option Kept) (logged : Logged) : Type 0 where
+  pub bytes : List ℕ
+  pub coded : Coded
+  pub there : records logged.undo.table logged.undo.key ≡ Some bytes
+  pub code_is : IsCodeOf schema logged.undo.key bytes coded
+  pub before : LeadsBack logged.undo kept coded.pointer
+  pub pointer_is : logged.undo.kind ≡ 2 → coded.pointer ≡ logged.pointer
+
+-- older undo records that keep a version keep it behind other pointers
+abbrev pub KeepElsewhere : Logged → List Logged → Type 0
+KeepElsewhere logged log = logged.undo.kind ≡ 2 → AllByRecursion (λ older. older.undo.kind ≡ 2 → older.pointer ≢ logged.pointer) log
+
+-- The undo record is that of the change, which is one of a row. Of the record that stands something is known where it is told.
+pub record Stands (told : Type 0) (schemas : List Schema) (records : RecordsAt) (kept : ℕ → Option Kept) (logged : Logged) (log : List Logged) (change : Change) : Type 0 where
+  pub place : Place
+  pub place_is : place_in schemas change ≡ Some place
+  pub schema : Schema
+  pub tells : TellsOf logged.undo schema place schemas
+  pub record_is : told → HasRecord schema records kept logged
+  pub elsewhere : told → KeepElsewhere logged log
+
+-- The log has an undo record for each of these changes of rows, both the newest first. A table that is made takes none.
+abbrev pub LogStands : Type 0 → List Schema → RecordsAt → (ℕ → Option Kept) → List Logged → List Change → Type 0
+LogStands told schemas records kept log [] = log ≡ []
+LogStands told schemas records kept log (Create schema ∷ own) = LogStands told schemas records kept log own
+LogStands told schemas records kept [] (change ∷ own) = ⊥
+LogStands told schemas records kept (logged ∷ log) (change ∷ own) =
+    Stands told schemas records kept logged log change × LogStands told schemas (taken_back logged.undo records) kept log own
+
+-- in this world the log is that of these changes
+abbrev pub IsLogOf : WorldState → List Logged → List Change → Type 0
+IsLogOf state log own = LogStands (IsTold state) state.schemas (records_of state) state.versions.kept_at log own
+
+-- The log of each session is that of the changes that the history has of it.
+pub record LogsAgree (state : WorldState) : Type 0 where
+  pub each : (s : ℕ) (session : Session) (work : Work) → HasWork s session work state → IsLogOf state work.log (own s state.past)
+  pub apart : PointersApart state
+
+-- The same of all sessions but one, of which this is the log, and these are its changes. Between the steps by which a change
+-- is taken back the history may have one more, or the log.
+pub record LogsAgreeBut (s : ℕ) (log : List Logged) (changes : List Change) (state : WorldState) : Type 0 where
+  pub mine : IsLogOf state log changes
+  pub others : (u : ℕ) (session : Session) (work : Work) → u ≢ s → HasWork u session work state → IsLogOf state work.log (own u state.past)
+  pub apart : PointersApart state
+
+-- no other session has changes
+abbrev pub IsAlone : ℕ → WorldState → Type 0
+IsAlone s state = (u : ℕ) → u ≢ s → own u state.past ≡ []

@@ -1,0 +1,10 @@
+pub mod Ids
+pub mod Opens
+pub mod Standing
+pub mod Rows
+pub mod Tables
+mod Owed
+pub mod Agree
+pub mod Gets
+pub mod Walk
+mod Searches

@@ -1,0 +1,72 @@
+-- The rows that changes leave at places.
+use Rattle.std.specs.Prelude.{◌≡◌, ◌≢◌, ℕ, Bool, true, false, if◌then◌else◌, Option, Some, None, List, [], ◌∷◌, ◌++◌}
+use Rattle.std.specs.List.{list_any}
+use Rattle.std.specs.declared.cmp.Ordering.TheVariants.{Less}
+use Rattle.inno_types.specs.declared.value.Value.{Value}
+use Rattle.inno_types.specs.declared.value.Schema.{Schema}
+use Rattle.inno_db.specs.declared.change.Change.{Change}
+use Rattle.inno_db.specs.declared.change.Change.TheVariants.{Create, Put, Remove}
+use Rattle.inno_db.specs.Database.{key_in}
+use Rattle.inno_model.specs.declared.event.Event.{Event}
+use Rattle.inno_model.specs.Past.{own, commits, committed}
+use Rattle.row_versions.specs.declared.place.Place.{Place}
+use Rattle.row_versions.specs.Chains.{place_order, is_same_place, is_from}
+use Rattle.law_past_agreement.specs.Order.{created}
+
+-- the place that a change is made at; none where it makes a table
+abbrev pub place_in : List Schema → Change → Option Place
+place_in schemas (Create schema) = None
+place_in schemas (Put table row) = Some (record { table = table; key = key_in schemas table row })
+place_in schemas (Remove table key) = Some (record { table = table; key = key })
+
+abbrev pub is_place : Place → Option Place → Bool
+is_place place None = false
+is_place place (Some p) = is_same_place p place
+
+-- the change is made at the place
+abbrev pub is_at : List Schema → Place → Change → Bool
+is_at schemas place change = is_place place (place_in schemas change)
+
+-- what a change leaves at its place: a row, or none
+abbrev pub row_of : Change → Option (List Value)
+row_of (Put table row) = Some row
+row_of other = None
+
+-- what these changes leave, the newest first, where the newest of those that the test picks decides
+abbrev pub row_at : (Change → Bool) → List Change → Option (List Value)
+row_at at [] = None
+row_at at (change ∷ changes) = if at change then row_of change else row_at at changes
+
+-- the changes that the session sees under a view of the first n commits
+abbrev pub seen : List Event → ℕ → ℕ → List Change
+seen h s n = own s h ++ committed n h
+
+-- the row that the session sees at a place, under such a view
+abbrev pub row_seen : List Event → ℕ → ℕ → Place → Option (List Value)
+row_seen h s n place = row_at (is_at (created h) place) (seen h s n)
+
+-- no session sees a row there, under any view
+abbrev pub IsUnseen : List Event → Place → Type 0
+IsUnseen h place = (s n : ℕ) → row_seen h s n place ≡ None
+
+-- the first place from another on: no session sees a row between
+pub record IsFirstSeen (h : List Event) (place first : Place) : Type 0 where
+  pub from : is_from place first ≡ true
+  pub between : (other : Place) → is_from place other ≡ true → place_order other first ≡ Less → IsUnseen h other
+
+-- no session sees a row from the place on
+abbrev pub IsNoneSeen : List Event → Place → Type 0
+IsNoneSeen h place = (other : Place) → is_from place other ≡ true → IsUnseen h other
+
+-- the place comes next behind another: no session sees a row between
+pub record IsNextSeen (h : List Event) (place next : Place) : Type 0 where
+  pub behind : place_order place next ≡ Less
+  pub between : (other : Place) → place_order place other ≡ Less → place_order other next ≡ Less → IsUnseen h other
+
+-- no session sees a row behind the place
+abbrev pub IsLastSeen : List Event → Place → Type 0
+IsLastSeen h place = (other : Place) → place_order place other ≡ Less → IsUnseen h other
+
+-- The newest row of a place, committed or not: as the one session sees it whose changes may be newest there.
+abbrev pub IsNewestSeen : List Event → Place → Option (List Value) → Type 0
+IsNewestSeen h place row = (s : ℕ) × ((other : ℕ) → other ≢ s → list_any (is_at (created h) place) (own other h) ≡ false) × (row ≡ row_seen h s (commits h) place)

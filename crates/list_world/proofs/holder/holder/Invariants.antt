@@ -1,8 +1,0 @@
-use Rattle.std.proofs.Common.{◌≡◌, ℕ, ◌<◌, false, Some}
-use Rattle.std.specs.Prelude.{slice_get}
-use Rattle.world.specs.State.{Session}
-use Rattle.list_world.specs.Rooms.{is_of}
-use Rattle.list_world.proofs.holder.holder.Given as goal
-
-abbrev pub invariant-loop-s : goal.invariant-loop-s
-invariant-loop-s l = (k : ℕ) (session : Session) → k < l.s → slice_get l.sessions k ≡ Some session → is_of l.txn session.work ≡ false

@@ -1,6 +1,0 @@
-use Rattle.std.proofs.Common.{◌≡◌, take}
-use Rattle.list_world.proofs.reading.copy_columns.Given as goal
-
--- those before the place are copied
-abbrev pub invariant-loop-column : goal.invariant-loop-column
-invariant-loop-column l = l.copy.items ≡ take l.column-index l.column-items

@@ -1,6 +1,0 @@
-use Rattle.std.proofs.Common.{◌≡◌, take}
-use Rattle.list_world.proofs.reading.copy_keys.Given as goal
-
--- those before the place are copied
-abbrev pub invariant-loop-key : goal.invariant-loop-key
-invariant-loop-key l = l.copy.items ≡ take l.key-index l.key-items

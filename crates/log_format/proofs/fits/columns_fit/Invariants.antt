@@ -1,6 +1,0 @@
-use Rattle.std.proofs.Common.{All, take}
-use Rattle.log_format.specs.Group.{IsColumn}
-use Rattle.log_format.proofs.fits.columns_fit.Given as goal
-
-abbrev pub invariant-loop-item : goal.invariant-loop-item
-invariant-loop-item l = All IsColumn (take l.item-index l.items)

@@ -1,7 +1,0 @@
-use Rattle.std.proofs.Common.{◌≡◌, ◌-◌}
-use Rattle.log_format.specs.Reading.{column_at, list_at}
-use Rattle.log_format.proofs.Loop.{with_front}
-use Rattle.log_format.proofs.reading.columns_of.Given as goal
-
-abbrev pub invariant-loop : goal.invariant-loop
-invariant-loop l = with_front l.items.items (list_at column_at (l.count - l.counter) l.rest) ≡ list_at column_at l.count l.bytes

@@ -1,0 +1,2 @@
+mod Zeroing
+mod ZeroRest

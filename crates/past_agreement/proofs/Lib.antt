@@ -1,7 +1,0 @@
-pub mod Ids
-pub mod Opens
-pub mod Standing
-pub mod Rows
-pub mod Tables
-mod Owed
-pub mod Agree

@@ -1,4 +1,0 @@
-//! In what order entries come to a history (specs/Order.antt), what a session sees at a place of a past (specs/Rows.antt), and
-//! when the rows, transactions and sessions of an engine agree with its past (specs/Agreement.antt), with the laws that each
-//! entry keeps that. There is no code here: what keeps an engine stands on them.
-#![tactic(auto)]

@@ -1,7 +1,0 @@
-use Rattle.sql_grammar.specs.Grammar.{Spells}
-use Rattle.serial_laws.proofs.Alone.{serial_alone}
-use Rattle.serial_laws.proofs.Spelled.{spells_one}
-use Rattle.serial_laws.proofs.a_serial_history_answers_as_alone.Goals as goal
-
-pub returns : goal.returns
-returns c = serial_alone Spells spells_one

@@ -1,0 +1,28 @@
+use Rattle.std.proofs.Common.{length, refl}
+use Rattle.std.proofs.lemmas.Result.{err_from_is_err_and}
+use Rattle.sql_conditions.specs.Expressions.{marks, after_expression}
+use Rattle.sql_conditions.proofs.SettledExpressions.{steps_fail, steps_whole, steps_more, steps_run_out}
+use Rattle.sql_conditions.proofs.expressions.expression.Goals as goal
+
+pub returns-in_err-whole-clause-exact : goal.returns-in_err-whole-clause-exact
+returns-in_err-whole-clause-exact c =
+    let p = err_from_is_err_and c.from_residual.result c.from_residual.ensures.1 in
+    rw (p.1, p.2) (steps_fail (length c.args.tokens.now) c.loop.counter (marks c.loop.stack) c.loop.rest.now c.loop.rest.now (after_expression c.args.tokens.now) c.loop.invariant.left c.in_err-whole.field-0.0 c.loop-test.true c.in_err-whole.ensures.exact)
+
+pub returns-in-Whole-clause-exact : goal.returns-in-Whole-clause-exact
+returns-in-Whole-clause-exact c =
+    let exact = rw c.in-Whole.is at c.in_ok-whole.ensures.exact in
+    steps_whole (length c.args.tokens.now) c.loop.counter (marks c.loop.stack) c.loop.rest.now c.in-Whole.rest.now (after_expression c.args.tokens.now) c.loop.invariant.left c.loop-test.true exact
+
+pub loop-preserved : goal.loop-preserved
+loop-preserved c =
+    let exact = rw c.in-Wants.is at c.in_ok-whole.ensures.exact in
+    let spelled = rw c.in-Wants.is at c.in_ok-whole.ensures.spelled in
+    record {
+      stands = spelled c.args.tokens.now c.loop.invariant.stands;
+      left = steps_more (length c.args.tokens.now) c.loop.counter (marks c.loop.stack) c.loop.rest.now c.in-Wants.more.now (after_expression c.args.tokens.now) c.loop.invariant.left (marks c.step.new.stack) c.loop-test.true exact;
+    }
+
+pub returns-clause-exact : goal.returns-clause-exact
+returns-clause-exact c =
+    rw c.unexpected.ensures (c.loop.rest.now, steps_run_out (length c.args.tokens.now) c.loop.counter (marks c.loop.stack) c.loop.rest.now c.loop.rest.now (after_expression c.args.tokens.now) c.loop.invariant.left c.loop-test.false, refl)

@@ -1,0 +1,11 @@
+//! Conditions behind a WHERE, and the right sides of assignments, at the front of a statement's tokens.
+//! Brackets may be nested to any depth: what waits for an operand stands on a stack in memory.
+#![tactic(auto)]
+
+mod atoms;
+mod conditions;
+mod expressions;
+mod stack;
+
+pub use conditions::condition;
+pub use expressions::expression;

@@ -1,0 +1,24 @@
+use Rattle.std.proofs.Common.{refl, length, sym}
+use Rattle.std.proofs.lemmas.Result.{err_from_is_err_and}
+use Rattle.sql_literals.specs.Parts.{commas_at}
+use Rattle.sql_simple_statements.specs.Statements.{define_at}
+use Rattle.sql_literals.proofs.Items.{goes_on, stops, fails, runs_out}
+use Rattle.sql_simple_statements.proofs.table.definitions.Goals as goal
+
+pub returns-in_err-definition : goal.returns-in_err-definition
+returns-in_err-definition c =
+    let p = err_from_is_err_and c.from_residual.result c.from_residual.ensures.1 in
+    rw (p.1, p.2) (fails define_at c.loop.definitions.items (length c.args.tokens.now) c.loop.counter c.loop.rest.now (commas_at define_at c.args.tokens.now) c.in_err-definition.field-0.0 c.loop-test.true c.in_err-definition.ensures c.loop.invariant)
+
+pub returns-in-None : goal.returns-in-None
+returns-in-None c =
+    let e = c.in_ok-push.ensures.items in
+    rw (c.from_vec.ensures, e) (stops define_at c.loop.definitions.items (length c.args.tokens.now) c.loop.counter c.loop.rest.now (commas_at define_at c.args.tokens.now) c.in_ok-definition.definition c.in_ok-definition.after.now c.loop-test.true c.in_ok-definition.ensures (sym c.in-None.ensures) c.loop.invariant)
+
+pub loop-preserved : goal.loop-preserved
+loop-preserved c =
+    let e = c.in_ok-push.ensures.items in
+    rw e (goes_on define_at c.loop.definitions.items (length c.args.tokens.now) c.loop.counter c.loop.rest.now (commas_at define_at c.args.tokens.now) c.in_ok-definition.definition c.in_ok-definition.after.now c.in-Some.more.now c.loop-test.true c.in_ok-definition.ensures (sym c.in-Some.ensures) c.loop.invariant)
+
+pub returns : goal.returns
+returns c = rw c.unexpected.ensures (c.loop.rest.now, runs_out define_at c.loop.definitions.items (length c.args.tokens.now) c.loop.counter c.loop.rest.now (commas_at define_at c.args.tokens.now) c.loop-test.false c.loop.invariant, refl)

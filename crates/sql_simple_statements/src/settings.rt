@@ -1,0 +1,137 @@
+//! SET: autocommit, and the isolation level of the session or of the next transaction.
+//! Nothing is set here; who runs the statement does that.
+
+ghost use Rattle.std.specs.Prelude.{◌≡◌};
+ghost use Rattle.sql_literals.specs.Parts.{Gives};
+ghost use Rattle.sql_simple_statements.specs.Statements as read;
+
+use inno_types::{Comparison, Level, LevelScope, Stmt};
+use sql_grammar::{Token, Word};
+use sql_literals::{Refusal, end, unexpected};
+
+/// What stands behind SET.
+#[tactic(auto, unfolding(crate::specs::Statements::set_of))]
+pub fn set(tokens: &[Token]) -> Result<Stmt, Refusal>
+    ensures { Gives (λ s. s) result (read.set_of tokens.now) }
+{
+    match tokens {
+        [Token::Bare(Some(Word::Autocommit), _), rest @ ..] => autocommit(rest),
+        [Token::Bare(Some(Word::Session), _), rest @ ..] => level(LevelScope::Session, rest),
+        _ => level(LevelScope::NextTransaction, tokens),
+    }
+}
+
+#[tactic(auto, unfolding(crate::specs::Statements::autocommit_of))]
+fn autocommit(tokens: &[Token]) -> Result<Stmt, Refusal>
+    ensures { Gives (λ s. s) result (read.autocommit_of tokens.now) }
+{
+    match tokens {
+        [Token::Compare(Comparison::Equal), rest @ ..] => {
+            let on = switch(rest)?;
+            Ok(Stmt::SetAutocommit(on))
+        }
+        _ => Err(unexpected(tokens)),
+    }
+}
+
+#[tactic(auto, unfolding(crate::specs::Statements::switch_of))]
+fn switch(tokens: &[Token]) -> Result<bool, Refusal>
+    ensures { Gives (λ x. x) result (read.switch_of tokens.now) }
+{
+    match tokens {
+        [Token::Number(digits), rest @ ..] => {
+            if digits.as_slice() == b"0".as_slice() {
+                end(rest)?;
+                return Ok(false);
+            }
+            if digits.as_slice() == b"1".as_slice() {
+                end(rest)?;
+                return Ok(true);
+            }
+            Err(unexpected(tokens))
+        }
+        [Token::Bare(Some(Word::On), _), rest @ ..] => {
+            end(rest)?;
+            Ok(true)
+        }
+        [Token::Bare(Some(Word::Off), _), rest @ ..] => {
+            end(rest)?;
+            Ok(false)
+        }
+        _ => Err(unexpected(tokens)),
+    }
+}
+
+#[tactic(auto, unfolding(crate::specs::Statements::level_of))]
+fn level(scope: LevelScope, tokens: &[Token]) -> Result<Stmt, Refusal>
+    ensures { Gives (λ s. s) result (read.level_of scope tokens.now) }
+{
+    match tokens {
+        [Token::Bare(Some(Word::Transaction), _), rest @ ..] => isolation(scope, rest),
+        _ => Err(unexpected(tokens)),
+    }
+}
+
+#[tactic(auto, unfolding(crate::specs::Statements::isolation_of))]
+fn isolation(scope: LevelScope, tokens: &[Token]) -> Result<Stmt, Refusal>
+    ensures { Gives (λ s. s) result (read.isolation_of scope tokens.now) }
+{
+    match tokens {
+        [Token::Bare(Some(Word::Isolation), _), rest @ ..] => level_word(scope, rest),
+        _ => Err(unexpected(tokens)),
+    }
+}
+
+#[tactic(auto, unfolding(crate::specs::Statements::level_word_of))]
+fn level_word(scope: LevelScope, tokens: &[Token]) -> Result<Stmt, Refusal>
+    ensures { Gives (λ s. s) result (read.level_word_of scope tokens.now) }
+{
+    match tokens {
+        [Token::Bare(Some(Word::Level), _), rest @ ..] => {
+            let level = level_name(rest)?;
+            Ok(Stmt::SetLevel { scope, level })
+        }
+        _ => Err(unexpected(tokens)),
+    }
+}
+
+#[tactic(auto, unfolding(crate::specs::Statements::level_name_of))]
+fn level_name(tokens: &[Token]) -> Result<Level, Refusal>
+    ensures { Gives (λ x. x) result (read.level_name_of tokens.now) }
+{
+    match tokens {
+        [Token::Bare(Some(Word::Read), _), rest @ ..] => read_level(rest),
+        [
+            Token::Bare(Some(Word::Repeatable), _),
+            Token::Bare(Some(Word::Read), _),
+            rest @ ..,
+        ] => {
+            end(rest)?;
+            Ok(Level::RepeatableRead)
+        }
+        [Token::Bare(Some(Word::Repeatable), _), rest @ ..] => Err(unexpected(rest)),
+        [Token::Bare(Some(Word::Serializable), _), rest @ ..] => {
+            end(rest)?;
+            Ok(Level::Serializable)
+        }
+        _ => Err(unexpected(tokens)),
+    }
+}
+
+/// What stands behind READ.
+#[tactic(auto, unfolding(crate::specs::Statements::read_level_of))]
+fn read_level(tokens: &[Token]) -> Result<Level, Refusal>
+    ensures { Gives (λ x. x) result (read.read_level_of tokens.now) }
+{
+    match tokens {
+        [Token::Bare(Some(Word::Uncommitted), _), rest @ ..] => {
+            end(rest)?;
+            Ok(Level::ReadUncommitted)
+        }
+        [Token::Bare(Some(Word::Committed), _), rest @ ..] => {
+            end(rest)?;
+            Ok(Level::ReadCommitted)
+        }
+        _ => Err(unexpected(tokens)),
+    }
+}

@@ -1,9 +1,0 @@
-use Rattle.std.proofs.Common.{◌≡◌, ◌-◌}
-use Rattle.sql_text.specs.Conditions.{Stands, steps, marks, after_condition}
-use Rattle.sql_text.proofs.condition.condition.Given as goal
-
-abbrev pub invariant-loop : goal.invariant-loop
-invariant-loop l = record {
-  stands : Stands l.tokens l.stack l.rest;
-  left : steps (l.count - l.counter) (marks l.stack) l.rest ≡ after_condition l.tokens;
-}

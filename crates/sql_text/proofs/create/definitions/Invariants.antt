@@ -1,8 +1,0 @@
-use Rattle.std.proofs.Common.{◌≡◌, ◌-◌}
-use Rattle.sql_text.specs.Parts.{items_at}
-use Rattle.sql_text.specs.Statements.{define_at}
-use Rattle.sql_text.proofs.Lists.{with_items}
-use Rattle.sql_text.proofs.create.definitions.Given as goal
-
-abbrev pub invariant-loop : goal.invariant-loop
-invariant-loop l = with_items l.definitions.items (items_at define_at (l.count - l.counter) l.rest) ≡ items_at define_at l.count l.tokens

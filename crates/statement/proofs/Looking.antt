@@ -1,0 +1,206 @@
+-- What is known where a statement begins, or is refused at once.
+use Rattle.std.specs.Prelude.{◌⊎◌}
+use Rattle.std.proofs.Common.{◌≡◌, ◌≢◌, ℕ, Bool, true, false, Option, Some, None, List, [], ◌∷◌, refl, sym, ap, subst, ◌∙◌, inl, inr, arith}
+use Rattle.std.proofs.lemmas.Bool.Decides.{nat_tests, eqb_tells}
+use Rattle.std.proofs.lemmas.Bool.{false≢true}
+use Rattle.inno_types.specs.declared.stmt.Stmt.{Stmt}
+use Rattle.inno_types.specs.declared.lock.Level.{Level}
+use Rattle.inno_types.specs.declared.reply.Item.{Item}
+use Rattle.inno_types.specs.declared.reply.Item.TheVariants.{Sql}
+use Rattle.inno_types.specs.declared.reply.SqlError.{SqlError}
+use Rattle.inno_types.specs.declared.reply.Reply.TheVariants as replies
+use Rattle.inno_model.specs.declared.event.Event.{Event}
+use Rattle.inno_model.specs.declared.event.Event.TheVariants as events
+use Rattle.inno_types.specs.declared.reply.SqlError.TheVariants as errors
+use Rattle.std.specs.List.{list_any}
+use Rattle.inno_model.specs.Past.{is_of, under_way, before_item, of_item, did, own, commits_txn, rolls_back_txn, begins_txn, awaits_ack}
+use Rattle.inno_model.specs.Moments.{starts, Sometime}
+use Rattle.inno_model.proofs.Untouched.{untouched}
+use Rattle.sql_history.specs.Waiting.{is_victim}
+use Rattle.sql_lists.proofs.Staying.{at_work, point_now}
+use Rattle.sql_grammar.specs.Grammar.{Spells}
+use Rattle.sql_history.specs.Items.{Asks, is_over, point, before_turn, own_before}
+use Rattle.sql_history.specs.Settings.{Setting, HasSet, next_level}
+use Rattle.sql_history.specs.Statements.{refused_at_once}
+use Rattle.sql_history.specs.Legal.{Takes}
+use Rattle.sql_lists.specs.Kept.{MayReply}
+use Rattle.sql_lists.specs.Steps.{IsTaken}
+use Rattle.read_statement.specs.Running.{IsTakenWith}
+use Rattle.statement.specs.declared.under_way.Look.TheVariants as looks
+use Rattle.statement.specs.Running.{HasOnlyStarted, LooksAs}
+
+tells : (b : Bool) → (b ≡ true) ⊎ (b ≡ false)
+tells true = inl refl
+tells false = inr refl
+
+-- what a session has set is not changed by entries of others
+set_back : (e : Event) (h : List Event) (u : ℕ) (x : Setting) → is_of u e ≡ false → HasSet Spells u (e ∷ h) x → HasSet Spells u h x
+set_back (events.Begin t n l) h u x other held = rw other at held
+set_back (events.Committed t) h u x other held = rw other at held
+set_back (events.RolledBack t) h u x other held = rw other at held
+set_back (events.Ended t j reply) h u x other held = rw other at held
+set_back e h u x other held = held
+
+-- an entry of its own is one of the item's
+has_entry : (e : Event) (h : List Event) (s : ℕ) → is_of s e ≡ true → starts s e ≡ false → of_item s (e ∷ h) ≡ [] → ⊥
+has_entry (events.Opened db) h s mine goes none = false≢true mine
+has_entry (events.Signal name) h s mine goes none = false≢true mine
+has_entry (events.Stopped cause) h s mine goes none = false≢true mine
+has_entry (events.Started t j item) h s mine goes none = false≢true (sym goes ∙ mine)
+has_entry e h s mine goes none = let is = rw mine at none in cc
+
+-- an item that has done nothing has set nothing
+set_before : (s : ℕ) (h : List Event) (x : Setting) → under_way s h ≢ None → of_item s h ≡ [] → HasSet Spells s h x → HasSet Spells s (before_item s h) x
+set_before s [] x way none held = absurd (way refl)
+set_before s (events.Started t j item ∷ h) x way none held =
+    elim (eqb_tells t s) [
+      | inl same ↦ rw same.0 held
+      | inr apart ↦ rw apart.0 (set_before s h x (λ is. way (rw apart.0 is)) (rw apart.0 at none) held)
+    ]
+set_before s (e ∷ h) x way none held =
+    elim (tells (is_of s e)) [
+      | inl mine ↦ absurd (has_entry e h s mine refl none)
+      | inr other ↦ (let same = untouched e h s other in set_before s h x (λ is. way (same.item ∙ is)) (sym same.entries ∙ none) (set_back e h s x other held))
+    ]
+
+has_way : (s : ℕ) (text : List ℕ) (h : List Event) → under_way s h ≡ Some (Sql text) → under_way s h ≢ None
+has_way s text h item none = cc
+
+now_or_never : (P : List Event → Type 0) (s : ℕ) (text : List ℕ) (h : List Event) → under_way s h ≡ Some (Sql text) → P h → Sometime P s h
+now_or_never P s text [] item holds = absurd (let is = item in cc)
+now_or_never P s text (e ∷ h) item holds = inl holds
+
+-- an item that has done nothing leaves what its session had
+own_since : (s : ℕ) (h : List Event) → under_way s h ≢ None → of_item s h ≡ [] → own s h ≡ own s (before_item s h)
+own_since s [] way none = refl
+own_since s (events.Started t j item ∷ h) way none =
+    elim (eqb_tells t s) [
+      | inl same ↦ rw same.0 refl
+      | inr apart ↦ rw apart.0 (own_since s h (λ is. way (rw apart.0 is)) (rw apart.0 at none))
+    ]
+own_since s (e ∷ h) way none =
+    elim (tells (is_of s e)) [
+      | inl mine ↦ absurd (has_entry e h s mine refl none)
+      | inr other ↦ (let same = untouched e h s other in same.own_is ∙ own_since s h (λ is. way (same.item ∙ is)) (sym same.entries ∙ none))
+    ]
+
+turn_since : (s : ℕ) (h : List Event) → under_way s h ≢ None → of_item s h ≡ [] → before_turn s h ≡ before_item s h
+turn_since s [] way none = refl
+turn_since s (events.Started t j item ∷ h) way none =
+    elim (eqb_tells t s) [
+      | inl same ↦ rw same.0 refl
+      | inr apart ↦ rw apart.0 (turn_since s h (λ is. way (rw apart.0 is)) (rw apart.0 at none))
+    ]
+turn_since s (e ∷ h) way none =
+    elim (tells (is_of s e)) [
+      | inl mine ↦ absurd (has_entry e h s mine refl none)
+      | inr other ↦ (let same = untouched e h s other in (at_work e h s other).before ∙ turn_since s h (λ is. way (same.item ∙ is)) (sym same.entries ∙ none))
+    ]
+
+own_turn : (s : ℕ) (h : List Event) → under_way s h ≢ None → of_item s h ≡ [] → own s h ≡ own_before s h
+own_turn s h way none = own_since s h way none ∙ ap (own s) (sym (turn_since s h way none))
+
+over_none : (s : ℕ) (h : List Event) → of_item s h ≡ [] → is_over s h ≡ false
+over_none s [] none = refl
+over_none s (events.Started t j item ∷ h) none =
+    elim (eqb_tells t s) [
+      | inl same ↦ rw same.0 refl
+      | inr apart ↦ rw apart.0 (over_none s h (rw apart.0 at none))
+    ]
+over_none s (e ∷ h) none =
+    elim (tells (is_of s e)) [
+      | inl mine ↦ absurd (has_entry e h s mine refl none)
+      | inr other ↦ (at_work e h s other).over ∙ over_none s h (sym (untouched e h s other).entries ∙ none)
+    ]
+
+module _ (s : ℕ) (text : List ℕ) (stmt : Stmt) (h : List Event) (only : HasOnlyStarted s text h) (spells : Spells text stmt) where
+  asks : Asks Spells s stmt h
+  asks = (text, only.item, spells)
+
+  set_at_start : (x : Setting) → HasSet Spells s h x → HasSet Spells s (before_item s h) x
+  set_at_start x held = set_before s h x (has_way s text h only.item) only.nothing held
+
+  -- nothing refuses it
+  pub taken_with : (autocommit : Bool) (level : Level) → LooksAs s stmt h (looks.Ready autocommit level) → IsTakenWith autocommit level s stmt h
+  taken_with autocommit level ready =
+      record {
+        taken = record {
+          takes = record { asks = asks; setting = ready.0; is_set = set_at_start ready.0 ready.1; not_refused = now_or_never (λ past. refused_at_once s ready.0 stmt past ≡ None) s text h only.item ready.2 };
+          nothing = only.nothing;
+          rows_alone = only.rows_alone;
+        };
+        autocommit_is = ready.3;
+        level_is = ready.4;
+      }
+
+  acked : awaits_ack (of_item s h) ≡ false
+  acked = ap awaits_ack only.nothing
+
+  no_victim : did is_victim s h ≡ false
+  no_victim = ap (list_any is_victim) only.nothing
+
+  -- a refusal at once
+  pub refused_now : (error : SqlError) → LooksAs s stmt h (looks.Refused error) → MayReply s (replies.Fail error) h
+  refused_now error refused =
+      record {
+        item = Sql text;
+        asked = only.item;
+        ends = (
+          acked,
+          inl refl,
+          inl (record {
+            statement = stmt;
+            asks = asks;
+            setting = refused.0;
+            is_set = set_at_start refused.0 refused.1;
+            refusal = Some error;
+            found = now_or_never (λ past. refused_at_once s refused.0 stmt past ≡ Some error) s text h only.item refused.2;
+            ends = (refl, only.nothing);
+            no_victim = no_victim;
+          }),
+        );
+      }
+
+sql_text : (a b : List ℕ) → Some (Sql a) ≡ Some (Sql b) → a ≡ b
+sql_text a b is = cc
+
+module _ (s : ℕ) (text : List ℕ) (h : List Event) (only : HasOnlyStarted s text h) where
+  acked_too : awaits_ack (of_item s h) ≡ false
+  acked_too = ap awaits_ack only.nothing
+
+  -- a text that is no statement
+  pub no_statement : (at : ℕ) → ((stmt : Stmt) → Spells text stmt → ⊥) → MayReply s (replies.Fail (errors.Syntax at)) h
+  no_statement at none =
+      record {
+        item = Sql text;
+        asked = only.item;
+        ends = (acked_too, inl refl, inr (inl (record { none = λ stmt asks. none stmt (subst (λ t. Spells t stmt) (sql_text asks.0 text (sym asks.1 ∙ only.item)) asks.2); place = at; answer = refl; nothing = only.nothing })));
+      }
+
+  goes_on : is_over s h ≡ false
+  goes_on = over_none s h only.nothing
+
+  point_is : point s h ≡ h
+  point_is = point_now h s goes_on
+
+  -- no memory was found before anything was done
+  pub wants_memory : MayReply s replies.NoMemory h
+  wants_memory =
+      record {
+        item = Sql text;
+        asked = only.item;
+        ends = (
+          acked_too,
+          inl refl,
+          inr (inr (record {
+            leaves = inr (inr (inr (record {
+              own_stay = own_since s h (has_way s text h only.item) only.nothing;
+              not_committed = ap (list_any commits_txn) only.nothing;
+              not_rolled_back = ap (list_any rolls_back_txn) only.nothing;
+              no_victim = ap (list_any is_victim) only.nothing;
+              begun = inl (ap (list_any begins_txn) only.nothing);
+            })));
+            made = inl (subst (λ p. own s p ≡ own_before s p) (sym point_is) (own_turn s h (has_way s text h only.item) only.nothing));
+          })),
+        );
+      }

@@ -1,0 +1,85 @@
+-- What the engine knows of a statement between its steps. One that hasn't begun has nothing under way with rows.
+use Rattle.std.specs.Prelude.{◌≡◌, ℕ, Bool, true, false, Some, None, List, []}
+use Rattle.inno_types.specs.declared.stmt.Stmt.{Stmt}
+use Rattle.inno_types.specs.declared.reply.Item.{Item}
+use Rattle.inno_types.specs.declared.reply.Item.TheVariants.{Sql}
+use Rattle.inno_model.specs.declared.event.Event.{Event}
+use Rattle.inno_model.specs.Past.{under_way, of_item}
+use Rattle.sql_grammar.specs.Grammar.{Spells}
+use Rattle.sql_history.specs.Settings.{Setting, HasSet, next_level}
+use Rattle.sql_history.specs.Statements.{is_select, refused_at_once}
+use Rattle.sql_history.specs.Legal.{IsCreation, IsWriting}
+use Rattle.sql_lists.specs.declared.advance.Advance.{Advance}
+use Rattle.sql_lists.specs.declared.advance.Advance.TheVariants as advances
+use Rattle.shared_lists.specs.Tasks.{Idle}
+use Rattle.shared_lists.specs.State.{State, task_of}
+use Rattle.sql_lists.specs.Steps.{HasRowsAlone}
+use Rattle.transaction_statements.specs.Committing.{IsOnTransactions}
+use Rattle.transaction_statements.specs.Running.{IsRunning as of_transaction}
+use Rattle.create_statement.specs.Running.{IsRunning as of_create}
+use Rattle.read_statement.specs.Running.{IsRunning as of_read}
+use Rattle.write_statement.specs.Running.{IsRunning as of_write}
+use Rattle.statement.specs.declared.under_way.Statement.{Statement}
+use Rattle.statement.specs.declared.under_way.Statement.TheVariants as statements
+use Rattle.statement.specs.declared.under_way.Kind.{Kind}
+use Rattle.statement.specs.declared.under_way.Kind.TheVariants as kinds
+use Rattle.statement.specs.declared.under_way.Look.{Look}
+use Rattle.statement.specs.declared.under_way.Look.TheVariants as looks
+
+-- the session's item is a text, and has done nothing
+pub record HasOnlyStarted (s : ℕ) (text : List ℕ) (past : List Event) : Type 0 where
+  pub item : under_way s past ≡ Some (Sql text)
+  pub nothing : of_item s past ≡ []
+  pub rows_alone : HasRowsAlone s past
+
+-- the text spells no statement
+abbrev pub IsNone : List ℕ → Type 0
+IsNone text = (stmt : Stmt) → Spells text stmt → ⊥
+
+-- what a text is read as, before its first step
+abbrev pub IsReadFrom : List ℕ → Statement → Type 0
+IsReadFrom text (statements.Unread at) = IsNone text
+IsReadFrom text (statements.Asked stmt) = Spells text stmt
+IsReadFrom text other = ⊥
+
+abbrev pub ReadsItem : Item → Statement → Type 0
+ReadsItem item statement = (text : List ℕ) × (item ≡ Sql text) × IsReadFrom text statement
+
+abbrev pub IsRunning : State → ℕ → Statement → Type 0
+IsRunning state s (statements.Unread at) = (text : List ℕ) × HasOnlyStarted s text state.past × IsNone text × (task_of s state ≡ Idle)
+IsRunning state s (statements.Asked stmt) = (text : List ℕ) × HasOnlyStarted s text state.past × Spells text stmt × (task_of s state ≡ Idle)
+IsRunning state s (statements.Transaction statement) = of_transaction state s statement
+IsRunning state s (statements.Create statement) = of_create state s statement
+IsRunning state s (statements.Read statement) = of_read state s statement
+IsRunning state s (statements.Write statement) = of_write state s statement
+IsRunning state s statements.Failed = (text : List ℕ) × HasOnlyStarted s text state.past × (task_of s state ≡ Idle)
+
+-- ---- before it begins
+
+abbrev pub IsOfKind : Kind → Stmt → Type 0
+IsOfKind kinds.Create stmt = IsCreation stmt
+IsOfKind kinds.Read stmt = is_select stmt ≡ true
+IsOfKind kinds.Write stmt = IsWriting stmt
+IsOfKind kinds.Transaction stmt = IsOnTransactions stmt
+
+-- what is found of a statement before it begins, by what its session has set
+abbrev pub LooksAs : ℕ → Stmt → List Event → Look → Type 0
+LooksAs s stmt past (looks.Refused error) = (setting : Setting) × HasSet Spells s past setting × (refused_at_once s setting stmt past ≡ Some error)
+LooksAs s stmt past (looks.Ready autocommit level) =
+    (setting : Setting) × HasSet Spells s past setting × (refused_at_once s setting stmt past ≡ None) × (setting.autocommit ≡ autocommit) × (next_level setting ≡ level)
+
+-- the machine of its kind is at work
+abbrev pub IsBegun : Statement → Type 0
+IsBegun (statements.Transaction statement) = Unit {0}
+IsBegun (statements.Create statement) = Unit {0}
+IsBegun (statements.Read statement) = Unit {0}
+IsBegun (statements.Write statement) = Unit {0}
+IsBegun other = ⊥
+
+abbrev pub is_went : Advance → Bool
+is_went advances.Went = true
+is_went other = false
+
+abbrev pub is_done : Advance → Bool
+is_done (advances.Done reply) = true
+is_done other = false

@@ -1,0 +1,7 @@
+//! A statement under way, whichever it is: what refuses it at once, and then the machine of its kind.
+//! The engine seats it, drives it a step at a time, and knows no machine by name.
+#![tactic(auto)]
+
+mod under_way;
+
+pub use under_way::Statement;

@@ -1,0 +1,324 @@
+//! A statement under way, whichever it is. Before its first step it is looked at whether something refuses it at once;
+//! then the machine of its kind makes the steps.
+
+ghost use Rattle.std.specs.Prelude.{◌≡◌, ◌≢◌, ◌<◌, None, true, false, IfOk, length};
+ghost use Rattle.inno_db.specs.Refusals.{refused_if};
+ghost use Rattle.inno_model.specs.Past.{level_or, IsOpen};
+ghost use Rattle.sql_history.specs.Settings.{next_level};
+ghost use Rattle.sql_history.specs.Statements.{session_refusal, is_serializable};
+ghost use Rattle.sql_lists.specs.Kept.{IsOnlyMaker};
+ghost use Rattle.sql_lists.specs.Steps.{Steps};
+ghost use Rattle.sql_lists.specs.Going.{Nears};
+ghost use Rattle.statement.specs.Running.{IsRunning, IsOfKind, LooksAs, IsBegun, is_went, is_done};
+ghost use Rattle.statement.specs.Going.{statement_to_go};
+
+use create_statement::CreateStatement;
+use inno_types::{Level, LevelScope, Reply, SqlError, Stmt};
+use read_statement::ReadStatement;
+use session_settings::SessionSettings;
+use shared_lists::SharedLists;
+use sql_lists::{Advance, SqlLists};
+use sql_refusals::refuse;
+use std::alloc::{AllocError, Global};
+use transaction_statements::TransactionStatement;
+use write_statement::WriteStatement;
+
+/// A statement under way.
+#[derive(Drop)]
+pub enum Statement {
+    /// Its text is no statement: it stops being the beginning of one at this byte.
+    Unread { at: u32 },
+    /// It has made no step yet.
+    Asked(Stmt),
+    Transaction(TransactionStatement),
+    Create(CreateStatement),
+    Read(ReadStatement),
+    Write(WriteStatement),
+    /// No memory was found before it began.
+    Failed,
+}
+
+impl Statement {
+    /// One step of the session's statement.
+    pub fn step<L: SharedLists>(
+        self,
+        alloc: Global,
+        session: u32,
+        lists: &mut SqlLists<L>,
+    ) -> (Statement, Advance)
+        requires joined { session < length lists.old.names }
+        requires running { IsRunning lists.old session self }
+        ensures steps { Steps IsRunning session lists.old lists.new result.0 result.1 }
+        ensures nears { Nears statement_to_go session lists.old self lists.new result.0 result.1 }
+    {
+        match self {
+            Statement::Unread { at } => refuse_text(at, session, lists),
+            Statement::Asked(stmt) => first_step(alloc, stmt, session, lists),
+            Statement::Transaction(statement) => {
+                let (statement, advance) = statement.step(alloc, session, lists);
+                (Statement::Transaction(statement), advance)
+            }
+            Statement::Create(statement) => {
+                let (statement, advance) = statement.step(alloc, session, lists);
+                (Statement::Create(statement), advance)
+            }
+            Statement::Read(statement) => {
+                let (statement, advance) = statement.step(alloc, session, lists);
+                (Statement::Read(statement), advance)
+            }
+            Statement::Write(statement) => {
+                let (statement, advance) = statement.step(alloc, session, lists);
+                (Statement::Write(statement), advance)
+            }
+            Statement::Failed => give_up(session, lists),
+        }
+    }
+}
+
+/// The text of the item is no statement.
+fn refuse_text<L: SharedLists>(
+    at: u32,
+    session: u32,
+    lists: &mut SqlLists<L>,
+) -> (Statement, Advance)
+    requires joined { session < length lists.old.names }
+    requires running { IsRunning lists.old session (Statement.Unread at) }
+    ensures steps { Steps IsRunning session lists.old lists.new result.0 result.1 }
+    ensures over { is_done result.1 ≡ true }
+{
+    lists.end(session, Reply::Fail(SqlError::Syntax { at }));
+    (
+        Statement::Failed,
+        Advance::Done(Reply::Fail(SqlError::Syntax { at })),
+    )
+}
+
+/// No memory was found: nothing was begun.
+fn give_up<L: SharedLists>(session: u32, lists: &mut SqlLists<L>) -> (Statement, Advance)
+    requires joined { session < length lists.old.names }
+    requires running { IsRunning lists.old session Statement.Failed }
+    ensures steps { Steps IsRunning session lists.old lists.new result.0 result.1 }
+    ensures over { is_done result.1 ≡ true }
+{
+    lists.end(session, Reply::NoMemory);
+    (Statement::Failed, Advance::Done(Reply::NoMemory))
+}
+
+/// Looks whether something refuses the statement at once, and else begins it. Which tables stand is settled only while
+/// no other session makes one.
+/// MySQL 8.0 Reference Manual, "Metadata Locking".
+fn first_step<L: SharedLists>(
+    alloc: Global,
+    stmt: Stmt,
+    session: u32,
+    lists: &mut SqlLists<L>,
+) -> (Statement, Advance)
+    requires joined { session < length lists.old.names }
+    requires running { IsRunning lists.old session (Statement.Asked stmt) }
+    ensures steps { Steps IsRunning session lists.old lists.new result.0 result.1 }
+    ensures nears { Nears statement_to_go session lists.old (Statement.Asked stmt) lists.new result.0 result.1 }
+{
+    if let Some(by) = lists.other_maker(session) {
+        return wait_for(by, stmt, session, lists);
+    }
+    match examine(alloc, &stmt, session, lists) {
+        Ok(Look::Refused(error)) => refuse_at_once(error, stmt, session, lists),
+        Ok(Look::Ready { autocommit, level }) => (
+            begin(stmt, autocommit, level, session, lists),
+            Advance::Went,
+        ),
+        Err(_) => {
+            drop(stmt);
+            (Statement::Failed, Advance::NoMemory)
+        }
+    }
+}
+
+/// Another session makes a table: the statement waits for its transaction.
+fn wait_for<L: SharedLists>(
+    by: u32,
+    stmt: Stmt,
+    session: u32,
+    lists: &mut SqlLists<L>,
+) -> (Statement, Advance)
+    requires running { IsRunning lists.old session (Statement.Asked stmt) }
+    requires joined { (session < length lists.old.names) × (by < length lists.old.names) }
+    requires is_open { IsOpen by lists.old.past }
+    requires held { (lists.old.writer ≡ Some by) × (by ≢ session) }
+    ensures steps { Steps IsRunning session lists.old lists.new result.0 result.1 }
+    ensures stays { is_went result.1 ≡ false }
+{
+    match lists.edge_to(session, by) {
+        Ok(blockers) => (Statement::Asked(stmt), Advance::Waiting { by, blockers }),
+        Err(_) => {
+            drop(stmt);
+            (Statement::Failed, Advance::NoMemory)
+        }
+    }
+}
+
+/// What is found before a statement begins: a refusal, or what its session has set.
+#[derive(Drop)]
+pub enum Look {
+    Refused(SqlError),
+    Ready { autocommit: bool, level: Level },
+}
+
+/// What refuses a statement before it sees a row: what its session has open and has kept, and then its text and the
+/// tables.
+fn examine<L: SharedLists>(
+    alloc: Global,
+    stmt: &Stmt,
+    session: u32,
+    lists: &SqlLists<L>,
+) -> Result<Look, AllocError>
+    requires joined { session < length lists.now.names }
+    requires lone { IsOnlyMaker session lists.now.past }
+    ensures { IfOk result (LooksAs session stmt.now lists.now.past) }
+{
+    let setting = lists.setting(session);
+    let level = lists.lists().level(session);
+    if let Some(error) = session_refusal(session, level, setting, stmt) {
+        return Ok(Look::Refused(error));
+    }
+    if let Some(error) = refuse(alloc, lists.lists().schemas(), stmt)? {
+        return Ok(Look::Refused(error));
+    }
+    Ok(Look::Ready {
+        autocommit: setting.autocommit(),
+        level: setting.next_level(),
+    })
+}
+
+/// 1568 or 1305 by what the session has open and has kept. CREATE TABLE is for the setup part alone, and a SELECT that
+/// locks rows, or that SERIALIZABLE might make lock, is for engines that lock rows one by one.
+fn session_refusal(
+    session: u32,
+    level: Option<Level>,
+    setting: &SessionSettings,
+    stmt: &Stmt,
+) -> Option<SqlError>
+    ensures { result ≡ session_refusal session level setting.now stmt.now }
+{
+    match stmt {
+        Stmt::SetLevel {
+            scope: LevelScope::NextTransaction,
+            ..
+        } => refused_if(level.is_some(), SqlError::InTransaction),
+        Stmt::RollbackTo { savepoint } => refused_if(
+            setting.made_at(savepoint).is_none(),
+            SqlError::NoSavepoint,
+        ),
+        Stmt::CreateTable { .. } => refused_if(session != 0, SqlError::Syntax { at: 0 }),
+        Stmt::Select { lock, .. } => refused_if(
+            lock.is_some() || is_serializable(level_of(level, setting)),
+            SqlError::Syntax { at: 0 },
+        ),
+        Stmt::SetLevel {
+            scope: LevelScope::Session,
+            ..
+        }
+        | Stmt::Begin { .. }
+        | Stmt::Commit
+        | Stmt::Rollback
+        | Stmt::Savepoint { .. }
+        | Stmt::SetAutocommit(_)
+        | Stmt::Insert { .. }
+        | Stmt::Update { .. }
+        | Stmt::Delete { .. } => None,
+    }
+}
+
+fn refused_if(refused: bool, error: SqlError) -> Option<SqlError>
+    ensures { result ≡ refused_if refused error None }
+{
+    if refused { Some(error) } else { None }
+}
+
+/// The level of the transaction that is open, or of the next one.
+fn level_of(level: Option<Level>, setting: &SessionSettings) -> Level
+    ensures { result ≡ level_or level (next_level setting.now) }
+{
+    match level {
+        Some(level) => level,
+        None => setting.next_level(),
+    }
+}
+
+fn is_serializable(level: Level) -> bool
+    ensures { result ≡ is_serializable level }
+{
+    matches!(level, Level::Serializable)
+}
+
+fn refuse_at_once<L: SharedLists>(
+    error: SqlError,
+    stmt: Stmt,
+    session: u32,
+    lists: &mut SqlLists<L>,
+) -> (Statement, Advance)
+    requires joined { session < length lists.old.names }
+    requires running { IsRunning lists.old session (Statement.Asked stmt) }
+    requires refused { LooksAs session stmt lists.old.past (Look.Refused error) }
+    ensures steps { Steps IsRunning session lists.old lists.new result.0 result.1 }
+    ensures stays { is_went result.1 ≡ false }
+{
+    drop(stmt);
+    match error.copied() {
+        Ok(copy) => {
+            lists.end(session, Reply::Fail(error));
+            (Statement::Failed, Advance::Done(Reply::Fail(copy)))
+        }
+        Err(_) => (Statement::Failed, Advance::NoMemory),
+    }
+}
+
+/// The kinds of statements.
+#[derive(Clone, Copy)]
+pub enum Kind {
+    Create,
+    Read,
+    Write,
+    Transaction,
+}
+
+fn kind_of(stmt: &Stmt) -> Kind
+    ensures { IsOfKind result stmt.now }
+{
+    match stmt {
+        Stmt::CreateTable { .. } => Kind::Create,
+        Stmt::Select { .. } => Kind::Read,
+        Stmt::Insert { .. } | Stmt::Update { .. } | Stmt::Delete { .. } => Kind::Write,
+        Stmt::Begin { .. }
+        | Stmt::Commit
+        | Stmt::Rollback
+        | Stmt::RollbackTo { .. }
+        | Stmt::Savepoint { .. }
+        | Stmt::SetAutocommit(_)
+        | Stmt::SetLevel { .. } => Kind::Transaction,
+    }
+}
+
+/// Nothing refuses the statement at once: it begins.
+fn begin<L: SharedLists>(
+    stmt: Stmt,
+    autocommit: bool,
+    level: Level,
+    session: u32,
+    lists: &SqlLists<L>,
+) -> Statement
+    requires joined { session < length lists.now.names }
+    requires running { IsRunning lists.now session (Statement.Asked stmt) }
+    requires ready { LooksAs session stmt lists.now.past (Look.Ready autocommit level) }
+    ensures running { IsRunning lists.now session result }
+    ensures begun { IsBegun result }
+{
+    match kind_of(&stmt) {
+        Kind::Create => Statement::Create(CreateStatement::new(stmt, session, lists)),
+        Kind::Read => Statement::Read(ReadStatement::new(stmt, autocommit, level, session, lists)),
+        Kind::Write => Statement::Write(WriteStatement::new(stmt, session, lists)),
+        Kind::Transaction => Statement::Transaction(TransactionStatement::new(
+            stmt, session, lists,
+        )),
+    }
+}

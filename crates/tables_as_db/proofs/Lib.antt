@@ -1,3 +1,0 @@
-pub mod Gets
-pub mod Walk
-mod Searches

@@ -1,0 +1,203 @@
+//! Requests, grants and records that appear and go, as a session's user sees them. Memory is ample here.
+
+ghost use Rattle.std.specs.Prelude.{IsTrue, ◌↔◌, ◌≡◌, true};
+ghost use Rattle.lock_rules.specs.Rules.{fits};
+ghost use Rattle.lock_table.specs.Keys.{IsShort};
+
+use inno_types::{Bound, Bytes, Edges, Level, Lock, LockKind, Mode, Range, Spot};
+use lock_rules::{Case, Place, Rule, fits, rule_for};
+use lock_table::LockTable;
+use std::alloc::{AllocError, Global};
+use std::process::Abort;
+use std::test::Fail;
+use store_api::{Asked, NoMemory};
+
+/// The spot of this key in the clustered index of the first table, or its supremum.
+fn spot(alloc: Global, key: Option<u8>) -> Result<Spot, AllocError> {
+    let key = match key {
+        None => None,
+        Some(byte) => Some(Bytes::from_vec(vec![in alloc; byte]?)),
+    };
+    Ok(Spot { index: 0, key })
+}
+
+fn case_of(rule: Rule, mode: Mode, spot: Spot) -> Case {
+    Case {
+        rule: rule.number(),
+        level: Level::RepeatableRead,
+        item: 1,
+        index: 0,
+        range: Range {
+            empty: false,
+            low: Bound::Open,
+            high: Bound::Open,
+        },
+        mode,
+        spot,
+        marked: false,
+        place: match rule.kind() {
+            LockKind::NextKey => Place::Within,
+            LockKind::Gap => Place::Past,
+            LockKind::Rec | LockKind::Intent => Place::New,
+        },
+    }
+}
+
+/// The lock that a transaction at REPEATABLE READ asks for by this rule.
+fn due(
+    alloc: Global,
+    txn: u64,
+    rule: Rule,
+    mode: Mode,
+    key: Option<u8>,
+) -> Result<(Lock, Case), AllocError> {
+    let lock = Lock {
+        txn,
+        spot: spot(alloc, key)?,
+        kind: rule.kind(),
+        mode: rule.mode(mode),
+        reason: rule_for(case_of(rule, mode, spot(alloc, key)?)),
+    };
+    Ok((lock, case_of(rule, mode, spot(alloc, key)?)))
+}
+
+fn is_short(key: &Option<Bytes>) -> bool
+    ensures { IsTrue result ↔ IsShort key.now }
+{
+    match key {
+        None => true,
+        Some(key) => key.len() <= 67,
+    }
+}
+
+fn assert_fits(rt: &impl Abort, lock: &Lock, case: Case)
+    ensures { fits lock.now case ≡ true }
+{
+    assert!(rt; fits(lock, case));
+}
+
+/// Asks for the lock, and says for how many it waits.
+fn ask(
+    rt: &impl Abort,
+    table: &mut LockTable,
+    (lock, case): (Lock, Case),
+) -> Result<usize, NoMemory> {
+    assert_fits(rt, &lock, case);
+    assert!(rt; lock.reason.rule < Rule::RecordWent.number());
+    assert!(rt; is_short(&lock.spot.key));
+    assert!(rt; table.granted(lock.txn));
+    match table.request(lock) {
+        Asked::Granted => Ok(0),
+        Asked::Waits { blockers } => Ok(blockers.len()),
+        Asked::NoMemory => Err(NoMemory),
+    }
+}
+
+/// Four transactions ask for one record, the last two to share it: how many each waits for.
+fn ask_in_order(
+    rt: &impl Abort,
+    alloc: Global,
+    table: &mut LockTable,
+) -> Result<[usize; 4], NoMemory> {
+    let seven = Some(7);
+    let exclusive = Rule::Changed;
+    let shared = Rule::DuplicateCheck;
+    Ok([
+        ask(rt, table, due(alloc, 1, exclusive, Mode::X, seven)?)?,
+        ask(rt, table, due(alloc, 2, exclusive, Mode::X, seven)?)?,
+        ask(rt, table, due(alloc, 3, shared, Mode::S, seven)?)?,
+        ask(rt, table, due(alloc, 4, shared, Mode::S, seven)?)?,
+    ])
+}
+
+/// Which of the last three have their locks.
+fn granted(table: &LockTable) -> [bool; 3] {
+    [table.granted(2), table.granted(3), table.granted(4)]
+}
+
+#[test]
+fn waiters_are_granted_in_order(rt: HostRuntime) -> Result<(), Fail> {
+    let mut table = LockTable::new(rt.alloc());
+    let waits = ask_in_order(&rt, rt.alloc(), &mut table);
+    table.release_all(1);
+    let first = granted(&table);
+    table.release_all(2);
+    let second = granted(&table);
+    drop(table);
+    assert_eq!(rt; waits?, [0, 1, 2, 2]);
+    assert_eq!(rt; first, [true, false, false]);
+    assert_eq!(rt; second, [true, true, true]);
+    Ok(())
+}
+
+/// Two gap locks at the supremum and a request to insert there: how many each waits for.
+fn ask_at_the_supremum(
+    rt: &impl Abort,
+    alloc: Global,
+    table: &mut LockTable,
+) -> Result<[usize; 3], NoMemory> {
+    let gap = Rule::PastRange;
+    let intention = Rule::ToInsert;
+    Ok([
+        ask(rt, table, due(alloc, 1, gap, Mode::X, None)?)?,
+        ask(rt, table, due(alloc, 2, gap, Mode::X, None)?)?,
+        ask(rt, table, due(alloc, 2, intention, Mode::X, None)?)?,
+    ])
+}
+
+/// How many edges lead from the transaction.
+fn count_edges(alloc: Global, table: &LockTable, txn: u64) -> Result<usize, NoMemory> {
+    let mut edges = Edges::new(alloc);
+    table.edges(txn, &mut edges)?;
+    Ok(edges.len())
+}
+
+#[test]
+fn the_supremum_has_a_gap_and_no_record(rt: HostRuntime) -> Result<(), Fail> {
+    let mut table = LockTable::new(rt.alloc());
+    let waits = ask_at_the_supremum(&rt, rt.alloc(), &mut table);
+    let count = count_edges(rt.alloc(), &table, 2);
+    drop(table);
+    assert_eq!(rt; waits?, [0, 0, 1]);
+    assert_eq!(rt; count?, 1);
+    Ok(())
+}
+
+/// A record is inserted below the key 7.
+fn insert_five(rt: &impl Abort, alloc: Global, table: &mut LockTable) -> Result<(), NoMemory> {
+    let five = spot(alloc, Some(5))?;
+    let seven = spot(alloc, Some(7))?;
+    assert!(rt; is_short(&five.key));
+    table.on_insert(1, &five, &seven)
+}
+
+/// The record of the key 7, the last one, is removed.
+fn remove_seven(rt: &impl Abort, alloc: Global, table: &mut LockTable) -> Result<(), NoMemory> {
+    let seven = spot(alloc, Some(7))?;
+    let supremum = spot(alloc, None)?;
+    assert!(rt; is_short(&supremum.key));
+    table.on_remove(None, &seven, &supremum);
+    Ok(())
+}
+
+/// A scan locks the key 7. How many an insertion below the new record waits for, and one past the last once 7 is gone.
+fn follow(rt: &impl Abort, alloc: Global, table: &mut LockTable) -> Result<[usize; 3], NoMemory> {
+    let scan = Rule::RangeRecord;
+    let intention = Rule::ToInsert;
+    let scanned = ask(rt, table, due(alloc, 1, scan, Mode::S, Some(7))?)?;
+    insert_five(rt, alloc, table)?;
+    let below = ask(rt, table, due(alloc, 2, intention, Mode::X, Some(5))?)?;
+    table.withdraw(2);
+    remove_seven(rt, alloc, table)?;
+    let past = ask(rt, table, due(alloc, 2, intention, Mode::X, None)?)?;
+    Ok([scanned, below, past])
+}
+
+#[test]
+fn locks_follow_the_records(rt: HostRuntime) -> Result<(), Fail> {
+    let mut table = LockTable::new(rt.alloc());
+    let waits = follow(&rt, rt.alloc(), &mut table);
+    drop(table);
+    assert_eq!(rt; waits?, [0, 1, 1]);
+    Ok(())
+}

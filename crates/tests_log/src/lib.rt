@@ -1,0 +1,14 @@
+//! Disks in memory and on files, the bytes of the log, and what crashes leave of groups and of pages.
+//! There is nothing here but tests.
+#![tactic(auto)]
+
+#[cfg(test)]
+mod disks_in_memory;
+#[cfg(test)]
+mod files;
+#[cfg(test)]
+mod flushes;
+#[cfg(test)]
+mod groups;
+#[cfg(test)]
+mod placed_pages;

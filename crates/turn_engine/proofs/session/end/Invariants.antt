@@ -1,0 +1,8 @@
+use Rattle.std.proofs.Common.{◌≡◌, []}
+use Rattle.turn_board.specs.declared.Phase.TheVariants.{Leaving}
+use Rattle.turn_engine.specs.Turns.{Rests, Went}
+use Rattle.turn_engine.proofs.session.end.Given as goal
+
+-- so far the ending goes on
+abbrev pub invariant-loop : goal.invariant-loop
+invariant-loop g l = (l.pass.table_id ≡ l.initial.pass.table_id) × Rests l.pass.me l.s × Went l.s l.initial.pass.me.0.mine.seen l.pass.me.0.mine.seen [] Leaving

@@ -1,0 +1,183 @@
+//! One turn of a seat: it takes the engine, makes one call of it, and hands it back with the entries that the call
+//! added. No other file of this crate touches the gate's steps.
+
+ghost use Rattle.std.specs.Prelude.{◌≡◌, ℕ, ◌+◌, ◌<◌, [], ◌∷◌, length, IfOk, OnOk, OnErr};
+ghost use Rattle.inno_model.specs.declared.event.Event.TheVariants.{Started};
+ghost use Rattle.turn_board.specs.declared.Phase.TheVariants.{Idle, Busy, Leaving};
+ghost use Rattle.turn_board.specs.Boards.{phase_of};
+ghost use Rattle.turn_rule.specs.Steps.{HasTurn};
+ghost use Rattle.turn_engine.specs.Calls.{IsUnderWay, item_number, reply_of};
+ghost use Rattle.turn_engine.specs.Turns.{Rests, Went, StepWent, HasJoined, reply_in};
+
+use crate::turns::Turns;
+use crossbeam_utils::Backoff;
+use inno_types::{Bytes, Item, Reply};
+use std::sync::Wait;
+use store_api::{NoMemory, Progress};
+use turn_rule::{Gate, Pass};
+
+/// How long a session stays away from the turn after a step.
+#[derive(Clone, Copy, Debug, PartialEq, Eq)]
+pub enum Pause {
+    /// It takes the turn again at once.
+    No,
+    /// Others that are ready come first.
+    Short,
+    /// Others have to bring something about first.
+    Long,
+}
+
+/// What a step came to.
+#[derive(Drop)]
+pub enum Stepped {
+    /// The item has ended with this reply, or the session has left.
+    Over(Reply),
+    GoesOn(Pause),
+}
+
+/// Waits for the turn, and takes the engine. After a first miss it pauses, after a second it sleeps until the turn is
+/// given up.
+fn take_turn<E: Turns, R: Wait>(rt: &R, gate: &Gate<E>, pass: &mut Pass<E>, s: u32) -> E
+    requires gate { pass.old.table_id ≡ gate.now }
+    requires rests { Rests pass.old.me s }
+    ensures gate { (pass.new.table_id ≡ pass.old.table_id) × (pass.new.id ≡ pass.old.id) }
+    ensures turn { HasTurn E.board pass.old.me result pass.new.me }
+{
+    let backoff = Backoff::new();
+    for _ in rt.forever() {
+        match gate.try_take(pass, s) {
+            Ok(engine) => return engine,
+            Err(_) => backoff.snooze(),
+        }
+        match gate.try_take(pass, s) {
+            Ok(engine) => return engine,
+            Err(found) => gate.wait(rt, found),
+        }
+    }
+    unreachable!()
+}
+
+/// Starts an item. `len` becomes the length of the history that the seat has seen.
+pub fn start_turn<E: Turns, R: Wait>(
+    rt: &R,
+    gate: &Gate<E>,
+    pass: &mut Pass<E>,
+    len: &mut u64,
+    s: u32,
+    item: &Item,
+) -> Result<(), NoMemory>
+    requires gate { pass.old.table_id ≡ gate.now }
+    requires rests { Rests pass.old.me s }
+    requires idle { phase_of pass.old.me.0.mine.seen s ≡ Idle }
+    requires takes { E.takes item.now }
+    ensures gate { (pass.new.table_id ≡ pass.old.table_id) × (pass.new.id ≡ pass.old.id) }
+    ensures rests { Rests pass.new.me s }
+    ensures len { len.new ≡ length pass.new.me.0.mine.seen.past }
+    ensures ok { OnOk result (Went s pass.old.me.0.mine.seen pass.new.me.0.mine.seen (Started s (item_number s pass.old.me.0.mine.seen) item.now ∷ []) Busy) }
+    ensures err { OnErr result (Went s pass.old.me.0.mine.seen pass.new.me.0.mine.seen [] Idle) }
+{
+    let mut engine = take_turn(rt, gate, pass, s);
+    let started = engine.start(s, item);
+    *len = engine.len();
+    gate.hand_back(pass, engine, *len);
+    started
+}
+
+/// Makes a step of the session's item, or of its ending.
+pub fn step_turn<E: Turns, R: Wait>(
+    rt: &R,
+    gate: &Gate<E>,
+    pass: &mut Pass<E>,
+    len: &mut u64,
+    s: u32,
+    now: u64,
+) -> Stepped
+    requires gate { pass.old.table_id ≡ gate.now }
+    requires rests { Rests pass.old.me s }
+    requires under_way { IsUnderWay (phase_of pass.old.me.0.mine.seen s) }
+    ensures gate { (pass.new.table_id ≡ pass.old.table_id) × (pass.new.id ≡ pass.old.id) }
+    ensures rests { Rests pass.new.me s }
+    ensures len { len.new ≡ length pass.new.me.0.mine.seen.past }
+    ensures went { StepWent s pass.old.me.0.mine.seen (phase_of pass.old.me.0.mine.seen s) (reply_in result) pass.new.me.0.mine.seen }
+{
+    let mut engine = take_turn(rt, gate, pass, s);
+    let progress = engine.step(s, now);
+    let lingers = engine.lingers(s);
+    *len = engine.len();
+    gate.hand_back(pass, engine, *len);
+    after(progress, lingers)
+}
+
+/// What a step came to, by its answer.
+fn after(progress: Progress, lingers: bool) -> Stepped
+    ensures { reply_in result ≡ reply_of progress }
+{
+    match progress {
+        Progress::Done(reply) => Stepped::Over(reply),
+        Progress::Stopped(_) => Stepped::Over(Reply::Stopped),
+        Progress::Waiting { .. } | Progress::NotYet | Progress::NoMemory => {
+            Stepped::GoesOn(Pause::Long)
+        }
+        Progress::Went | Progress::Latch { .. } | Progress::Idle => {
+            Stepped::GoesOn(if lingers { Pause::Short } else { Pause::No })
+        }
+    }
+}
+
+/// Begins the session's ending.
+pub fn leave_turn<E: Turns, R: Wait>(
+    rt: &R,
+    gate: &Gate<E>,
+    pass: &mut Pass<E>,
+    len: &mut u64,
+    s: u32,
+)
+    requires gate { pass.old.table_id ≡ gate.now }
+    requires rests { Rests pass.old.me s }
+    requires idle { phase_of pass.old.me.0.mine.seen s ≡ Idle }
+    ensures gate { (pass.new.table_id ≡ pass.old.table_id) × (pass.new.id ≡ pass.old.id) }
+    ensures rests { Rests pass.new.me s }
+    ensures len { len.new ≡ length pass.new.me.0.mine.seen.past }
+    ensures went { Went s pass.old.me.0.mine.seen pass.new.me.0.mine.seen [] Leaving }
+{
+    let mut engine = take_turn(rt, gate, pass, s);
+    engine.leave(s);
+    *len = engine.len();
+    gate.hand_back(pass, engine, *len);
+}
+
+/// A session joins, and gets a seat.
+pub fn split_turn<E: Turns, R: Wait>(
+    rt: &R,
+    gate: &Gate<E>,
+    pass: &mut Pass<E>,
+    len: &mut u64,
+    name: &Bytes,
+) -> Result<(u32, Pass<E>), NoMemory>
+    requires gate { pass.old.table_id ≡ gate.now }
+    requires rests { Rests pass.old.me 0 }
+    requires few { length pass.old.me.0.mine.seen.names < 68 }
+    ensures gate { (pass.new.table_id ≡ pass.old.table_id) × (pass.new.id ≡ pass.old.id) }
+    ensures rests { Rests pass.new.me 0 }
+    ensures len { len.new ≡ length pass.new.me.0.mine.seen.past }
+    ensures given { IfOk result (λ r. (r.1.table_id ≡ pass.old.table_id) × Rests r.1.me r.0 × (r.1.me.0.mine.seen ≡ pass.new.me.0.mine.seen)) }
+    ensures ok { IfOk result (λ r. HasJoined pass.old.me.0.mine.seen pass.new.me.0.mine.seen r.0) }
+    ensures err { OnErr result (Went 0 pass.old.me.0.mine.seen pass.new.me.0.mine.seen [] (phase_of pass.old.me.0.mine.seen 0)) }
+{
+    let mut engine = take_turn(rt, gate, pass, 0);
+    match engine.join(name) {
+        Ok(s) => {
+            *len = engine.len();
+            gate.put(pass, engine);
+            gate.publish(pass, *len);
+            let other = gate.split(pass);
+            gate.depart(pass);
+            Ok((s, other))
+        }
+        Err(error) => {
+            *len = engine.len();
+            gate.hand_back(pass, engine, *len);
+            Err(error)
+        }
+    }
+}

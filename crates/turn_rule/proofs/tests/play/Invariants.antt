@@ -1,7 +1,0 @@
-use Rattle.std.proofs.Common.{◌≡◌}
-use Rattle.turn_rule.specs.Steps.{IsAtRest}
-use Rattle.turn_rule.proofs.tests.play.Given as goal
-
--- between two turns the seat is at rest
-abbrev pub invariant-loop-j : goal.invariant-loop-j
-invariant-loop-j g l = (l.pass.table_id ≡ l.initial.pass.table_id) × IsAtRest l.pass.me l.number

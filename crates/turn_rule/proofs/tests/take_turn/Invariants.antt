@@ -1,6 +1,0 @@
-use Rattle.std.proofs.Common.{◌≡◌}
-use Rattle.turn_rule.proofs.tests.take_turn.Given as goal
-
--- until the seat has the turn it stays as it was
-abbrev pub invariant-loop : goal.invariant-loop
-invariant-loop g l = (l.pass.table_id ≡ l.initial.pass.table_id) × (l.pass.me ≡ l.initial.pass.me)

@@ -1,0 +1,82 @@
+-- Lists of which one place is set, and slots of versions.
+use Rattle.std.proofs.Common.{◌≡◌, ◌≢◌, ℕ, zero, suc, ◌+◌, ◌-◌, ◌<◌, ◌≤◌, List, [], ◌∷◌, ◌++◌, length, Option, None, Some, refl, ap, sym, ◌∙◌, subst, arith, inl, inr, add-one}
+use Rattle.std.specs.Prelude.{slice_get, slice_set}
+use Rattle.std.proofs.lemmas.Bool.{cases_eq}
+use native.Mathlib.Numerals.{unary_clauses}
+use Rattle.std.proofs.Math.ListN.{get_or}
+use Rattle.std.proofs.lemmas.Option.{get_or_from_slice_get}
+use Rattle.std.proofs.lemmas.List.{set-get_or}
+use Rattle.std.proofs.Math.Path.{fun_ext}
+use Rattle.chain.specs.declared.kept.Kept.{Kept}
+use Rattle.chain.specs.Versions.{IsShort}
+use Rattle.world_parts.specs.Slots.{filled, kept_behind, AreShort}
+
+pub get_set_here : {X : Type 0} (xs : List X) (i : ℕ) (x : X) → i < length xs → slice_get (slice_set xs i x) i ≡ Some x
+get_set_here [] i x within = absurd (omega arith)
+get_set_here (y ∷ xs) zero x within = refl
+get_set_here (y ∷ xs) (suc i) x within = get_set_here xs i x (omega arith)
+
+pub get_set_elsewhere : {X : Type 0} (xs : List X) (i j : ℕ) (x : X) → j ≢ i → slice_get (slice_set xs i x) j ≡ slice_get xs j
+get_set_elsewhere [] i j x other = refl
+get_set_elsewhere (y ∷ xs) zero zero x other = absurd (other refl)
+get_set_elsewhere (y ∷ xs) zero (suc j) x other = refl
+get_set_elsewhere (y ∷ xs) (suc i) zero x other = refl
+get_set_elsewhere (y ∷ xs) (suc i) (suc j) x other = get_set_elsewhere xs i j x (λ same. other (ap suc same))
+
+-- ---- slots
+
+taken_at : (slots : List (Option Kept)) (place : ℕ) → filled (slice_get (slots ++ None ∷ []) place) ≡ filled (slice_get slots place)
+taken_at [] zero = refl
+taken_at [] (suc place) = refl
+taken_at (slot ∷ slots) zero = refl
+taken_at (slot ∷ slots) (suc place) = taken_at slots place
+
+taken_behind : (slots : List (Option Kept)) (pointer : ℕ) → kept_behind (slots ++ None ∷ []) pointer ≡ kept_behind slots pointer
+taken_behind slots zero = refl
+taken_behind slots (suc place) = taken_at slots place
+
+-- a slot that was taken is not filled
+pub kept_taken : (slots : List (Option Kept)) → kept_behind (slots ++ None ∷ []) ≡ kept_behind slots
+kept_taken slots = fun_ext (taken_behind slots)
+
+past_at : (slots : List (Option Kept)) → filled (slice_get (slots ++ None ∷ []) (length slots)) ≡ None
+past_at [] = refl
+past_at (slot ∷ slots) = past_at slots
+
+pub kept_past : (slots : List (Option Kept)) → kept_behind (slots ++ None ∷ []) (length slots + 1) ≡ None
+kept_past slots = rw add-one (past_at slots)
+
+pub short_taken : (slots : List (Option Kept)) → AreShort slots → AreShort (slots ++ None ∷ [])
+short_taken slots short = record { short = λ pointer kept is. short.short pointer kept (sym (taken_behind slots pointer) ∙ is) }
+
+-- what was filled is kept behind its pointer
+pub kept_filled : (slots : List (Option Kept)) (pointer : ℕ) (kept : Kept) → 0 < pointer → pointer ≤ length slots
+    → kept_behind (slice_set slots (pointer - 1) (Some kept)) pointer ≡ Some kept
+kept_filled slots zero kept above there = absurd (omega arith)
+kept_filled slots (suc place) kept above there = simp unary_clauses (ap filled (get_set_here slots place (Some kept) (omega arith)))
+
+pub kept_elsewhere : (slots : List (Option Kept)) (pointer other : ℕ) (kept : Kept) → 0 < pointer → other ≢ pointer
+    → kept_behind (slice_set slots (pointer - 1) (Some kept)) other ≡ kept_behind slots other
+kept_elsewhere slots zero other kept above another = absurd (omega arith)
+kept_elsewhere slots (suc place) zero kept above another = refl
+kept_elsewhere slots (suc place) (suc other) kept above another = simp unary_clauses (ap filled (get_set_elsewhere slots place other (Some kept) (λ same. another (ap suc same))))
+
+short_filled_at : (slots : List (Option Kept)) (pointer : ℕ) (kept : Kept) → AreShort slots → IsShort kept → 0 < pointer → pointer ≤ length slots
+    → (other : ℕ) (found : Kept) → kept_behind (slice_set slots (pointer - 1) (Some kept)) other ≡ Some found → IsShort found
+short_filled_at slots pointer kept short fits above there other found is = elim (cases_eq other pointer) [
+  | inl same ↦ let here = subst (λ (n : ℕ). kept_behind (slice_set slots (pointer - 1) (Some kept)) n ≡ Some found) same is in
+      let eq : kept ≡ found = let e : Some kept ≡ Some found = sym (kept_filled slots pointer kept above there) ∙ here in cc in subst IsShort eq fits
+  | inr another ↦ short.short other found (sym (kept_elsewhere slots pointer other kept above another) ∙ is)
+]
+
+pub short_filled : (slots : List (Option Kept)) (pointer : ℕ) (kept : Kept) → AreShort slots → IsShort kept → 0 < pointer → pointer ≤ length slots
+    → AreShort (slice_set slots (pointer - 1) (Some kept))
+short_filled slots pointer kept short fits above there = record { short = short_filled_at slots pointer kept short fits above there }
+
+-- what was read of a place is what stands there
+pub element : {X : Type 0} (xs : List X) (i : ℕ) (x read : X) → slice_get xs i ≡ Some x → read ≡ get_or xs i read → read ≡ x
+element xs i x read there is = is ∙ get_or_from_slice_get xs i x read there
+
+-- what was read of a place, put there again, changes nothing
+pub set_same : {X : Type 0} (xs : List X) (i : ℕ) (read : X) → read ≡ get_or xs i read → slice_set xs i read ≡ xs
+set_same xs i read is = ap (slice_set xs i) is ∙ set-get_or xs i read

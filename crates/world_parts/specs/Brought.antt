@@ -1,0 +1,22 @@
+-- What an undo record brings: its copy, and the version that it keeps.
+use Rattle.std.specs.Prelude.{◌≡◌, ◌==◌, Bool, true, false, List, Option, None, Some}
+use Rattle.inno_types.specs.declared.value.Schema.{Schema}
+use Rattle.store_api.specs.declared.answers.Undo.{Undo}
+use Rattle.chain.specs.declared.kept.Kept.{Kept}
+use Rattle.world.specs.Indexes.{IsVersionKept}
+use Rattle.world_parts.specs.declared.brought.Brought.{Brought}
+
+-- the version that the record keeps, beside its bytes
+pub record IsKeptOf (schemas : List Schema) (undo : Undo) (kept : Kept) : Type 0 where
+  pub bytes : kept.bytes ≡ undo.value
+  pub version : IsVersionKept schemas undo kept.version
+
+abbrev pub KeepsOnly : Bool → List Schema → Undo → Option Kept → Type 0
+KeepsOnly true schemas undo (Some kept) = IsKeptOf schemas undo kept
+KeepsOnly true schemas undo None = ⊥
+KeepsOnly false schemas undo kept = kept ≡ None
+
+-- The copy of the record, beside the version that it keeps.
+pub record IsBrought (schemas : List Schema) (undo : Undo) (brought : Brought) : Type 0 where
+  pub undo_is : brought.undo ≡ undo
+  pub kept : KeepsOnly (brought.undo.kind == 2) schemas brought.undo brought.kept

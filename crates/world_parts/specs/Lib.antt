@@ -1,0 +1,5 @@
+pub mod Rooms
+pub mod Owed
+pub mod Slots
+pub mod Brought
+pub mod Holding
