@@ -4,7 +4,7 @@ use Rattle.std.proofs.lemmas.Bool.Decides.{nat_tests, eqb_tells}
 use Rattle.std.proofs.lemmas.Bool.{false≢true}
 use Rattle.std.specs.Prelude.{is_some, is_none, ◌==◌}
 use Rattle.std.specs.List.{AllByRecursion, list_any}
-use Rattle.std.specs.FinMap.{from_entries}
+use Rattle.std.specs.FinMap.{get}
 use Rattle.std.proofs.lemmas.List.{get_or-set_same, get_or-set_other, length-set, length-append}
 use Rattle.inno_types.specs.declared.lock.Level.{Level}
 use Rattle.inno_types.specs.declared.reply.Item.{Item}
@@ -18,19 +18,19 @@ use Rattle.inno_model.specs.declared.event.Event.{Event}
 use Rattle.inno_model.specs.declared.event.Event.TheVariants.{Opened, Begin, Started, View, Changed, Undone, Ended, Committed, Acked, RolledBack}
 use Rattle.inno_model.specs.Past.{is_of, level, txn, own, view_of, begins, commits, committed, opening, started, under_way, IsOpen}
 use Rattle.inno_model.proofs.Commits.{begins_few}
-use Rattle.read_view.specs.Sight.{Sight}
+use Rattle.read_view.specs.Sight.{Sight, is_seen}
 use Rattle.txn_table.specs.Txns.{Txns, ids_of as active_of, with_id as with_txn_id, without, is_there, id_at}
 use Rattle.row_versions.specs.declared.place.Place.{Place}
 use Rattle.row_versions.specs.declared.version.Version.{Version}
-use Rattle.row_versions.specs.Chains.{Chains, is_same_place, versions_at, first_seen, newest, older, sees, IsFirstFrom, IsNoneFrom, IsNext, IsLast, Pushes, Pops}
+use Rattle.row_versions.specs.Chains.{Chains, in_model, is_same_place, versions_at, first_seen, newest, older, sees, IsFirstFrom, IsNoneFrom, IsNext, IsLast, Pushes, Pops}
 use Rattle.law_past_agreement.specs.Slots.{Work, Slot, fresh, id_for, id_of_work, txn_of_work, places_of_work, with_view, with_id, with_place, without_place, but_first, first, GivesId, writer_without}
-use Rattle.law_past_agreement.specs.Ids.{given, id_of, is_among, opens}
+use Rattle.law_past_agreement.specs.Ids.{given, id_of, is_among, is_settled, opens}
 use Rattle.law_past_agreement.specs.Order.{created, is_creation, IsOfRow, IsTabled, IsUndoable, MayCome}
-use Rattle.law_past_agreement.specs.Rows.{place_in, is_place, is_at, row_of, row_at, seen, row_seen, IsUnseen, IsFirstSeen, IsNoneSeen, IsNextSeen, IsLastSeen, IsNewestSeen}
+use Rattle.law_past_agreement.specs.Rows.{place_in, is_place, is_at, row_of, row_at, row_opened, seen, IsNeeded, row_seen, IsUnseen, IsFirstSeen, IsNoneSeen, IsNextSeen, IsLastSeen, IsNewestSeen}
 use Rattle.law_past_agreement.specs.Changes.{TakesBack}
-use Rattle.law_past_agreement.specs.Agreement.{IsWorkOf, WorkAgrees, SlotAgrees, IsViewOf, ViewAgrees, versions_of, AreVersions, WriterAgrees, owed_by, owed_by_all, IsAgreed}
+use Rattle.law_past_agreement.specs.Agreement.{IsSettled, IsOpenedWith, IsWorkOf, WorkAgrees, SlotAgrees, IsViewOf, ViewAgrees, versions_of, AreVersions, WriterAgrees, owed_by, owed_by_all, IsAgreed}
 use Rattle.law_past_agreement.proofs.Ids.{AreIds, ids_of, given_few}
-use Rattle.law_past_agreement.proofs.Opens.{active_open, active_none, opens_of, all_weaker}
+use Rattle.law_past_agreement.proofs.Opens.{active_open, active_none, zero_inactive, opens_of, all_weaker}
 use Rattle.law_past_agreement.proofs.Standing.{work_kept, other_kept, other_id, view_agrees, view_agrees_changed, is_among_all}
 use Rattle.law_past_agreement.proofs.Tables.{at_stays, places_stay, own_tabled, committed_tabled}
 use Rattle.law_past_agreement.proofs.Rows as rows
@@ -141,7 +141,7 @@ module _ (names : List (List ℕ)) (h : List Event) (room : ℕ) (schemas : List
       → ((u : ℕ) → u ≢ s → (slot : Slot) → SlotAgrees schemas (e ∷ h) u slot → SlotAgrees schemas' (e ∷ h) u slot)
       → (txns' : Txns) → txns' ≡ record { open_txns = opens (e ∷ h); begun = begins (e ∷ h); next = given (e ∷ h) + 1 }
       → (slot : Slot) → SlotAgrees schemas' (e ∷ h) s slot
-      → (chains' : Chains) → ((place : Place) → AreVersions (e ∷ h) (is_at schemas' place) (versions_at place chains'))
+      → (chains' : Chains) → ((place : Place) → AreVersions (e ∷ h) (row_opened (e ∷ h) place) (is_at schemas' place) (versions_at place chains'))
       → (writer' : Option ℕ) → WriterAgrees (e ∷ h) writer'
       → (owed' room' : ℕ) → owed + owed_by (e ∷ h) s ≤ owed' + owed_by h s → owed' ≤ room'
       → IsAgreed names (e ∷ h) room' schemas' chains' txns' (set slots s slot) owed' writer'
@@ -149,7 +149,6 @@ module _ (names : List (List ℕ)) (h : List Event) (room : ℕ) (schemas : List
       record {
         ordered = (may, agreed.ordered);
         small = few;
-        no_rows = ap (λ db. db.rows) same-opening ∙ agreed.no_rows;
         tables = tables-are;
         txns_are = txns-are;
         sessions = slots_set schemas schemas' e h s slots slot may ids mine (within s joined) wider agreed.sessions slot-is;
@@ -165,7 +164,7 @@ module _ (names : List (List ℕ)) (h : List Event) (room : ℕ) (schemas : List
   after : (e : Event) (s : ℕ) → ((u : ℕ) → u ≢ s → is_of u e ≡ false) → MayCome h e → length (e ∷ h) < 2 ^ 63 → s < length names → opening (e ∷ h) ≡ opening h → created (e ∷ h) ≡ created h
       → (txns' : Txns) → txns' ≡ record { open_txns = opens (e ∷ h); begun = begins (e ∷ h); next = given (e ∷ h) + 1 }
       → (slot : Slot) → SlotAgrees schemas (e ∷ h) s slot
-      → (chains' : Chains) → ((place : Place) → AreVersions (e ∷ h) (is_at schemas place) (versions_at place chains'))
+      → (chains' : Chains) → ((place : Place) → AreVersions (e ∷ h) (row_opened (e ∷ h) place) (is_at schemas place) (versions_at place chains'))
       → (writer' : Option ℕ) → WriterAgrees (e ∷ h) writer'
       → (owed' room' : ℕ) → owed + owed_by (e ∷ h) s ≤ owed' + owed_by h s → owed' ≤ room'
       → IsAgreed names (e ∷ h) room' schemas chains' txns' (set slots s slot) owed' writer'
@@ -184,7 +183,6 @@ module _ (names : List (List ℕ)) (h : List Event) (room : ℕ) (schemas : List
       record {
         ordered = agreed.ordered;
         small = agreed.small;
-        no_rows = agreed.no_rows;
         tables = agreed.tables;
         txns_are = agreed.txns_are;
         sessions = agreed.sessions;
@@ -202,7 +200,6 @@ module _ (names : List (List ℕ)) (h : List Event) (room : ℕ) (schemas : List
       record {
         ordered = agreed.ordered;
         small = agreed.small;
-        no_rows = agreed.no_rows;
         tables = agreed.tables;
         txns_are = agreed.txns_are;
         sessions = λ u. subst (SlotAgrees schemas h u) (sym (get_or-joined slots u)) (agreed.sessions u);
@@ -221,7 +218,6 @@ module _ (names : List (List ℕ)) (h : List Event) (room : ℕ) (schemas : List
       record {
         ordered = agreed.ordered;
         small = agreed.small;
-        no_rows = agreed.no_rows;
         tables = agreed.tables;
         txns_are = agreed.txns_are;
         sessions = λ u. subst (SlotAgrees schemas h u) (sym (get_or-joined slots u)) (agreed.sessions u);
@@ -246,7 +242,7 @@ module _ (names : List (List ℕ)) (h : List Event) (room : ℕ) (schemas : List
         started_is = grind (arith, nat_tests, (agreed.sessions s).started_is);
         work_is = work_kept schemas (Started s j item) h s may ids refl refl refl refl refl (get_or slots s fresh).work (agreed.sessions s).work_is;
       })
-      chains (λ place. rows.rows_stay (Started s j item) h (λ u. refl) (λ u. refl) (λ n id. refl) (λ n. refl) (is_at schemas place) (versions_at place chains) (agreed.rows place))
+      chains (λ place. rows.rows_stay (Started s j item) h (λ u. refl) (λ u. refl) (λ n id. refl) (λ n. refl) (row_opened h place) (is_at schemas place) (versions_at place chains) (agreed.rows place))
       writer (fewer h (Started s j item ∷ h) (λ u none. none) (λ u o. o) writer agreed.writes)
       (owed + 1) room' (omega (arith, owing.owed_started s j item h idle)) fits
 
@@ -261,7 +257,7 @@ module _ (names : List (List ℕ)) (h : List Event) (room : ℕ) (schemas : List
         started_is = (agreed.sessions s).started_is;
         work_is = work_kept schemas (Ended s j reply) h s may ids refl refl refl refl refl (get_or slots s fresh).work (agreed.sessions s).work_is;
       })
-      chains (λ place. rows.rows_stay (Ended s j reply) h (λ u. refl) (λ u. refl) (λ n id. refl) (λ n. refl) (is_at schemas place) (versions_at place chains) (agreed.rows place))
+      chains (λ place. rows.rows_stay (Ended s j reply) h (λ u. refl) (λ u. refl) (λ n id. refl) (λ n. refl) (row_opened h place) (is_at schemas place) (versions_at place chains) (agreed.rows place))
       writer (fewer h (Ended s j reply ∷ h) (λ u none. none) (λ u o. o) writer agreed.writes)
       (owed - 1) room' (omega (arith, one, owed_in s joined)) (omega (arith, agreed.has_room, fits)))
 
@@ -279,7 +275,7 @@ module _ (names : List (List ℕ)) (h : List Event) (room : ℕ) (schemas : List
         started_is = (agreed.sessions s).started_is;
         work_is = work_kept schemas (Acked s moment) h s may ids refl refl refl refl refl (get_or slots s fresh).work (agreed.sessions s).work_is;
       })
-      chains (λ place. rows.rows_stay (Acked s moment) h (λ u. refl) (λ u. refl) (λ n id. refl) (λ n. refl) (is_at schemas place) (versions_at place chains) (agreed.rows place))
+      chains (λ place. rows.rows_stay (Acked s moment) h (λ u. refl) (λ u. refl) (λ n id. refl) (λ n. refl) (row_opened h place) (is_at schemas place) (versions_at place chains) (agreed.rows place))
       writer (fewer h (Acked s moment ∷ h) (λ u none. none) (λ u o. o) writer agreed.writes)
       (owed - 1) room' (omega (arith, one, owed_in s joined)) (omega (arith, agreed.has_room, fits)))
 
@@ -308,7 +304,7 @@ module _ (names : List (List ℕ)) (h : List Event) (room : ℕ) (schemas : List
           view_is = grind (arith, nat_tests);
         };
       })
-      chains (λ place. rows.rows_new_id (Begin s m l) h s none (λ u differ. other_id (Begin s m l) h u (mine_tells s u differ)) same-own (λ n id. refl) (λ n. refl) (is_at schemas place) (versions_at place chains) (agreed.rows place))
+      chains (λ place. rows.rows_new_id (Begin s m l) h s none (λ u differ. other_id (Begin s m l) h u (mine_tells s u differ)) same-own (λ n id. refl) (λ n. refl) (row_opened h place) (is_at schemas place) (versions_at place chains) (agreed.rows place))
       writer (fewer h (Begin s m l ∷ h) none' (λ u o. grind (arith, nat_tests, o)) writer agreed.writes)
       (owed + 2) room' (omega (arith, owing.owed_begin s m l h)) fits
 
@@ -352,7 +348,7 @@ module _ (names : List (List ℕ)) (h : List Event) (room : ℕ) (schemas : List
       (ap (λ (t : Txns). record t { open_txns = without n t.open_txns }) agreed.txns_are ∙ ap (λ m. record { open_txns = without m (opens h); begun = begins h; next = given h + 1 }) number)
       (record (get_or slots s fresh) { work = None })
       (ended_work (Committed s) s (grind (arith, nat_tests)) (grind (arith, nat_tests)) refl)
-      chains (λ place. rows.rows_committed s h may ids (is_at schemas place) (versions_at place chains) (agreed.rows place))
+      chains (λ place. rows.rows_committed s h may ids (row_opened h place) (is_at schemas place) (versions_at place chains) (agreed.rows place))
       (writer_without writer s) (let_go h (Committed s ∷ h) s (λ u none. grind (arith, nat_tests, none)) (λ u differ o. grind (arith, nat_tests, o, differ)) (grind (arith, nat_tests)) writer agreed.writes)
       (owed - (changes + 1)) room' (omega (arith, one, owed_in s joined, count)) (omega (arith, agreed.has_room, fits))
 
@@ -370,7 +366,7 @@ module _ (names : List (List ℕ)) (h : List Event) (room : ℕ) (schemas : List
       (ap (λ (t : Txns). record t { open_txns = without n t.open_txns }) agreed.txns_are ∙ ap (λ m. record { open_txns = without m (opens h); begun = begins h; next = given h + 1 }) number)
       (record (get_or slots s fresh) { work = None })
       (ended_work (RolledBack s) s (grind (arith, nat_tests)) (grind (arith, nat_tests)) refl)
-      chains (λ place. rows.rows_stay (RolledBack s) h (λ u. refl) same-own (λ n' id. refl) (λ n'. refl) (is_at schemas place) (versions_at place chains) (agreed.rows place))
+      chains (λ place. rows.rows_stay (RolledBack s) h (λ u. refl) same-own (λ n' id. refl) (λ n'. refl) (row_opened h place) (is_at schemas place) (versions_at place chains) (agreed.rows place))
       (writer_without writer s) (let_go h (RolledBack s ∷ h) s (λ u none. grind (arith, nat_tests, none)) (λ u differ o. grind (arith, nat_tests, o, differ)) (grind (arith, nat_tests)) writer agreed.writes)
       (owed - 2) room' (omega (arith, one, owed_in s joined)) (omega (arith, agreed.has_room, fits))
 
@@ -388,12 +384,17 @@ module _ (names : List (List ℕ)) (h : List Event) (room : ℕ) (schemas : List
     go None agrees = omega (arith, ap (λ (t : Txns). t.next) agreed.txns_are)
     go (Some w) agrees = omega (arith, agrees.id_is, ids.below s, ap (λ (t : Txns). t.next) agreed.txns_are)
 
+  -- what was written before this history is seen
+  zero_seen : (own-id : ℕ) → is_seen (record { active = active_of (opens h); own = own-id; next = given h + 1 }) 0 ≡ true
+  zero_seen own-id = let inactive = zero_inactive (opens h) in grind (arith, nat_tests, inactive)
+
   -- what is taken for a view at this point
   view_now : (s : ℕ) (own-id : ℕ) → own-id ≡ id_of h s → IsViewOf (View s ∷ h) s (commits h) (record { active = active_of (opens h); own = own-id; next = given h + 1 })
   view_now s own-id own-is =
       record {
         is-view = grind (arith, nat_tests);
         within = omega arith;
+        earlier = zero_seen own-id;
         later = λ id lt. grind (arith, nat_tests, own-is, ids.below s, lt);
         alike = λ id standing differ.
             elim standing [
@@ -427,7 +428,7 @@ module _ (names : List (List ℕ)) (h : List Event) (room : ℕ) (schemas : List
               view_is = (commits h, subst (IsViewOf (View s ∷ h) s (commits h)) (sym is) (view_now s own-id (own-is ∙ id_is s is-open)));
             });
       })
-      chains (λ place. rows.rows_stay (View s) h (λ u. refl) (λ u. refl) (λ n id. refl) (λ n. refl) (is_at schemas place) (versions_at place chains) (agreed.rows place))
+      chains (λ place. rows.rows_stay (View s) h (λ u. refl) (λ u. refl) (λ n id. refl) (λ n. refl) (row_opened h place) (is_at schemas place) (versions_at place chains) (agreed.rows place))
       writer (fewer h (View s ∷ h) (λ u none. none) (λ u o. o) writer agreed.writes)
       owed room' (omega (arith, owing.owed_view s h is-open)) fits
 
@@ -438,8 +439,9 @@ module _ (names : List (List ℕ)) (h : List Event) (room : ℕ) (schemas : List
       let v = subst (ViewAgrees h s) view-is mine.view_is in
       let same : v.0 ≡ n = let e = sym v.1.is-view ∙ is-n in cc in
       ap (λ id. first_seen (sees id sight) (versions_at place chains)) (sym mine.id_is)
-      ∙ (subst (λ m. first_seen (sees (id_of h s) sight) (versions_at place chains) ≡ row_at (is_at schemas place) (seen h s m)) same (rows.seen_is_snapshot h s v.0 (is_at schemas place) sight (versions_at place chains) ids (ap is_some mine.level_is) v.1 (agreed.rows place))
-      ∙ ap (λ (tables : List Schema). row_at (is_at tables place) (seen h s n)) agreed.tables)
+      ∙ (subst (λ m. first_seen (sees (id_of h s) sight) (versions_at place chains) ≡ row_at (row_opened h place) (is_at schemas place) (seen h s m)) same
+      (rows.seen_is_snapshot h s v.0 sight ids (ap is_some mine.level_is) v.1 (row_opened h place) (is_at schemas place) (versions_at place chains) (agreed.rows place))
+      ∙ ap (λ (tables : List Schema). row_at (row_opened h place) (is_at tables place) (seen h s n)) agreed.tables)
 
   append_empty : {X : Type 0} (xs ys : List X) → xs ++ ys ≡ [] → (xs ≡ []) × (ys ≡ [])
   append_empty [] ys is = (refl, is)
@@ -450,14 +452,15 @@ module _ (names : List (List ℕ)) (h : List Event) (room : ℕ) (schemas : List
   no_change id at (change ∷ changes) none = grind (arith, nat_tests, no_change id at changes, none)
 
   pub unseen : (place : Place) → versions_at place chains ≡ [] → IsUnseen h place
-  unseen place none s n =
+  unseen place none s n needed =
+      let opened = row_opened h place in
       let at = is_at schemas place in
       let v = agreed.rows place in
       let empty = append_empty (versions_of (id_of h v.0) at (own v.0 h)) v.1.behind (sym v.1.parts ∙ none) in
-      let below : row_at at (committed n h) ≡ None = sym (v.1.reads n) ∙ ap (first_seen (is_among h n)) empty.1 in
+      let below : row_at opened at (committed n h) ≡ None = sym (v.1.reads n needed) ∙ ap (first_seen (is_settled h n)) empty.1 in
       let above : list_any at (own s h) ≡ false =
       elim (eqb_tells s v.0) [ inl same ↦ ap (λ u. list_any at (own u h)) same.1 ∙ no_change (id_of h v.0) at (own v.0 h) empty.0 | inr differ ↦ v.1.alone s differ.1 ] in
-      ap (λ (tables : List Schema). row_at (is_at tables place) (seen h s n)) (sym agreed.tables) ∙ (rows.row_at-append at (own s h) (committed n h) above ∙ below)
+      ap (λ (tables : List Schema). row_at opened (is_at tables place) (seen h s n)) (sym agreed.tables) ∙ (rows.row_at-append opened at (own s h) (committed n h) above ∙ below)
 
   pub first_is : (place first : Place) → IsFirstFrom place chains first → IsFirstSeen h place first
   first_is place first is = record { from = is.from; between = λ other from before. unseen other (is.between other from before) }
@@ -476,7 +479,7 @@ module _ (names : List (List ℕ)) (h : List Event) (room : ℕ) (schemas : List
       let v = agreed.rows place in (
         v.0,
         λ other differ. ap (λ (tables : List Schema). list_any (is_at tables place) (own other h)) (sym agreed.tables) ∙ v.1.alone other differ,
-        is ∙ rows.newest_is h v.0 (is_at schemas place) (versions_at place chains) v.1 ∙ ap (λ (tables : List Schema). row_at (is_at tables place) (seen h v.0 (commits h))) agreed.tables,
+        is ∙ rows.newest_is h v.0 (row_opened h place) (is_at schemas place) (versions_at place chains) v.1 ∙ ap (λ (tables : List Schema). row_at (row_opened h place) (is_at tables place) (seen h v.0 (commits h))) agreed.tables,
       )
 
   -- ---- changes
@@ -564,7 +567,7 @@ module _ (names : List (List ℕ)) (h : List Event) (room : ℕ) (schemas : List
       → MayCome h (Changed s change) → writer ≡ Some s → length (Changed s change ∷ h) < 2 ^ 63 → s < length names → (room' : ℕ) → owed + 1 ≤ room'
       → (once : List Slot) → once ≡ set slots s (record (get_or slots s fresh) { work = with_place place (get_or slots s fresh).work })
       → (txns' : Txns) (slots' : List Slot) → GivesId s txns txns' once slots'
-      → (new : Chains) → ((p : Place) → AreVersions (Changed s change ∷ h) (is_at schemas' p) (versions_at p new))
+      → (new : Chains) → ((p : Place) → AreVersions (Changed s change ∷ h) (row_opened h p) (is_at schemas' p) (versions_at p new))
       → IsAgreed names (Changed s change ∷ h) room' schemas' new txns' slots' (owed + 1) writer
   changed_with schemas' s change place place-is same-places tables-are wider may locked few joined room' fits once once-is txns' slots' gives new rows-are =
       let is-open : IsOpen s h = may.0 in
@@ -592,7 +595,7 @@ module _ (names : List (List ℕ)) (h : List Event) (room : ℕ) (schemas : List
       let picks : (p : Place) → is_at schemas p change ≡ is_same_place place p = λ p. ap (is_place p) place-is in
       let version : Version = record { writer = id_for (id_of_work (get_or slots s fresh).work) txns.next; row = row_of change } in
       changed_with schemas s change (Some place) place-is refl (agreed.tables ∙ sym (tables_stay s change h of-row)) (λ u differ slot is. is) may locked few joined room' fits once once-is txns' slots' gives new
-      (λ p. rows.rows_changed s change h ids (lone s locked) (is_at schemas p) (versions_at p chains) (versions_at p new)
+      (λ p. rows.rows_changed s change h ids (lone s locked) (row_opened h p) (is_at schemas p) (versions_at p chains) (versions_at p new)
       (λ yes. pushes p ∙ (ap (λ b. cond b (version ∷ versions_at p chains) (versions_at p chains)) (sym (picks p) ∙ yes) ∙ ap (λ i. record { writer = i; row = row_of change } ∷ versions_at p chains) writes-with))
       (λ apart. pushes p ∙ ap (λ b. cond b (version ∷ versions_at p chains) (versions_at p chains)) (sym (picks p) ∙ apart)) (agreed.rows p))
 
@@ -614,9 +617,9 @@ module _ (names : List (List ℕ)) (h : List Event) (room : ℕ) (schemas : List
       let none : own u (Changed s (Create schema) ∷ h) ≡ [] = grind (arith, nat_tests, alone u differ, differ) in
       slot_wider schemas more (Changed s (Create schema) ∷ h) u (subst (AllByRecursion (IsTabled (length schemas))) (sym none) tt) slot is)
       may locked few joined room' fits once once-is txns' slots' gives chains
-      (λ p. rows.rows_changed s (Create schema) h ids alone (is_at (schemas ++ more) p) (versions_at p chains) (versions_at p chains)
+      (λ p. rows.rows_changed s (Create schema) h ids alone (row_opened h p) (is_at (schemas ++ more) p) (versions_at p chains) (versions_at p chains)
       (λ yes. absurd (false≢true yes)) (λ apart. refl)
-      (rows.rows_alike h (is_at schemas p) (is_at (schemas ++ more) p) (λ u. alike p (own u h) (owns u)) (λ n. alike p (committed n h) (commits-of n)) (versions_at p chains) (agreed.rows p)))
+      (rows.rows_alike h (row_opened h p) (is_at schemas p) (is_at (schemas ++ more) p) (λ u. alike p (own u h) (owns u)) (λ n. alike p (committed n h) (commits-of n)) (versions_at p chains) (agreed.rows p)))
 
   -- the session's transaction is in the table, also once its place is put
   pub there_put : (s : ℕ) (place : Option Place) → IsOpen s h → s < length names → (once : List Slot) → once ≡ set slots s (record (get_or slots s fresh) { work = with_place place (get_or slots s fresh).work }) → (w : Work) → (get_or once s fresh).work ≡ Some w → is_there w.txn txns.open_txns × (id_at w.txn txns.open_txns ≡ w.id)
@@ -666,7 +669,7 @@ module _ (names : List (List ℕ)) (h : List Event) (room : ℕ) (schemas : List
             });
       })
       new
-      (λ p. rows.rows_undone s keep newest.0 newest.1 h newest.2 all (is_at schemas p) (versions_at p chains) (versions_at p new)
+      (λ p. rows.rows_undone s keep newest.0 newest.1 h newest.2 all (row_opened h p) (is_at schemas p) (versions_at p chains) (versions_at p new)
       (λ yes. pops p ∙ ap (λ b. cond b (older (versions_at p chains)) (versions_at p chains)) (sym (picks p) ∙ yes))
       (λ apart. pops p ∙ ap (λ b. cond b (older (versions_at p chains)) (versions_at p chains)) (sym (picks p) ∙ apart)) (agreed.rows p))
       writer
@@ -686,16 +689,32 @@ module _ (names : List (List ℕ)) (h : List Event) (room : ℕ) (schemas : List
 
 -- ---- the first past
 
-pub agreed_first : (db : Database) (room : ℕ) → db.schemas ≡ [] → db.rows ≡ from_entries [] → IsAgreed [] (Opened db ∷ []) room [] [] (record { open_txns = []; begun = 0; next = 1 }) [] 0 None
-agreed_first db room no-tables no-rows =
+-- Where all versions are older than this history, the newest is the row of the opening.
+opened_versions : (db : Database) (place : Place) (versions : List Version) → IsOpenedWith (get db.rows (in_model place)) versions → AreVersions (Opened db ∷ []) (get db.rows (in_model place)) (is_at db.schemas place) versions
+opened_versions db place versions is = (
+  0,
+  record {
+    behind = versions;
+    parts = refl;
+    alone = λ s differ. refl;
+    are_settled = all_weaker (λ (v : Version). v.writer ≡ 0) (λ (v : Version). IsSettled (Opened db ∷ []) v.writer) (λ v zero-is. inl zero-is) versions is.older;
+    reads = λ n needed. first n versions is.older ∙ is.row_is;
+  },
+) where
+  first : (n : ℕ) (vs : List Version) → AllByRecursion (λ (v : Version). v.writer ≡ 0) vs → first_seen (is_settled (Opened db ∷ []) n) vs ≡ newest vs
+  first n [] all = refl
+  first n (v ∷ vs) all = ap (λ id. cond (is_settled (Opened db ∷ []) n id) v.row (first_seen (is_settled (Opened db ∷ []) n) vs)) all.0
+
+pub agreed_first : (db : Database) (room : ℕ) (chains : Chains) → ((place : Place) → IsOpenedWith (get db.rows (in_model place)) (versions_at place chains))
+    → IsAgreed [] (Opened db ∷ []) room db.schemas chains (record { open_txns = []; begun = 0; next = 1 }) [] 0 None
+agreed_first db room chains opened =
     record {
       ordered = (refl, tt);
       small = omega arith;
-      no_rows = no-rows;
-      tables = sym no-tables;
+      tables = refl;
       txns_are = refl;
       sessions = λ s. record { started_is = refl; work_is = record { level_is = refl; own_is = refl } };
-      rows = λ place. (0, record { behind = []; parts = refl; alone = λ s differ. refl; are_committed = tt; reads = λ n. refl });
+      rows = λ place. opened_versions db place (versions_at place chains) (opened place);
       writes = λ s. refl;
       enough = omega arith;
       owes = omega arith;

@@ -3,7 +3,7 @@ use Rattle.std.proofs.Common.{◌≡◌, ℕ, ◌<◌, cond, Some, None, List, [
 use Rattle.std.proofs.lemmas.List.{append-nil}
 use Rattle.std.specs.List.{AllByRecursion}
 use Rattle.std.specs.Ordering.{eq_by_cmp}
-use Rattle.std.specs.FinMap.{get, from_entries, get-empty, get-insert, get-remove}
+use Rattle.std.specs.FinMap.{get, get-insert, get-remove}
 use Rattle.inno_types.specs.declared.value.Value.{Value}
 use Rattle.inno_types.specs.declared.value.Schema.{Schema}
 use Rattle.inno_db.specs.declared.change.Change.{Change}
@@ -15,9 +15,8 @@ use Rattle.inno_model.specs.Past.{changed, own, committed}
 use Rattle.row_versions.specs.declared.place.Place.{Place}
 use Rattle.row_versions.specs.Chains.{in_model, is_same_place}
 use Rattle.row_versions.specs.Laws.{same_place_equiv}
-use Rattle.law_past_agreement.specs.Order.{created, IsTabled}
+use Rattle.law_past_agreement.specs.Order.{created, IsTabled, IsOrdered}
 use Rattle.law_past_agreement.specs.Rows.{is_at, row_at, seen, row_seen}
-use Rattle.law_past_agreement.specs.Agreement.{IsSound}
 use Rattle.law_past_agreement.proofs.Tables.{key_stays, own_tabled, committed_tabled}
 use Rattle.law_past_agreement.specs.DatabaseTables.{with_all_tables}
 
@@ -32,12 +31,12 @@ tables_after db (Create schema ∷ changes) = let before = tables_after db chang
 tables_after db (Put table row ∷ changes) = tables_after db changes
 tables_after db (Remove table key ∷ changes) = tables_after db changes
 
-module _ (db : Database) (no-rows : db.rows ≡ from_entries []) where
+module _ (db : Database) where
   key_after : (changes : List Change) (table : ℕ) (row : List Value) → table < length db.schemas → key_in (changed db changes).schemas table row ≡ key_in db.schemas table row
   key_after changes table row lt = let made = tables_after db changes in ap (λ (l : List Schema). key_in l table row) made.1 ∙ key_stays db.schemas made.0 table row lt
 
-  pub get_is : (changes : List Change) → AllByRecursion (IsTabled (length db.schemas)) changes → (p : Place) → get (changed db changes).rows (in_model p) ≡ row_at (is_at db.schemas p) changes
-  get_is [] all p = ap (λ m. get m (in_model p)) no-rows ∙ get-empty place_cmp (in_model p)
+  pub get_is : (changes : List Change) → AllByRecursion (IsTabled (length db.schemas)) changes → (p : Place) → get (changed db changes).rows (in_model p) ≡ row_at (get db.rows (in_model p)) (is_at db.schemas p) changes
+  get_is [] all p = refl
   get_is (Create schema ∷ changes) all p = get_is changes all.1 p
   get_is (Put table row ∷ changes) all p =
       let at : Place = record { table = table; key = key_in db.schemas table row } in
@@ -55,7 +54,7 @@ all_joined : (P : Change → Type 0) (xs ys : List Change) → AllByRecursion P 
 all_joined P [] ys all other = other
 all_joined P (x ∷ xs) ys all other = (all.0, all_joined P xs ys all.1 other)
 
-pub seen_is : (h : List Event) (s n : ℕ) (place : Place) → IsSound h → get (changed (with_all_tables h) (seen h s n)).rows (in_model place) ≡ row_seen h s n place
-seen_is h s n place sound =
-    get_is (with_all_tables h) sound.1 (seen h s n)
-    (all_joined (IsTabled (length (created h))) (own s h) (committed n h) (own_tabled h sound.0 s) (committed_tabled h sound.0 n)) place
+pub seen_is : (h : List Event) (s n : ℕ) (place : Place) → IsOrdered h → get (changed (with_all_tables h) (seen h s n)).rows (in_model place) ≡ row_seen h s n place
+seen_is h s n place ordered =
+    get_is (with_all_tables h) (seen h s n)
+    (all_joined (IsTabled (length (created h))) (own s h) (committed n h) (own_tabled h ordered s) (committed_tabled h ordered n)) place

@@ -51,6 +51,11 @@ all_given P Q n id f g (x ∷ xs) all = (go (eqb_tells n x.0), all_given P Q n i
   go (inl same) = rw same.0 (f x same.1 all.0)
   go (inr differ) = rw differ.0 (g x differ.1 all.0)
 
+-- id 0 is nobody's
+pub zero_inactive : (xs : List Entry) → list_any (λ a. a == 0) (active_of xs) ≡ false
+zero_inactive [] = refl
+zero_inactive (x ∷ xs) = grind (arith, nat_tests, zero_inactive xs)
+
 -- ---- in an ordered past
 
 -- the entry is that of its session's open transaction

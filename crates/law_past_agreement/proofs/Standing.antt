@@ -5,16 +5,16 @@ use Rattle.std.proofs.lemmas.Bool.{cases_lt}
 use Rattle.inno_types.specs.declared.value.Schema.{Schema}
 use Rattle.inno_db.specs.declared.change.Change.{Change}
 use Rattle.inno_model.specs.declared.event.Event.{Event}
-use Rattle.inno_model.specs.declared.event.Event.TheVariants.{Begin, Changed, Committed, RolledBack}
-use Rattle.inno_model.specs.Past.{is_of, level, own, view_of, commits, txn}
+use Rattle.inno_model.specs.declared.event.Event.TheVariants.{Begin, View, Changed, Committed, RolledBack}
+use Rattle.inno_model.specs.Past.{is_of, level, own, view_of, commits, txn, IsOpen}
 use Rattle.inno_model.proofs.Untouched.{untouched}
 use Rattle.inno_model.proofs.Commits.{commits_rise}
 use Rattle.read_view.specs.Sight.{Sight}
 use Rattle.law_past_agreement.specs.Ids.{given, id_of, is_among}
 use Rattle.law_past_agreement.specs.Order.{MayCome}
-use Rattle.law_past_agreement.specs.Rows.{place_in}
+use Rattle.law_past_agreement.specs.Rows.{place_in, IsNeeded}
 use Rattle.law_past_agreement.specs.Slots.{Work, Slot}
-use Rattle.law_past_agreement.specs.Agreement.{IsCommitted, IsStanding, IsViewOf, ViewAgrees, WorkAgrees, SlotAgrees}
+use Rattle.law_past_agreement.specs.Agreement.{IsCommitted, IsSettled, IsStanding, IsViewOf, ViewAgrees, WorkAgrees, SlotAgrees}
 use Rattle.law_past_agreement.proofs.Ids.{AreIds, later_not_among}
 
 -- what has committed stays committed
@@ -24,6 +24,26 @@ among_more e h n id is = is
 
 pub committed_more : (e : Event) (h : List Event) (id : ℕ) → IsCommitted h id → IsCommitted (e ∷ h) id
 committed_more e h id c = (c.0, among_more e h c.0 id c.1)
+
+pub settled_more : (e : Event) (h : List Event) (id : ℕ) → IsSettled h id → IsSettled (e ∷ h) id
+settled_more e h id (inl zero-is) = inl zero-is
+settled_more e h id (inr c) = inr (committed_more e h id c)
+
+-- who may read the first n commits after the entry could before
+view_before : (e : Event) (h : List Event) (n s : ℕ) → IsOpen s (e ∷ h) → view_of s (e ∷ h) ≡ Some n → IsNeeded h n
+view_before (View t) h n s is-open is =
+    elim (eqb_tells t s) [
+      | inl same ↦ inl (let now : Some (commits h) ≡ Some n = grind (arith, nat_tests, is, same.0) in let at : commits h ≡ n = cc in omega (arith, at))
+      | inr differ ↦ inr (s, is-open, grind (arith, nat_tests, is, differ.0))
+    ]
+view_before (Begin t m l) h n s is-open is = inr (s, grind (arith, nat_tests, is-open, is), grind (arith, nat_tests, is))
+view_before (Committed t) h n s is-open is = inr (s, grind (arith, nat_tests, is-open), is)
+view_before (RolledBack t) h n s is-open is = inr (s, grind (arith, nat_tests, is-open), is)
+view_before e h n s is-open is = inr (s, is-open, is)
+
+pub needed_before : (e : Event) (h : List Event) (n : ℕ) → IsNeeded (e ∷ h) n → IsNeeded h n
+needed_before e h n (inl latest) = inl (omega (arith, latest, commits_rise e h))
+needed_before e h n (inr reader) = view_before e h n reader.0 reader.1 reader.2
 
 pub is_among_stays : (e : Event) (h : List Event) (n id : ℕ) → n ≤ commits h → is_among (e ∷ h) n id ≡ is_among h n id
 is_among_stays (Committed t) h n id le = grind (arith, nat_tests)
@@ -81,6 +101,7 @@ view_kept e h s n sight may ids same-id same-view v =
     record {
       is-view = same-view ∙ v.is-view;
       within = omega (arith, commits_rise e h, v.within);
+      earlier = v.earlier;
       alike = λ id standing differ.
           let among = is_among_stays e h n id v.within in
           elim (stood e h id may ids standing) [
@@ -96,6 +117,7 @@ view_changed s change h n sight ids v =
     record {
       is-view = v.is-view;
       within = v.within;
+      earlier = v.earlier;
       alike = λ id standing differ.
           elim standing [
             | inl c ↦ v.alike id (inl c) (λ same. differ (grind (arith, nat_tests, same, standing_some h id ids (inl c))))

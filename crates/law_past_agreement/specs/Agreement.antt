@@ -1,39 +1,41 @@
 -- That rows, transactions and sessions agree with the past.
 use Rattle.std.specs.Prelude.{◌≡◌, ◌≢◌, ℕ, zero, suc, ◌+◌, ◌<◌, ◌≤◌, ◌^◌, ◌⊎◌, Bool, true, false, if◌then◌else◌, Option, Some, None, List, [], ◌∷◌, ◌++◌, map, length, slice_index_or}
 use Rattle.std.specs.List.{AllByRecursion, list_any}
-use Rattle.std.specs.FinMap.{from_entries}
+use Rattle.inno_types.specs.declared.value.Value.{Value}
 use Rattle.inno_types.specs.declared.value.Schema.{Schema}
 use Rattle.inno_types.specs.declared.lock.Level.{Level}
 use Rattle.inno_types.specs.declared.reply.Item.{Item}
 use Rattle.inno_db.specs.declared.change.Change.{Change}
 use Rattle.inno_model.specs.declared.event.Event.{Event}
-use Rattle.inno_model.specs.Past.{level, txn, own, view_of, begins, commits, committed, opening, started, under_way, of_item, IsOpen, awaits_ack}
+use Rattle.inno_model.specs.Past.{level, txn, own, view_of, begins, commits, committed, started, under_way, of_item, IsOpen, awaits_ack}
 use Rattle.read_view.specs.Sight.{Sight, is_seen}
 use Rattle.txn_table.specs.Txns.{Txns}
 use Rattle.row_versions.specs.declared.place.Place.{Place}
 use Rattle.row_versions.specs.declared.version.Version.{Version}
-use Rattle.row_versions.specs.Chains.{Chains, versions_at, first_seen}
-use Rattle.law_past_agreement.specs.Ids.{given, id_of, is_among, opens}
+use Rattle.row_versions.specs.Chains.{Chains, versions_at, first_seen, newest}
+use Rattle.law_past_agreement.specs.Ids.{given, id_of, is_among, is_settled, opens}
 use Rattle.law_past_agreement.specs.Order.{IsOrdered, created}
-use Rattle.law_past_agreement.specs.Rows.{place_in, is_at, row_of, row_at}
+use Rattle.law_past_agreement.specs.Rows.{place_in, is_at, row_of, row_at, row_opened, IsNeeded}
 use Rattle.law_past_agreement.specs.Slots.{Work, Slot, fresh}
-
--- what holds of every past: its entries are in order, and no row was there at the opening
-abbrev pub IsSound : List Event → Type 0
-IsSound h = IsOrdered h × ((opening h).rows ≡ from_entries [])
 
 abbrev pub IsCommitted : List Event → ℕ → Type 0
 IsCommitted h id = (n : ℕ) × (is_among h n id ≡ true)
+
+-- the id was written before this history, or its transaction has committed in it
+abbrev pub IsSettled : List Event → ℕ → Type 0
+IsSettled h id = (id ≡ 0) ⊎ IsCommitted h id
 
 -- the transaction of the id has committed or is open
 abbrev pub IsStanding : List Event → ℕ → Type 0
 IsStanding h id = IsCommitted h id ⊎ ((s : ℕ) × IsOpen s h × (id_of h s ≡ id) × (0 < id))
 
--- The view's ids say the same as its number, of each writer of a standing version but the reader. Later ones are not seen.
+-- The view's ids say the same as its number, of each writer of a standing version but the reader. What was written before
+-- this history is seen, and later ids are not.
 pub record IsViewOf (h : List Event) (s n : ℕ) (sight : Sight) : Type 0 where
   pub is-view : view_of s h ≡ Some n
   pub within : n ≤ commits h
   pub alike : (id : ℕ) → IsStanding h id → id ≢ id_of h s → is_seen sight id ≡ is_among h n id
+  pub earlier : is_seen sight 0 ≡ true
   pub later : (id : ℕ) → given h < id → is_seen sight id ≡ false
 
 abbrev pub ViewAgrees : List Event → ℕ → Option Sight → Type 0
@@ -66,17 +68,23 @@ versions_of id at [] = []
 versions_of id at (change ∷ changes) = if at change then record { writer = id; row = row_of change } ∷ versions_of id at changes else versions_of id at changes
 
 -- The versions of a place, whose changes the test picks, are those of the writer's open transaction, and behind them
--- committed ones, of which the first among the first n commits is the row that these leave.
-pub record AreVersionsBy (h : List Event) (writer : ℕ) (at : Change → Bool) (versions : List Version) : Type 0 where
+-- settled ones. Of these the first that is among the first n commits, or older, is the row that the commits leave of what
+-- stood there at the opening: for each n that somebody may read.
+pub record AreVersionsBy (h : List Event) (writer : ℕ) (opened : Option (List Value)) (at : Change → Bool) (versions : List Version) : Type 0 where
   pub behind : List Version
   pub parts : versions ≡ versions_of (id_of h writer) at (own writer h) ++ behind
   pub alone : (s : ℕ) → s ≢ writer → list_any at (own s h) ≡ false
-  pub are_committed : AllByRecursion (λ v. IsCommitted h v.writer) behind
-  pub reads : (n : ℕ) → first_seen (is_among h n) behind ≡ row_at at (committed n h)
+  pub are_settled : AllByRecursion (λ v. IsSettled h v.writer) behind
+  pub reads : (n : ℕ) → IsNeeded h n → first_seen (is_settled h n) behind ≡ row_at opened at (committed n h)
 
 -- at most one open transaction has changes of the place
-abbrev pub AreVersions : List Event → (Change → Bool) → List Version → Type 0
-AreVersions h at versions = (writer : ℕ) × AreVersionsBy h writer at versions
+abbrev pub AreVersions : List Event → Option (List Value) → (Change → Bool) → List Version → Type 0
+AreVersions h opened at versions = (writer : ℕ) × AreVersionsBy h writer opened at versions
+
+-- All versions are older than this history, and the newest has the row that stood there at the opening.
+pub record IsOpenedWith (row : Option (List Value)) (versions : List Version) : Type 0 where
+  pub older : AllByRecursion (λ v. v.writer ≡ 0) versions
+  pub row_is : newest versions ≡ row
 
 -- Only the session that may write has changes, and it has an open transaction.
 abbrev pub WriterAgrees : List Event → Option ℕ → Type 0
@@ -107,11 +115,10 @@ owed_by_all h (suc n) = owed_by h n + owed_by_all h n
 pub record IsAgreed (names : List (List ℕ)) (h : List Event) (room : ℕ) (schemas : List Schema) (chains : Chains) (txns : Txns) (slots : List Slot) (owed : ℕ) (writer : Option ℕ) : Type 0 where
   pub ordered : IsOrdered h
   pub small : length h < 2 ^ 63
-  pub no_rows : (opening h).rows ≡ from_entries []
   pub tables : schemas ≡ created h
   pub txns_are : txns ≡ record { open_txns = opens h; begun = begins h; next = given h + 1 }
   pub sessions : (s : ℕ) → SlotAgrees schemas h s (slice_index_or slots s fresh)
-  pub rows : (place : Place) → AreVersions h (is_at schemas place) (versions_at place chains)
+  pub rows : (place : Place) → AreVersions h (row_opened h place) (is_at schemas place) (versions_at place chains)
   pub writes : WriterAgrees h writer
   pub enough : length names ≤ length slots
   pub owes : owed_by_all h (length names) ≤ owed

@@ -25,6 +25,10 @@ is_among [] n id = false
 is_among (Committed t ∷ h) n id = (nat_lt 0 id && (id_of h t == id && nat_lt (commits h) n)) || is_among h n id
 is_among (e ∷ h) n id = is_among h n id
 
+-- What was written before this history has id 0: it was committed before all others.
+abbrev pub is_settled : List Event → ℕ → ℕ → Bool
+is_settled h n id = id == 0 || is_among h n id
+
 -- the open transactions in order of begin
 abbrev pub opens : List Event → List Entry
 opens [] = []

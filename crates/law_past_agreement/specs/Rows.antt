@@ -1,6 +1,7 @@
 -- The rows that changes leave at places.
-use Rattle.std.specs.Prelude.{◌≡◌, ◌≢◌, ℕ, Bool, true, false, if◌then◌else◌, Option, Some, None, List, [], ◌∷◌, ◌++◌}
+use Rattle.std.specs.Prelude.{◌≡◌, ◌≢◌, ℕ, Bool, true, false, if◌then◌else◌, Option, Some, None, List, [], ◌∷◌, ◌++◌, ◌⊎◌, ◌≤◌}
 use Rattle.std.specs.List.{list_any}
+use Rattle.std.specs.FinMap.{get}
 use Rattle.std.specs.declared.cmp.Ordering.TheVariants.{Less}
 use Rattle.inno_types.specs.declared.value.Value.{Value}
 use Rattle.inno_types.specs.declared.value.Schema.{Schema}
@@ -8,9 +9,9 @@ use Rattle.inno_db.specs.declared.change.Change.{Change}
 use Rattle.inno_db.specs.declared.change.Change.TheVariants.{Create, Put, Remove}
 use Rattle.inno_db.specs.Database.{key_in}
 use Rattle.inno_model.specs.declared.event.Event.{Event}
-use Rattle.inno_model.specs.Past.{own, commits, committed}
+use Rattle.inno_model.specs.Past.{own, opening, view_of, commits, committed, IsOpen}
 use Rattle.row_versions.specs.declared.place.Place.{Place}
-use Rattle.row_versions.specs.Chains.{place_order, is_same_place, is_from}
+use Rattle.row_versions.specs.Chains.{in_model, place_order, is_same_place, is_from}
 use Rattle.law_past_agreement.specs.Order.{created}
 
 -- the place that a change is made at; none where it makes a table
@@ -32,10 +33,19 @@ abbrev pub row_of : Change → Option (List Value)
 row_of (Put table row) = Some row
 row_of other = None
 
--- what these changes leave, the newest first, where the newest of those that the test picks decides
-abbrev pub row_at : (Change → Bool) → List Change → Option (List Value)
-row_at at [] = None
-row_at at (change ∷ changes) = if at change then row_of change else row_at at changes
+-- What these changes, the newest first, leave of a place where this stood before them: the newest of those that the test
+-- picks decides.
+abbrev pub row_at : Option (List Value) → (Change → Bool) → List Change → Option (List Value)
+row_at before at [] = before
+row_at before at (change ∷ changes) = if at change then row_of change else row_at before at changes
+
+-- what stood at the place at the opening
+abbrev pub row_opened : List Event → Place → Option (List Value)
+row_opened h place = get (opening h).rows (in_model place)
+
+-- somebody may read the rows of the first n commits: they are the latest, or an open transaction has such a view
+abbrev pub IsNeeded : List Event → ℕ → Type 0
+IsNeeded h n = (commits h ≤ n) ⊎ ((s : ℕ) × IsOpen s h × (view_of s h ≡ Some n))
 
 -- the changes that the session sees under a view of the first n commits
 abbrev pub seen : List Event → ℕ → ℕ → List Change
@@ -43,11 +53,11 @@ seen h s n = own s h ++ committed n h
 
 -- the row that the session sees at a place, under such a view
 abbrev pub row_seen : List Event → ℕ → ℕ → Place → Option (List Value)
-row_seen h s n place = row_at (is_at (created h) place) (seen h s n)
+row_seen h s n place = row_at (row_opened h place) (is_at (created h) place) (seen h s n)
 
--- no session sees a row there, under any view
+-- no session sees a row there, under any view that may still be read
 abbrev pub IsUnseen : List Event → Place → Type 0
-IsUnseen h place = (s n : ℕ) → row_seen h s n place ≡ None
+IsUnseen h place = (s n : ℕ) → IsNeeded h n → row_seen h s n place ≡ None
 
 -- the first place from another on: no session sees a row between
 pub record IsFirstSeen (h : List Event) (place first : Place) : Type 0 where

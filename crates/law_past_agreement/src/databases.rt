@@ -11,15 +11,15 @@ ghost use Rattle.inno_model.specs.declared.event.Event.{Event};
 ghost use Rattle.inno_model.specs.Past.{changed};
 ghost use Rattle.row_versions.specs.declared.place.Place.{Place};
 ghost use Rattle.row_versions.specs.Chains.{in_model};
+ghost use Rattle.law_past_agreement.specs.Order.{IsOrdered};
 ghost use Rattle.law_past_agreement.specs.Rows.{seen, row_seen};
-ghost use Rattle.law_past_agreement.specs.Agreement.{IsSound};
 ghost use Rattle.law_past_agreement.specs.Matching.{FindsTheSame};
 ghost use Rattle.law_past_agreement.specs.DatabaseTables.{with_all_tables, AreRowsOfTable, rows_in};
 
 /// What a session sees at a place is the row of the database: the opening with all tables, and behind it the changes that
 /// the session sees.
 pub fn rows_seen_are_those_of_the_database()
-    ensures { (h : List Event) (s n : ℕ) (place : Place) → IsSound h → get (changed (with_all_tables h) (seen h s n)).rows (in_model place) ≡ row_seen h s n place }
+    ensures { (h : List Event) (s n : ℕ) (place : Place) → IsOrdered h → get (changed (with_all_tables h) (seen h s n)).rows (in_model place) ≡ row_seen h s n place }
 {}
 
 /// Rows that rise by their keys, and of which each is the one of its key in a map, are the rows of the table there.
