@@ -1,15 +1,21 @@
 -- What holds of the lists between calls.
-use Rattle.std.specs.Prelude.{◌≡◌, ◌≢◌, ℕ, ◌<◌, ◌≤◌, ◌==◌, Bool, true, false, List, [], ◌∷◌, length, slice_get, Option, None, Some, is_some}
+use Rattle.std.specs.Prelude.{◌≡◌, ◌≢◌, ℕ, ◌+◌, ◌<◌, ◌≤◌, ◌^◌, ◌==◌, Bool, true, false, List, [], ◌∷◌, length, slice_get, Option, None, Some, is_some}
 use Rattle.std.specs.List.{list_any}
+use Rattle.std.specs.FinMap.{get}
+use Rattle.inno_db.specs.Database.{Database}
+use Rattle.inno_db.specs.declared.limits.TheConstants.{MOST_TABLES}
 use Rattle.inno_db.specs.declared.change.Change.{Change}
 use Rattle.inno_model.specs.declared.event.Event.{Event}
+use Rattle.inno_model.specs.declared.event.Event.TheVariants.{Opened}
+use Rattle.sql_history.specs.Counts.{rows_in, most_rows}
 use Rattle.inno_model.specs.Past.{own, started, under_way, of_item, awaits_ack}
 use Rattle.store_api.specs.declared.answers.Undo.{Undo}
 use Rattle.read_view.specs.Sight.{Sight as ReadSight}
 use Rattle.row_versions.specs.declared.place.Place.{Place}
-use Rattle.row_versions.specs.Chains.{Chains, versions_at}
+use Rattle.row_versions.specs.Chains.{Chains, in_model, versions_at}
 use Rattle.law_past_agreement.specs.Order.{is_creation}
 use Rattle.law_past_agreement.specs.Rows.{place_in}
+use Rattle.law_past_agreement.specs.Agreement.{IsOpenedWith}
 use Rattle.world.specs.State.{WorldState, Session, Work, Logged, Seen, IsSession, HasWork}
 use Rattle.world.specs.declared.undo_room.UndoRoom.{UndoRoom}
 use Rattle.world.specs.Undoing.{read_into}
@@ -25,19 +31,38 @@ use Rattle.undo_apply.specs.declared.work_room.WorkRoom.{WorkRoom}
 use Rattle.undo_apply.specs.declared.work_room.Stage.TheVariants.{Find}
 use Rattle.undo_apply.specs.Rooms.{IsWhole}
 use Rattle.undo_apply.specs.Stages.{IsPuttingBack}
-use Rattle.shared_lists.specs.Fitting.{FitsThen}
+use Rattle.shared_lists.specs.Fitting.{CanBeCoded, FitsThen}
+use Rattle.law_logged_changes.specs.Pointers.{PointersApart}
 use Rattle.law_logged_changes.specs.Logs.{LogsAgree}
 use Rattle.law_found_rows.specs.Finding.{IsFinding, IsFindingAnew}
-use Rattle.world.specs.EngineCalls.{IsNew}
 use Rattle.desks.specs.declared.desk.Desk.{Desk}
 use Rattle.desks.specs.declared.desk.Doing.{Doing}
 use Rattle.desks.specs.declared.desk.Doing.TheVariants.{Nothing, Searching, Changing, Lagging, Undoing}
 use Rattle.desks.specs.declared.desk.TableSearch.{TableSearch}
 use Rattle.desks.specs.Desks.{desk_at, doing_at, is_quiet_doing}
 
--- a world of a database without tables, which nobody has joined
-abbrev pub IsFresh : WorldState → Type 0
-IsFresh state = IsNew state
+-- each place has few versions: those of this history, and not too many older ones
+abbrev pub AreFew : Chains → List Event → Type 0
+AreFew chains past = (place : Place) → length (versions_at place chains) ≤ length past + 2 ^ 62
+
+-- The world of a database of few tables and rows, which nobody has joined. The newest version of each place has its row;
+-- older ones may stand behind it.
+pub record IsFresh (state : WorldState) : Type 0 where
+  pub db : Database
+  pub fits : CanBeCoded db
+  pub few_tables : length db.schemas ≤ MOST_TABLES
+  pub few_rows : rows_in db ≤ most_rows
+  pub chains : Chains
+  pub opened : (place : Place) → IsOpenedWith (get db.rows (in_model place)) (versions_at place chains)
+  pub few_versions : AreFew chains state.past
+  pub coded : HasRows chains state
+  pub apart : PointersApart state
+  pub names : state.names ≡ []
+  pub past : state.past ≡ Opened db ∷ []
+  pub rows : state.rows ≡ rows_in db
+  pub schemas : state.schemas ≡ db.schemas
+  pub txns : state.txns ≡ record { open_txns = []; begun = 0; next = 1 }
+  pub sessions : state.sessions ≡ []
 
 -- The history has room for the entries by which items and transactions end.
 pub record HasRoom (state : WorldState) : Type 0 where
@@ -156,5 +181,5 @@ pub record IsHeld (state : WorldState) (writer : Option ℕ) (has_made_table : B
   pub makes : MakesTables writer has_made_table state.past
   -- each older version was dropped by a change that was taken back
   pub cut : cuts ≤ length state.past
-  pub short : (place : Place) → length (versions_at place chains) ≤ length state.past
+  pub short : AreFew chains state.past
   pub whole : IsWhole room

@@ -27,4 +27,4 @@ keys_if (Some schema) = length schema.keys
 
 -- No place has as many versions as this.
 abbrev pub undo_left_in : ℕ → Stage → WorldState → ℕ
-undo_left_in table stage state = left_at (keys_if (slice_get state.schemas table)) (2 ^ 63) state.versions.kept_at stage
+undo_left_in table stage state = left_at (keys_if (slice_get state.schemas table)) (2 ^ 64) state.versions.kept_at stage

@@ -74,8 +74,8 @@ seats_kept old new seats s seat are joined moves agrees =
 
 -- ---- an engine that is opened
 
-pub first_seats : (lists : Lists) → AreFirst lists → ((s : ℕ) → task_of s lists ≡ tasks.Idle) → AreSeats lists []
-first_seats lists first idle =
+pub first_seats : (db : Database) (lists : Lists) → AreFirst db lists → ((s : ℕ) → task_of s lists ≡ tasks.Idle) → AreSeats lists []
+first_seats db lists first idle =
     record {
       enough = rw first.names (omega arith);
       each = λ u.
@@ -84,12 +84,9 @@ first_seats lists first idle =
           (record { rests = rests; rows_alone = subst (AllByRecursion IsOfRow) (sym nothing) tt }, ap (is_leaving u) first.past, idle u);
     }
 
-pub are_first : (all : AllLists) (lists : Lists) → IsFirst all → lists ≡ all.state → AreFirst lists
+pub are_first : (all : AllLists) (lists : Lists) → (first : IsFirst all) → lists ≡ all.state → AreFirst first.db lists
 are_first all lists first is =
     record {
-      db = first.db;
-      no_tables = first.no_tables;
-      no_rows = first.no_rows;
       past = ap (λ l. l.past) is ∙ first.past;
       names = ap (λ l. l.names) is ∙ first.names;
       writer = ap (λ l. l.writer) is ∙ first.writer;

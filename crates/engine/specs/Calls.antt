@@ -1,6 +1,5 @@
 -- What each call of the engine does, between two states.
-use Rattle.std.specs.Prelude.{◌≡◌, ◌≢◌, ◌⊎◌, ℕ, ◌+◌, true, None, Some, List, [], ◌∷◌, ◌++◌}
-use Rattle.std.specs.FinMap.{from_entries}
+use Rattle.std.specs.Prelude.{◌≡◌, ◌≢◌, ◌⊎◌, ℕ, ◌+◌, ◌<◌, true, None, Some, List, [], ◌∷◌, ◌++◌}
 use Rattle.inno_types.specs.declared.reply.Item.{Item}
 use Rattle.inno_types.specs.declared.reply.Reply.{Reply}
 use Rattle.inno_types.specs.declared.reply.Reply.TheVariants.{Done}
@@ -8,6 +7,9 @@ use Rattle.inno_db.specs.Database.{Database}
 use Rattle.inno_model.specs.declared.event.Event.{Event}
 use Rattle.inno_model.specs.declared.event.Event.TheVariants.{Opened, Started, Ended}
 use Rattle.inno_model.specs.Past.{is_of, started, IsClosed}
+use Rattle.store_api.specs.declared.answers.MountBad.{MountBad}
+use Rattle.store_api.specs.declared.answers.MountBad.TheVariants.{TooLarge, NoMemory}
+use Rattle.sql_history.specs.Counts.{rows_in, capped, most_rows}
 use Rattle.store_api.specs.declared.answers.Progress.{Progress}
 use Rattle.store_api.specs.declared.answers.Progress.TheVariants as progress
 use Rattle.shared_lists.specs.Tasks as tasks
@@ -20,19 +22,22 @@ use Rattle.engine.specs.declared.seats.Seat.{Seat}
 use Rattle.engine.specs.declared.seats.Seat.TheVariants as seats
 use Rattle.engine.specs.Seats.{State, seat_at, is_working, IsGoingOut}
 
--- the lists of a database without tables and rows, where nobody has joined
-pub record AreFirst (lists : Lists) : Type 0 where
-  pub db : Database
-  pub no_tables : db.schemas ≡ []
-  pub no_rows : db.rows ≡ from_entries []
+-- the lists of this database, where nobody has joined
+pub record AreFirst (db : Database) (lists : Lists) : Type 0 where
   pub past : lists.past ≡ Opened db ∷ []
   pub names : lists.names ≡ []
   pub writer : lists.writer ≡ None
 
-pub record IsOpened {D : Type 0} (disk : D) (state : State D) : Type 0 where
+pub record IsOpened {D : Type 0} (disk : D) (db : Database) (state : State D) : Type 0 where
   pub disk_is : state.disk ≡ disk
-  pub lists_are : AreFirst state.lists
+  pub lists_are : AreFirst db state.lists
   pub nobody : state.seats ≡ []
+
+-- why an engine was not opened on the database: it has more rows than a history may hold, or memory was lacking
+abbrev pub IsRefused : Database → MountBad → Type 0
+IsRefused db (TooLarge rows) = (rows ≡ capped (rows_in db)) × (most_rows < rows)
+IsRefused db NoMemory = Unit {0}
+IsRefused db other = ⊥
 
 -- the lists are the same to all sessions
 pub record SameLists (old new : Lists) : Type 0 where

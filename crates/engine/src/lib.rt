@@ -5,5 +5,5 @@
 mod machine;
 mod seats;
 
-pub use machine::{Engine, mount};
+pub use machine::{Engine, mount, open};
 pub use seats::Seat;

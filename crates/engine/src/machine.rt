@@ -5,7 +5,9 @@ ghost use Rattle.inno_types.specs.declared.reply.Item.TheVariants.{Sql};
 ghost use Rattle.inno_model.specs.Past.{under_way, own, IsOpen};
 ghost use Rattle.shared_lists.specs.Tasks.{Idle as TaskIdle};
 ghost use Rattle.shared_lists.specs.State.{task_of};
-ghost use Rattle.engine.specs.Calls.{IsOpened, AreFirst, Settled, GoesOut};
+ghost use Rattle.inno_db.specs.Database.{Database};
+ghost use Rattle.opened_world.specs.Laid.{no_db, IsTooLarge};
+ghost use Rattle.engine.specs.Calls.{IsOpened, IsRefused, AreFirst, Settled, GoesOut};
 ghost use Rattle.statement.specs.Running.{IsReadFrom, ReadsItem};
 ghost use Rattle.engine.specs.Seats.{IsGoingOut};
 ghost use Rattle.engine.specs.Going.{NearsEnding};
@@ -14,6 +16,7 @@ use crate::seats::{Seat, Seats};
 use inno_model::History;
 use inno_types::{Bytes, Cause, Item, Reply};
 use list_world::ListWorld;
+use opened_world::{OpenBad, Opening};
 use shared_lists::{SharedLists, Undone};
 use sql_lists::{Advance, SqlLists};
 use sql_prefix::parse;
@@ -47,26 +50,70 @@ impl<D> Model for Engine<D> {
 
 /// Opens an engine over a disk, with a database without tables. A refusal hands the disk back.
 pub fn mount<D: Disk>(alloc: Global, disk: D) -> Result<Engine<D>, (D, MountBad)>
-    ensures ok { IfOk result (IsOpened disk) }
+    ensures ok { IfOk result (IsOpened disk no_db) }
     ensures err { IfErr result (λ e. (e.0 ≡ disk) × (e.1 ≡ MountBad.NoMemory)) }
 {
     match new_lists(alloc) {
-        Ok(lists) => Ok(Engine {
-            alloc,
-            disk,
-            lists,
-            seats: Seats::new(alloc),
-        }),
+        Ok(lists) => Ok(seated(alloc, disk, lists)),
         Err(_) => Err((disk, MountBad::NoMemory)),
     }
 }
 
-/// The lists of a database without tables, over a world in memory.
+/// Opens an engine over a disk, with a database that was laid down. A refusal hands the disk back.
+pub fn open<D: Disk>(
+    alloc: Global,
+    disk: D,
+    opening: Opening,
+) -> Result<Engine<D>, (D, MountBad)>
+    ensures ok { IfOk result (IsOpened disk opening) }
+    ensures err { IfErr result (λ e. (e.0 ≡ disk) × IsRefused opening e.1) }
+{
+    match lists_over(alloc, opening) {
+        Ok(lists) => Ok(seated(alloc, disk, lists)),
+        Err(OpenBad::TooManyRows { rows }) => Err((disk, MountBad::TooLarge { rows })),
+        Err(OpenBad::NoMemory) => Err((disk, MountBad::NoMemory)),
+    }
+}
+
+/// An engine that nobody has joined.
+fn seated<D: Disk>(
+    alloc: Global,
+    disk: D,
+    lists: SqlLists<WorldLists<ListWorld>>,
+) -> Engine<D>
+    requires first { (db : Database) × AreFirst db lists }
+    requires idle { (s : ℕ) → task_of s lists ≡ TaskIdle }
+    ensures { result ≡ record { disk = disk; lists = lists; seats = [] } }
+{
+    Engine {
+        alloc,
+        disk,
+        lists,
+        seats: Seats::new(alloc),
+    }
+}
+
+/// The lists of a database without tables.
 fn new_lists(alloc: Global) -> Result<SqlLists<WorldLists<ListWorld>>, NoMemory>
-    ensures first { IfOk result AreFirst }
+    ensures first { IfOk result (AreFirst no_db) }
     ensures idle { IfOk result (λ lists. (s : ℕ) → task_of s lists ≡ TaskIdle) }
 {
-    let world = ListWorld::new(alloc)?;
+    match lists_over(alloc, Opening::new(alloc)?) {
+        Ok(lists) => Ok(lists),
+        Err(_) => Err(NoMemory),
+    }
+}
+
+/// The lists of a database, over a world in memory.
+fn lists_over(
+    alloc: Global,
+    opening: Opening,
+) -> Result<SqlLists<WorldLists<ListWorld>>, OpenBad>
+    ensures first { IfOk result (AreFirst opening) }
+    ensures idle { IfOk result (λ lists. (s : ℕ) → task_of s lists ≡ TaskIdle) }
+    ensures large { IfErr result (IsTooLarge opening) }
+{
+    let world = opening.finish()?;
     Ok(SqlLists::new(alloc, WorldLists::new(alloc, world)?))
 }
 

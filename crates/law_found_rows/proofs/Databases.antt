@@ -14,7 +14,6 @@ use Rattle.law_coded_rows.specs.Records.{IsClustered}
 use Rattle.law_coded_rows.specs.Tables.{in_table}
 use Rattle.sql_plan.specs.Visits.{IsRowOf}
 use Rattle.law_past_agreement.specs.Rows.{seen}
-use Rattle.law_past_agreement.specs.Agreement.{IsSound}
 use Rattle.law_past_agreement.specs.DatabaseTables.{with_all_tables}
 use Rattle.law_past_agreement.proofs.Gets.{seen_is}
 use Rattle.law_past_agreement.proofs.Walk.{rows_are}
@@ -52,22 +51,19 @@ module _ (schema : Schema) (table : ℕ) (row_at : Value → Option (List Value)
       All-from_recursion (IsRowOf schema.columns) (rows_of table db)
       (each_row (IsRowOf schema.columns) db table (λ key row is. let h = homes key row (sym (shows key) ∙ is) in row_fits schema row h.at.fits h.at.bits))
 
-pub sound_of : (chains : Chains) (writer : Option ℕ) (state : WorldState) → Agrees chains writer state → IsSound state.past
-sound_of chains writer state agrees = (agrees.lists.ordered, agrees.lists.no_rows)
-
 module _ (chains : Chains) (writer : Option ℕ) (state : WorldState) (agrees : Agrees chains writer state) (table : ℕ) where
   -- by the view of an open transaction
   pub view_shows : (s n : ℕ) (session : Session) (work : Work) (view : Seen) → HasWork s session work state → work.view ≡ Some view → view_of s state.past ≡ Some n
       → ShowsDatabase table (rows_seen (sights.View (sight_of view) work.id) (in_table table chains)) (changed (with_all_tables state.past) (seen state.past s n))
   view_shows s n session work view has is at key =
-      seen_is state.past s n (at_key table key) (sound_of chains writer state agrees)
+      seen_is state.past s n (at_key table key) agrees.lists.ordered
       ∙ sym (seen_by_view chains writer state agrees s n session work view (at_key table key) has is at)
 
   -- without one, while one session alone has changes
   pub newest_shows : (w : ℕ) → ((u : ℕ) → u ≢ w → own u state.past ≡ [])
       → ShowsDatabase table (rows_seen sights.Newest (in_table table chains)) (changed (with_all_tables state.past) (seen state.past w (commits state.past)))
   newest_shows w alone key =
-      seen_is state.past w (commits state.past) (at_key table key) (sound_of chains writer state agrees)
+      seen_is state.past w (commits state.past) (at_key table key) agrees.lists.ordered
       ∙ (sym (latest state.past w (at_key table key) (newest (in_table table chains key)) alone (seen_newest chains writer state agrees (at_key table key)))
       ∙ sym (newest_seen (in_table table chains key)))
 

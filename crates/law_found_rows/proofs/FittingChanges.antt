@@ -23,12 +23,12 @@ storable_more [] schema all is (suc n) found there = absurd (cc)
 storable_more (first ∷ schemas) schema all is zero found there = all zero found there
 storable_more (first ∷ schemas) schema all is (suc n) found there = storable_more schemas schema (λ m other at. all (suc m) other at) is n found there
 
-none_there : AreStorable []
+pub none_there : AreStorable []
 none_there n schema there = absurd (cc)
 
 pub tables_storable : (past : List Event) → FitsThen past → AreStorable (created past)
 tables_storable [] fits = none_there
-tables_storable (events.Opened db ∷ past) fits = fits
+tables_storable (events.Opened db ∷ past) fits = fits.fitting.tables
 tables_storable (events.Changed s (Create schema) ∷ past) fits = storable_more (created past) schema (tables_storable past fits.1) fits.0.0
 tables_storable (events.Changed s (Put table row) ∷ past) fits = tables_storable past fits.1
 tables_storable (events.Changed s (Remove table key) ∷ past) fits = tables_storable past fits.1

@@ -2,7 +2,7 @@
 use Rattle.std.proofs.Common.{◌≡◌, ◌≢◌, ℕ, ◌<◌, List, [], ◌∷◌, ◌++◌, length, sym, ap, subst, ◌∙◌}
 use Rattle.std.specs.Prelude.{All}
 use Rattle.std.specs.List.{list_any}
-use Rattle.std.specs.FinMap.{from_entries, insert}
+use Rattle.std.specs.FinMap.{insert}
 use Rattle.std.proofs.lemmas.List.{append-nil, append_assoc}
 use Rattle.std.proofs.lemmas.List.Elements.{All-nil, All-cons, All-head, All-tail, All-append, All-weaker}
 use Rattle.inno_types.specs.declared.value.Value.{Value}
@@ -13,10 +13,10 @@ use Rattle.inno_db.specs.declared.change.Change.TheVariants.{Create, Put, Remove
 use Rattle.inno_db.specs.Database.{Database, RowMap, key_in}
 use Rattle.inno_db.specs.Outcome.{outcome}
 use Rattle.inno_model.specs.declared.event.Event.{Event}
+use Rattle.inno_model.specs.declared.event.Event.TheVariants as events
 use Rattle.inno_model.specs.Past.{own, commits, committed, opening, changed}
-use Rattle.law_past_agreement.specs.Order.{created, is_creation}
+use Rattle.law_past_agreement.specs.Order.{created, is_creation, IsOrdered}
 use Rattle.law_past_agreement.specs.Rows.{seen}
-use Rattle.law_past_agreement.specs.Agreement.{IsSound}
 use Rattle.law_past_agreement.proofs.Tables.{key_stays}
 use Rattle.law_past_agreement.specs.DatabaseTables.{with_all_tables}
 use Rattle.sql_history.specs.Items.{own_before, base}
@@ -24,12 +24,11 @@ use Rattle.sql_lists.specs.Kept.{made, AreInOrder, IsInOrder, AreStanding}
 use Rattle.law_fitting_rows.specs.Storable.{AreStorable}
 use Rattle.law_fitting_rows.specs.Fitting.{FitsTables, AreFitting}
 use Rattle.law_fitting_rows.specs.Numbers.{ChangeHas64Bits, RowsHave64Bits, Stores64Bits}
-use Rattle.law_fitting_rows.proofs.Applying.{AreFitting-apply_one, AreFitting-changed, AreFitting-no_rows}
+use Rattle.law_fitting_rows.proofs.Applying.{AreFitting-apply_one, AreFitting-changed, AreFitting-no_rows, AreFitting-mixed}
 use Rattle.law_fitting_rows.proofs.Numbers.{changed-Has64Bits, empty-Has64Bits, outcome-Has64Bits}
 use Rattle.law_fitting_rows.proofs.Outcomes.{outcome-FitsTables}
-use Rattle.shared_lists.specs.Fitting.{FitsWell, FitsThen}
-use Rattle.law_found_rows.specs.Databases.{CanBeCoded}
-use Rattle.law_found_rows.proofs.FittingChanges.{tables_storable, own_fits, own_before_fits, committed_fits}
+use Rattle.shared_lists.specs.Fitting.{CanBeCoded, FitsWell, FitsThen}
+use Rattle.law_found_rows.proofs.FittingChanges.{none_there, tables_storable, own_fits, own_before_fits, committed_fits}
 
 -- ---- the two parts of what fits
 
@@ -50,18 +49,35 @@ statement_fits stmt db coded stores = both_fit db.schemas (outcome stmt db).chan
 
 -- ---- over all tables
 
-no_rows_fit : (schemas : List Schema) (rows : RowMap) → rows ≡ from_entries [] → AreStorable schemas → AreFitting (record { schemas = schemas; rows = rows })
-no_rows_fit schemas rows none storable = subst (λ (r : RowMap). AreFitting (record { schemas = schemas; rows = r })) (sym none) (AreFitting-no_rows schemas storable)
+-- the tables of the opening, and those that were made since
+created_since : (past : List Event) → (more : List Schema) × (created past ≡ (opening past).schemas ++ more)
+created_since [] = ([], refl)
+created_since (events.Opened db ∷ past) = ([], sym (append-nil db.schemas))
+created_since (events.Changed s (Create schema) ∷ past) =
+    let before = created_since past in (before.0 ++ schema ∷ [], ap (λ (l : List Schema). l ++ schema ∷ []) before.1 ∙ append_assoc (opening past).schemas before.0 (schema ∷ []))
+created_since (events.Changed s (Put table row) ∷ past) = created_since past
+created_since (events.Changed s (Remove table key) ∷ past) = created_since past
+created_since (e ∷ past) = created_since past
 
-no_rows_numbers : (schemas : List Schema) (rows : RowMap) → rows ≡ from_entries [] → RowsHave64Bits (record { schemas = schemas; rows = rows })
-no_rows_numbers schemas rows none = subst (λ (r : RowMap). RowsHave64Bits (record { schemas = schemas; rows = r })) (sym none) (empty-Has64Bits schemas)
+opening_coded : (past : List Event) → FitsThen past → CanBeCoded (opening past)
+opening_coded [] fits = record { fitting = AreFitting-no_rows [] none_there; numbers = empty-Has64Bits [] }
+opening_coded (events.Opened db ∷ past) fits = fits
+opening_coded (events.Changed s change ∷ past) fits = opening_coded past fits.1
+opening_coded (e ∷ past) fits = opening_coded past fits
 
-pub seen_coded : (past : List Event) (s n : ℕ) → FitsThen past → IsSound past → CanBeCoded (changed (with_all_tables past) (seen past s n))
-seen_coded past s n fits sound =
-    let all = All-append (FitsWell (created past)) (own s past) (committed n past) (own_fits past s fits sound.0) (committed_fits past n fits sound.0) in
+-- rows fit with more tables, too
+more_tables_fit : (db : Database) (tables more : List Schema) → tables ≡ db.schemas ++ more → AreStorable tables → AreFitting db → AreFitting (record { schemas = tables; rows = db.rows })
+more_tables_fit db tables more is storable fits =
+    AreFitting-mixed tables db.rows storable (λ place row there. record { db = db; fitting = fits; more = more; tables = is; there = there })
+
+pub seen_coded : (past : List Event) (s n : ℕ) → FitsThen past → IsOrdered past → CanBeCoded (changed (with_all_tables past) (seen past s n))
+seen_coded past s n fits ordered =
+    let since = created_since past in
+    let opened = opening_coded past fits in
+    let all = All-append (FitsWell (created past)) (own s past) (committed n past) (own_fits past s fits ordered) (committed_fits past n fits ordered) in
     record {
-      fitting = AreFitting-changed (with_all_tables past) (seen past s n) (no_rows_fit (created past) (opening past).rows sound.1 (tables_storable past fits)) (tables_fit (created past) (seen past s n) all);
-      numbers = changed-Has64Bits (with_all_tables past) (seen past s n) (no_rows_numbers (created past) (opening past).rows sound.1) (numbers_fit (created past) (seen past s n) all);
+      fitting = AreFitting-changed (with_all_tables past) (seen past s n) (more_tables_fit (opening past) (created past) since.0 since.1 (tables_storable past fits) opened.fitting) (tables_fit (created past) (seen past s n) all);
+      numbers = changed-Has64Bits (with_all_tables past) (seen past s n) opened.numbers (numbers_fit (created past) (seen past s n) all);
     }
 
 -- ---- over the tables that changes make themselves
@@ -73,14 +89,14 @@ schemas_after db (Create schema ∷ changes) = ap (λ (schemas : List Schema). s
 schemas_after db (Put table row ∷ changes) = schemas_after db changes
 schemas_after db (Remove table key ∷ changes) = schemas_after db changes
 
-module _ (db : Database) (none : db.rows ≡ from_entries []) (tables : List Schema) (storable : AreStorable tables) where
+module _ (db : Database) (fits : AreFitting db) (tables : List Schema) (storable : AreStorable tables) where
   key_after : (more : List Schema) (earlier : List Change) (table : ℕ) (row : List Value) → tables ≡ (db.schemas ++ made earlier) ++ more → table < length (db.schemas ++ made earlier) → key_in tables table row ≡ key_in (changed db earlier).schemas table row
   key_after more earlier table row is lt =
       ap (λ (l : List Schema). key_in l table row) is ∙ key_stays (db.schemas ++ made earlier) more table row lt ∙ sym (ap (λ (l : List Schema). key_in l table row) (schemas_after db earlier))
 
   -- the rows fit all tables, of which some may have been made later
   rows_fit : (more : List Schema) (changes : List Change) → tables ≡ (db.schemas ++ made changes) ++ more → AreInOrder db.schemas changes → All (FitsTables tables) changes → AreFitting (record { schemas = tables; rows = (changed db changes).rows })
-  rows_fit more [] is in_order all = no_rows_fit tables db.rows none storable
+  rows_fit more [] is in_order all = more_tables_fit db tables more (is ∙ ap (λ (l : List Schema). l ++ more) (append-nil db.schemas)) storable fits
   rows_fit more (Create schema ∷ earlier) is in_order all =
       let later : tables ≡ (db.schemas ++ made earlier) ++ (schema ∷ more) = is ∙ (ap (λ (l : List Schema). l ++ more) (sym (append_assoc db.schemas (made earlier) (schema ∷ []))) ∙ append_assoc (db.schemas ++ made earlier) (schema ∷ []) more) in
       rows_fit (schema ∷ more) earlier later in_order.1 (All-tail (FitsTables tables) (Create schema) earlier all)
@@ -96,20 +112,21 @@ order_of_rest : (tables : List Schema) (later changes : List Change) → AreInOr
 order_of_rest tables [] changes in_order = in_order
 order_of_rest tables (change ∷ later) changes in_order = order_of_rest tables later changes in_order.1
 
-pub latest_coded : (past : List Event) (s : ℕ) (later : List Change) → FitsThen past → IsSound past → IsInOrder past → own s past ≡ later ++ own_before s past → created past ≡ (base s past).schemas → CanBeCoded (base s past)
-latest_coded past s later fits sound in_order parts tables =
+pub latest_coded : (past : List Event) (s : ℕ) (later : List Change) → FitsThen past → IsOrdered past → IsInOrder past → own s past ≡ later ++ own_before s past → created past ≡ (base s past).schemas → CanBeCoded (base s past)
+latest_coded past s later fits ordered in_order parts tables =
+    let opened = opening_coded past fits in
     let changes = own_before s past ++ committed (commits past) past in
-    let all = All-append (FitsWell (created past)) (own_before s past) (committed (commits past) past) (own_before_fits past s fits sound.0) (committed_fits past (commits past) fits sound.0) in
+    let all = All-append (FitsWell (created past)) (own_before s past) (committed (commits past) past) (own_before_fits past s fits ordered) (committed_fits past (commits past) fits ordered) in
     let mine : AreInOrder (opening past).schemas (later ++ changes) =
     subst (AreInOrder (opening past).schemas) (append_assoc later (own_before s past) (committed (commits past) past)) (subst (λ (own : List Change). AreInOrder (opening past).schemas (own ++ committed (commits past) past)) parts (in_order s)) in
     let is : created past ≡ ((opening past).schemas ++ made changes) ++ [] = tables ∙ schemas_after (opening past) changes ∙ sym (append-nil ((opening past).schemas ++ made changes)) in
     record {
       fitting = subst (λ (schemas : List Schema). AreFitting (record { schemas = schemas; rows = (changed (opening past) changes).rows })) tables
-          (rows_fit (opening past) sound.1 (created past) (tables_storable past fits) [] changes is (order_of_rest (opening past).schemas later changes mine) (tables_fit (created past) changes all));
-      numbers = changed-Has64Bits (opening past) changes (no_rows_numbers (opening past).schemas (opening past).rows sound.1) (numbers_fit (created past) changes all);
+          (rows_fit (opening past) opened.fitting (created past) (tables_storable past fits) [] changes is (order_of_rest (opening past).schemas later changes mine) (tables_fit (created past) changes all));
+      numbers = changed-Has64Bits (opening past) changes opened.numbers (numbers_fit (created past) changes all);
     }
 
-pub unchanged_coded : (past : List Event) (s : ℕ) → FitsThen past → IsSound past → IsInOrder past → AreStanding past → ((other : ℕ) → other ≢ s → own other past ≡ []) → own s past ≡ own_before s past → CanBeCoded (base s past)
-unchanged_coded past s fits sound in_order stands alone unchanged =
+pub unchanged_coded : (past : List Event) (s : ℕ) → FitsThen past → IsOrdered past → IsInOrder past → AreStanding past → ((other : ℕ) → other ≢ s → own other past ≡ []) → own s past ≡ own_before s past → CanBeCoded (base s past)
+unchanged_coded past s fits ordered in_order stands alone unchanged =
     let tables : created past ≡ (changed (opening past) (own s past ++ committed (commits past) past)).schemas = stands.tables s (λ other differs. ap (list_any is_creation) (alone other differs)) in
-    latest_coded past s [] fits sound in_order unchanged (tables ∙ ap (λ changes. (changed (opening past) (changes ++ committed (commits past) past)).schemas) unchanged)
+    latest_coded past s [] fits ordered in_order unchanged (tables ∙ ap (λ changes. (changed (opening past) (changes ++ committed (commits past) past)).schemas) unchanged)

@@ -8,22 +8,23 @@ use Rattle.inno_model.specs.declared.event.Event.{Event}
 use Rattle.inno_model.specs.Past.{own, commits, committed}
 use Rattle.row_versions.specs.declared.place.Place.{Place}
 use Rattle.law_past_agreement.specs.Order.{created}
-use Rattle.law_past_agreement.specs.Rows.{is_at, row_at, row_seen, IsNewestSeen}
+use Rattle.law_past_agreement.specs.Rows.{is_at, row_at, row_opened, row_seen, IsNewestSeen}
 
 abbrev pub at_key : ℕ → Value → Place
 at_key table key = record { table = table; key = key }
 
 -- changes of other places are passed over
-passed_over : (at : Change → Bool) (xs ys : List Change) → list_any at xs ≡ false → row_at at (xs ++ ys) ≡ row_at at ys
-passed_over at [] ys none = refl
-passed_over at (change ∷ xs) ys none = grind (arith, nat_tests, passed_over at xs ys, none)
+passed_over : (before : Option (List Value)) (at : Change → Bool) (xs ys : List Change) → list_any at xs ≡ false → row_at before at (xs ++ ys) ≡ row_at before at ys
+passed_over before at [] ys none = refl
+passed_over before at (change ∷ xs) ys none = grind (arith, nat_tests, passed_over before at xs ys, none)
 
 pub latest : (h : List Event) (s : ℕ) (place : Place) (row : Option (List Value)) → ((u : ℕ) → u ≢ s → own u h ≡ []) → IsNewestSeen h place row → row ≡ row_seen h s (commits h) place
 latest h s place row alone newest =
+    let opened = row_opened h place in
     let at = is_at (created h) place in
     elim (eqb_tells newest.0 s) [
       | inl same ↦ newest.2 ∙ ap (λ u. row_seen h u (commits h) place) same.1
       | inr differ ↦
-          newest.2 ∙ (ap (λ (changes : List Change). row_at at (changes ++ committed (commits h) h)) (alone newest.0 differ.1)
-          ∙ sym (passed_over at (own s h) (committed (commits h) h) (newest.1 s (λ is. differ.1 (sym is)))))
+          newest.2 ∙ (ap (λ (changes : List Change). row_at opened at (changes ++ committed (commits h) h)) (alone newest.0 differ.1)
+          ∙ sym (passed_over opened at (own s h) (committed (commits h) h) (newest.1 s (λ is. differ.1 (sym is)))))
     ]

@@ -17,7 +17,7 @@ use Rattle.row_versions.specs.declared.place.Place.{Place}
 use Rattle.row_versions.specs.Chains.{Chains, first_seen, sees}
 use Rattle.law_coded_rows.specs.Tables.{in_table}
 use Rattle.law_past_agreement.specs.Order.{created, IsTabled, IsOrdered}
-use Rattle.law_past_agreement.specs.Rows.{is_at, row_at, row_of, seen, row_seen}
+use Rattle.law_past_agreement.specs.Rows.{is_at, row_at, row_of, row_opened, seen, row_seen}
 use Rattle.law_past_agreement.specs.Agreement.{ViewAgrees}
 use Rattle.law_past_agreement.proofs.Tables.{at_stays, own_tabled, committed_tabled}
 use Rattle.law_found_rows.proofs.Latest.{at_key}
@@ -43,9 +43,15 @@ grown t (events.Changed u (changes.Put table row)) h mine = ([], sym (append-nil
 grown t (events.Changed u (changes.Remove table key)) h mine = ([], sym (append-nil (created h)))
 grown t e h mine = ([], sym (append-nil (created h)))
 
-row_at_so : (schemas more : List Schema) (place : Place) (cs : List Change) → AllByRecursion (IsTabled (length schemas)) cs → row_at (is_at (schemas ++ more) place) cs ≡ row_at (is_at schemas place) cs
-row_at_so schemas more place [] all = refl
-row_at_so schemas more place (c ∷ cs) all = rw (at_stays schemas more place c all.0) (ap (λ later. cond (is_at schemas place c) (row_of c) later) (row_at_so schemas more place cs all.1))
+-- an entry of a session opens nothing
+opening_stays : (t : ℕ) (e : Event) (h : List Event) (place : Place) → is_of t e ≡ true → row_opened (e ∷ h) place ≡ row_opened h place
+opening_stays t (events.Opened db) h place mine = (let x = mine in cc)
+opening_stays t e h place mine = refl
+
+row_at_so : (before : Option (List Value)) (schemas more : List Schema) (place : Place) (cs : List Change) → AllByRecursion (IsTabled (length schemas)) cs
+    → row_at before (is_at (schemas ++ more) place) cs ≡ row_at before (is_at schemas place) cs
+row_at_so before schemas more place [] all = refl
+row_at_so before schemas more place (c ∷ cs) all = rw (at_stays schemas more place c all.0) (ap (λ later. cond (is_at schemas place c) (row_of c) later) (row_at_so before schemas more place cs all.1))
 
 all_joined : (P : Change → Type 0) (xs ys : List Change) → AllByRecursion P xs → AllByRecursion P ys → AllByRecursion P (xs ++ ys)
 all_joined P [] ys all other = other
@@ -59,8 +65,9 @@ entry_leaves t s n e h place ordered mine differ within =
     let same_seen : seen (e ∷ h) s n ≡ seen h s n = ap (λ cs. cs ++ committed n (e ∷ h)) same_own ∙ ap (λ cs. own s h ++ cs) (committed_stays e h n within) in
     let tabled : AllByRecursion (IsTabled (length (created h))) (seen h s n)
     = all_joined (IsTabled (length (created h))) (own s h) (committed n h) (own_tabled h ordered s) (committed_tabled h ordered n) in
-    ap (λ cs. row_at (is_at (created (e ∷ h)) place) cs) same_seen
-    ∙ (ap (λ (l : List Schema). row_at (is_at l place) (seen h s n)) more.1 ∙ row_at_so (created h) more.0 place (seen h s n) tabled)
+    ap (λ before. row_at before (is_at (created (e ∷ h)) place) (seen (e ∷ h) s n)) (opening_stays t e h place mine)
+    ∙ (ap (λ cs. row_at (row_opened h place) (is_at (created (e ∷ h)) place) cs) same_seen
+    ∙ (ap (λ (l : List Schema). row_at (row_opened h place) (is_at l place) (seen h s n)) more.1 ∙ row_at_so (row_opened h place) (created h) more.0 place (seen h s n) tabled))
 
 module _ (t s : ℕ) (old new : List Event) (ordered : IsOrdered old) (differ : t ≢ s) where
   pub view_stays : AddsAtMostOne t old new → view_of s new ≡ view_of s old

@@ -1,4 +1,3 @@
 pub mod Finding
 pub mod Pasts
 pub mod Plans
-pub mod Databases

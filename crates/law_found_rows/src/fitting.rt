@@ -11,14 +11,12 @@ ghost use Rattle.inno_model.specs.declared.event.Event.{Event};
 ghost use Rattle.inno_model.specs.Past.{changed, own, committed};
 ghost use Rattle.law_past_agreement.specs.Order.{created, IsOrdered};
 ghost use Rattle.law_past_agreement.specs.Rows.{seen};
-ghost use Rattle.law_past_agreement.specs.Agreement.{IsSound};
 ghost use Rattle.law_past_agreement.specs.DatabaseTables.{with_all_tables};
 ghost use Rattle.sql_history.specs.Items.{own_before, base};
 ghost use Rattle.sql_lists.specs.Kept.{AreStanding, IsInOrder};
 ghost use Rattle.law_fitting_rows.specs.Storable.{AreStorable};
 ghost use Rattle.law_fitting_rows.specs.Numbers.{Stores64Bits};
-ghost use Rattle.shared_lists.specs.Fitting.{FitsWell, FitsThen};
-ghost use Rattle.law_found_rows.specs.Databases.{CanBeCoded};
+ghost use Rattle.shared_lists.specs.Fitting.{CanBeCoded, FitsWell, FitsThen};
 
 /// Each table that was made can be stored.
 pub fn tables_of_a_fitting_history_can_be_stored()
@@ -38,12 +36,12 @@ pub fn changes_of_a_fitting_history_fit()
 /// What a session sees under a view can be coded; and so can the latest rows that INSERT, UPDATE and DELETE act on, where all
 /// tables stand in them: as they do while no other session has changes and the session's item has made none.
 pub fn databases_of_a_fitting_history_fit()
-    ensures seen { (past : List Event) (s n : ℕ) → FitsThen past → IsSound past
+    ensures seen { (past : List Event) (s n : ℕ) → FitsThen past → IsOrdered past
         → CanBeCoded (changed (with_all_tables past) (seen past s n)) }
-    ensures latest { (past : List Event) (s : ℕ) (later : List Change) → FitsThen past → IsSound past
+    ensures latest { (past : List Event) (s : ℕ) (later : List Change) → FitsThen past → IsOrdered past
         → IsInOrder past → own s past ≡ later ++ own_before s past → created past ≡ (base s past).schemas
         → CanBeCoded (base s past) }
-    ensures unchanged { (past : List Event) (s : ℕ) → FitsThen past → IsSound past → IsInOrder past
+    ensures unchanged { (past : List Event) (s : ℕ) → FitsThen past → IsOrdered past → IsInOrder past
         → AreStanding past → ((other : ℕ) → other ≢ s → own other past ≡ [])
         → own s past ≡ own_before s past → CanBeCoded (base s past) }
 {}

@@ -24,7 +24,7 @@ use Rattle.law_logged_changes.specs.Logs.{LogsAgree}
 use Rattle.desks.specs.declared.desk.Desk.{Desk}
 use Rattle.desks.specs.declared.desk.Doing.{Doing}
 use Rattle.desks.specs.Desks.{desk_at, doing_at, with_doing, is_quiet_doing}
-use Rattle.desks.specs.Holding.{IsHeld, HasRoom, IsLast, IsLastOf, RowsHeld, SearchHeld}
+use Rattle.desks.specs.Holding.{AreFew, IsHeld, HasRoom, IsLast, IsLastOf, RowsHeld, SearchHeld}
 use Rattle.desks.specs.Leaves.{LeavesOthers}
 use Rattle.desks.proofs.Leaving.{search_left}
 use Rattle.law_held_changes.specs.Making.{LeavesLists}
@@ -133,7 +133,7 @@ module _ (s : ℕ) (made : Bool) (desks : List Desk) (cuts : ℕ) (undo : UndoRo
     }
 
     pub keeps : (doing : Doing) → s < length desks → is_searching doing ≡ false → FitsThen new.past → LogsAgree new → RowsHeld after new s (read_into undo) room doing
-        → ((place : Place) → length (versions_at place after) ≤ length new.past) → IsHeld new (Some s) made (with_doing s doing desks) cuts undo room
+        → AreFew after new.past → IsHeld new (Some s) made (with_doing s doing desks) cuts undo room
     keeps doing within searches_not fits logs rows short = record {
       chains = after;
       agrees = agrees;

@@ -1,5 +1,5 @@
 -- Indexes that a session leaves.
-use Rattle.std.proofs.Common.{◌≡◌, ⊎_elim, inl, ℕ, ◌≤◌, Bool, true, false, List, ◌∷◌, length, Option, Some, None, refl, sym, ap, subst, ◌∙◌}
+use Rattle.std.proofs.Common.{◌≡◌, ⊎_elim, inl, ℕ, ◌≤◌, Bool, true, false, List, ◌∷◌, length, Option, Some, None, refl, sym, ap, subst, ◌∙◌, ◌+◌, ◌^◌}
 use Rattle.std.specs.Prelude.{slice_get, option_map, is_some}
 use Rattle.std.proofs.lemmas.Bool.{cases_eq}
 use Rattle.inno_types.specs.declared.value.Schema.{Schema}
@@ -204,6 +204,6 @@ module _ (s : ℕ) (writer : Option ℕ) (old new : WorldState) (leaves : Leaves
     few = subst (λ (names : List (List ℕ)). length names ≤ 68) (sym same_names) held.few;
     makes = makes_still writer made old.past new.past same_past held.makes;
     cut = subst (λ past. cuts ≤ length past) (sym same_past) held.cut;
-    short = λ place. subst (λ past. length (versions_at place held.chains) ≤ length past) (sym same_past) (held.short place);
+    short = λ place. subst (λ past. length (versions_at place held.chains) ≤ length past + 2 ^ 62) (sym same_past) (held.short place);
     whole = held.whole;
   }

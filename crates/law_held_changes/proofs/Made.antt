@@ -37,7 +37,7 @@ use Rattle.desks.specs.declared.desk.Desk.{Desk}
 use Rattle.desks.specs.declared.desk.Doing.TheVariants.{Nothing, Changing, Lagging}
 use Rattle.desks.specs.Desks.{doing_at, with_doing}
 use Rattle.desks.specs.Undoing.{keys_if}
-use Rattle.desks.specs.Holding.{IsHeld, IsLastOf, IsLastIfTold, RowsHeld}
+use Rattle.desks.specs.Holding.{AreFew, IsHeld, IsLastOf, IsLastIfTold, RowsHeld}
 use Rattle.law_held_changes.specs.Making.{AddsNothing, MakesChange}
 use Rattle.law_held_changes.proofs.Desks.{changes_at_a_desk}
 use Rattle.law_held_changes.proofs.Fits.{edit_fits}
@@ -88,8 +88,8 @@ module _ (s : ℕ) (made : Bool) (desks : List Desk) (cuts : ℕ) (undo : UndoRo
     fits_same : FitsThen new.past
     fits_same = subst FitsThen (sym past) held.fits
 
-    short_same : (place : Place) → length (versions_at place held.chains) ≤ length new.past
-    short_same place = subst (λ (h : List Event). length (versions_at place held.chains) ≤ length h) (sym past) (held.short place)
+    short_same : AreFew held.chains new.past
+    short_same place = subst (λ (h : List Event). length (versions_at place held.chains) ≤ length h + 2 ^ 62) (sym past) (held.short place)
 
   -- the same of a change that stays under way
   pub went : (change next : RowChange) → IsChangingRow s held.chains old change → (c : ChangesRow s held.chains old new change (Went next)) → StaysAgreed s held.chains old new next → IsLastIfTold new s next → room.stage ≡ Find
@@ -157,7 +157,7 @@ module _ (s : ℕ) (made : Bool) (desks : List Desk) (cuts : ℕ) (undo : UndoRo
         record {
           held = keeps s made desks cuts undo room old new held a.beside (goes_changed s entry old.past new.past a.past (no_creation change.table change.edit)) a.after a.agrees was (Changing (Keys next)) within refl (subst FitsThen (sym a.past) fits)
               (logs_now (Record change key after) (Went (Keys next)) rows.0 c) (a.changing, rows.1, last_logged next c a.beside.schemas)
-              (λ place. subst (λ n. length (versions_at place a.after) ≤ n) (sym longer) (pushed_short held.chains a.after _ _ (length old.past) a.pushes.pushes held.short place));
+              (λ place. subst (λ n. length (versions_at place a.after) ≤ n + 2 ^ 62) (sym longer) (pushed_short held.chains a.after _ _ (length old.past + 2 ^ 62) a.pushes.pushes held.short place));
           leaves = leaves_lists s made desks cuts undo room old new held a.beside;
           comes = record { entry = entry; was = refl; is = refl; past = a.past; rows = a.rows ∙ ap (λ n. old.rows + n) (rows_more change.table change.edit) };
         }

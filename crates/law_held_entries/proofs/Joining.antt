@@ -6,7 +6,7 @@ use Rattle.inno_types.specs.declared.reply.Item.{Item}
 use Rattle.inno_types.specs.declared.lock.Level.{Level}
 use Rattle.inno_model.specs.Past.{own, started, under_way, of_item, level, awaits_ack}
 use Rattle.law_past_agreement.specs.Agreement.{owed_by, owed_by_txn, owed_by_item}
-use Rattle.law_coded_rows.proofs.Made.{no_tables}
+use Rattle.shared_lists.specs.Fitting.{FitsThen}
 use Rattle.world.specs.State.{WorldState, Session, Work}
 use Rattle.world.specs.Told.{IsTold}
 use Rattle.world.specs.declared.undo_room.UndoRoom.{UndoRoom}
@@ -14,10 +14,10 @@ use Rattle.undo_apply.specs.declared.work_room.WorkRoom.{WorkRoom}
 use Rattle.undo_apply.specs.declared.work_room.Stage.TheVariants.{Find}
 use Rattle.undo_apply.specs.Rooms.{IsWhole}
 use Rattle.law_world_agreement.proofs.Joining.{first_agrees, joined_agrees}
-use Rattle.world.specs.EngineCalls.{IsNew, fresh_session, joined}
+use Rattle.world.specs.EngineCalls.{fresh_session, joined}
 use Rattle.desks.specs.declared.desk.Desk.{Desk}
 use Rattle.desks.specs.Desks.{fresh_desk}
-use Rattle.desks.specs.Holding.{IsHeld}
+use Rattle.desks.specs.Holding.{IsFresh, IsHeld}
 use Rattle.law_held_entries.proofs.Entering.{entered}
 use Rattle.law_held_entries.proofs.Sessions.{own_session}
 
@@ -99,17 +99,25 @@ no_session state s session none there = none_some (sym (ap (λ (sessions : List 
     none_some : None ≡ Some session → ⊥
     none_some same = cc
 
-pub first_held : (state : WorldState) (undo : UndoRoom) (room : WorkRoom) → IsNew state → IsWhole room → room.stage ≡ Find → IsHeld state None false [] 0 undo room
+pub first_held : (state : WorldState) (undo : UndoRoom) (room : WorkRoom) → IsFresh state → IsWhole room → room.stage ≡ Find → IsHeld state None false [] 0 undo room
 first_held state undo room first whole stage = record {
-  chains = [];
-  agrees = first_agrees state (record { db = first.db; no_tables = first.no_tables; no_rows = first.no_rows; past = first.past; names = first.names; schemas = first.schemas; sessions = first.sessions; txns = first.txns });
-  fits = subst (λ h. Rattle.shared_lists.specs.Fitting.FitsThen h) (sym first.past) (subst (λ schemas. Rattle.law_fitting_rows.specs.Storable.AreStorable schemas) (sym first.no_tables) (λ n schema there. cc));
-  rows = (λ told. subst (λ schemas. Rattle.law_coded_rows.specs.Tables.AreCoded schemas (Rattle.world.specs.Told.pairs_of state) state.versions.kept_at []) (sym first.schemas) (no_tables (Rattle.world.specs.Told.pairs_of state) state.versions.kept_at [] (λ place. refl)), stage);
+  chains = first.chains;
+  agrees = first_agrees first.chains state (record {
+    db = first.db;
+    opened = first.opened;
+    past = first.past;
+    names = first.names;
+    schemas = first.schemas;
+    sessions = first.sessions;
+    txns = first.txns;
+  });
+  fits = subst FitsThen (sym first.past) first.fits;
+  rows = (first.coded, stage);
   quiet = λ s other. refl;
   searches = λ s. tt;
   logs = record {
     each = λ s session work has. absurd (no_session state s session first.sessions has.session_is);
-    apart = λ told table other pointer one two. absurd (no_schema table one.schema one.there);
+    apart = first.apart;
   };
   has_room = record {
     replies = λ s session has busy. absurd (no_session state s session first.sessions has);
@@ -121,12 +129,6 @@ first_held state undo room first whole stage = record {
   few = omega (arith, ap length first.names);
   makes = refl;
   cut = omega arith;
-  short = λ place. omega arith;
+  short = first.few_versions;
   whole = whole;
 }
-  where
-    no_schema : (table : ℕ) (schema : Rattle.inno_types.specs.declared.value.Schema.Schema) → slice_get state.schemas table ≡ Some schema → ⊥
-    no_schema table schema there = none_some (sym (ap (λ schemas. slice_get schemas table) first.schemas) ∙ there)
-      where
-        none_some : None ≡ Some schema → ⊥
-        none_some same = cc

@@ -12,7 +12,7 @@ use Rattle.row_versions.specs.declared.version.Version.{Version}
 use Rattle.row_versions.specs.Chains.{Chains, versions_at, sees}
 use Rattle.law_coded_rows.proofs.Values.{place_itself}
 use Rattle.law_past_agreement.specs.Ids.{id_of}
-use Rattle.law_past_agreement.specs.Rows.{is_at, is_place, row_of}
+use Rattle.law_past_agreement.specs.Rows.{is_at, is_place, row_of, row_opened}
 use Rattle.law_past_agreement.specs.Agreement.{AreVersionsBy, ViewAgrees, versions_of}
 use Rattle.law_past_agreement.proofs.Ids.{AreIds, ids_of}
 use Rattle.world.specs.State.{WorldState, Logged}
@@ -37,7 +37,7 @@ module _ (chains : Chains) (writer : Option ℕ) (state : WorldState) (agrees : 
   any_at : list_any at (own w state.past) ≡ true
   any_at = ap (list_any at) last.own_is ∙ ap (λ b. b || list_any at last.before) change_at
 
-  own_parts : (v : ℕ) (versions : List Version) → AreVersionsBy state.past v at versions → (behind : List Version) × (versions ≡ versions_of (id_of state.past w) at (own w state.past) ++ behind)
+  own_parts : (v : ℕ) (versions : List Version) → AreVersionsBy state.past v (row_opened state.past place) at versions → (behind : List Version) × (versions ≡ versions_of (id_of state.past w) at (own w state.past) ++ behind)
   own_parts v versions by = elim (eqb_tells v w) [
     | inl same ↦ (by.behind, by.parts ∙ ap (λ (n : ℕ). versions_of (id_of state.past n) at (own n state.past) ++ by.behind) same.1)
     | inr differs ↦ absurd (false≢true (sym (by.alone w (λ same. differs.1 (sym same))) ∙ any_at))

@@ -1,5 +1,5 @@
 -- What holds of a world and its desks across a step that changes pairs and kept versions alone.
-use Rattle.std.proofs.Common.{◌≡◌, ◌≢◌, inl, ⊎_elim, ℕ, ◌≤◌, Bool, true, false, List, length, Option, Some, None, refl, sym, ap, subst, ◌∙◌, slice_get}
+use Rattle.std.proofs.Common.{◌≡◌, ◌≢◌, inl, ⊎_elim, ℕ, ◌≤◌, Bool, true, false, List, length, Option, Some, None, refl, sym, ap, subst, ◌∙◌, slice_get, ◌+◌, ◌^◌}
 use Rattle.std.specs.Prelude.{is_some}
 use Rattle.std.proofs.lemmas.Bool.{cases_eq}
 use Rattle.inno_model.specs.declared.event.Event.{Event}
@@ -159,6 +159,6 @@ module _ (s : ℕ) (old new : WorldState) (writer : Option ℕ) (made : Bool) (d
     few = subst (λ (n : List (List ℕ)). length n ≤ 68) (sym names) held.few;
     makes = subst (MakesTables writer made) (sym past) held.makes;
     cut = subst (λ (h : List Event). cuts ≤ length h) (sym past) held.cut;
-    short = λ place. subst (λ (h : List Event). length (versions_at place held.chains) ≤ length h) (sym past) (held.short place);
+    short = λ place. subst (λ (h : List Event). length (versions_at place held.chains) ≤ length h + 2 ^ 62) (sym past) (held.short place);
     whole = whole;
   }

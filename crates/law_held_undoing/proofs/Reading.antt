@@ -218,4 +218,4 @@ module _ (s keep : ℕ) (old new : WorldState) (writer : Option ℕ) (made : Boo
     few_begun =
         let tells = going_back.putting.tells in
         let keys : keys_if (slice_get new.schemas read.table) ≤ 4 = subst (λ (n : ℕ). n ≤ 4) (sym (ap keys_if tells.there)) (few_keys going_back.putting.schema tells.storable) in
-        few_left (keys_if (slice_get new.schemas read.table)) (2 ^ 63) new.versions.kept_at room.stage keys begin.anew
+        few_left (keys_if (slice_get new.schemas read.table)) (2 ^ 64) new.versions.kept_at room.stage keys begin.anew

@@ -26,11 +26,11 @@ agrees_alike chains writer a b agrees names past schemas txns sessions =
     ∙ ap (λ x. record b { names = a.names; past = a.past; schemas = a.schemas; txns = x }) txns
     ∙ ap (λ x. record b { names = a.names; past = a.past; schemas = a.schemas; txns = a.txns; sessions = x }) sessions)) here
 
-pub first_agrees : (state : WorldState) → IsFirst state → Agrees [] None state
-first_agrees state first =
-    let literal : WorldState = record state { past = Opened first.db ∷ []; names = []; schemas = []; sessions = []; txns = record { open_txns = []; begun = 0; next = 1 } } in
-    agrees_alike [] None literal state
-    (record { lists = agreed_first first.db 0 first.no_tables first.no_rows; count = refl; own = λ s session work has. absurd (none_of_some session has.session_is) })
+pub first_agrees : (chains : Chains) (state : WorldState) → IsFirst chains state → Agrees chains None state
+first_agrees chains state first =
+    let literal : WorldState = record state { past = Opened first.db ∷ []; names = []; schemas = first.db.schemas; sessions = []; txns = record { open_txns = []; begun = 0; next = 1 } } in
+    agrees_alike chains None literal state
+    (record { lists = agreed_first first.db 0 chains first.opened; count = refl; own = λ s session work has. absurd (none_of_some session has.session_is) })
     first.names first.past first.schemas first.txns first.sessions
 
 get_joined : (slots : List Slot) (u : ℕ) → get_or (slots ++ fresh ∷ []) u fresh ≡ get_or slots u fresh

@@ -123,6 +123,7 @@ asked_by_nobody h s n own active next ids whose v =
     record {
       is-view = v.is-view;
       within = v.within;
+      earlier = refl;
       alike = λ id standing differ. not_asked id own active next (standing_some h id ids standing) (⊎_elim (λ none same. never_zero id own (standing_some h id ids standing) none same) (λ mine same. differ (same ∙ mine)) whose) ∙ v.alike id standing differ;
       later = λ id lt. not_asked id own active next (omega (arith, lt)) (⊎_elim (λ none same. never_zero id own (omega (arith, lt)) none same) (λ mine same. never_given h s id own ids lt mine same) whose) ∙ v.later id lt;
     }

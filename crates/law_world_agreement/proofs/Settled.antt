@@ -55,7 +55,6 @@ module _ (names : List (List ℕ)) (h : List Event) (schemas : List Schema) (cha
       record {
         ordered = agreed.ordered;
         small = agreed.small;
-        no_rows = agreed.no_rows;
         tables = agreed.tables;
         txns_are = agreed.txns_are;
         sessions = each;

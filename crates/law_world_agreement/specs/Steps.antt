@@ -1,14 +1,17 @@
 -- What the steps of transactions make of a world, each with its entry.
 use Rattle.std.specs.Prelude.{◌≡◌, ◌≢◌, ℕ, ◌+◌, ◌==◌, if◌then◌else◌, [], ◌∷◌, ◌++◌, List, length, slice_get, option_map, Some, None}
 use Rattle.inno_types.specs.declared.value.Schema.{Schema}
-use Rattle.std.specs.FinMap.{from_entries}
+use Rattle.std.specs.FinMap.{get}
 use Rattle.inno_db.specs.Database.{Database}
 use Rattle.inno_db.specs.declared.change.Change.{Change}
 use Rattle.inno_model.specs.declared.event.Event.{Event}
 use Rattle.inno_model.specs.declared.event.Event.TheVariants.{Opened, Changed, Undone}
 use Rattle.inno_types.specs.declared.lock.Level.{Level}
 use Rattle.txn_table.specs.Txns.{ids_of, with_id as with_txn_id}
+use Rattle.row_versions.specs.declared.place.Place.{Place}
+use Rattle.row_versions.specs.Chains.{Chains, in_model, versions_at}
 use Rattle.law_past_agreement.specs.Slots.{id_for}
+use Rattle.law_past_agreement.specs.Agreement.{IsOpenedWith}
 use Rattle.world.specs.State.{WorldState, Session, Work, HasWork}
 use Rattle.world.specs.Sessions.{fresh_work, begun, begin_added, view_added, committed_added, rolled_back_added, ended}
 use Rattle.sql_history.specs.Settings.{at_begin}
@@ -96,13 +99,12 @@ pub record IsJoined (name : List ℕ) (old new : WorldState) : Type 0 where
   pub schemas : new.schemas ≡ old.schemas
   pub txns : new.txns ≡ old.txns
 
--- a world without tables that nobody has joined
-pub record IsFirst (state : WorldState) : Type 0 where
+-- the world of a database, which nobody has joined: the newest version of each place has its row
+pub record IsFirst (chains : Chains) (state : WorldState) : Type 0 where
   pub db : Database
-  pub no_tables : db.schemas ≡ []
-  pub no_rows : db.rows ≡ from_entries []
+  pub opened : (place : Place) → IsOpenedWith (get db.rows (in_model place)) (versions_at place chains)
   pub past : state.past ≡ Opened db ∷ []
   pub names : state.names ≡ []
-  pub schemas : state.schemas ≡ []
+  pub schemas : state.schemas ≡ db.schemas
   pub sessions : state.sessions ≡ []
   pub txns : state.txns ≡ record { open_txns = []; begun = 0; next = 1 }

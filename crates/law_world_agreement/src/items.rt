@@ -11,9 +11,9 @@ ghost use Rattle.world.specs.State.{WorldState};
 ghost use Rattle.law_world_agreement.specs.Agreement.{Agrees};
 ghost use Rattle.law_world_agreement.specs.Steps.{IsFirst, IsJoined, IsEntered};
 
-/// A world without tables that nobody has joined agrees with its past, and has no rows.
+/// The world of a database, which nobody has joined, agrees with its past.
 pub fn a_first_world_agrees()
-    ensures { (state : WorldState) → IsFirst state → Agrees [] None state }
+    ensures { (chains : Chains) (state : WorldState) → IsFirst chains state → Agrees chains None state }
 {}
 
 /// A session that joins leaves the world agreed.

@@ -1,51 +1,23 @@
-//! The calls of a world in memory that the engine alone makes: it opens it, joins sessions, starts and ends items, and
-//! makes tables.
+//! The calls of a world in memory that the engine alone makes: it joins sessions, starts and ends items, and makes tables.
 
 ghost use Rattle.std.specs.Prelude.{◌≡◌, ◌+◌, ◌<◌, ◌≤◌, ◌^◌, [], length, reverse, IfOk, vec_len, vec_capacity};
-ghost use Rattle.std.specs.FinMap.{from_entries};
 ghost use Rattle.sql_history.specs.Counts.{rows_of_reply};
-ghost use Rattle.world.specs.EngineCalls.{IsNew};
 ghost use Rattle.list_world.specs.Memory.{in_memory};
 ghost use Rattle.list_world.specs.Parts.{world_of, AreAdded};
 
 use crate::list_world::ListWorld;
 use entries::ListIndex;
-use inno_db::{Change, Db};
+use inno_db::Change;
 use inno_model::{Event, History};
 use inno_types::{Bytes, Item, Listed, Reply, Schema, Stmt};
 use session_settings::SessionSettings;
 use std::alloc::Global;
 use store_api::NoMemory;
-use txn_table::TxnTable;
 use world::EngineWorld;
-use world_parts::{SessionRoom, Slots, take_room};
+use world_parts::{SessionRoom, take_room};
 
 /// How many numbers of indexes a table has.
-const INDEXES_OF_TABLE: usize = 8;
-
-impl ListWorld {
-    /// A world of a database without tables. Nobody has joined.
-    pub fn new(alloc: Global) -> Result<ListWorld, NoMemory>
-        ensures { IfOk result (λ world. IsNew (world_of world)) }
-    {
-        let txns = TxnTable::new(alloc, 1)?;
-        let mut history = History::new(alloc);
-        history.reserve(1)?;
-        history.add(Event::Opened {
-            db: empty_database(alloc),
-        });
-        Ok(ListWorld {
-            alloc,
-            history,
-            rows: 0,
-            schemas: Listed::new(alloc),
-            indexes: Vec::new(alloc),
-            slots: Slots::new(alloc),
-            txns,
-            sessions: Vec::new(alloc),
-        })
-    }
-}
+pub(crate) const INDEXES_OF_TABLE: usize = 8;
 
 impl EngineWorld for ListWorld {
     ghost tells = { in_memory };
@@ -116,14 +88,6 @@ impl EngineWorld for ListWorld {
     }
 }
 
-/// A database without tables.
-fn empty_database(alloc: Global) -> Db
-    ensures tables { result.schemas ≡ [] }
-    ensures rows { result.rows ≡ from_entries [] }
-{
-    Db::new(Listed::new(alloc), Listed::new(alloc))
-}
-
 /// How many rows a reply has.
 fn rows_of(reply: &Reply) -> u64
     ensures { result ≡ rows_of_reply reply.now }
@@ -136,7 +100,7 @@ fn rows_of(reply: &Reply) -> u64
 
 /// Adds the indexes of a table, for which there is room. They are empty.
 #[tactic(auto, using(crate::proofs::Indexed::added_one, crate::proofs::Indexed::added_none))]
-fn add_indexes(alloc: Global, indexes: &mut Vec<ListIndex>)
+pub(crate) fn add_indexes(alloc: Global, indexes: &mut Vec<ListIndex>)
     requires { vec_len indexes.old + INDEXES_OF_TABLE ≤ vec_capacity indexes.old }
     ensures { AreAdded INDEXES_OF_TABLE indexes.old.items indexes.new.items }
 {

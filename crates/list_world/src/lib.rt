@@ -5,6 +5,7 @@
 mod engine_calls;
 mod list_world;
 mod logging;
+mod opening;
 mod world_calls;
 
 pub use list_world::ListWorld;

@@ -7,8 +7,7 @@ use Rattle.inno_model.specs.declared.event.Event.{Event}
 use Rattle.inno_model.specs.Past.{started, IsOpen}
 use Rattle.sql_history.specs.Statements.{refused_at_once}
 use Rattle.sql_history.specs.Counts.{rows_of_reply, rows_kept, most_rows}
-use Rattle.law_past_agreement.specs.Order.{created}
-use Rattle.law_past_agreement.specs.Agreement.{IsSound}
+use Rattle.law_past_agreement.specs.Order.{created, IsOrdered}
 use Rattle.sql_plan.specs.declared.choice.Plan.{Plan}
 use Rattle.shared_lists.specs.declared.answers.Reading.TheVariants.{View}
 use Rattle.shared_lists.specs.Tasks.{Idle, Searching}
@@ -74,9 +73,9 @@ search_goes_on s old new read later same-stmt same-alone is turns = (
   ap (started s) turns.past_is,
 )
 
-pub search_finds : (s : ℕ) (old new : State) (read : Read) (found : Found) → found.stmt ≡ read.stmt → found.alone ≡ read.alone → IsSound old.past → (is : IsSearching old.past s (task_of s old) read) → Turns s Idle old new
+pub search_finds : (s : ℕ) (old new : State) (read : Read) (found : Found) → found.stmt ≡ read.stmt → found.alone ≡ read.alone → IsOrdered old.past → (is : IsSearching old.past s (task_of s old) read) → Turns s Idle old new
     → AreFoundBy View is.table is.plan old.past s found.rows → Moves s old new × (HasFound new.past s found × (task_of s new ≡ Idle)) × (started s new.past ≡ started s old.past)
-search_finds s old new read found same-stmt same-alone sound is turns rows = (
+search_finds s old new read found same-stmt same-alone ordered is turns rows = (
   moves_turns s Idle old new turns,
   (
     subst (λ h. HasFound h s found) (sym turns.past_is) (record {
@@ -86,7 +85,7 @@ search_finds s old new read found same-stmt same-alone sound is turns rows = (
       table = is.table;
       plan = is.plan;
       planned = subst (λ st. IsPlanned (created old.past) st is.table is.plan) (sym same-stmt) is.planned;
-      tabled = seen_tabled old.past s is.view.number sound;
+      tabled = seen_tabled old.past s is.view.number ordered;
       rows = rows is.view.number is.view.view_is;
     }),
     turns.task_is,

@@ -16,9 +16,8 @@ use Rattle.inno_model.specs.Past.{own, level, commits, opening, changed}
 use Rattle.plain_sql.specs.Finding.{IsReadFrom}
 use Rattle.sql_history.specs.LooseReading.{newest, IsQuiet, IsLooseReading}
 use Rattle.sql_history.specs.Readings.{is_plain_select}
-use Rattle.law_past_agreement.specs.Order.{created, is_creation}
+use Rattle.law_past_agreement.specs.Order.{created, is_creation, IsOrdered}
 use Rattle.law_past_agreement.specs.Rows.{seen}
-use Rattle.law_past_agreement.specs.Agreement.{IsSound}
 use Rattle.law_past_agreement.specs.DatabaseTables.{with_all_tables}
 use Rattle.sql_plan.specs.declared.choice.Plan.{Plan}
 use Rattle.sql_plan.specs.Plans.{whole_index}
@@ -35,9 +34,9 @@ use Rattle.read_statement.proofs.Searched.{rows_seen_fit}
 
 -- ---- the database of all newest rows
 
-module _ (h : List Event) (w : ℕ) (alone : (u : ℕ) → u ≢ w → own u h ≡ []) (sound : IsSound h) (stands : AreStanding h) where
+module _ (h : List Event) (w : ℕ) (alone : (u : ℕ) → u ≢ w → own u h ≡ []) (ordered : IsOrdered h) (stands : AreStanding h) where
   now_is : newest h ≡ changed (opening h) (seen h w (commits h))
-  now_is = newest_is h w sound.0 alone
+  now_is = newest_is h w ordered alone
 
   tables_seen : created h ≡ (changed (opening h) (seen h w (commits h))).schemas
   tables_seen = stands.tables w (λ other ne. ap (list_any is_creation) (alone other ne))
@@ -66,7 +65,7 @@ module _ (h : List Event) (w : ℕ) (alone : (u : ℕ) → u ≢ w → own u h �
     reads = ap (λ (l : List Schema). table_read l stmt) tables_now ∙ p.table_is
 
     fit : All (IsRowOf p.schema.columns) (rows_of read.table (newest h))
-    fit = subst (All (IsRowOf p.schema.columns)) (sym (rows_alike read.table in-order)) (rows_seen_fit h w (commits h) read.table p.schema fits sound p.there)
+    fit = subst (All (IsRowOf p.schema.columns)) (sym (rows_alike read.table in-order)) (rows_seen_fit h w (commits h) read.table p.schema fits ordered p.there)
 
     answers_now : (db : Database) → IsReadFrom (newest h).schemas rows stmt db → answer ≡ outcome stmt db
     answers_now db from = answers db (subst (λ (l : List Schema). IsReadFrom l rows stmt db) tables_now from)
@@ -107,9 +106,9 @@ seen_now h s stmt answer some dirty is =
     }
 
 -- of what a call gives that may find no memory
-pub newest_outcome : {E : Type 0} (h : List Event) (w s : ℕ) (stmt : Stmt) (rows : List (List Value)) → ((u : ℕ) → u ≢ w → own u h ≡ []) → IsSound h → AreStanding h → IsInOrder h → FitsThen h → level s h ≡ Some ReadUncommitted → is_plain_select stmt ≡ true → AreRead h stmt rows
+pub newest_outcome : {E : Type 0} (h : List Event) (w s : ℕ) (stmt : Stmt) (rows : List (List Value)) → ((u : ℕ) → u ≢ w → own u h ≡ []) → IsOrdered h → AreStanding h → IsInOrder h → FitsThen h → level s h ≡ Some ReadUncommitted → is_plain_select stmt ≡ true → AreRead h stmt rows
     → (schemas : List Schema) → schemas ≡ created h → (r : Result Outcome E) → IfOk r (λ answer. (db : Database) → IsReadFrom schemas rows stmt db → answer ≡ outcome stmt db) → IfOk r (λ answer. IsSeen h h s stmt answer.reply)
-newest_outcome h w s stmt rows alone sound stands in-order fits dirty plain read schemas same (Err e) answers = answers
-newest_outcome h w s stmt rows alone sound stands in-order fits dirty plain read schemas same (Ok answer) answers =
+newest_outcome h w s stmt rows alone ordered stands in-order fits dirty plain read schemas same (Err e) answers = answers
+newest_outcome h w s stmt rows alone ordered stands in-order fits dirty plain read schemas same (Ok answer) answers =
     seen_now h s stmt answer (has_past h s dirty) dirty
-    (answer_now h w alone sound stands stmt plain rows read in-order fits answer (λ db from. answers db (subst (λ (l : List Schema). IsReadFrom l rows stmt db) (sym same) from)))
+    (answer_now h w alone ordered stands stmt plain rows read in-order fits answer (λ db from. answers db (subst (λ (l : List Schema). IsReadFrom l rows stmt db) (sym same) from)))

@@ -9,7 +9,7 @@ ghost use Rattle.inno_model.specs.declared.event.Event.{Event};
 ghost use Rattle.inno_model.specs.Moments.{Sometime};
 ghost use Rattle.inno_model.specs.Past.{own, current};
 ghost use Rattle.sql_history.specs.LooseReading.{newest, IsQuiet, IsLooseReading};
-ghost use Rattle.law_past_agreement.specs.Agreement.{IsSound};
+ghost use Rattle.law_past_agreement.specs.Order.{IsOrdered};
 ghost use Rattle.law_past_agreement.specs.DatabaseTables.{at_places, rows_in};
 
 /// Rows that rise by their keys, each the newest of its place at some moment of the item, are the table's rows in a
@@ -22,5 +22,5 @@ pub fn rows_of_moments_are_a_loose_reading()
 
 /// While one session alone has changes, the newest rows of all are those that it sees.
 pub fn the_newest_is_what_the_writer_sees()
-    ensures { (h : List Event) (w : ℕ) → IsSound h → ((u : ℕ) → u ≢ w → own u h ≡ []) → newest h ≡ current w h }
+    ensures { (h : List Event) (w : ℕ) → IsOrdered h → ((u : ℕ) → u ≢ w → own u h ≡ []) → newest h ≡ current w h }
 {}

@@ -1,12 +1,13 @@
 -- What contracts see of the lists.
-use Rattle.std.specs.Prelude.{◌≡◌, ◌≢◌, ℕ, ◌==◌, if◌then◌else◌, Option, Some, None, List, [], ◌∷◌, slice_index_or, refl}
+use Rattle.std.specs.Prelude.{◌≡◌, ◌≢◌, ℕ, ◌≤◌, ◌==◌, if◌then◌else◌, Option, Some, None, List, [], ◌∷◌, length, slice_index_or, refl}
 use Rattle.std.specs.Coded.{Coded, code_by, coded×, coded_list, coded_option, coded_ℕ}
-use Rattle.std.specs.FinMap.{from_entries}
 use Rattle.inno_db.specs.Database.{Database}
+use Rattle.inno_db.specs.declared.limits.TheConstants.{MOST_TABLES}
 use Rattle.inno_model.specs.contracts.event.Event as of_event
 use Rattle.inno_model.specs.declared.event.Event.{Event}
 use Rattle.inno_model.specs.declared.event.Event.TheVariants.{Opened}
 use Rattle.sql_history.specs.Settings.{Setting}
+use Rattle.sql_history.specs.Counts.{rows_in, most_rows}
 use Rattle.shared_lists.specs.Tasks.{Task, Idle, task_code}
 
 -- the names of the sessions, the entries, the newest first, the session that may write, and what each session has under way
@@ -61,13 +62,13 @@ Turns s task old new = IsNow old.past s task old.writer old new
 abbrev pub Stays : ℕ → State → State → Type 0
 Stays s old new = Turns s (task_of s old) old new
 
--- the lists of a database without tables and rows
+-- the lists of a database of few tables and rows, which nobody has joined
 pub record IsFirst (lists : Lists) : Type 0 where
   pub db : Database
-  pub no_tables : db.schemas ≡ []
-  pub no_rows : db.rows ≡ from_entries []
+  pub few_tables : length db.schemas ≤ MOST_TABLES
+  pub few_rows : rows_in db ≤ most_rows
   pub past : lists.state.past ≡ Opened db ∷ []
   pub names : lists.state.names ≡ []
   pub writer : lists.state.writer ≡ None
   pub settings : lists.settings ≡ []
-  pub rows : lists.rows ≡ 0
+  pub rows : lists.rows ≡ rows_in db

@@ -9,8 +9,7 @@ ghost use Rattle.inno_model.specs.Past.{under_way, level, own, started, begins, 
 ghost use Rattle.sql_history.specs.Counts.{rows_of_reply};
 ghost use Rattle.sql_history.specs.Settings.{at_first, at_begin, at_end, saved, set_by};
 ghost use Rattle.law_fitting_rows.specs.Storable.{IsStorable};
-ghost use Rattle.law_past_agreement.specs.Order.{created, is_creation, IsOfRow, MayCome};
-ghost use Rattle.law_past_agreement.specs.Agreement.{IsSound};
+ghost use Rattle.law_past_agreement.specs.Order.{created, is_creation, IsOfRow, MayCome, IsOrdered};
 ghost use Rattle.shared_lists.specs.Fitting.{FitsWell, FitsThen};
 ghost use Rattle.shared_lists.specs.Tasks.{Idle, Searching, is_changing, asked, steps_left, MayTakeBack};
 ghost use Rattle.shared_lists.specs.State.{Lists, task_of, Adds, Closes, Turns, Stays, IsNow, writer_without};
@@ -33,7 +32,7 @@ pub trait SharedLists: Drop {
     fn history(&self) -> &History
         ensures names { result.now.names ≡ (lists self.now).state.names }
         ensures past { result.now.past ≡ (lists self.now).state.past }
-        ensures sound { IsSound (lists self.now).state.past }
+        ensures sound { IsOrdered (lists self.now).state.past }
         ensures fits { FitsThen (lists self.now).state.past };
 
     /// The history, and nothing else.
@@ -167,7 +166,7 @@ pub trait SharedLists: Drop {
         ensures free { result ≡ writer_without (lists self.old).state.writer session }
         ensures locked { IfNone result (IsNow (lists self.old).state.past session (task_of session (lists self.old).state) (Some session) (lists self.old).state (lists self.new).state) }
         ensures alone { IfNone result ((other : ℕ) → other ≢ session → own other (lists self.old).state.past ≡ []) }
-        ensures sound { IsSound (lists self.old).state.past }
+        ensures sound { IsOrdered (lists self.old).state.past }
         ensures held { IfSome result (λ other. ((lists self.old).state.writer ≡ Some other) × (other ≢ session) × IsOpen other (lists self.old).state.past × (other < length (lists self.old).state.names) × Stays session (lists self.old).state (lists self.new).state) }
         ensures settings { (lists self.new).settings ≡ (lists self.old).settings }
         ensures rows { (lists self.new).rows ≡ (lists self.old).rows };

@@ -1,5 +1,6 @@
 -- Each entry keeps the history legal, and what is kept beside it in agreement.
 use Rattle.std.proofs.Common.{◌≡◌, ◌≢◌, ℕ, ◌+◌, ◌-◌, ◌<◌, ◌≤◌, true, false, cond, eqb, Option, Some, None, List, [], ◌∷◌, ◌++◌, length, get_or, set, refl, sym, ap, subst, ◌∙◌, inl, inr, arith}
+use Rattle.std.proofs.lemmas.Bool.{false≢true}
 use Rattle.std.proofs.lemmas.Bool.Decides.{nat_tests, eqb_tells}
 use Rattle.std.proofs.lemmas.List.{length-set, length-append}
 use Rattle.std.proofs.lemmas.List.Sums.{sum_by-cons}
@@ -37,7 +38,7 @@ use Rattle.shared_lists.specs.declared.answers.Changed.TheVariants as made
 use Rattle.shared_lists.specs.declared.answers.Undone.{Undone}
 use Rattle.shared_lists.specs.declared.answers.Undone.TheVariants as undone
 use Rattle.shared_lists.specs.Tasks.{Task, Idle, asked, left_by}
-use Rattle.shared_lists.specs.State.{State, Lists, IsNow, Adds, Closes, Turns, Stays, task_of, writer_without}
+use Rattle.shared_lists.specs.State.{State, Lists, IsFirst, IsNow, Adds, Closes, Turns, Stays, task_of, writer_without}
 use Rattle.shared_lists.specs.Steps.{Searches, Changes, TakesBack, rows_of_change, rows_entered}
 use Rattle.sql_lists.specs.Kept.{IsKept, MayReply, OwesAck, SetsQuietly, AreStanding, IsInOrder, made as tables_made}
 use Rattle.sql_lists.proofs.Settings.{AllSet, set_other, sets_one, sets_none, sets_joined, set_at_begin, set_at_commit, set_at_rollback, set_at_end, set_at_done}
@@ -62,13 +63,13 @@ module _ (names : List (List ℕ)) (h : List Event) (settings : List Setting) (r
   pays e = subst (λ owed. PaysCommit owed e) (sym kept.paid) tt
 
   -- an entry that puts no row, and sets these
-  adds : (e : Event) (new : List Setting) → MayFollow Spells h e → MayCome h e → (opening (e ∷ h)).rows ≡ (opening h).rows → AllSet (e ∷ h) new → length new ≡ length settings → rows_kept (e ∷ h) ≡ rows_kept h
+  adds : (e : Event) (new : List Setting) → MayFollow Spells h e → MayCome h e → AllSet (e ∷ h) new → length new ≡ length settings → rows_kept (e ∷ h) ≡ rows_kept h
       → has_stopped (e ∷ h) ≡ false → last_moment (e ∷ h) ≡ 0 → owes_commit (e ∷ h) ≡ None → AreStanding (e ∷ h) → IsInOrder (e ∷ h) → IsKept names (e ∷ h) new rows
-  adds e new may comes opened sets long same runs timeless paid stands ordered =
+  adds e new may comes sets long same runs timeless paid stands ordered =
       record {
         legal = (may, kept.legal);
         opened = cons_is_some e h;
-        sound = ((comes, kept.sound.0), opened ∙ kept.sound.1);
+        comes = (comes, kept.comes);
         set = sets;
         enough = subst (λ n. length names ≤ n) (sym long) kept.enough;
         counted = kept.counted ∙ sym same;
@@ -100,16 +101,16 @@ module _ (names : List (List ℕ)) (h : List Event) (settings : List Setting) (r
 
   pub kept_start : (s : ℕ) (item : Item) → under_way s h ≡ None → is_leaving s h ≡ false → IsKept names (events.Started s (started s h + 1) item ∷ h) settings rows
   kept_start s item idle stays =
-      adds (events.Started s (started s h + 1) item) settings (kept.opened, record { idle = idle; stays = stays; numbered = refl }, pays _) (idle, refl) refl
+      adds (events.Started s (started s h + 1) item) settings (kept.opened, record { idle = idle; stays = stays; numbered = refl }, pays _) (idle, refl)
       (sets_none (events.Started s (started s h + 1) item) h settings (λ u x held. held) kept.set) refl refl kept.runs kept.timeless refl (stands_plain _ h (λ u. refl) refl (λ u. refl) kept.stands) (same_seen (events.Started s (started s h + 1) item) h (λ u. refl) refl refl kept.ordered)
 
   pub kept_view : (s : ℕ) → MayView Spells s h → IsOpen s h → level s h ≢ Some Serializable → IsKept names (events.View s ∷ h) settings rows
   kept_view s may is_open unlocked =
-      adds (events.View s) settings (kept.opened, kept.runs, may, pays _) is_open refl (sets_none (events.View s) h settings (λ u x held. held) kept.set) refl refl kept.runs kept.timeless (owed_none (level s h) s unlocked) (stands_plain _ h (λ u. refl) refl (λ u. refl) kept.stands) (same_seen (events.View s) h (λ u. refl) refl refl kept.ordered)
+      adds (events.View s) settings (kept.opened, kept.runs, may, pays _) is_open (sets_none (events.View s) h settings (λ u x held. held) kept.set) refl refl kept.runs kept.timeless (owed_none (level s h) s unlocked) (stands_plain _ h (λ u. refl) refl (λ u. refl) kept.stands) (same_seen (events.View s) h (λ u. refl) refl refl kept.ordered)
 
   pub kept_ack : (s : ℕ) → OwesAck s h → IsKept names (events.Acked s 0 ∷ h) settings rows
   kept_ack s owes =
-      adds (events.Acked s 0) settings (kept.opened, kept.runs, record { owed = owes.owed; closed = owes.closed; later = subst (λ n. n ≤ 0) (sym kept.timeless) (omega arith) }, pays _) (owes.owed, owes.closed) refl
+      adds (events.Acked s 0) settings (kept.opened, kept.runs, record { owed = owes.owed; closed = owes.closed; later = subst (λ n. n ≤ 0) (sym kept.timeless) (omega arith) }, pays _) (owes.owed, owes.closed)
       (sets_none (events.Acked s 0) h settings (λ u x held. held) kept.set) refl refl kept.runs refl refl (stands_plain _ h (λ u. refl) refl (λ u. refl) kept.stands) (same_seen (events.Acked s 0) h (λ u. refl) refl refl kept.ordered)
 
   begin_of : (s n : ℕ) (l : Level) → is_of s (events.Begin s n l) ≡ true
@@ -118,8 +119,8 @@ module _ (names : List (List ℕ)) (h : List Event) (settings : List Setting) (r
   pub kept_begin : (s : ℕ) (l : Level) → s < length names → MayBegin Spells s (begins h + 1) l h → IsKept names (events.Begin s (begins h + 1) l ∷ h) (set settings s (at_begin (get_or settings s at_first))) rows
   kept_begin s l joined may =
       let e = events.Begin s (begins h + 1) l in
-      let none : own s h ≡ [] = (ids_of h kept.sound.0).closed s may.closed in
-      adds e (set settings s (at_begin (get_or settings s at_first))) (kept.opened, kept.runs, may, pays _) (refl, may.closed) refl
+      let none : own s h ≡ [] = (ids_of h kept.comes).closed s may.closed in
+      adds e (set settings s (at_begin (get_or settings s at_first))) (kept.opened, kept.runs, may, pays _) (refl, may.closed)
       (sets_one e h settings s (at_begin (get_or settings s at_first)) (within s joined) (mine_alone s e (begin_of s (begins h + 1) l)) kept.set (set_at_begin h s (begins h + 1) l (get_or settings s at_first) (kept.set s)))
       (length-set settings s _) refl kept.runs kept.timeless refl (stands_begun s (begins h + 1) l h none kept.stands) (same_seen e h (own_gone_at s h none) refl refl kept.ordered)
 
@@ -128,7 +129,7 @@ module _ (names : List (List ℕ)) (h : List Event) (settings : List Setting) (r
 
   pub kept_commit : (s : ℕ) → s < length names → MayCommit Spells s h → IsKept names (events.Committed s ∷ h) (set settings s (at_end (get_or settings s at_first))) rows
   kept_commit s joined may =
-      adds (events.Committed s) (set settings s (at_end (get_or settings s at_first))) (kept.opened, kept.runs, may, pays _) may.is_open refl
+      adds (events.Committed s) (set settings s (at_end (get_or settings s at_first))) (kept.opened, kept.runs, may, pays _) may.is_open
       (sets_one (events.Committed s) h settings s (at_end (get_or settings s at_first)) (within s joined) (mine_alone s (events.Committed s) (commit_of s)) kept.set (set_at_commit h s (get_or settings s at_first) (kept.set s)))
       (length-set settings s _) refl kept.runs kept.timeless refl (stands_committed s h kept.stands) (ordered_committed s h (committed_is s h kept.stands) kept.ordered)
 
@@ -137,23 +138,23 @@ module _ (names : List (List ℕ)) (h : List Event) (settings : List Setting) (r
 
   pub kept_rollback : (s : ℕ) → s < length names → MayRollBack Spells s h → IsKept names (events.RolledBack s ∷ h) (set settings s (at_end (get_or settings s at_first))) rows
   kept_rollback s joined may =
-      adds (events.RolledBack s) (set settings s (at_end (get_or settings s at_first))) (kept.opened, kept.runs, may, pays _) (may.is_open, may.all_undone) refl
+      adds (events.RolledBack s) (set settings s (at_end (get_or settings s at_first))) (kept.opened, kept.runs, may, pays _) (may.is_open, may.all_undone)
       (sets_one (events.RolledBack s) h settings s (at_end (get_or settings s at_first)) (within s joined) (mine_alone s (events.RolledBack s) (rollback_of s)) kept.set (set_at_rollback h s (get_or settings s at_first) (kept.set s)))
       (length-set settings s _) refl kept.runs kept.timeless refl (stands_rolled_back s h may.all_undone kept.stands) (same_seen (events.RolledBack s) h (own_gone_at s h may.all_undone) refl refl kept.ordered)
 
   pub kept_undo : (s : ℕ) → MayUndo Spells s (length (own s h) - 1) h → IsUndoable (length (own s h) - 1) (own s h) → IsKept names (events.Undone s (length (own s h) - 1) ∷ h) settings rows
   kept_undo s may undoable =
-      adds (events.Undone s (length (own s h) - 1)) settings (kept.opened, kept.runs, may, pays _) (may.is_open, undoable) refl
+      adds (events.Undone s (length (own s h) - 1)) settings (kept.opened, kept.runs, may, pays _) (may.is_open, undoable)
       (sets_none (events.Undone s (length (own s h) - 1)) h settings (λ u x held. held) kept.set) refl refl kept.runs kept.timeless refl (stands_undone s (length (own s h) - 1) h undoable kept.stands) (ordered_undone s (length (own s h) - 1) h undoable kept.ordered)
 
   pub kept_remove : (s table : ℕ) (key : Value) → MayChange Spells s (Remove table key) h → IsTabled (length (created h)) (Remove table key) → ((other : ℕ) → other ≢ s → own other h ≡ []) → IsKept names (events.Changed s (Remove table key) ∷ h) settings rows
   kept_remove s table key may tabled alone =
-      adds (events.Changed s (Remove table key)) settings (kept.opened, kept.runs, may, pays _) (may.is_open, tabled) refl
+      adds (events.Changed s (Remove table key)) settings (kept.opened, kept.runs, may, pays _) (may.is_open, tabled)
       (sets_none (events.Changed s (Remove table key)) h settings (λ u x held. held) kept.set) refl refl kept.runs kept.timeless refl (stands_row s (Remove table key) h refl kept.stands) (ordered_changed s (Remove table key) h (tabled_now s (Remove table key) alone tabled) kept.ordered)
 
   pub kept_create : (s : ℕ) (schema : Schema) → MayChange Spells s (Create schema) h → ((other : ℕ) → other ≢ s → own other h ≡ []) → length (created h) < MOST_TABLES → IsKept names (events.Changed s (Create schema) ∷ h) settings rows
   kept_create s schema may alone room =
-      adds (events.Changed s (Create schema)) settings (kept.opened, kept.runs, may, pays _) (may.is_open, tt) refl
+      adds (events.Changed s (Create schema)) settings (kept.opened, kept.runs, may, pays _) (may.is_open, tt)
       (sets_none (events.Changed s (Create schema)) h settings (λ u x held. held) kept.set) refl refl kept.runs kept.timeless refl (stands_created s schema h alone room kept.stands) (ordered_changed s (Create schema) h tt kept.ordered)
 
   -- a row more
@@ -162,7 +163,7 @@ module _ (names : List (List ℕ)) (h : List Event) (settings : List Setting) (r
       record {
         legal = ((kept.opened, kept.runs, may, pays _), kept.legal);
         opened = cons_is_some _ h;
-        sound = (((may.is_open, tabled), kept.sound.0), kept.sound.1);
+        comes = ((may.is_open, tabled), kept.comes);
         set = sets_none (events.Changed s (Put table row)) h settings (λ u x held. held) kept.set;
         enough = kept.enough;
         counted = omega (arith, kept.counted, sum_by-cons rows_of_entry (events.Changed s (Put table row)) h);
@@ -191,7 +192,7 @@ module _ (names : List (List ℕ)) (h : List Event) (settings : List Setting) (r
       record {
         legal = (may_end s reply may, kept.legal);
         opened = cons_is_some _ h;
-        sound = (((may.item, may.asked, refl), kept.sound.0), kept.sound.1);
+        comes = ((may.item, may.asked, refl), kept.comes);
         set = sets;
         enough = subst (λ n. length names ≤ n) (sym long) kept.enough;
         counted = omega (arith, kept.counted, sum_by-cons rows_of_entry (events.Ended s (started s h) reply) h);
@@ -223,7 +224,7 @@ module _ (names : List (List ℕ)) (h : List Event) (settings : List Setting) (r
       record {
         legal = kept.legal;
         opened = kept.opened;
-        sound = kept.sound;
+        comes = kept.comes;
         set = sets_joined h settings kept.set;
         enough = rw (length-append names (name ∷ []), length-append settings (at_first ∷ [])) (omega (arith, kept.enough));
         counted = kept.counted;
@@ -248,6 +249,27 @@ by_now past s task writer old new settings rows now sets counts kept =
     (subst (λ h. IsKept old.state.names h new.settings new.rows) (sym now.past_is)
     (subst (λ x. IsKept old.state.names past x new.rows) (sym sets)
     (subst (λ n. IsKept old.state.names past settings n) (sym counts) kept)))
+
+-- the lists of a database, which nobody has joined
+pub kept_first : (lists : Lists) → IsFirst lists → AreKept lists
+kept_first lists first =
+    subst (λ names. IsKept names lists.state.past lists.settings lists.rows) (sym first.names)
+    (subst (λ past. IsKept [] past lists.settings lists.rows) (sym first.past)
+    (subst (λ settings. IsKept [] (events.Opened first.db ∷ []) settings lists.rows) (sym first.settings)
+    (record {
+      legal = (refl, tt);
+      opened = cons_is_some (events.Opened first.db) [];
+      comes = (refl, tt);
+      set = λ s. refl;
+      enough = omega arith;
+      counted = omega (arith, first.rows, sum_by-cons rows_of_entry (events.Opened first.db) []);
+      few = subst (λ n. n ≤ most_rows) (sym first.rows) first.few_rows;
+      runs = refl;
+      timeless = refl;
+      paid = refl;
+      stands = record { one = λ a b is also. absurd (false≢true is); tables = λ s only. refl; few = first.few_tables };
+      ordered = λ s. tt;
+    })))
 
 -- nothing changes but what a session has under way
 pub by_turning : (s : ℕ) (task : Task) (old new : Lists) → Turns s task old.state new.state → new.settings ≡ old.settings → new.rows ≡ old.rows → AreKept old → AreKept new

@@ -16,8 +16,7 @@ use Rattle.sql_history.specs.Settings.{Setting, HasSet, at_first}
 use Rattle.sql_history.specs.Counts.{has_stopped, last_moment, rows_kept, most_rows}
 use Rattle.sql_history.specs.Legal.{IsLegal, EndsBy, owes_commit}
 use Rattle.sql_history.specs.Statements.{schemas_now}
-use Rattle.law_past_agreement.specs.Agreement.{IsSound}
-use Rattle.law_past_agreement.specs.Order.{created, is_creation, IsTabled}
+use Rattle.law_past_agreement.specs.Order.{created, is_creation, IsTabled, IsOrdered}
 
 -- no other session is making a table
 abbrev pub IsOnlyMaker : ℕ → List Event → Type 0
@@ -48,7 +47,7 @@ IsInOrder past = (s : ℕ) → AreInOrder (opening past).schemas (own s past ++ 
 pub record IsKept (names : List (List ℕ)) (past : List Event) (settings : List Setting) (rows : ℕ) : Type 0 where
   pub legal : IsLegal Spells past
   pub opened : past ≢ []
-  pub sound : IsSound past
+  pub comes : IsOrdered past
   -- what each session has set; there may be settings of some that are yet to join
   pub set : (s : ℕ) → HasSet Spells s past (slice_index_or settings s at_first)
   pub enough : length names ≤ length settings

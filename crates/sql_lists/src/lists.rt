@@ -15,8 +15,7 @@ ghost use Rattle.sql_history.specs.Settings.{HasSet};
 ghost use Rattle.sql_history.specs.Counts.{rows_kept, rows_of_reply, most_rows};
 ghost use Rattle.sql_history.specs.Legal.{IsLegal, MayBegin, MayView, MayChange, MayUndo, MayCommit, MayRollBack, is_leaving};
 ghost use Rattle.law_fitting_rows.specs.Storable.{IsStorable};
-ghost use Rattle.law_past_agreement.specs.Order.{created, IsOfRow, IsTabled, IsUndoable};
-ghost use Rattle.law_past_agreement.specs.Agreement.{IsSound};
+ghost use Rattle.law_past_agreement.specs.Order.{created, IsOfRow, IsTabled, IsUndoable, IsOrdered};
 ghost use Rattle.shared_lists.specs.Fitting.{FitsWell, FitsThen};
 ghost use Rattle.shared_lists.specs.Tasks.{Idle, Searching, is_changing, asked, steps_left, MayTakeBack};
 ghost use Rattle.shared_lists.specs.State.{IsFirst, IsNow, Adds, Closes, Turns, Stays, task_of, writer_without};
@@ -56,7 +55,7 @@ impl<L: SharedLists> Model for SqlLists<L> {
 }
 
 impl<L: SharedLists> SqlLists<L> {
-    /// Lists of a database without tables, whatever keeps them. Nobody has joined.
+    /// Lists of a database, whatever keeps them. Nobody has joined.
     pub fn new(alloc: Global, lists: L) -> Self
         requires first { IsFirst (L.lists lists) }
         ensures same { result ≡ (L.lists lists).state }
@@ -69,7 +68,7 @@ impl<L: SharedLists> SqlLists<L> {
         ensures same { (L.lists result.now).state ≡ self.now }
         ensures tables { AreStanding self.now.past }
         ensures ordered { IsInOrder self.now.past }
-        ensures sound { IsSound self.now.past }
+        ensures sound { IsOrdered self.now.past }
         ensures legal { IsLegal Spells self.now.past }
         ensures fits { FitsThen self.now.past }
     {
@@ -83,7 +82,7 @@ impl<L: SharedLists> SqlLists<L> {
         ensures names { result.now.names ≡ self.now.names }
         ensures past { result.now.past ≡ self.now.past }
         ensures legal { IsLegal Spells self.now.past }
-        ensures sound { IsSound self.now.past }
+        ensures sound { IsOrdered self.now.past }
         ensures fits { FitsThen self.now.past }
     {
         self.lists.history()
@@ -244,7 +243,7 @@ impl<L: SharedLists> SqlLists<L> {
         ensures free { result ≡ writer_without self.old.writer session }
         ensures locked { IfNone result (IsNow self.old.past session (task_of session self.old) (Some session) self.old self.new) }
         ensures alone { IfNone result ((other : ℕ) → other ≢ session → own other self.old.past ≡ []) }
-        ensures sound { IsSound self.old.past }
+        ensures sound { IsOrdered self.old.past }
         ensures held { IfSome result (λ other. (self.old.writer ≡ Some other) × (other ≢ session) × IsOpen other self.old.past × (other < length self.old.names) × Stays session self.old self.new) }
     {
         self.lists.lock(session)

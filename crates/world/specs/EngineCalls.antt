@@ -1,6 +1,5 @@
 -- What the calls of the engine change of a world.
 use Rattle.std.specs.Prelude.{◌≡◌, ℕ, ◌+◌, ◌<◌, ◌≤◌, true, false, List, [], ◌∷◌, ◌++◌, length, None}
-use Rattle.std.specs.FinMap.{from_entries}
 use Rattle.inno_types.specs.declared.value.Schema.{Schema}
 use Rattle.inno_types.specs.declared.reply.Item.{Item}
 use Rattle.inno_types.specs.declared.reply.Reply.{Reply}
@@ -13,19 +12,26 @@ use Rattle.sql_history.specs.Settings.{at_first, set_by}
 use Rattle.sql_history.specs.Counts.{rows_of_reply}
 use Rattle.world.specs.State.{WorldState, Session, Work, HasWork, IsIndex, index_of, with_session, with_work, with_entry}
 
--- a world of a database without tables and rows, which nobody has joined
+-- a world without tables, which is yet to be opened
 pub record IsNew (state : WorldState) : Type 0 where
   pub names : state.names ≡ []
-  pub db : Database
-  pub no_tables : db.schemas ≡ []
-  pub no_rows : db.rows ≡ from_entries []
-  pub past : state.past ≡ Opened db ∷ []
+  pub past : state.past ≡ []
   pub rows : state.rows ≡ 0
   pub schemas : state.schemas ≡ []
   pub indexes : (index : ℕ) → state.indexes index ≡ empty_index
   pub versions : (pointer : ℕ) → state.versions.kept_at pointer ≡ None
   pub txns : state.txns ≡ record { open_txns = []; begun = 0; next = 1 }
   pub sessions : state.sessions ≡ []
+
+-- One table more. Its indexes are empty, as they were before anybody had them.
+pub record LaysTable (schema : Schema) (old new : WorldState) : Type 0 where
+  pub empty : (which : ℕ) → which < 8 → new.indexes (index_of (length old.schemas) which) ≡ empty_index
+  pub same : (index : ℕ) → new.indexes index ≡ old.indexes index
+  pub rest : new ≡ record old { schemas = old.schemas ++ schema ∷ []; indexes = new.indexes }
+
+-- the history has begun with this database, of so many rows
+abbrev pub with_opening : Database → ℕ → WorldState → WorldState
+with_opening db rows state = record state { past = Opened db ∷ state.past; rows = rows }
 
 -- a session that has just joined
 abbrev pub fresh_session : Session

@@ -1,7 +1,7 @@
 //! The lists themselves.
 
 ghost use Rattle.std.specs.Prelude.{◌≡◌, ◌<◌, ◌^◌, length, IfOk};
-ghost use Rattle.world.specs.EngineCalls.{IsNew};
+ghost use Rattle.desks.specs.Holding.{IsFresh};
 ghost use Rattle.shared_lists.specs.State.{IsFirst};
 
 use desks::Desk;
@@ -46,9 +46,9 @@ impl<W: EngineWorld> Model for WorldLists<W> {
 }
 
 impl<W: EngineWorld> WorldLists<W> {
-    /// The lists of a new world: without tables, and nobody has joined.
+    /// The lists of a world that nobody has joined.
     pub fn new(alloc: Global, world: W) -> Result<Self, NoMemory>
-        requires { IsNew (W.state world) }
+        requires { IsFresh (W.state world) }
         ensures { IfOk result IsFirst }
     {
         Ok(WorldLists {

@@ -23,8 +23,7 @@ use Rattle.sql_history.specs.Items.{own_before, base, undoes}
 use Rattle.sql_history.specs.LooseReading.{newest}
 use Rattle.sql_history.specs.Counts.{rows_of_entry, rows_kept, most_rows}
 use Rattle.sql_history.specs.Legal.{IsWriting, ChangesBy, MayChange}
-use Rattle.law_past_agreement.specs.Order.{created, IsTabled, IsOfRow}
-use Rattle.law_past_agreement.specs.Agreement.{IsSound}
+use Rattle.law_past_agreement.specs.Order.{created, IsTabled, IsOfRow, IsOrdered}
 use Rattle.law_fitting_rows.proofs.Spelled.{spelled-Has64Bits}
 use Rattle.law_found_rows.proofs.FittingDatabases.{latest_coded, statement_fits}
 use Rattle.shared_lists.specs.Fitting.{FitsWell, FitsThen}
@@ -114,9 +113,9 @@ module _ (past : List Event) (writer : Option ℕ) (s : ℕ) (work : Work) (todo
       }
 
   -- it fits its table
-  pub fits : FitsThen past → IsSound past → IsInOrder past → FitsWell (created past) change
-  fits then sound in-order =
-      let coded = latest_coded past s (reverse r.made) then sound in-order r.own_is r.tables in
+  pub fits : FitsThen past → IsOrdered past → IsInOrder past → FitsWell (created past) change
+  fits then ordered in-order =
+      let coded = latest_coded past s (reverse r.made) then ordered in-order r.own_is r.tables in
       let stores = spelled-Has64Bits r.working.takes.asks.0 r.statement r.working.takes.asks.2 in
       let all : All (FitsWell (base s past).schemas) (r.made ++ change ∷ reverse todo) = subst (All (FitsWell (base s past).schemas)) parts_are (statement_fits r.statement (base s past) coded stores) in
       subst (λ (schemas : List Schema). FitsWell schemas change) (sym r.tables) (All-head (FitsWell (base s past).schemas) change (reverse todo) (All-behind (FitsWell (base s past).schemas) r.made (change ∷ reverse todo) all))

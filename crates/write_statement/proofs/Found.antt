@@ -23,9 +23,8 @@ use Rattle.inno_db.specs.Typing.{filter_fits, set_fits, set_known, where_fits, w
 use Rattle.inno_db.proofs.Outcomes.{table_read}
 use Rattle.inno_model.specs.declared.event.Event.{Event}
 use Rattle.inno_model.specs.Past.{own, commits, committed, opening, changed}
-use Rattle.law_past_agreement.specs.Order.{created, is_creation}
+use Rattle.law_past_agreement.specs.Order.{created, is_creation, IsOrdered}
 use Rattle.law_past_agreement.specs.Rows.{seen}
-use Rattle.law_past_agreement.specs.Agreement.{IsSound}
 use Rattle.law_past_agreement.proofs.Tables.{key_stays}
 use Rattle.law_past_agreement.specs.DatabaseTables.{with_all_tables}
 use Rattle.sql_history.specs.Items.{own_before, base}
@@ -162,14 +161,14 @@ same_number a b is = cc
 never : {P : Type 0} (n : ℕ) (o : Option ℕ) → o ≡ None → o ≡ Some n → P
 never n o none some = cc
 
-pub found_enough : (state : State) (s : ℕ) (search : Search) (rows : List (List Value)) → IsFound state s search rows → AreStanding state.past → IsSound state.past → IsInOrder state.past → FitsThen state.past → AreEnough s search.stmt rows state.past
-found_enough state s search rows r stands sound in-order fits =
+pub found_enough : (state : State) (s : ℕ) (search : Search) (rows : List (List Value)) → IsFound state s search rows → AreStanding state.past → IsOrdered state.past → IsInOrder state.past → FitsThen state.past → AreEnough s search.stmt rows state.past
+found_enough state s search rows r stands ordered in-order fits =
     let past = state.past in
     let read = r.reading in
     let same = read.early.unchanged in
     let db = base s past in
     let tables = tables_are past state.writer s read.right same stands in
-    let coded = unchanged_coded past s fits sound in-order stands read.right.alone same in
+    let coded = unchanged_coded past s fits ordered in-order stands read.right.alone same in
     let there : slice_get db.schemas read.table ≡ Some read.schema = ap (λ schemas. slice_get schemas read.table) (sym tables) ∙ read.there in
     let at : table_read db.schemas search.stmt ≡ Some read.table = ap (λ schemas. table_read schemas search.stmt) (sym tables) ∙ read.table_is in
     let fit = fitting_rows_fit db read.table read.schema coded.fitting coded.numbers there in

@@ -14,8 +14,8 @@ pub returns : goal.returns
 returns g c =
     record {
       db = c.requires.db;
-      no_tables = c.requires.no_tables;
-      no_rows = c.requires.no_rows;
+      few_tables = c.requires.few_tables;
+      few_rows = c.requires.few_rows;
       past = c.requires.past;
       names = c.requires.names;
       writer = refl;

@@ -1,0 +1,59 @@
+//! How a world in memory begins: without tables, then with those of a database, and at last with a history that opens on
+//! it. Only what opens an engine calls this.
+
+ghost use Rattle.std.specs.Prelude.{◌≡◌, ◌<◌, ◌^◌, [], IfOk, OnOk, OnErr};
+ghost use Rattle.world.specs.EngineCalls.{IsNew, LaysTable, with_opening};
+ghost use Rattle.list_world.specs.Parts.{world_of};
+
+use crate::engine_calls::{INDEXES_OF_TABLE, add_indexes};
+use crate::list_world::ListWorld;
+use inno_db::Db;
+use inno_model::{Event, History};
+use inno_types::{Listed, Schema};
+use std::alloc::Global;
+use store_api::NoMemory;
+use txn_table::TxnTable;
+use world_parts::Slots;
+
+impl ListWorld {
+    /// A world without tables, which is yet to be opened. Nobody has joined.
+    pub fn new(alloc: Global) -> Result<ListWorld, NoMemory>
+        ensures { IfOk result (λ world. IsNew (world_of world)) }
+    {
+        Ok(ListWorld {
+            alloc,
+            history: History::new(alloc),
+            rows: 0,
+            schemas: Listed::new(alloc),
+            indexes: Vec::new(alloc),
+            slots: Slots::new(alloc),
+            txns: TxnTable::new(alloc, 1)?,
+            sessions: Vec::new(alloc),
+        })
+    }
+
+    /// Another table, without rows, of the database that the world will be opened with. The history has no entry of it.
+    pub fn lay_table(&mut self, schema: &Schema) -> Result<(), NoMemory>
+        ensures ok { OnOk result (LaysTable schema.now (world_of self.old) (world_of self.new)) }
+        ensures err { OnErr result (world_of self.new ≡ world_of self.old) }
+    {
+        let copy = schema.copied()?;
+        self.indexes.reserve(INDEXES_OF_TABLE)?;
+        self.schemas.push(copy)?;
+        add_indexes(self.alloc, &mut self.indexes);
+        Ok(())
+    }
+
+    /// Opens the history on a database of so many rows.
+    pub fn open(&mut self, db: Db, rows: u64) -> Result<(), NoMemory>
+        requires alone { (world_of self.old).sessions ≡ [] }
+        requires few { rows < 2 ^ 63 }
+        ensures ok { OnOk result (world_of self.new ≡ with_opening db rows (world_of self.old)) }
+        ensures err { OnErr result (world_of self.new ≡ world_of self.old) }
+    {
+        self.history.reserve(1)?;
+        self.history.add(Event::Opened { db });
+        self.rows = rows;
+        Ok(())
+    }
+}

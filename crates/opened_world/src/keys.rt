@@ -1,0 +1,115 @@
+//! One row is put into a world that is yet to be opened: its clustered record, and then the entries of its table's keys.
+
+ghost use Rattle.std.specs.Prelude.{◌≡◌, Some, None, Err, IfOk, OnOk, slice_get, All};
+ghost use Rattle.inno_types.specs.declared.value.Column.{Column};
+ghost use Rattle.inno_db.specs.Database.{key_of};
+ghost use Rattle.key_codec.specs.Keys.{IsOfKind, key_code, Has64Bits};
+ghost use Rattle.row_codec.specs.Rows.{IsRowOf};
+ghost use Rattle.row_versions.specs.Chains.{Chains};
+ghost use Rattle.law_fitting_rows.specs.Storable.{IsStorable};
+ghost use Rattle.law_fitting_rows.specs.Fitting.{FitsTable};
+ghost use Rattle.list_world.specs.Parts.{world_of};
+ghost use Rattle.row_changes.specs.Keys.{IsChangingKeys};
+ghost use Rattle.opened_world.specs.Laid.{PutsNewRecord, HasRecordThere, TakesKeysOver};
+
+use crate::opening::PutBad;
+use inno_db::{key_of_row, to_value};
+use inno_types::{Bytes, Row, Schema};
+use key_codec::put_key;
+use list_world::ListWorld;
+use row_changes::{KeysChange, Reached};
+use row_codec::encode;
+use std::alloc::Global;
+use store_api::{Move, NoMemory, Version};
+use world::{World, index_number};
+
+/// Nobody else uses the world.
+const ACTOR: u32 = 0;
+
+/// The key of the row's record.
+fn key_bytes(alloc: Global, schema: &Schema, row: &Row) -> Result<Bytes, NoMemory>
+    requires { (column : Column) × (slice_get schema.now.columns schema.now.primary ≡ Some column) × IsOfKind column.kind (key_of schema.now row.now) }
+    ensures { IfOk result (λ bytes. (column : Column) → slice_get schema.now.columns schema.now.primary ≡ Some column → bytes ≡ key_code column.kind (key_of schema.now row.now)) }
+{
+    let kind = schema.columns.as_slice()[schema.primary as usize].kind;
+    let mut bytes = Bytes::new(alloc);
+    put_key(&to_value(key_of_row(schema, row))?, kind, &mut bytes)?;
+    Ok(bytes)
+}
+
+/// The value of the row's record: it was there before anybody wrote, and has no older version.
+fn record_bytes(alloc: Global, schema: &Schema, row: &Row) -> Result<Bytes, NoMemory>
+    requires { IsRowOf schema.now.columns row.now }
+    ensures { IfOk result (λ bytes. bytes ≡ Rattle.row_codec.specs.Rows.version_code schema.now (record { row = row.now; writer = 0; pointer = 0; marked = false })) }
+{
+    let version = Version {
+        row: row.copied()?,
+        writer: 0,
+        pointer: 0,
+        marked: false,
+    };
+    let mut bytes = Bytes::new(alloc);
+    encode(schema, &version, &mut bytes)?;
+    Ok(bytes)
+}
+
+/// Puts the row's record, and gives its key.
+pub fn put_record(
+    alloc: Global,
+    world: &mut ListWorld,
+    table: u8,
+    schema: &Schema,
+    row: &Row,
+) -> Result<Bytes, PutBad>
+    requires there { slice_get (world_of world.old).schemas table ≡ Some schema.now }
+    requires storable { IsStorable schema.now }
+    requires fits { FitsTable schema.now row.now }
+    requires numbers { All Has64Bits row.now }
+    ensures ok { IfOk result (PutsNewRecord table schema.now row.now (world_of world.old) (world_of world.new)) }
+    ensures there { result ≡ Err PutBad.RowThere → HasRecordThere table schema.now row.now (world_of world.old) }
+{
+    let key = key_bytes(alloc, schema, row)?;
+    let value = record_bytes(alloc, schema, row)?;
+    match world.insert(index_number(table, 0), ACTOR, &key, &value, None) {
+        Move::Done => Ok(key),
+        Move::At(..) => Err(PutBad::RowThere),
+        Move::NoMemory
+        | Move::End
+        | Move::Step
+        | Move::Latch { .. }
+        | Move::Again
+        | Move::Full { .. }
+        | Move::TooDeep
+        | Move::Failed
+        | Move::Bad { .. } => Err(PutBad::NoMemory),
+    }
+}
+
+/// Puts the row's entries into the keys of its table. Over indexes in memory that nobody else uses only want of memory
+/// keeps a step from going on.
+pub fn enter_keys(
+    alloc: Global,
+    world: &mut ListWorld,
+    table: u8,
+    key: Bytes,
+    row: &Row,
+) -> Result<(), NoMemory>
+    requires { (chains : Chains) × IsChangingKeys chains (world_of world.old) (record { table = table; key = key; before = None; after = Some row.now; which = 0; put = None }) }
+    ensures { OnOk result (TakesKeysOver table key row.now (world_of world.old) (world_of world.new)) }
+{
+    let mut change = KeysChange {
+        table,
+        key,
+        before: None,
+        after: Some(row.copied()?),
+        which: 0,
+        put: None,
+    };
+    loop {
+        match change.step(alloc, world, ACTOR) {
+            Reached::Went(next) => change = next,
+            Reached::Done => return Ok(()),
+            Reached::Hindered(..) => return Err(NoMemory),
+        }
+    }
+}

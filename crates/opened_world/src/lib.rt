@@ -1,0 +1,9 @@
+//! Databases that are there before an engine runs: the rows are put into a world one by one, and then it is opened on them.
+//! Only what opens an engine calls this.
+#![tactic(auto)]
+
+mod counting;
+mod keys;
+mod opening;
+
+pub use opening::{OpenBad, Opening, PutBad};
