@@ -25,6 +25,9 @@ abbrev pub keys_if : Option Schema → ℕ
 keys_if None = 0
 keys_if (Some schema) = length schema.keys
 
--- No place has as many versions as this.
+-- no place has as many versions as this: fewer than 2 ^ 63 are of this history, and not more than 2 ^ 62 are older
+abbrev pub most_versions : ℕ
+most_versions = 2 ^ 63 + 2 ^ 62
+
 abbrev pub undo_left_in : ℕ → Stage → WorldState → ℕ
-undo_left_in table stage state = left_at (keys_if (slice_get state.schemas table)) (2 ^ 64) state.versions.kept_at stage
+undo_left_in table stage state = left_at (keys_if (slice_get state.schemas table)) most_versions state.versions.kept_at stage

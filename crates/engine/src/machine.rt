@@ -114,7 +114,10 @@ fn lists_over(
     ensures large { IfErr result (IsTooLarge opening) }
 {
     let world = opening.finish()?;
-    Ok(SqlLists::new(alloc, WorldLists::new(alloc, world)?))
+    match WorldLists::new(alloc, world) {
+        Ok(lists) => Ok(SqlLists::new(alloc, lists)),
+        Err(_) => Err(OpenBad::NoMemory),
+    }
 }
 
 impl<D: Disk> Engine<D> {

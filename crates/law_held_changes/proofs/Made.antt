@@ -157,7 +157,7 @@ module _ (s : ℕ) (made : Bool) (desks : List Desk) (cuts : ℕ) (undo : UndoRo
         record {
           held = keeps s made desks cuts undo room old new held a.beside (goes_changed s entry old.past new.past a.past (no_creation change.table change.edit)) a.after a.agrees was (Changing (Keys next)) within refl (subst FitsThen (sym a.past) fits)
               (logs_now (Record change key after) (Went (Keys next)) rows.0 c) (a.changing, rows.1, last_logged next c a.beside.schemas)
-              (λ place. subst (λ n. length (versions_at place a.after) ≤ n + 2 ^ 62) (sym longer) (pushed_short held.chains a.after _ _ (length old.past + 2 ^ 62) a.pushes.pushes held.short place));
+              (λ place. let pushed = pushed_short held.chains a.after _ _ (length old.past + 2 ^ 62) a.pushes.pushes held.short place in omega (arith, longer, pushed));
           leaves = leaves_lists s made desks cuts undo room old new held a.beside;
           comes = record { entry = entry; was = refl; is = refl; past = a.past; rows = a.rows ∙ ap (λ n. old.rows + n) (rows_more change.table change.edit) };
         }

@@ -16,7 +16,7 @@ use Rattle.desks.specs.declared.desk.Desk.{Desk}
 use Rattle.desks.specs.declared.desk.Doing.TheVariants.{Nothing}
 use Rattle.desks.specs.Desks.{doing_at}
 use Rattle.desks.specs.Shown.{shown, seen_of}
-use Rattle.desks.specs.Undoing.{keys_if, left_at, undo_left_in}
+use Rattle.desks.specs.Undoing.{keys_if, left_at, undo_left_in, most_versions}
 use Rattle.desks.proofs.Showing.{task_is, idle_shown}
 
 pub rests_of : (s table : ℕ) (stage : Stage) (state : WorldState) (writer : Option ℕ) (desks : List Desk) → task_of s (seen_of table stage state writer desks).state ≡ tasks.Idle → doing_at s desks ≡ Nothing
@@ -24,8 +24,8 @@ rests_of s table stage state writer desks idle = idle_shown (undo_left_in table 
 
 pub left_same : (table : ℕ) (stage : Stage) (old new : WorldState) → new.schemas ≡ old.schemas → new.versions ≡ old.versions → undo_left_in table stage new ≡ undo_left_in table stage old
 left_same table stage old new schemas versions =
-    ap (λ (s : List Schema). left_at (keys_if (slice_get s table)) (2 ^ 63) new.versions.kept_at stage) schemas
-    ∙ ap (λ (v : Versions). left_at (keys_if (slice_get old.schemas table)) (2 ^ 63) v.kept_at stage) versions
+    ap (λ (s : List Schema). left_at (keys_if (slice_get s table)) most_versions new.versions.kept_at stage) schemas
+    ∙ ap (λ (v : Versions). left_at (keys_if (slice_get old.schemas table)) most_versions v.kept_at stage) versions
 
 -- an entry, or none: tables, versions and what the sessions have under way are as they were
 pub now_of : (t table : ℕ) (stage : Stage) (old new : WorldState) (writer later : Option ℕ) (desks now : List Desk) (past : List Event) → new.names ≡ old.names → new.past ≡ past

@@ -24,7 +24,7 @@ use Rattle.world.specs.Memory.{IsInMemory}
 use Rattle.desks.specs.declared.desk.Desk.{Desk}
 use Rattle.desks.specs.declared.desk.Doing.TheVariants.{Undoing}
 use Rattle.desks.specs.Desks.{doing_at}
-use Rattle.desks.specs.Undoing.{left_at, keys_if, undo_left_in}
+use Rattle.desks.specs.Undoing.{left_at, keys_if, undo_left_in, most_versions}
 use Rattle.desks.specs.Holding.{IsGoingBack, IsHeld}
 use Rattle.law_held_undoing.specs.Undoing.{HasPutBack}
 use Rattle.law_held_undoing.proofs.Desks.{kept_on}
@@ -67,8 +67,8 @@ module _ (chains : Chains) (place : Place) (undo : Undo) (schema : Schema) (stat
 
 left_same : (table : ℕ) (stage : Stage) (old new : WorldState) → new.schemas ≡ old.schemas → new.versions.kept_at ≡ old.versions.kept_at → undo_left_in table stage new ≡ undo_left_in table stage old
 left_same table stage old new schemas kept =
-    ap (λ (s : List Schema). left_at (keys_if (slice_get s table)) (2 ^ 64) new.versions.kept_at stage) schemas
-    ∙ ap (λ (k : ℕ → Option Kept). left_at (keys_if (slice_get old.schemas table)) (2 ^ 64) k stage) kept
+    ap (λ (s : List Schema). left_at (keys_if (slice_get s table)) most_versions new.versions.kept_at stage) schemas
+    ∙ ap (λ (k : ℕ → Option Kept). left_at (keys_if (slice_get old.schemas table)) most_versions k stage) kept
 
 module _ (s : ℕ) (old new : WorldState) (writer : Option ℕ) (made : Bool) (desks : List Desk) (cuts : ℕ) (undo : UndoRoom) (room next : WorkRoom) (held : IsHeld old writer made desks cuts undo room) (busy : doing_at s desks ≡ Undoing) where
   pub mine : writer ≡ Some s
@@ -102,7 +102,7 @@ module _ (s : ℕ) (old new : WorldState) (writer : Option ℕ) (made : Bool) (d
   schemas_same : ChangesPairsAlone old new → new.schemas ≡ old.schemas
   schemas_same rest = ap (λ (x : WorldState). x.schemas) rest
 
-  before_few : length (versions_before held.chains going.place) ≤ 2 ^ 64
+  before_few : length (versions_before held.chains going.place) ≤ most_versions
   before_few =
       let fewer = older_fewer (versions_at going.place held.chains) in
       let short = held.short going.place in
@@ -124,12 +124,12 @@ module _ (s : ℕ) (old new : WorldState) (writer : Option ℕ) (made : Bool) (d
       let one : was.schema ≡ now.schema = let there = was.tells.there in cc in
       let keys_are : keys_if (slice_get new.schemas undo.table) ≡ length now.schema.keys = ap keys_if now.tells.there in
       let holds = subst (λ (x : Schema). StageHolds held.chains going.place (read_into undo) x (rows_of old) room.newest.items room.stage) one (was.holds memory.told) in
-      let less : left_at (length now.schema.keys) (2 ^ 64) new.versions.kept_at next.stage < left_at (length now.schema.keys) (2 ^ 64) new.versions.kept_at room.stage
+      let less : left_at (length now.schema.keys) most_versions new.versions.kept_at next.stage < left_at (length now.schema.keys) most_versions new.versions.kept_at room.stage
       = ⊎_elim
-      (λ fewer. left_nears (length now.schema.keys) (2 ^ 64) new.versions.kept_at room.stage next.stage (omega arith) fewer)
-      (λ walks. walks_near held.chains going.place (read_into undo) now.schema new (rows_of old) (rows_of new) room.newest.items next.newest.items (length now.schema.keys) (2 ^ 64) before_few later.told (sym kept) refl room.stage next.stage walks holds (now.holds later.told))
+      (λ fewer. left_nears (length now.schema.keys) most_versions new.versions.kept_at room.stage next.stage (omega arith) fewer)
+      (λ walks. walks_near held.chains going.place (read_into undo) now.schema new (rows_of old) (rows_of new) room.newest.items next.newest.items (length now.schema.keys) most_versions before_few later.told (sym kept) refl room.stage next.stage walks holds (now.holds later.told))
       (goes.nears now.schema now.tells.there) in
-      let less_now : undo_left_in undo.table next.stage new < undo_left_in undo.table room.stage new = subst (λ (k : ℕ). left_at k (2 ^ 64) new.versions.kept_at next.stage < left_at k (2 ^ 64) new.versions.kept_at room.stage) (sym keys_are) less in
+      let less_now : undo_left_in undo.table next.stage new < undo_left_in undo.table room.stage new = subst (λ (k : ℕ). left_at k most_versions new.versions.kept_at next.stage < left_at k most_versions new.versions.kept_at room.stage) (sym keys_are) less in
       subst (λ (n : ℕ). undo_left_in undo.table next.stage new < n) (left_same undo.table room.stage old new (schemas_same leaves.rest) kept) less_now
 
   pub nearer : IsInMemory old → IsInMemory new → HasPutBack s (read_into undo) room next old new Step → undo_left_in undo.table next.stage new < undo_left_in undo.table room.stage old

@@ -40,7 +40,7 @@ use Rattle.desks.specs.declared.desk.Desk.{Desk}
 use Rattle.desks.specs.declared.desk.Doing.{Doing}
 use Rattle.desks.specs.declared.desk.Doing.TheVariants.{Nothing, Searching, Changing, Lagging, Undoing}
 use Rattle.desks.specs.Desks.{doing_at, with_doing}
-use Rattle.desks.specs.Undoing.{left_at, keys_if, undo_left_in}
+use Rattle.desks.specs.Undoing.{left_at, keys_if, undo_left_in, most_versions}
 use Rattle.desks.specs.Holding.{IsLast, IsGoingBack, IsLagging, RowsHeld, IsHeld}
 use Rattle.law_held_undoing.specs.Undoing.{HasLast, IsReady}
 use Rattle.law_held_undoing.proofs.Desks.{given}
@@ -218,4 +218,4 @@ module _ (s keep : ℕ) (old new : WorldState) (writer : Option ℕ) (made : Boo
     few_begun =
         let tells = going_back.putting.tells in
         let keys : keys_if (slice_get new.schemas read.table) ≤ 4 = subst (λ (n : ℕ). n ≤ 4) (sym (ap keys_if tells.there)) (few_keys going_back.putting.schema tells.storable) in
-        few_left (keys_if (slice_get new.schemas read.table)) (2 ^ 64) new.versions.kept_at room.stage keys begin.anew
+        few_left (keys_if (slice_get new.schemas read.table)) most_versions new.versions.kept_at room.stage keys begin.anew

@@ -15,7 +15,7 @@ use Rattle.law_coded_rows.specs.Records.{LeadTo}
 use Rattle.law_coded_rows.proofs.FromTables.{decoded}
 use Rattle.law_logged_changes.specs.Pointers.{Reaches, PointersApart}
 use Rattle.world.specs.State.{WorldState}
-use Rattle.world.specs.Told.{pairs_of}
+use Rattle.world.specs.Told.{IsTold, pairs_of}
 use Rattle.world.specs.EngineCalls.{with_opening}
 use Rattle.desks.specs.Holding.{IsFresh}
 use Rattle.opened_world.specs.Laid.{version_of, IsLaid, IsFreshOf}
@@ -44,6 +44,10 @@ module _ (db : Database) (old : WorldState) (laid : IsLaid db old) where
       let none : older (versions_at place laid.chains) ≡ [] = ap older (laid.versions place) ∙ none_older (get db.rows (in_model place)) in
       absurd (reaches_nothing old.versions.kept_at one.coded.pointer one.further pointer (subst (LeadTo one.schema one.key old.versions.kept_at one.coded.pointer) none led) one.reaches)
 
+  -- what it tells doesn't change
+  told_before : (rows : ℕ) → IsTold (with_opening db rows old) → IsTold old
+  told_before rows told = record { pairs = told.pairs; versions = told.versions }
+
   opened_literally : length db.schemas ≤ MOST_TABLES → rows_in db ≤ most_rows → (rows : ℕ) → rows ≡ rows_in db → IsFreshOf db (with_opening db rows old)
   opened_literally few_tables few_rows rows counted = (
     record {
@@ -54,8 +58,8 @@ module _ (db : Database) (old : WorldState) (laid : IsLaid db old) where
       chains = laid.chains;
       opened = λ place. subst (IsOpenedWith (get db.rows (in_model place))) (sym (laid.versions place)) (opened_with (get db.rows (in_model place)));
       few_versions = λ place. omega (arith, ap length (laid.versions place), one_version (get db.rows (in_model place)));
-      coded = laid.coded;
-      apart = apart;
+      coded = λ told. laid.coded (told_before rows told);
+      apart = λ told. apart (told_before rows told);
       names = laid.names;
       past = ap (λ past. Opened db ∷ past) laid.past;
       rows = counted;

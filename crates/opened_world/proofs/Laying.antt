@@ -103,18 +103,18 @@ module _ (db : Database) (schema : Schema) (old new : WorldState) (storable : Is
 
 -- ---- a row more
 
-pub at_row : ℕ → Schema → List Value → Place
+abbrev pub at_row : ℕ → Schema → List Value → Place
 at_row table schema row = record { table = table; key = key_of schema row }
 
 module _ (db : Database) (table : ℕ) (row : List Value) (schema : Schema) (old mid new : WorldState) (key : List ℕ) (laid : IsLaid db old) (there : slice_get old.schemas table ≡ Some schema) (storable : IsStorable schema)
     (puts : PutsNewRecord table schema row old mid key) (over : TakesKeysOver table key row mid new) (told : IsTold mid) where
-  place : Place
+  abbrev place : Place
   place = at_row table schema row
 
-  version : Version
+  abbrev version : Version
   version = record { writer = 0; row = Some row }
 
-  chains : Chains
+  abbrev chains : Chains
   chains = with_version place version laid.chains
 
   pushes : Pushes laid.chains chains place version
@@ -123,7 +123,7 @@ module _ (db : Database) (table : ℕ) (row : List Value) (schema : Schema) (old
   at : IsKeyAt schema (key_of schema row) key
   at = key_at schema (edits.Put row) key puts.row_is
 
-  value : List ℕ
+  abbrev value : List ℕ
   value = version_code schema (record { row = row; writer = 0; pointer = 0; marked = false })
 
   put : HasPut (clustered_index table) key (Some value) old mid

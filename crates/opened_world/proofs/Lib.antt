@@ -1,2 +1,4 @@
 mod Laying
 mod Finishing
+mod Sums
+mod Taking

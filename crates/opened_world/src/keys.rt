@@ -1,14 +1,15 @@
 //! One row is put into a world that is yet to be opened: its clustered record, and then the entries of its table's keys.
 
-ghost use Rattle.std.specs.Prelude.{◌≡◌, Some, None, Err, IfOk, OnOk, slice_get, All};
+ghost use Rattle.std.specs.Prelude.{◌≡◌, Some, None, false, Err, IfOk, OnOk, slice_get, All};
 ghost use Rattle.inno_types.specs.declared.value.Column.{Column};
 ghost use Rattle.inno_db.specs.Database.{key_of};
 ghost use Rattle.key_codec.specs.Keys.{IsOfKind, key_code, Has64Bits};
-ghost use Rattle.row_codec.specs.Rows.{IsRowOf};
+ghost use Rattle.row_codec.specs.Rows.{IsRowOf, version_code};
 ghost use Rattle.row_versions.specs.Chains.{Chains};
 ghost use Rattle.law_fitting_rows.specs.Storable.{IsStorable};
 ghost use Rattle.law_fitting_rows.specs.Fitting.{FitsTable};
 ghost use Rattle.list_world.specs.Parts.{world_of};
+ghost use Rattle.row_changes.specs.Edits.{IsRowFor};
 ghost use Rattle.row_changes.specs.Keys.{IsChangingKeys};
 ghost use Rattle.opened_world.specs.Laid.{PutsNewRecord, HasRecordThere, TakesKeysOver};
 
@@ -40,7 +41,7 @@ fn key_bytes(alloc: Global, schema: &Schema, row: &Row) -> Result<Bytes, NoMemor
 /// The value of the row's record: it was there before anybody wrote, and has no older version.
 fn record_bytes(alloc: Global, schema: &Schema, row: &Row) -> Result<Bytes, NoMemory>
     requires { IsRowOf schema.now.columns row.now }
-    ensures { IfOk result (λ bytes. bytes ≡ Rattle.row_codec.specs.Rows.version_code schema.now (record { row = row.now; writer = 0; pointer = 0; marked = false })) }
+    ensures { IfOk result (λ bytes. bytes ≡ version_code schema.now (record { row = row.now; writer = 0; pointer = 0; marked = false })) }
 {
     let version = Version {
         row: row.copied()?,
@@ -51,6 +52,18 @@ fn record_bytes(alloc: Global, schema: &Schema, row: &Row) -> Result<Bytes, NoMe
     let mut bytes = Bytes::new(alloc);
     encode(schema, &version, &mut bytes)?;
     Ok(bytes)
+}
+
+/// The key and the value of the row's record.
+fn record_of(alloc: Global, schema: &Schema, row: &Row) -> Result<(Bytes, Bytes), NoMemory>
+    requires fits { FitsTable schema.now row.now }
+    requires numbers { All Has64Bits row.now }
+    ensures key { IfOk result (λ both. IsRowFor schema.now row.now both.0) }
+    ensures value { IfOk result (λ both. both.1 ≡ version_code schema.now (record { row = row.now; writer = 0; pointer = 0; marked = false })) }
+{
+    let key = key_bytes(alloc, schema, row)?;
+    let value = record_bytes(alloc, schema, row)?;
+    Ok((key, value))
 }
 
 /// Puts the row's record, and gives its key.
@@ -68,8 +81,9 @@ pub fn put_record(
     ensures ok { IfOk result (PutsNewRecord table schema.now row.now (world_of world.old) (world_of world.new)) }
     ensures there { result ≡ Err PutBad.RowThere → HasRecordThere table schema.now row.now (world_of world.old) }
 {
-    let key = key_bytes(alloc, schema, row)?;
-    let value = record_bytes(alloc, schema, row)?;
+    let Ok((key, value)) = record_of(alloc, schema, row) else {
+        return Err(PutBad::NoMemory);
+    };
     match world.insert(index_number(table, 0), ACTOR, &key, &value, None) {
         Move::Done => Ok(key),
         Move::At(..) => Err(PutBad::RowThere),
@@ -105,11 +119,12 @@ pub fn enter_keys(
         which: 0,
         put: None,
     };
-    loop {
+    for _ in 0..u32::MAX {
         match change.step(alloc, world, ACTOR) {
             Reached::Went(next) => change = next,
             Reached::Done => return Ok(()),
             Reached::Hindered(..) => return Err(NoMemory),
         }
     }
+    Err(NoMemory)
 }

@@ -59,22 +59,6 @@ pub enum OpenBad {
     NoMemory,
 }
 
-impl From<NoMemory> for PutBad {
-    fn from(_reason: NoMemory) -> PutBad
-        ensures { result ≡ PutBad.NoMemory }
-    {
-        PutBad::NoMemory
-    }
-}
-
-impl From<NoMemory> for OpenBad {
-    fn from(_reason: NoMemory) -> OpenBad
-        ensures { result ≡ OpenBad.NoMemory }
-    {
-        OpenBad::NoMemory
-    }
-}
-
 impl Opening {
     /// A database without tables.
     pub fn new(alloc: Global) -> Result<Opening, NoMemory>
@@ -115,9 +99,16 @@ impl Opening {
             mut world,
         } = self;
         let schema = &db.schemas().as_slice()[usize::from(table)];
-        let key = put_record(alloc, &mut world, table, schema, &row)?;
-        enter_keys(alloc, &mut world, table, key, &row)?;
-        add_change(&mut db, alloc, Change::Put { table, row })?;
+        let key = match put_record(alloc, &mut world, table, schema, &row) {
+            Ok(key) => key,
+            Err(reason) => return Err(reason),
+        };
+        let Ok(()) = enter_keys(alloc, &mut world, table, key, &row) else {
+            return Err(PutBad::NoMemory);
+        };
+        let Ok(()) = add_change(&mut db, alloc, Change::Put { table, row }) else {
+            return Err(PutBad::NoMemory);
+        };
         Ok(Opening { alloc, db, world })
     }
 
@@ -131,8 +122,10 @@ impl Opening {
         if rows > MOST_ROWS {
             return Err(OpenBad::TooManyRows { rows });
         }
-        world.open(db, rows)?;
-        Ok(world)
+        match world.open(db, rows) {
+            Ok(()) => Ok(world),
+            Err(_) => Err(OpenBad::NoMemory),
+        }
     }
 }
 

@@ -1,0 +1,68 @@
+-- The keys of a table take a row over, step by step.
+use Rattle.std.proofs.Common.{◌≡◌, ◌∙◌, sym, ap, subst, refl, ℕ, ◌≤◌, List, length, Option, None, Some, slice_get, arith}
+use Rattle.std.specs.Prelude.{All}
+use Rattle.inno_types.specs.declared.value.Value.{Value}
+use Rattle.inno_types.specs.declared.value.Column.{Column}
+use Rattle.inno_types.specs.declared.value.Schema.{Schema}
+use Rattle.inno_db.specs.Database.{key_of}
+use Rattle.key_codec.specs.Keys.{Has64Bits, key_code}
+use Rattle.row_versions.specs.Chains.{Chains}
+use Rattle.law_fitting_rows.specs.Storable.{IsStorable}
+use Rattle.law_fitting_rows.specs.Fitting.{FitsTable}
+use Rattle.law_fitting_rows.proofs.Coding.{short_key, short_value}
+use Rattle.row_codec.specs.Rows.{version_code}
+use Rattle.world.specs.State.{WorldState}
+use Rattle.row_changes.specs.declared.keys_change.KeysChange.{KeysChange}
+use Rattle.row_changes.specs.declared.reached.Reached.TheVariants.{Went, Done}
+use Rattle.row_changes.specs.Edits.{IsRowFor}
+use Rattle.row_changes.specs.Told.{HasRows}
+use Rattle.row_changes.specs.Keys.{IsChangingKeys, ChangesKeys}
+
+-- the bytes are the key of the row
+pub row_for : (schema : Schema) (row : List Value) (key : List ℕ) → FitsTable schema row → All Has64Bits row
+    → ((column : Column) → slice_get schema.columns schema.primary ≡ Some column → key ≡ key_code column.kind (key_of schema row)) → IsRowFor schema row key
+row_for schema row key fits numbers spelled =
+    record {
+      fits = fits;
+      numbers = numbers;
+      key_is = record { column = fits.key.column; primary = fits.key.primary; present = fits.key.of_kind; spelled = spelled fits.key.column fits.key.primary };
+    }
+
+pub key_short : (schema : Schema) (row : List Value) (key : List ℕ) → IsStorable schema → IsRowFor schema row key → length key ≤ 67
+key_short schema row key storable is = let short = short_key schema row key storable is.key_is in omega (arith, short)
+
+pub value_short : (schema : Schema) (row : List Value) (key value : List ℕ) → IsStorable schema → IsRowFor schema row key → value ≡ version_code schema (record { row = row; writer = 0; pointer = 0; marked = false }) → length value ≤ 1024
+value_short schema row key value storable is value_is =
+    short_value schema (record { row = row; writer = 0; pointer = 0; marked = false }) key value storable (record { fits = is.fits.columns; key_is = is.key_is; value_is = value_is })
+
+-- since this change began the keys have come so far
+pub record IsTaking (start : KeysChange) (old now : WorldState) (change : KeysChange) : Type 0 where
+  pub chains : Chains
+  pub holds : IsChangingKeys chains now change
+  pub follows : (those : Chains) → IsChangingKeys those old start → IsChangingKeys those now change
+  pub rest : now ≡ record old { indexes = now.indexes; versions = now.versions; paged = now.paged }
+
+pub taking_first : (start : KeysChange) (state : WorldState) (chains : Chains) → IsChangingKeys chains state start → IsTaking start state state start
+taking_first start state chains holds = record { chains = chains; holds = holds; follows = λ those is. is; rest = refl }
+
+-- what two steps leave as it was
+rests : (old mid new : WorldState) → mid ≡ record old { indexes = mid.indexes; versions = mid.versions; paged = mid.paged } → new ≡ record mid { indexes = new.indexes; versions = new.versions; paged = new.paged }
+    → new ≡ record old { indexes = new.indexes; versions = new.versions; paged = new.paged }
+rests old mid new first next = next ∙ ap (λ (s : WorldState). record s { indexes = new.indexes; versions = new.versions; paged = new.paged }) first
+
+module _ (start : KeysChange) (old mid new : WorldState) (change : KeysChange) (taking : IsTaking start old mid change) where
+  pub taking_next : (next : KeysChange) → ((chains : Chains) → IsChangingKeys chains mid change → ChangesKeys 0 chains mid new change (Went next)) → IsTaking start old new next
+  taking_next next step =
+      let mine = step taking.chains taking.holds in
+      record {
+        chains = taking.chains;
+        holds = mine.holds;
+        follows = λ those is. (step those (taking.follows those is)).holds;
+        rest = rests old mid new taking.rest mine.stays.rest;
+      }
+
+  pub taken_rows : ((chains : Chains) → IsChangingKeys chains mid change → ChangesKeys 0 chains mid new change Done) → (chains : Chains) → IsChangingKeys chains old start → HasRows chains new
+  taken_rows step chains is = (step chains (taking.follows chains is)).1
+
+  pub taken_rest : ((chains : Chains) → IsChangingKeys chains mid change → ChangesKeys 0 chains mid new change Done) → new ≡ record old { indexes = new.indexes; versions = new.versions; paged = new.paged }
+  taken_rest step = rests old mid new taking.rest (step taking.chains taking.holds).0.rest
