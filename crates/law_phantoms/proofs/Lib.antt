@@ -1,9 +1,1 @@
-pub mod Pieces
-pub mod RowsOnly
-pub mod Made
 pub mod Free
-pub mod Going
-pub mod Standing
-pub mod Carried
-pub mod Calm
-pub mod Latest
