@@ -1,1 +1,4 @@
 pub mod Free
+pub mod Views
+pub mod Setup
+pub mod Phantoms

@@ -1,16 +1,31 @@
-//! Laws of histories in which no transaction commits a change of a row that another has searched.
+//! Laws of histories in which no transaction commits a change of a row that another has searched: they answer as their
+//! transactions do alone, though statements of many sessions come at once.
 //! Each function has an empty body: its contract is the law.
 #![tactic(auto)]
 
-ghost use Rattle.std.specs.Prelude.{◌≡◌, List, ◌∷◌, ◌++◌};
+ghost use Rattle.std.specs.Prelude.{◌≡◌, ◌≢◌, ℕ, List, ◌∷◌, ◌++◌};
 ghost use Rattle.inno_types.specs.declared.value.Schema.{Schema};
 ghost use Rattle.inno_model.specs.declared.event.Event.{Event};
 ghost use Rattle.sql_grammar.specs.Grammar.{Spells};
 ghost use Rattle.sql_history.specs.LooseReading.{newest};
-ghost use Rattle.sql_history.specs.Legal.{MayFollow};
-ghost use Rattle.law_phantoms.specs.Phantoms.{AllApart};
+ghost use Rattle.sql_history.specs.Legal.{IsLegal, MayFollow};
+ghost use Rattle.sql_history.specs.Serial.{AnswersAsAlone, IsSerializable};
+ghost use Rattle.law_calm.specs.Calm.{IsCalm};
+ghost use Rattle.law_phantoms.specs.Phantoms.{AllApart, IsPhantomFree, IsSetUp};
 
 /// No entry of a legal history brings changes of two sessions to one place.
 pub fn open_transactions_stay_apart()
     ensures { (schemas more : List Schema) (e : Event) (past : List Event) → MayFollow Spells past e → (newest past).schemas ≡ schemas ++ more → AllApart schemas past → AllApart schemas (e ∷ past) }
+{}
+
+/// At SERIALIZABLE and free of phantoms, each session but that of the setup part is calm.
+pub fn phantom_free_histories_are_calm()
+    ensures { (past : List Event) → IsLegal Spells past → IsSerializable past → IsSetUp past → IsPhantomFree Spells past → (s : ℕ) → s ≢ 0 → IsCalm Spells s past }
+{}
+
+/// Where each session is at SERIALIZABLE, and no commit changes a row that a standing statement of another has searched, each
+/// reply that was committed is what its transaction answers alone, in the order of the commits, and so is the database in
+/// the end. The sessions' statements may come at once, be broken off and be rolled back.
+pub fn phantom_free_histories_answer_as_alone()
+    ensures { (past : List Event) → IsLegal Spells past → IsSerializable past → IsSetUp past → IsPhantomFree Spells past → AnswersAsAlone Spells past }
 {}

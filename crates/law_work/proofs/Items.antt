@@ -122,7 +122,7 @@ module _ (says : Language) (one : ReadsOne says) where
   -- ---- statements that leave the changes of the transaction that was open
 
   module _ (s : ℕ) (text : List ℕ) (statement : Stmt) (says_it : says text statement) where
-    read_as : (t : ℕ) (a : Stmt) (past : List Event) → t ≡ s → Asks says t a past → under_way s past ≡ Some (Sql text) → is_on_rows statement ≡ false → a ≡ statement
+    pub read_as : (t : ℕ) (a : Stmt) (past : List Event) → t ≡ s → Asks says t a past → under_way s past ≡ Some (Sql text) → is_on_rows statement ≡ false → a ≡ statement
     read_as t a past same asks asked plain =
         let same_text : text ≡ asks.0 = (let x = sym asked ∙ subst (λ u. under_way u past ≡ Some (Sql asks.0)) same asks.1 in cc) in
         let alike : Alike a statement = one text a statement (subst (λ (t : List ℕ). says t a) (sym same_text) asks.2) says_it in
