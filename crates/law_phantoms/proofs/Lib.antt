@@ -2,3 +2,4 @@ pub mod Free
 pub mod Views
 pub mod Setup
 pub mod Phantoms
+pub mod Example

@@ -1,1 +1,2 @@
 pub mod Phantoms
+pub mod Example

@@ -11,7 +11,9 @@ ghost use Rattle.sql_history.specs.LooseReading.{newest};
 ghost use Rattle.sql_history.specs.Legal.{IsLegal, MayFollow};
 ghost use Rattle.sql_history.specs.Serial.{AnswersAsAlone, IsSerializable};
 ghost use Rattle.law_calm.specs.Calm.{IsCalm};
+ghost use Rattle.law_serial.specs.Turns.{IsSerial};
 ghost use Rattle.law_phantoms.specs.Phantoms.{AllApart, IsPhantomFree, IsSetUp};
+ghost use Rattle.law_phantoms.specs.Example.{interleaved};
 
 /// No entry of a legal history brings changes of two sessions to one place.
 pub fn open_transactions_stay_apart()
@@ -28,4 +30,14 @@ pub fn phantom_free_histories_are_calm()
 /// the end. The sessions' statements may come at once, be broken off and be rolled back.
 pub fn phantom_free_histories_answer_as_alone()
     ensures { (past : List Event) → IsLegal Spells past → IsSerializable past → IsSetUp past → IsPhantomFree Spells past → AnswersAsAlone Spells past }
+{}
+
+/// Such histories are there, and not only those in which sessions take turns: between a search and an INSERT of one open
+/// transaction another puts a row beside the search, and commits it.
+pub fn sessions_may_interleave()
+    ensures legal { IsLegal Spells interleaved }
+    ensures serializable { IsSerializable interleaved }
+    ensures set_up { IsSetUp interleaved }
+    ensures free { IsPhantomFree Spells interleaved }
+    ensures not_serial { IsSerial interleaved → ⊥ }
 {}
