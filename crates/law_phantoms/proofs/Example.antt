@@ -54,7 +54,7 @@ use Rattle.law_phantoms.specs.Example.{leveling, beginning, deleting, putting_an
 
 -- ---- the texts
 
-abbrev set_level : Stmt
+abbrev pub set_level : Stmt
 set_level = stmt.SetLevel Session Serializable
 
 abbrev condition : Filter
@@ -97,10 +97,10 @@ another-statement : Statement (Key word.Insert ∷ Bare None (codes "t") ∷ Key
 unfolding plain_number
 another-statement = Statement.insert Into.unsaid Name.bare ColumnList.unsaid ValuesWord.values (Commas.last (Tuple.tuple (Commas.last Lit.number)))
 
-spells-leveling : Spells leveling set_level
+pub spells-leveling : Spells leveling set_level
 spells-leveling = record { tokens = _; lexed = leveling-tokens; parsed = Statement.set_level Scope.session LevelName.serializable }
 
-spells-beginning : Spells beginning (stmt.Begin false)
+pub spells-beginning : Spells beginning (stmt.Begin false)
 spells-beginning = record { tokens = _; lexed = beginning-tokens; parsed = Statement.begin Work.unsaid }
 
 spells-deleting : Spells deleting delete
@@ -109,7 +109,7 @@ spells-deleting = record { tokens = _; lexed = deleting-tokens; parsed = deletin
 spells-another : Spells putting_another insert_another
 spells-another = record { tokens = _; lexed = another-tokens; parsed = another-statement }
 
-spells-committing : Spells committing stmt.Commit
+pub spells-committing : Spells committing stmt.Commit
 spells-committing = record { tokens = _; lexed = committing-tokens; parsed = Statement.commit Work.unsaid }
 
 -- ---- the past behind so many entries
@@ -182,7 +182,7 @@ past_22 = Acked 1 0 ∷ past_21
 
 -- ---- what the sessions have set
 
-abbrev leveled : Setting
+abbrev pub leveled : Setting
 leveled = record at_first { later = Serializable }
 
 set_first : HasSet Spells 1 past_3 leveled

@@ -3,3 +3,4 @@ pub mod Views
 pub mod Setup
 pub mod Phantoms
 pub mod Example
+pub mod Unended

@@ -1,6 +1,7 @@
 -- A legal and serializable history that is free of phantoms is calm.
 use Rattle.std.proofs.Common.{◌≡◌, ◌≢◌, ◌∙◌, ap, sym, subst, refl, ℕ, true, false, List, [], ◌∷◌, ◌++◌, Option, Some, None, inl, inr, arith}
 use Rattle.std.specs.Prelude.{is_some, Bool}
+use Rattle.std.specs.Prelude.{◌==◌}
 use Rattle.std.proofs.lemmas.Bool.Decides.{nat_tests}
 use Rattle.inno_types.specs.declared.lock.Level.{Level}
 use Rattle.inno_types.specs.declared.stmt.Definition.{Definition}
@@ -8,7 +9,7 @@ use Rattle.inno_types.specs.declared.stmt.Stmt.TheVariants as stmt
 use Rattle.inno_types.specs.declared.value.Schema.{Schema}
 use Rattle.inno_db.specs.Database.{Database}
 use Rattle.inno_model.specs.declared.event.Event.{Event}
-use Rattle.inno_model.specs.declared.event.Event.TheVariants.{Opened, Begin, Started, Ended, Committed}
+use Rattle.inno_model.specs.declared.event.Event.TheVariants.{Opened, Begin, Ended, Committed}
 use Rattle.inno_model.specs.Past.{own, level, under_way, did, begins_txn, commits, committed, opening, IsOpen}
 use Rattle.sql_history.specs.Items.{Language, Asks}
 use Rattle.sql_history.specs.LooseReading.{newest, uncommitted}
@@ -25,16 +26,26 @@ use Rattle.law_calm.specs.Calm.{SeesLatest, MeetsNone, IsCalm, IsCalmTo, AreCalm
 use Rattle.law_calm.proofs.Made.{of_rows}
 use Rattle.law_calm.proofs.Commits.{makes_rows}
 use Rattle.law_calm.proofs.Kept.{all_kept}
-use Rattle.law_serial.proofs.Turns.{one_serial}
+use Rattle.law_serial.specs.Turns.{IsSerial}
+use Rattle.law_serial.proofs.Turns.{one_serial, no_commit, open_works}
 use Rattle.law_serial.proofs.Calm.{serial_sees, serial_calm}
 use Rattle.law_phantoms.specs.Phantoms.{AllApart, IsPhantomFree, IsSetUp}
 use Rattle.law_phantoms.proofs.Free.{free_always}
-use Rattle.law_phantoms.proofs.Setup.{absent_others, setup_of_one, setup_apart, set_up, makes_no_table}
+use Rattle.law_phantoms.proofs.Setup.{absent_others, setup_of_one, setup_apart, set_up, set_up_before, makes_no_table}
 use Rattle.law_phantoms.proofs.Views.{serializable_level, serializable_sees}
 
 newest_tables : (past : List Event) → (newest past).schemas ≡ (committed_db past).schemas ++ made_of (uncommitted past)
 newest_tables past =
     ap (λ (d : Database). d.schemas) (changed_append (opening past) (uncommitted past) (committed (commits past) past)) ∙ schemas_after (committed_db past) (uncommitted past)
+
+-- at the commits of a serial history nobody else has a transaction open
+pub serial_free : (says : Language) (past : List Event) → IsSerial past → IsPhantomFree says past
+serial_free says [] serial = tt
+serial_free says (Committed t ∷ past) serial = (
+  λ s pieces differ open_at stands. let other : (t == s) ≡ false = grind (arith, nat_tests, differ) in no_commit t s past other serial (open_works s past (ap is_some open_at)),
+  serial_free says past serial.1,
+)
+serial_free says (e ∷ past) serial = serial_free says past serial.1
 
 level_some : (l : Option Level) → is_some l ≡ true → (m : Level) × (l ≡ Some m)
 level_some None is_open = (cc)
@@ -52,17 +63,13 @@ module _ (says : Language) (one : ReadsOne says) where
   serializable_before (Begin t n l) past all = all.1
   serializable_before e past all = all
 
-  set_up_before : (e : Event) (past : List Event) → IsSetUp (e ∷ past) → IsSetUp past
-  set_up_before (Started t j item) past set = set.2
-  set_up_before e past set = set
-
   free_before : (e : Event) (past : List Event) → IsPhantomFree says (e ∷ past) → IsPhantomFree says past
   free_before (Committed t) past free = free.1
   free_before e past free = free
 
   before : (e : Event) (past : List Event) → IsFree (e ∷ past) → IsFree past
   before e past all =
-      record { legal = all.legal.1; serializable = serializable_before e past all.serializable; is_set_up = set_up_before e past all.is_set_up; free = free_before e past all.free }
+      record { legal = all.legal.1; serializable = serializable_before e past all.serializable; is_set_up = set_up_before says e past all.is_set_up; free = free_before e past all.free }
 
   -- what follows
   pub record Holds (past : List Event) : Type 0 where

@@ -1,7 +1,7 @@
 -- The setup part of a history: while no other session has started anything, each entry is session 0's.
 use Rattle.std.proofs.Common.{◌≡◌, ◌≢◌, ◌∙◌, ap, sym, subst, refl, ℕ, Bool, true, false, List, [], ◌∷◌, Some, None, inl, inr, ◌⊎◌, arith}
 use Rattle.std.specs.Prelude.{is_some, ◌+◌}
-use Rattle.std.proofs.lemmas.Bool.Decides.{nat_tests}
+use Rattle.std.proofs.lemmas.Bool.Decides.{nat_tests, Decides-eqb}
 use Rattle.inno_types.specs.declared.reply.Item.TheVariants.{Sql}
 use Rattle.inno_types.specs.declared.stmt.Definition.{Definition}
 use Rattle.inno_types.specs.declared.stmt.Stmt.{Stmt}
@@ -16,7 +16,7 @@ use Rattle.sql_history.specs.Items.{Language, Asks}
 use Rattle.sql_history.specs.Settings.{Setting}
 use Rattle.sql_history.specs.Statements.{refused_at_once}
 use Rattle.sql_history.specs.Legal.{IsLegal}
-use Rattle.sql_history.specs.Serial.{IsUnstarted}
+use Rattle.sql_history.specs.Serial.{is_setup, IsUnstarted, SetsUpFirst}
 use Rattle.law_work.proofs.Alike.{ReadsOne}
 use Rattle.law_work.proofs.Entries.{by_session, no_item, true_false}
 use Rattle.law_work.proofs.Items.{read_as, did_same}
@@ -115,6 +115,23 @@ module _ (says : Language) where
   set_up (Ended t j reply ∷ past) set =
       elim (set_up past set) [ inl unstarted ↦ inl unstarted | inr none ↦ inr (by_session t 0 (λ is same. rw is refl) (λ is. rw is none)) ]
   set_up (e ∷ past) set = set_up past set
+
+  pub set_up_before : (e : Event) (past : List Event) → IsSetUp (e ∷ past) → IsSetUp past
+  set_up_before (Started t j item) past set = set.2
+  set_up_before e past set = set
+
+  first_at : (e : Event) (past : List Event) → IsLegal says (e ∷ past) → IsSetUp (e ∷ past) → is_setup e ≡ true → IsUnstarted past
+  first_at (Started t j item) past legal set is = set.0 ((Decides-eqb t 0).0 is)
+  first_at (Ended t j reply) past legal set is =
+      elim (set_up past set) [
+        | inl unstarted ↦ unstarted
+        | inr none ↦ no_item (sym none ∙ subst (λ u. under_way u past ≡ Some legal.0.1.item) ((Decides-eqb t 0).0 is) legal.0.1.asked)
+      ]
+  first_at e past legal set is = (cc)
+
+  pub sets_up_first : (past : List Event) → IsLegal says past → IsSetUp past → SetsUpFirst past
+  sets_up_first [] legal set = tt
+  sets_up_first (e ∷ past) legal set = (first_at e past legal set, sets_up_first past legal.1 (set_up_before e past set))
 
   -- another session makes no table
   module _ (one : ReadsOne says) (s : ℕ) (apart : s ≢ 0) (text table : List ℕ) (skips : Bool) (definitions : List Definition) (says_it : says text (stmt.CreateTable table skips definitions)) where

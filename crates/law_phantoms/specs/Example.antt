@@ -1,15 +1,15 @@
 -- A history in which the statements of two transactions come at once: while one is open, and even amid its last statement,
 -- the other puts a row and commits it.
 use Rattle.std.specs.Prelude.{ℕ, List, [], ◌∷◌, pos, codes}
-use Rattle.inno_types.specs.declared.lock.Level.TheVariants.{Serializable}
+use Rattle.inno_types.specs.declared.lock.Level.TheVariants.{RepeatableRead, Serializable}
 use Rattle.inno_types.specs.declared.reply.Item.TheVariants.{Sql}
-use Rattle.inno_types.specs.declared.reply.Reply.TheVariants.{Count, Done}
+use Rattle.inno_types.specs.declared.reply.Reply.TheVariants.{Count, Rows, Done}
 use Rattle.inno_types.specs.declared.value.Value.{Value}
 use Rattle.inno_types.specs.declared.value.Value.TheVariants.{Int}
 use Rattle.inno_db.specs.declared.change.Change.TheVariants.{Put}
 use Rattle.inno_model.specs.declared.event.Event.{Event}
-use Rattle.inno_model.specs.declared.event.Event.TheVariants.{Opened, Begin, Started, Changed, Ended, Committed, Acked}
-use Rattle.law_serial.specs.Example.{empty_table, a_row, putting}
+use Rattle.inno_model.specs.declared.event.Event.TheVariants.{Opened, Begin, Started, View, Changed, Ended, Committed, Acked}
+use Rattle.law_serial.specs.Example.{empty_table, a_row, putting, reading}
 
 abbrev pub leveling : List ℕ
 leveling = codes "SET SESSION TRANSACTION ISOLATION LEVEL SERIALIZABLE"
@@ -61,3 +61,23 @@ interleaved =
     ∷ Begin 2 2 Serializable
     ∷ Started 2 2 (Sql putting)
     ∷ searched
+
+-- Session 0 has searched at REPEATABLE READ, and its COMMIT is under way while session 1 puts a row and commits first.
+abbrev pub unended : List Event
+unended =
+    Committed 0
+    ∷ Committed 1
+    ∷ Changed 1 (Put 0 a_row)
+    ∷ Begin 1 2 Serializable
+    ∷ Started 1 2 (Sql putting)
+    ∷ Ended 1 1 Done
+    ∷ Started 1 1 (Sql leveling)
+    ∷ Started 0 3 (Sql committing)
+    ∷ Ended 0 2 (Rows [])
+    ∷ View 0
+    ∷ Started 0 2 (Sql reading)
+    ∷ Ended 0 1 Done
+    ∷ Begin 0 1 RepeatableRead
+    ∷ Started 0 1 (Sql beginning)
+    ∷ Opened empty_table
+    ∷ []

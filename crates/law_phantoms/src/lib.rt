@@ -9,11 +9,11 @@ ghost use Rattle.inno_model.specs.declared.event.Event.{Event};
 ghost use Rattle.sql_grammar.specs.Grammar.{Spells};
 ghost use Rattle.sql_history.specs.LooseReading.{newest};
 ghost use Rattle.sql_history.specs.Legal.{IsLegal, MayFollow};
-ghost use Rattle.sql_history.specs.Serial.{AnswersAsAlone, IsSerializable};
+ghost use Rattle.sql_history.specs.Serial.{AnswersAsAlone, IsSerializable, SetsUpFirst};
 ghost use Rattle.law_calm.specs.Calm.{IsCalm};
 ghost use Rattle.law_serial.specs.Turns.{IsSerial};
 ghost use Rattle.law_phantoms.specs.Phantoms.{AllApart, IsPhantomFree, IsSetUp};
-ghost use Rattle.law_phantoms.specs.Example.{interleaved};
+ghost use Rattle.law_phantoms.specs.Example.{interleaved, unended};
 
 /// No entry of a legal history brings changes of two sessions to one place.
 pub fn open_transactions_stay_apart()
@@ -40,4 +40,24 @@ pub fn sessions_may_interleave()
     ensures set_up { IsSetUp interleaved }
     ensures free { IsPhantomFree Spells interleaved }
     ensures not_serial { IsSerial interleaved → ⊥ }
+{}
+
+/// A serial history is free of phantoms: at its commits nobody else has a transaction open.
+pub fn serial_histories_are_free_of_phantoms()
+    ensures { (past : List Event) → IsSerial past → IsPhantomFree Spells past }
+{}
+
+/// Where a setup part is over, no other session has started anything at each of its items' starts and ends.
+pub fn a_setup_comes_first()
+    ensures { (past : List Event) → IsLegal Spells past → IsSetUp past → SetsUpFirst past }
+{}
+
+/// That alone would not do: an item of the setup part that is still under way may commit, behind another session's commit,
+/// a transaction that has read before it.
+pub fn a_setup_must_have_ended()
+    ensures legal { IsLegal Spells unended }
+    ensures serializable { IsSerializable unended }
+    ensures first { SetsUpFirst unended }
+    ensures free { IsPhantomFree Spells unended }
+    ensures not_alone { AnswersAsAlone Spells unended → ⊥ }
 {}

@@ -41,7 +41,7 @@ use Rattle.law_serial.specs.Example.{one_column, empty_table, a_row, putting, re
 abbrev pub insert : Stmt
 insert = stmt.Insert (codes "t") None ((literal.Int (pos 1) ∷ []) ∷ [])
 
-abbrev select : Stmt
+abbrev pub select : Stmt
 select = stmt.Select AllColumns (codes "t") None None
 
 putting-tokens : AreTokens putting (Key word.Insert ∷ Bare None (codes "t") ∷ Key word.Values ∷ Open ∷ Number (codes "1") ∷ Close ∷ [])
@@ -60,7 +60,7 @@ putting-statement = Statement.insert Into.unsaid Name.bare ColumnList.unsaid Val
 pub spells-putting : Spells putting insert
 spells-putting = record { tokens = _; lexed = putting-tokens; parsed = putting-statement }
 
-spells-reading : Spells reading select
+pub spells-reading : Spells reading select
 spells-reading = record { tokens = _; lexed = reading-tokens; parsed = Statement.select Choice.all Name.bare Where.each Locking.unsaid }
 
 -- ---- the one that puts
@@ -126,7 +126,7 @@ one_entry = entries-insert place_cmp_total empty_table.rows (0, Int (pos 1)) a_r
 pub one_row : rows_of 0 after_put ≡ a_row ∷ []
 one_row = ap (λ (es : List (Place × List Value)). map (λ e. e.1) (filter (λ e. e.0.0 == 0) es)) one_entry
 
-selected-answer : Rows (a_row ∷ []) ≡ (outcome select after_put).reply
+pub selected-answer : Rows (a_row ∷ []) ≡ (outcome select after_put).reply
 selected-answer = sym (ap (λ (rows : List (List Value)). (select_answer AllColumns None 0 one_column rows).reply) one_row)
 
 -- ---- the session that puts, entry by entry
