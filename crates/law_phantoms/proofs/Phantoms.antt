@@ -4,17 +4,21 @@ use Rattle.std.specs.Prelude.{is_some, Bool}
 use Rattle.std.specs.Prelude.{◌==◌}
 use Rattle.std.proofs.lemmas.Bool.Decides.{nat_tests}
 use Rattle.inno_types.specs.declared.lock.Level.{Level}
+use Rattle.inno_types.specs.declared.lock.Level.TheVariants.{Serializable}
 use Rattle.inno_types.specs.declared.stmt.Definition.{Definition}
+use Rattle.inno_types.specs.declared.stmt.Stmt.{Stmt}
 use Rattle.inno_types.specs.declared.stmt.Stmt.TheVariants as stmt
 use Rattle.inno_types.specs.declared.value.Schema.{Schema}
+use Rattle.inno_db.specs.declared.change.Change.{Change}
 use Rattle.inno_db.specs.Database.{Database}
 use Rattle.inno_model.specs.declared.event.Event.{Event}
 use Rattle.inno_model.specs.declared.event.Event.TheVariants.{Opened, Begin, Ended, Committed}
 use Rattle.inno_model.specs.Past.{own, level, under_way, did, begins_txn, commits, committed, opening, IsOpen}
 use Rattle.sql_history.specs.Items.{Language, Asks}
+use Rattle.sql_history.specs.Statements.{Sight, sight_of}
 use Rattle.sql_history.specs.LooseReading.{newest, uncommitted}
 use Rattle.sql_history.specs.Legal.{IsLegal}
-use Rattle.sql_history.specs.Serial.{IsSerializable, IsUnstarted}
+use Rattle.sql_history.specs.Serial.{Piece, IsSerializable, IsUnstarted}
 use Rattle.sql_history.proofs.Pasts.{changed_append, commit_adds}
 use Rattle.law_beside.specs.Beside.{AreOfRows}
 use Rattle.law_beside.proofs.Apart.{schemas_stay}
@@ -22,6 +26,7 @@ use Rattle.law_work.specs.Work.{committed_db}
 use Rattle.law_work.proofs.Placing.{made_of, schemas_after}
 use Rattle.law_work.proofs.Alike.{ReadsOne}
 use Rattle.law_work.proofs.Entries.{by_session, open_not, some_none, true_false}
+use Rattle.law_calm.specs.Pieces.{AreBeside}
 use Rattle.law_calm.specs.Calm.{SeesLatest, MeetsNone, IsCalm, IsCalmTo, AreCalm}
 use Rattle.law_calm.proofs.Made.{of_rows}
 use Rattle.law_calm.proofs.Commits.{makes_rows}
@@ -29,7 +34,7 @@ use Rattle.law_calm.proofs.Kept.{all_kept}
 use Rattle.law_serial.specs.Turns.{IsSerial}
 use Rattle.law_serial.proofs.Turns.{one_serial, no_commit, open_works}
 use Rattle.law_serial.proofs.Calm.{serial_sees, serial_calm}
-use Rattle.law_phantoms.specs.Phantoms.{AllApart, IsPhantomFree, IsSetUp}
+use Rattle.law_phantoms.specs.Phantoms.{AllApart, IsPhantomFree, AreSparedAt, SparesLocked, IsSetUp}
 use Rattle.law_phantoms.proofs.Free.{free_always}
 use Rattle.law_phantoms.proofs.Setup.{absent_others, setup_of_one, setup_apart, set_up, set_up_before, makes_no_table}
 use Rattle.law_phantoms.proofs.Views.{serializable_level, serializable_sees}
@@ -46,6 +51,25 @@ serial_free says (Committed t ∷ past) serial = (
   serial_free says past serial.1,
 )
 serial_free says (e ∷ past) serial = serial_free says past serial.1
+
+-- at SERIALIZABLE each statement of an open transaction reads the latest rows and locks them
+reads_latest : (a : Stmt) → sight_of Serializable false a ≡ Sight.of_latest
+reads_latest (stmt.Select selected table condition None) = refl
+reads_latest (stmt.Select selected table condition (Some mode)) = refl
+reads_latest other = refl
+
+spared_beside : (pieces : List Piece) (db : Database) (changes : List Change) → AreSparedAt Serializable pieces db changes → AreBeside pieces db changes
+spared_beside [] db changes spared = tt
+spared_beside (Piece.ran statement reply ∷ pieces) db changes spared = (spared.0 (reads_latest statement), spared_beside pieces db changes spared.1)
+spared_beside (Piece.kept name ∷ pieces) db changes spared = (tt, spared_beside pieces db changes spared.1)
+
+pub locked_free : (says : Language) (past : List Event) → SparesLocked says past → IsPhantomFree says past
+locked_free says [] spares = tt
+locked_free says (Committed t ∷ past) spares = (
+  λ s pieces differ open_at stands. spared_beside pieces (committed_db past) (own t past) (spares.0 s Serializable pieces differ open_at stands),
+  locked_free says past spares.1,
+)
+locked_free says (e ∷ past) spares = locked_free says past spares
 
 level_some : (l : Option Level) → is_some l ≡ true → (m : Level) × (l ≡ Some m)
 level_some None is_open = (cc)

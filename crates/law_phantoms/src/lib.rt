@@ -12,7 +12,7 @@ ghost use Rattle.sql_history.specs.Legal.{IsLegal, MayFollow};
 ghost use Rattle.sql_history.specs.Serial.{AnswersAsAlone, IsSerializable, SetsUpFirst};
 ghost use Rattle.law_calm.specs.Calm.{IsCalm};
 ghost use Rattle.law_serial.specs.Turns.{IsSerial};
-ghost use Rattle.law_phantoms.specs.Phantoms.{AllApart, IsPhantomFree, IsSetUp};
+ghost use Rattle.law_phantoms.specs.Phantoms.{AllApart, IsPhantomFree, SparesLocked, IsSetUp};
 ghost use Rattle.law_phantoms.specs.Example.{interleaved, unended};
 
 /// No entry of a legal history brings changes of two sessions to one place.
@@ -40,6 +40,12 @@ pub fn sessions_may_interleave()
     ensures set_up { IsSetUp interleaved }
     ensures free { IsPhantomFree Spells interleaved }
     ensures not_serial { IsSerial interleaved → ⊥ }
+{}
+
+/// An engine keeps a history free of phantoms where, at REPEATABLE READ and SERIALIZABLE, it lets nobody commit a change of a
+/// row that a standing statement has locked by its search.
+pub fn locked_searches_meet_no_phantoms()
+    ensures { (past : List Event) → SparesLocked Spells past → IsPhantomFree Spells past }
 {}
 
 /// A serial history is free of phantoms: at its commits nobody else has a transaction open.
