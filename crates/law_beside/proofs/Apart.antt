@@ -26,12 +26,12 @@ schemas_stay db (Put table row ∷ changes) rows = schemas_stay db changes rows
 schemas_stay db (Remove table key ∷ changes) rows = schemas_stay db changes rows
 
 -- what one change makes of the row of a place
-abbrev made_at : Change → Option (List Value) → Option (List Value)
+abbrev pub made_at : Change → Option (List Value) → Option (List Value)
 made_at (Create schema) was = was
 made_at (Put table row) was = Some row
 made_at (Remove table key) was = None
 
-get_one : (db : Database) (change : Change) (place : Place) → get (apply_one db change).rows place ≡ cond (is_change_at db.schemas place change) (made_at change (get db.rows place)) (get db.rows place)
+pub get_one : (db : Database) (change : Change) (place : Place) → get (apply_one db change).rows place ≡ cond (is_change_at db.schemas place change) (made_at change (get db.rows place)) (get db.rows place)
 get_one db (Create schema) place = refl
 get_one db (Put table row) place = get-insert place_cmp_total db.rows (table, key_in db.schemas table row) row place
 get_one db (Remove table key) place = get-remove place_cmp_total db.rows (table, key) place

@@ -1,5 +1,5 @@
 -- No two open transactions have changes at one place.
-use Rattle.std.proofs.Common.{◌≡◌, ◌≢◌, ◌∙◌, ap, sym, refl, subst, ℕ, zero, suc, ◌-◌, ◌<◌, Bool, true, false, List, [], ◌∷◌, ◌++◌, length, drop, Some, arith}
+use Rattle.std.proofs.Common.{◌≡◌, ◌≢◌, ◌∙◌, ap, sym, refl, subst, ℕ, zero, suc, ◌-◌, ◌<◌, Bool, true, false, List, [], ◌∷◌, ◌++◌, length, drop, Some}
 use Rattle.std.specs.Prelude.{◌||◌}
 use Rattle.std.specs.Ordering.{is_eq}
 use Rattle.std.specs.declared.cmp.Ordering.{Ordering}
@@ -17,16 +17,12 @@ use Rattle.inno_model.specs.Past.{own}
 use Rattle.sql_history.specs.Items.{Language}
 use Rattle.sql_history.specs.LooseReading.{newest}
 use Rattle.sql_history.specs.Legal.{MayFollow}
-use Rattle.law_serial.proofs.Entries.{by_session}
+use Rattle.law_work.proofs.Placing.{key_in-more}
+use Rattle.law_work.proofs.Entries.{by_session}
 use Rattle.law_beside.specs.Beside.{is_change_at, touches}
-use Rattle.law_phantoms.specs.Calm.{AllApart}
+use Rattle.law_phantoms.specs.Phantoms.{AllApart}
 
 -- ---- places over more tables
-
-key_in-more : (schemas more : List Schema) (table : ℕ) (row : List Value) → table < length schemas → key_in (schemas ++ more) table row ≡ key_in schemas table row
-key_in-more [] more table row there = absurd (omega arith)
-key_in-more (schema ∷ schemas) more zero row there = refl
-key_in-more (schema ∷ schemas) more (suc table) row there = let less : table < length schemas = omega arith in key_in-more schemas more table row less
 
 tied : (o : Ordering) → is_eq o ≡ true → o ≡ Equal
 tied Less e = cc

@@ -1,9 +1,6 @@
-pub mod Pieces
-pub mod RowsOnly
-pub mod Made
 pub mod Free
-pub mod Going
-pub mod Standing
-pub mod Carried
-pub mod Calm
-pub mod Latest
+pub mod Views
+pub mod Setup
+pub mod Phantoms
+pub mod Example
+pub mod Unended

@@ -1,4 +1,2 @@
-pub mod Pieces
-pub mod Standing
-pub mod Calm
-pub mod Work
+pub mod Phantoms
+pub mod Example

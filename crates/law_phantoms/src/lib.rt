@@ -1,44 +1,69 @@
-//! Laws of histories in which no transaction commits a change of a row that another has searched: the work of each open
-//! transaction stays what it is over the rows with the others' commits.
+//! Laws of histories in which no transaction commits a change of a row that another has searched: they answer as their
+//! transactions do alone, though statements of many sessions come at once.
 //! Each function has an empty body: its contract is the law.
 #![tactic(auto)]
 
-ghost use Rattle.std.specs.Prelude.{◌≡◌, ℕ, List, ◌∷◌, ◌++◌};
+ghost use Rattle.std.specs.Prelude.{◌≡◌, ◌≢◌, ℕ, List, ◌∷◌, ◌++◌};
 ghost use Rattle.inno_types.specs.declared.value.Schema.{Schema};
-ghost use Rattle.inno_db.specs.declared.change.Change.{Change};
-ghost use Rattle.inno_db.specs.Database.{Database};
 ghost use Rattle.inno_model.specs.declared.event.Event.{Event};
-ghost use Rattle.inno_model.specs.Past.{changed};
 ghost use Rattle.sql_grammar.specs.Grammar.{Spells};
-ghost use Rattle.sql_history.specs.declared.settings.Save.{Save};
 ghost use Rattle.sql_history.specs.LooseReading.{newest};
 ghost use Rattle.sql_history.specs.Legal.{IsLegal, MayFollow};
-ghost use Rattle.sql_history.specs.Serial.{Piece};
+ghost use Rattle.sql_history.specs.Serial.{AnswersAsAlone, IsSerializable, SetsUpFirst};
+ghost use Rattle.law_calm.specs.Calm.{IsCalm};
 ghost use Rattle.law_serial.specs.Turns.{IsSerial};
-ghost use Rattle.law_serial.specs.Work.{Tracks};
-ghost use Rattle.law_beside.specs.Beside.{AreApart, AreOfRows};
-ghost use Rattle.law_phantoms.specs.Pieces.{AreAnswered, AreBeside};
-ghost use Rattle.law_phantoms.specs.Calm.{AllApart, IsCalm};
-ghost use Rattle.law_phantoms.specs.Work.{HasWork, EndsWell};
-
-/// Work that another's changes are beside goes with its own changes over the rows with these, too.
-pub fn work_goes_on_beside_a_commit()
-    ensures { (db : Database) (others : List Change) (pieces : List Piece) (saves : List Save) (own : List Change) → AreOfRows others → AreOfRows own → AreApart db.schemas own others
-        → AreAnswered pieces → AreBeside pieces db others → Tracks db pieces saves own → Tracks (changed db others) pieces saves own }
-{}
+ghost use Rattle.law_phantoms.specs.Phantoms.{AllApart, IsPhantomFree, SparesLocked, IsSetUp};
+ghost use Rattle.law_phantoms.specs.Example.{interleaved, unended};
 
 /// No entry of a legal history brings changes of two sessions to one place.
 pub fn open_transactions_stay_apart()
     ensures { (schemas more : List Schema) (e : Event) (past : List Event) → MayFollow Spells past e → (newest past).schemas ≡ schemas ++ more → AllApart schemas past → AllApart schemas (e ∷ past) }
 {}
 
-/// In a legal and calm history what stands of each open transaction's work goes with its changes, where it does so at the
-/// ends of items.
-pub fn standing_work_is_carried()
-    ensures { EndsWell Spells → (past : List Event) → IsLegal Spells past → IsCalm Spells past → (s : ℕ) → HasWork Spells s past }
+/// At SERIALIZABLE and free of phantoms, each session but that of the setup part is calm.
+pub fn phantom_free_histories_are_calm()
+    ensures { (past : List Event) → IsLegal Spells past → IsSerializable past → IsSetUp past → IsPhantomFree Spells past → (s : ℕ) → s ≢ 0 → IsCalm Spells s past }
 {}
 
-/// A serial history is calm.
-pub fn serial_histories_are_calm()
-    ensures { (past : List Event) → IsSerial past → IsCalm Spells past }
+/// Where each session is at SERIALIZABLE, and no commit changes a row that a standing statement of another has searched, each
+/// reply that was committed is what its transaction answers alone, in the order of the commits, and so is the database in
+/// the end. The sessions' statements may come at once, be broken off and be rolled back.
+pub fn phantom_free_histories_answer_as_alone()
+    ensures { (past : List Event) → IsLegal Spells past → IsSerializable past → IsSetUp past → IsPhantomFree Spells past → AnswersAsAlone Spells past }
+{}
+
+/// Such histories are there, and not only those in which sessions take turns: between a search and an INSERT of one open
+/// transaction another puts a row beside the search, and commits it.
+pub fn sessions_may_interleave()
+    ensures legal { IsLegal Spells interleaved }
+    ensures serializable { IsSerializable interleaved }
+    ensures set_up { IsSetUp interleaved }
+    ensures free { IsPhantomFree Spells interleaved }
+    ensures not_serial { IsSerial interleaved → ⊥ }
+{}
+
+/// An engine keeps a history free of phantoms where, at REPEATABLE READ and SERIALIZABLE, it lets nobody commit a change of a
+/// row that a standing statement has locked by its search.
+pub fn locked_searches_meet_no_phantoms()
+    ensures { (past : List Event) → SparesLocked Spells past → IsPhantomFree Spells past }
+{}
+
+/// A serial history is free of phantoms: at its commits nobody else has a transaction open.
+pub fn serial_histories_are_free_of_phantoms()
+    ensures { (past : List Event) → IsSerial past → IsPhantomFree Spells past }
+{}
+
+/// Where a setup part is over, no other session has started anything at each of its items' starts and ends.
+pub fn a_setup_comes_first()
+    ensures { (past : List Event) → IsLegal Spells past → IsSetUp past → SetsUpFirst past }
+{}
+
+/// That alone would not do: an item of the setup part that is still under way may commit, behind another session's commit,
+/// a transaction that has read before it.
+pub fn a_setup_must_have_ended()
+    ensures legal { IsLegal Spells unended }
+    ensures serializable { IsSerializable unended }
+    ensures first { SetsUpFirst unended }
+    ensures free { IsPhantomFree Spells unended }
+    ensures not_alone { AnswersAsAlone Spells unended → ⊥ }
 {}

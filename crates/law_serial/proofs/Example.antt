@@ -32,16 +32,16 @@ use Rattle.sql_history.specs.Settings.{HasSet, at_first}
 use Rattle.sql_history.specs.Statements.{refused_at_once}
 use Rattle.sql_history.specs.LooseReading.{newest}
 use Rattle.sql_history.specs.Legal.{IsLegal, Takes, MayBegin, MayChange, MayCommit, MayEnd, MayView}
-use Rattle.law_serial.proofs.Entries.{by_session}
+use Rattle.law_work.proofs.Entries.{by_session}
 use Rattle.law_serial.proofs.Turns.{work_untouched, one_serial}
 use Rattle.law_serial.specs.Turns.{is_at_work, IsSerial, IsOfOne}
 use Rattle.std.proofs.lemmas.Bool.Decides.{nat_tests}
 use Rattle.law_serial.specs.Example.{one_column, empty_table, a_row, putting, reading, put, put_and_read}
 
-abbrev insert : Stmt
+abbrev pub insert : Stmt
 insert = stmt.Insert (codes "t") None ((literal.Int (pos 1) ∷ []) ∷ [])
 
-abbrev select : Stmt
+abbrev pub select : Stmt
 select = stmt.Select AllColumns (codes "t") None None
 
 putting-tokens : AreTokens putting (Key word.Insert ∷ Bare None (codes "t") ∷ Key word.Values ∷ Open ∷ Number (codes "1") ∷ Close ∷ [])
@@ -57,10 +57,10 @@ putting-statement : Statement (Key word.Insert ∷ Bare None (codes "t") ∷ Key
 unfolding plain_number
 putting-statement = Statement.insert Into.unsaid Name.bare ColumnList.unsaid ValuesWord.values (Commas.last (Tuple.tuple (Commas.last Lit.number)))
 
-spells-putting : Spells putting insert
+pub spells-putting : Spells putting insert
 spells-putting = record { tokens = _; lexed = putting-tokens; parsed = putting-statement }
 
-spells-reading : Spells reading select
+pub spells-reading : Spells reading select
 spells-reading = record { tokens = _; lexed = reading-tokens; parsed = Statement.select Choice.all Name.bare Where.each Locking.unsaid }
 
 -- ---- the one that puts
@@ -83,7 +83,7 @@ at_commit = Committed 1 ∷ at_change
 abbrev at_ack : List Event
 at_ack = Acked 1 0 ∷ at_commit
 
-not_empty : (e : Event) (past : List Event) → (e ∷ past) ≢ []
+pub not_empty : (e : Event) (past : List Event) → (e ∷ past) ≢ []
 not_empty e past = λ x. cc
 
 abbrev inserts : (past : List Event) → under_way 1 past ≡ Some (Sql putting) → before_item 1 past ≡ at_opening → Sometime (λ h. refused_at_once 1 at_first insert h ≡ None) 1 past → Takes Spells 1 insert past
@@ -107,26 +107,26 @@ may_begin =
 no_entries : entries empty_table.rows ≡ []
 no_entries = entries-from_rising [] refl
 
-no_rows : rows_of 0 empty_table ≡ []
+pub no_rows : rows_of 0 empty_table ≡ []
 no_rows = ap (λ (es : List (Place × List Value)). map (λ e. e.1) (filter (λ e. e.0.0 == 0) es)) no_entries
 
-inserted-answer : outcome insert empty_table ≡ record { reply = Count 1; changes = Put 0 a_row ∷ [] }
+pub inserted-answer : outcome insert empty_table ≡ record { reply = Count 1; changes = Put 0 a_row ∷ [] }
 inserted-answer = ap (λ (rows : List (List Value)). insert_answer None ((literal.Int (pos 1) ∷ []) ∷ []) 0 one_column rows) no_rows
 
-inserted-reply : Count 1 ≡ (outcome insert empty_table).reply
+pub inserted-reply : Count 1 ≡ (outcome insert empty_table).reply
 inserted-reply = sym (ap (λ (o : Outcome). o.reply) inserted-answer)
 
 -- the row that was put stands alone
-abbrev after_put : Database
+abbrev pub after_put : Database
 after_put = apply_one empty_table (Put 0 a_row)
 
 one_entry : entries after_put.rows ≡ ((0, Int (pos 1)), a_row) ∷ []
 one_entry = entries-insert place_cmp_total empty_table.rows (0, Int (pos 1)) a_row ∙ ap (finite.put place_cmp (0, Int (pos 1)) a_row) no_entries
 
-one_row : rows_of 0 after_put ≡ a_row ∷ []
+pub one_row : rows_of 0 after_put ≡ a_row ∷ []
 one_row = ap (λ (es : List (Place × List Value)). map (λ e. e.1) (filter (λ e. e.0.0 == 0) es)) one_entry
 
-selected-answer : Rows (a_row ∷ []) ≡ (outcome select after_put).reply
+pub selected-answer : Rows (a_row ∷ []) ≡ (outcome select after_put).reply
 selected-answer = sym (ap (λ (rows : List (List Value)). (select_answer AllColumns None 0 one_column rows).reply) one_row)
 
 -- ---- the session that puts, entry by entry

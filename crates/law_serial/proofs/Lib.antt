@@ -1,15 +1,5 @@
-pub mod Placing
-pub mod Pieces
-pub mod Alike
-pub mod Entries
 pub mod Turns
 pub mod Newest
 pub mod Seeing
-pub mod Outcomes
-pub mod Items
-pub mod Works
-pub mod Commits
-pub mod Kept
-pub mod Alone
-pub mod Spelled
+pub mod Calm
 pub mod Example

@@ -1,12 +1,8 @@
 -- In a serial history a statement on rows answers by the latest committed rows and its session's own, however it sees them.
-use Rattle.std.proofs.Common.{◌≡◌, ◌≢◌, ◌∙◌, ap, sym, subst, refl, ℕ, Bool, true, false, List, [], ◌∷◌, ◌++◌, Option, Some, None, inl, inr, ◌⊎◌, arith}
-use Rattle.std.specs.Prelude.{◌&&◌, is_some, is_none}
+use Rattle.std.proofs.Common.{◌≡◌, ◌≢◌, ◌∙◌, ap, sym, subst, refl, ℕ, Bool, true, false, List, [], ◌∷◌, ◌++◌, None}
 use Rattle.std.specs.FinMap.{get, same_map}
-use Rattle.std.proofs.lemmas.List.{append-nil}
-use Rattle.std.proofs.lemmas.Bool.Decides.{nat_tests}
 use Rattle.inno_types.specs.declared.lock.Level.{Level}
 use Rattle.inno_types.specs.declared.lock.Level.TheVariants.{ReadUncommitted, ReadCommitted, RepeatableRead, Serializable}
-use Rattle.inno_types.specs.declared.reply.Item.TheVariants.{Sql}
 use Rattle.inno_types.specs.declared.stmt.Stmt.{Stmt}
 use Rattle.inno_types.specs.declared.stmt.Stmt.TheVariants as stmt
 use Rattle.inno_types.specs.declared.value.Schema.{Schema}
@@ -15,198 +11,65 @@ use Rattle.inno_db.specs.Database.{Database, Place, RowMap}
 use Rattle.inno_db.specs.Order.{place_cmp_total}
 use Rattle.inno_db.proofs.Tables.{place_cmp-IsAntisymmetric}
 use Rattle.inno_model.specs.declared.event.Event.{Event}
-use Rattle.inno_model.specs.declared.event.Event.TheVariants.{Opened, Begin, Started, View, Changed, Waits, Victim, Undone, Ended, Committed, Acked, RolledBack, Signal, Stopped}
+use Rattle.inno_model.specs.declared.event.Event.TheVariants.{Opened, Begin, Started, Committed}
 use Rattle.inno_model.specs.Moments.{starts, Throughout}
-use Rattle.inno_model.specs.Past.{under_way, before_item, level, own, did, begins_txn, view_of, commits, committed, opening, changed, current, IsOpen}
-use Rattle.sql_history.specs.Items.{Language, Asks, is_over, base, own_before}
+use Rattle.inno_model.specs.Past.{under_way, before_item, level, own, did, begins_txn, commits, committed, opening, changed, IsOpen}
+use Rattle.sql_history.specs.Items.{Language, base, own_before}
 use Rattle.sql_history.specs.Statements.{Sight, is_on_rows, is_select, locking_sight, sight_of}
 use Rattle.sql_history.specs.LooseReading.{newest, IsQuiet}
-use Rattle.sql_history.specs.Answers.{MaySee, seen_by}
-use Rattle.sql_history.specs.Waiting.{is_victim}
-use Rattle.sql_history.specs.Legal.{IsLegal}
+use Rattle.sql_history.specs.Answers.{MaySee}
 use Rattle.law_serial.specs.Turns.{is_at_work, IsSerial}
-use Rattle.law_serial.proofs.Placing.{AllIn, rows_over}
-use Rattle.law_serial.proofs.Alike.{Alike, ReadsOne, commits_rows, rolls_back_rows, select_changes}
-use Rattle.law_serial.proofs.Entries.{by_session, no_item, closed_own, open_is, unbegun_before, level_kept, legal_before, true_false}
+use Rattle.law_work.specs.Work.{AllIn}
+use Rattle.law_work.proofs.Alike.{ReadsOne}
+use Rattle.law_work.proofs.Entries.{by_session, no_item, closed_own, unbegun_before, legal_before}
+use Rattle.law_calm.proofs.Spans as spans
 use Rattle.law_serial.proofs.Turns.{statement_works, others_idle, no_commit, view_latest, idle_closed, idle_asks}
 use Rattle.law_serial.proofs.Newest.{newest_own, idle_quiet}
 
--- the statement's transaction is not rolled back whole in the midst
-abbrev pub IsCalm : ℕ → List Event → Type 0
-IsCalm s past = (did is_victim s past ≡ false) ⊎ (level s (before_item s past) ≡ None)
-
-pub alone_closed : (autocommit : Bool) (l : Option Level) → (autocommit && is_none l) ≡ true → l ≡ None
-alone_closed true None alone = refl
-alone_closed true (Some l) alone = (cc)
-alone_closed false l alone = (cc)
-
 module _ (says : Language) (one : ReadsOne says) (s : ℕ) (text : List ℕ) (statement : Stmt) (says_it : says text statement) (on_rows : is_on_rows statement ≡ true) where
-  -- the item under way asks for the statement, and has not come to the end of its changes
-  pub record Spans (past : List Event) : Type 0 where
-    pub legal : IsLegal says past
-    pub serial : IsSerial past
-    pub asked : under_way s past ≡ Some (Sql text)
-    pub calm : IsCalm s past
-    pub on : is_over s past ≡ false
+  abbrev Spans : List Event → Type 0
+  Spans past = spans.Spans says one s text statement says_it on_rows past × IsSerial past
 
-  pub read_alike : (t : ℕ) (a : Stmt) (past : List Event) → t ≡ s → Asks says t a past → under_way s past ≡ Some (Sql text) → Alike a statement
-  read_alike t a past same asks asked =
-      let same_text : text ≡ asks.0 = (let x = sym asked ∙ subst (λ u. under_way u past ≡ Some (Sql asks.0)) same asks.1 in cc) in
-      one text a statement (subst (λ (t : List ℕ). says t a) (sym same_text) asks.2) says_it
+  -- one entry back in the item
+  before : (e : Event) (past : List Event) → Spans (e ∷ past) → starts s e ≡ false → Spans past
+  before e past span goes = (spans.span_before says one s text statement says_it on_rows e past span.0 goes, span.1.1)
 
-  reads_rows : (t : ℕ) (a : Stmt) (past : List Event) → t ≡ s → Asks says t a past → under_way s past ≡ Some (Sql text) → is_on_rows a ≡ true
-  reads_rows t a past same asks asked = (read_alike t a past same asks asked).rows ∙ on_rows
-
-  -- an open transaction that this item has not begun was open before it
-  was_open : {A : Type 0} (past : List Event) → did begins_txn s past ≡ false → level s (before_item s past) ≡ None → IsOpen s past → A
-  was_open {A} past not before is_open =
-      let closed : level s past ≡ None = elim (level_kept says s past not) [ inl none ↦ none | inr same ↦ same ∙ before ] in
-      (let e = ap is_some closed in cc)
-
-  pub calm_step : (e : Event) (past : List Event) → starts s e ≡ false → IsCalm s (e ∷ past) → IsCalm s past
-  calm_step e past goes (inl none) = inl (grind (arith, nat_tests, goes, none))
-  calm_step e past goes (inr closed) = inr (grind (arith, nat_tests, goes, closed))
-
-  -- Before its transaction has begun it has made no changes, and no other was open.
-  unbegun_on : (past : List Event) → IsLegal says past → under_way s past ≡ Some (Sql text) → IsCalm s past → did begins_txn s past ≡ false → level s past ≡ None → (is_over s past ≡ false) × (level s (before_item s past) ≡ None)
-  unbegun_on [] legal asked calm not closed = no_item asked
-  unbegun_on (Started t j item ∷ past) legal asked calm not closed =
-      by_session t s (λ is same. rw is (refl, closed))
-      (λ is. rw is (unbegun_on past legal.1 (rw is at asked) (calm_step (Started t j item) past is calm) (rw is at not) closed))
-  unbegun_on (Begin t n l ∷ past) legal asked calm not closed =
-      by_session t s (λ is same. (let e = rw is at not in cc))
-      (λ is. rw is (unbegun_on past legal.1 asked (calm_step (Begin t n l) past refl calm) (rw is at not) (rw is at closed)))
-  unbegun_on (View t ∷ past) legal asked calm not closed =
-      by_session t s (λ is same. (let e = subst (λ u. level u past ≡ Some legal.0.2.l) same legal.0.2.level_is in let f = sym closed ∙ e in cc))
-      (λ is. rw is (unbegun_on past legal.1 asked (calm_step (View t) past refl calm) (rw is at not) closed))
-  unbegun_on (Changed t change ∷ past) legal asked calm not closed =
-      by_session t s (λ is same. absurd (open_is says t s past same legal.0.2.is_open closed))
-      (λ is. rw is (unbegun_on past legal.1 asked (calm_step (Changed t change) past refl calm) (rw is at not) closed))
-  unbegun_on (Undone t keep ∷ past) legal asked calm not closed =
-      by_session t s (λ is same. absurd (open_is says t s past same legal.0.2.is_open closed))
-      (λ is. rw is (unbegun_on past legal.1 asked (calm_step (Undone t keep) past refl calm) (rw is at not) closed))
-  unbegun_on (Ended t j reply ∷ past) legal asked calm not closed =
-      by_session t s (λ is same. no_item (rw is at asked))
-      (λ is. rw is (unbegun_on past legal.1 (rw is at asked) (calm_step (Ended t j reply) past refl calm) (rw is at not) closed))
-  unbegun_on (Committed t ∷ past) legal asked calm not closed =
-      by_session t s
-      (λ is same.
-      let may = legal.0.2 in
-      let settles = commits_rows t may.takes.setting may.statement past (reads_rows t may.statement past same may.takes.asks asked) may.by in
-      let before = subst (λ u. level u (before_item u past) ≡ None) same (alone_closed may.takes.setting.autocommit (level t (before_item t past)) settles.alone) in
-      was_open past (rw is at not) before (subst (λ u. is_some (level u past) ≡ true) same may.is_open))
-      (λ is. rw is (unbegun_on past legal.1 asked (calm_step (Committed t) past refl calm) (rw is at not) (rw is at closed)))
-  unbegun_on (RolledBack t ∷ past) legal asked calm not closed =
-      by_session t s
-      (λ is same.
-      let may = legal.0.2 in
-      let is_open = subst (λ u. is_some (level u past) ≡ true) same may.is_open in
-      elim may.by [
-        | inl ending ↦ no_item (sym (subst (λ u. under_way u past ≡ None) same ending) ∙ asked)
-        | inr by ↦ elim (rolls_back_rows t by.1.setting by.0 past (reads_rows t by.0 past same by.1.asks asked) by.2) [
-          | inl victim ↦ elim (calm_step (RolledBack t) past refl calm) [
-            | inl none ↦ true_false (subst (λ u. did is_victim u past ≡ true) same victim) none
-            | inr before ↦ was_open past (rw is at not) before is_open
-          ]
-          | inr alone ↦ was_open past (rw is at not) (subst (λ u. level u (before_item u past) ≡ None) same (alone_closed by.1.setting.autocommit (level t (before_item t past)) alone)) is_open
-        ]
-      ])
-      (λ is. rw is (unbegun_on past legal.1 asked (calm_step (RolledBack t) past refl calm) (rw is at not) (rw is at closed)))
-  unbegun_on (Waits t lock blockers at ∷ past) legal asked calm not closed =
-      let before = unbegun_on past legal.1 asked (calm_step (Waits t lock blockers at) past refl calm) in by_session t s (λ is same. rw is (before (rw is at not) closed)) (λ is. rw is (before (rw is at not) closed))
-  unbegun_on (Victim t cycle ∷ past) legal asked calm not closed =
-      let before = unbegun_on past legal.1 asked (calm_step (Victim t cycle) past refl calm) in by_session t s (λ is same. rw is (before (rw is at not) closed)) (λ is. rw is (before (rw is at not) closed))
-  unbegun_on (Acked t moment ∷ past) legal asked calm not closed =
-      let before = unbegun_on past legal.1 asked (calm_step (Acked t moment) past refl calm) in by_session t s (λ is same. rw is (before (rw is at not) closed)) (λ is. rw is (before (rw is at not) closed))
-  unbegun_on (Opened db ∷ past) legal asked calm not closed = unbegun_on past legal.1 asked (calm_step (Opened db) past refl calm) not closed
-  unbegun_on (Signal name ∷ past) legal asked calm not closed = unbegun_on past legal.1 asked (calm_step (Signal name) past refl calm) not closed
-  unbegun_on (Stopped cause ∷ past) legal asked calm not closed = unbegun_on past legal.1 asked (calm_step (Stopped cause) past refl calm) not closed
-
-  -- one entry back in the item, the base is the same
-  pub record Steps (e : Event) (past : List Event) : Type 0 where
-    pub before : Spans past
-    pub base_is : base s past ≡ base s (e ∷ past)
-
-  on_before : (e : Event) (past : List Event) → starts s e ≡ false → begins_txn e ≡ false → is_over s (e ∷ past) ≡ false → is_over s past ≡ false
-  on_before e past goes no_begin on = grind (arith, nat_tests, goes, no_begin, on)
-
-  pub span_step : (e : Event) (past : List Event) → Spans (e ∷ past) → starts s e ≡ false → Steps e past
-  span_step (Opened db) past span goes = no_item (sym (ap (under_way s) span.legal.0) ∙ span.asked)
-  span_step (Begin t n l) past span goes =
-      let legal = span.legal in
-      let calm = calm_step (Begin t n l) past goes span.calm in
+  -- the base is the same
+  base_back : (e : Event) (past : List Event) → Spans (e ∷ past) → starts s e ≡ false → base s past ≡ base s (e ∷ past)
+  base_back (Opened db) past span goes = no_item (sym (ap (under_way s) span.0.legal.0) ∙ span.0.asked)
+  base_back (Begin t n l) past span goes =
+      let legal = span.0.legal in
       by_session t s
       (λ is same.
       let not = subst (λ u. did begins_txn u past ≡ false) same legal.0.2.first in
-      let on = unbegun_on past legal.1 span.asked calm not (subst (λ u. level u past ≡ None) same legal.0.2.closed) in
+      let on = spans.unbegun_on says one s text statement says_it on_rows past legal.1 span.0.asked (spans.unbroken_step says one s text statement says_it on_rows (Begin t n l) past goes span.0.unbroken) not (subst (λ u. level u past ≡ None) same legal.0.2.closed) in
       let none : own_before s past ≡ [] = ap (own s) (unbegun_before says s past not) ∙ closed_own says s (before_item s past) (legal_before says s past legal.1) on.1 in
-      record {
-        before = record { legal = legal.1; serial = span.serial.1; asked = span.asked; calm = calm; on = on.0 };
-        base_is = ap (λ (cs : List Change). changed (opening past) (cs ++ committed (commits past) past)) none ∙ rw is (rw is refl);
-      })
-      (λ is. record {
-        before = record { legal = legal.1; serial = span.serial.1; asked = span.asked; calm = calm; on = rw is at span.on };
-        base_is = rw is refl;
-      })
-  span_step (Started t j item) past span goes =
-      record {
-        before = record { legal = span.legal.1; serial = span.serial.1; asked = rw goes at span.asked; calm = calm_step (Started t j item) past goes span.calm; on = on_before (Started t j item) past goes refl span.on };
-        base_is = rw goes refl;
-      }
-  span_step (Ended t j reply) past span goes =
-      by_session t s (λ is same. no_item (rw is at span.asked))
-      (λ is. record {
-        before = record { legal = span.legal.1; serial = span.serial.1; asked = rw is at span.asked; calm = calm_step (Ended t j reply) past goes span.calm; on = on_before (Ended t j reply) past goes refl span.on };
-        base_is = refl;
-      })
-  span_step (Committed t) past span goes =
-      by_session t s (λ is same. (let e = rw is at span.on in cc)) (λ is. no_commit t s past is span.serial (statement_works s text past span.asked))
-  span_step e past span goes =
-      record {
-        before = record { legal = span.legal.1; serial = span.serial.1; asked = span.asked; calm = calm_step e past goes span.calm; on = on_before e past goes refl span.on };
-        base_is = refl;
-      }
+      ap (λ (cs : List Change). changed (opening past) (cs ++ committed (commits past) past)) none ∙ rw is (rw is refl))
+      (λ is. rw is refl)
+  base_back (Started t j item) past span goes = rw goes refl
+  base_back (Committed t) past span goes =
+      by_session t s (λ is same. (let on = span.0.on in let e = rw is at on in cc)) (λ is. no_commit t s past is span.1 (statement_works s text past span.0.asked))
+  base_back e past span goes = refl
 
-  pub throughout : (P : List Event → Type 0) (db : Database) → ((h : List Event) → Spans h → base s h ≡ db → P h) → (past : List Event) → Spans past → base s past ≡ db → Throughout P s past
+  throughout : (P : List Event → Type 0) (db : Database) → ((h : List Event) → Spans h → base s h ≡ db → P h) → (past : List Event) → Spans past → base s past ≡ db → Throughout P s past
   throughout P db each [] span is = tt
   throughout P db each (e ∷ past) span is =
-      (each (e ∷ past) span is, λ goes. let steps = span_step e past span goes in throughout P db each past steps.before (steps.base_is ∙ is))
+      (each (e ∷ past) span is, λ goes. throughout P db each past (before e past span goes) (base_back e past span goes ∙ is))
 
   -- ---- a SELECT
 
   module _ (select : is_select statement ≡ true) where
-    pub nothing_changed : (past : List Event) → Spans past → own s past ≡ own_before s past
-    nothing_changed [] span = refl
-    nothing_changed (Started t j item ∷ past) span =
-        by_session t s (λ is same. rw is refl) (λ is. rw is (nothing_changed past (span_step (Started t j item) past span is).before))
-    nothing_changed (Begin t n l ∷ past) span =
-        by_session t s (λ is same. rw is (rw is refl)) (λ is. rw is (nothing_changed past (span_step (Begin t n l) past span refl).before))
-    nothing_changed (Changed t change ∷ past) span =
-        by_session t s
-        (λ is same.
-        let may = span.legal.0.2 in
-        let alike = read_alike t may.statement past same may.takes.asks span.asked in
-        absurd (select_changes t may.statement past (alike.select ∙ select) may.by))
-        (λ is. rw is (nothing_changed past (span_step (Changed t change) past span refl).before))
-    nothing_changed (Undone t keep ∷ past) span =
-        by_session t s (λ is same. (let e = rw is at span.on in cc)) (λ is. rw is (nothing_changed past (span_step (Undone t keep) past span refl).before))
-    nothing_changed (Committed t ∷ past) span =
-        by_session t s (λ is same. (let e = rw is at span.on in cc)) (λ is. rw is (nothing_changed past (span_step (Committed t) past span refl).before))
-    nothing_changed (RolledBack t ∷ past) span =
-        by_session t s (λ is same. (let e = rw is at span.on in cc)) (λ is. rw is (nothing_changed past (span_step (RolledBack t) past span refl).before))
-    nothing_changed (e ∷ past) span = nothing_changed past (span_step e past span refl).before
-
     all_idle : (past : List Event) → Spans past → (t : ℕ) → t ≢ s → is_at_work t past ≡ false
-    all_idle past span t apart = others_idle past span.serial s t (statement_works s text past span.asked) apart
+    all_idle past span t apart = others_idle past span.1 s t (statement_works s text past span.0.asked) apart
 
     newest_base : (past : List Event) → Spans past → newest past ≡ base s past
     newest_base past span =
-        newest_own says s past span.legal (all_idle past span)
-        ∙ ap (λ (cs : List Change). changed (opening past) (cs ++ committed (commits past) past)) (nothing_changed past span)
+        newest_own says s past span.0.legal (all_idle past span)
+        ∙ ap (λ (cs : List Change). changed (opening past) (cs ++ committed (commits past) past)) (spans.nothing_changed says one s text statement says_it on_rows select past span.0)
 
     quiet : (place : Place) (past : List Event) → Spans past → IsQuiet s place past
     quiet place past span t apart =
-        let idle = all_idle past span t apart in idle_quiet says place t past span.legal (idle_closed t past idle) (idle_asks t past idle)
+        let idle = all_idle past span t apart in idle_quiet says place t past span.0.legal (idle_closed t past idle) (idle_asks t past idle)
 
   -- ---- what it sees
 
@@ -238,18 +101,8 @@ module _ (says : Language) (one : ReadsOne says) (s : ℕ) (text : List ℕ) (st
       locks Serializable e = cc
   plain_view l alone other needs = (cc)
 
-  sees_view : (number : ℕ) (past : List Event) → is_select statement ≡ true → Spans past → IsOpen s past → AllIn (opening past) (own_before s past ++ committed (commits past) past) → view_of s past ≡ Some number → seen_by s number past ≡ base s past
-  sees_view number past select span is_open within view =
-      let latest = view_latest says s number past span.legal span.serial is_open view in
-      let same : own s past ≡ own_before s past = nothing_changed select past span in
-      let rows = rows_over (opening past) (own s past ++ committed (commits past) past) (current s past).schemas [] (sym (append-nil (current s past).schemas))
-      (subst (λ (cs : List Change). AllIn (opening past) (cs ++ committed (commits past) past)) (sym same) within) in
-      ap (λ n. seen_by s n past) latest
-      ∙ ap (λ (m : RowMap). record { schemas = (current s past).schemas; rows = m }) rows
-      ∙ ap (λ (cs : List Change). changed (opening past) (cs ++ committed (commits past) past)) same
-
   sees_by : (sight : Sight) (db : Database) (past : List Event) → (needs_select sight ≡ true → is_select statement ≡ true) → Spans past → IsOpen s past → AllIn (opening past) (own_before s past ++ committed (commits past) past) → MaySee sight s statement db past → db ≡ base s past
-  sees_by Sight.of_view db past needs span is_open within sees = sees.2 ∙ sees_view sees.0 past (needs refl) span is_open within sees.1
+  sees_by Sight.of_view db past needs span is_open within sees = sees.2 ∙ spans.sees_view says one s text statement says_it on_rows (needs refl) sees.0 past span.0 within (view_latest says s sees.0 past span.0.legal span.1 is_open sees.1)
   sees_by Sight.of_latest db past needs span is_open within sees = sees
   sees_by Sight.of_moments db past needs span is_open within sees =
       let loose = sees.0 in

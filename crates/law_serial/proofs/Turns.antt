@@ -5,21 +5,14 @@ use Rattle.std.proofs.lemmas.Bool.Decides.{nat_tests}
 use Rattle.inno_types.specs.declared.lock.Level.{Level}
 use Rattle.inno_types.specs.declared.reply.Item.{Item}
 use Rattle.inno_types.specs.declared.reply.Item.TheVariants.{Sql}
-use Rattle.inno_db.specs.Database.{Database}
 use Rattle.inno_model.specs.declared.event.Event.{Event}
-use Rattle.inno_model.specs.declared.event.Event.TheVariants.{Opened, Begin, Started, View, Ended, Committed, RolledBack}
-use Rattle.inno_model.specs.Past.{is_of, under_way, level, view_of, commits, committed, opening, changed, db_after, IsOpen}
+use Rattle.inno_model.specs.declared.event.Event.TheVariants.{Begin, View, Committed, RolledBack}
+use Rattle.inno_model.specs.Past.{is_of, under_way, level, view_of, commits, IsOpen}
 use Rattle.inno_model.proofs.Untouched.{untouched}
-use Rattle.sql_history.specs.Items.{Language, is_over, point, base, own_before}
+use Rattle.sql_history.specs.Items.{Language}
 use Rattle.sql_history.specs.Legal.{IsLegal}
-use Rattle.sql_history.proofs.Pasts.{changed_append, point_now, point_closing, point_stays}
 use Rattle.law_serial.specs.Turns.{is_statement, is_at_work, IsSerial, IsOfOne}
-use Rattle.law_serial.specs.Work.{settled}
-use Rattle.law_serial.proofs.Entries.{by_session, no_item, before_settled, true_false, open_not}
-
--- the latest committed rows
-abbrev pub committed_db : List Event → Database
-committed_db past = db_after (commits past) past
+use Rattle.law_work.proofs.Entries.{by_session, true_false, open_not}
 
 one_session : (s t : ℕ) (e : Event) → is_of s e ≡ true → t ≢ s → is_of t e ≡ false
 one_session s t e is apart = grind (arith, nat_tests, is, apart)
@@ -97,45 +90,3 @@ module _ (says : Language) where
   view_latest s n (RolledBack t ∷ past) legal serial is_open view =
       by_session t s (λ is same. (let e = rw is at is_open in cc)) (λ is. view_latest s n past legal.1 serial.1 (rw is at is_open) view)
   view_latest s n (e ∷ past) legal serial is_open view = view_latest s n past legal.1 serial.1 is_open view
-
-  -- the base of the session's item is what was committed, with its changes when its last item had ended
-  pub now_base : (s : ℕ) (item : Item) (past : List Event) → IsLegal says past → under_way s past ≡ Some item → base s past ≡ changed (committed_db past) (settled s past)
-  now_base s item past legal asked =
-      changed_append (opening past) (own_before s past) (committed (commits past) past) ∙ ap (changed (committed_db past)) (before_settled says s item past legal asked)
-
-  record Stays (s : ℕ) (item : Item) (e : Event) (past : List Event) : Type 0 where
-    db : committed_db past ≡ committed_db (e ∷ past)
-    changes : settled s past ≡ settled s (e ∷ past)
-    is_open : IsOpen s past
-    asked : under_way s past ≡ Some item
-
-  -- an entry by which an item is over, and its transaction is not
-  over_stays : (s : ℕ) (item : Item) (e : Event) (past : List Event) → IsLegal says (e ∷ past) → IsSerial (e ∷ past) → under_way s (e ∷ past) ≡ Some item → IsOpen s (e ∷ past) → is_over s (e ∷ past) ≡ true → Stays s item e past
-  over_stays s item (Opened db) past legal serial asked is_open over =
-      no_item (sym (ap (under_way s) legal.0) ∙ asked)
-  over_stays s item (Begin t n l) past legal serial asked is_open over =
-      by_session t s (λ is same. (let e = rw is at over in cc)) (λ is. record { db = refl; changes = rw is refl; is_open = rw is at is_open; asked = asked })
-  over_stays s item (Started t j other) past legal serial asked is_open over =
-      by_session t s (λ is same. (let e = rw is at over in cc)) (λ is. record { db = refl; changes = refl; is_open = is_open; asked = rw is at asked })
-  over_stays s item (Ended t j reply) past legal serial asked is_open over =
-      by_session t s (λ is same. no_item (rw is at asked)) (λ is. record { db = refl; changes = rw is refl; is_open = is_open; asked = rw is at asked })
-  over_stays s item (Committed t) past legal serial asked is_open over =
-      by_session t s (λ is same. (let e = rw is at is_open in cc)) (λ is. let e = rw is at is_open in no_commit t s past is serial (open_works s past e))
-  over_stays s item (RolledBack t) past legal serial asked is_open over =
-      by_session t s (λ is same. (let e = rw is at is_open in cc)) (λ is. record { db = refl; changes = refl; is_open = rw is at is_open; asked = asked })
-  over_stays s item e past legal serial asked is_open over = record { db = refl; changes = refl; is_open = is_open; asked = asked }
-
-  pub point_base : (s : ℕ) (item : Item) (past : List Event) → IsLegal says past → IsSerial past → under_way s past ≡ Some item → IsOpen s past → base s (point s past) ≡ changed (committed_db past) (settled s past)
-  point_base s item [] legal serial asked is_open = no_item asked
-  point_base s item (e ∷ past) legal serial asked is_open =
-      elim (is_over s (e ∷ past)) as (λ b. is_over s (e ∷ past) ≡ b → base s (point s (e ∷ past)) ≡ changed (committed_db (e ∷ past)) (settled s (e ∷ past))) [
-        | false ↦ λ on. ap (base s) (point_now s (e ∷ past) on) ∙ now_base s item (e ∷ past) legal asked
-        | true ↦ λ over.
-            let stays = over_stays s item e past legal serial asked is_open over in
-            let same : changed (committed_db past) (settled s past) ≡ changed (committed_db (e ∷ past)) (settled s (e ∷ past)) =
-            ap (λ (d : Database). changed d (settled s past)) stays.db ∙ ap (changed (committed_db (e ∷ past))) stays.changes in
-            elim (is_over s past) as (λ b. is_over s past ≡ b → base s (point s (e ∷ past)) ≡ changed (committed_db (e ∷ past)) (settled s (e ∷ past))) [
-              | false ↦ λ on. ap (base s) (point_closing s e past on over) ∙ now_base s item past legal.1 stays.asked ∙ same
-              | true ↦ λ was. ap (base s) (point_stays s e past was over) ∙ point_base s item past legal.1 serial.1 stays.asked stays.is_open ∙ same
-            ] refl
-      ] refl

@@ -1,3 +1,2 @@
 pub mod Turns
 pub mod Example
-pub mod Work

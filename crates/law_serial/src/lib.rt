@@ -8,8 +8,14 @@ ghost use Rattle.inno_model.specs.declared.event.Event.{Event};
 ghost use Rattle.sql_grammar.specs.Grammar.{Spells};
 ghost use Rattle.sql_history.specs.Legal.{IsLegal};
 ghost use Rattle.sql_history.specs.Serial.{AnswersAsAlone};
+ghost use Rattle.law_calm.specs.Calm.{IsCalm};
 ghost use Rattle.law_serial.specs.Turns.{IsSerial, IsOfOne};
 ghost use Rattle.law_serial.specs.Example.{put_and_read};
+
+/// Where the sessions take turns, each is calm: it sees the latest rows, and nobody commits beside it.
+pub fn serial_histories_are_calm()
+    ensures { (past : List Event) → IsLegal Spells past → IsSerial past → (s : ℕ) → IsCalm Spells s past }
+{}
 
 /// Where the sessions take turns, each reply that was committed is what its transaction answers alone, in the order of
 /// the commits, and so is the database in the end. This holds at each level, with and without autocommit, and with

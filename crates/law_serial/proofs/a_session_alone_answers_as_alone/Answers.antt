@@ -1,8 +1,10 @@
 use Rattle.sql_grammar.specs.Grammar.{Spells}
-use Rattle.law_serial.proofs.Alone.{serial_alone}
+use Rattle.law_work.proofs.Spelled.{spells_one}
+use Rattle.law_calm.proofs.Kept.{all_calm}
+use Rattle.law_calm.proofs.Alone.{calm_alone}
 use Rattle.law_serial.proofs.Turns.{one_serial}
-use Rattle.law_serial.proofs.Spelled.{spells_one}
+use Rattle.law_serial.proofs.Calm.{serial_calm}
 use Rattle.law_serial.proofs.a_session_alone_answers_as_alone.Goals as goal
 
 pub returns : goal.returns
-returns c = λ s past legal mine. serial_alone Spells spells_one past legal (one_serial s past mine)
+returns c = λ s past legal mine. calm_alone Spells spells_one past legal (all_calm Spells past (serial_calm Spells spells_one past legal (one_serial s past mine)))

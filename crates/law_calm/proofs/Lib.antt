@@ -1,0 +1,12 @@
+pub mod Beside
+pub mod RowsOnly
+pub mod Made
+pub mod Going
+pub mod Standing
+pub mod Carried
+pub mod Spans
+pub mod Works
+pub mod Creating
+pub mod Commits
+pub mod Kept
+pub mod Alone

@@ -1,0 +1,3 @@
+pub mod Retained
+pub mod Taken
+pub mod Seen

@@ -1,0 +1,9 @@
+use Rattle.sql_grammar.specs.Grammar.{Spells}
+use Rattle.law_work.proofs.Spelled.{spells_one}
+use Rattle.law_calm.proofs.Alone.{calm_alone}
+use Rattle.law_phantoms.proofs.Phantoms.{phantoms_calm}
+use Rattle.law_phantoms.proofs.phantom_free_histories_answer_as_alone.Goals as goal
+
+pub returns : goal.returns
+returns c past legal serializable set free =
+    calm_alone Spells spells_one past legal (phantoms_calm Spells spells_one past (record { legal = legal; serializable = serializable; is_set_up = set; free = free })).calm
