@@ -1,5 +1,5 @@
 -- A world that is opened on the database that it holds.
-use Rattle.std.proofs.Common.{◌≡◌, ◌≢◌, ◌∙◌, sym, ap, subst, refl, ℕ, zero, suc, ◌+◌, ◌^◌, ◌≤◌, List, [], ◌∷◌, length, Option, None, Some, arith}
+use Rattle.std.proofs.Common.{◌≡◌, ◌∙◌, sym, ap, subst, refl, ℕ, zero, suc, ◌≤◌, List, [], ◌∷◌, length, Option, None, Some, arith}
 use Rattle.std.specs.FinMap.{get}
 use Rattle.inno_types.specs.declared.value.Value.{Value}
 use Rattle.inno_db.specs.Database.{Database, key_of}
@@ -8,7 +8,6 @@ use Rattle.inno_model.specs.declared.event.Event.TheVariants.{Opened}
 use Rattle.sql_history.specs.Counts.{rows_in, most_rows}
 use Rattle.chain.specs.declared.kept.Kept.{Kept}
 use Rattle.row_versions.specs.declared.place.Place.{Place}
-use Rattle.row_versions.specs.declared.version.Version.{Version}
 use Rattle.row_versions.specs.Chains.{in_model, versions_at, older}
 use Rattle.law_past_agreement.specs.Agreement.{IsOpenedWith}
 use Rattle.law_coded_rows.specs.Records.{LeadTo}
@@ -17,7 +16,6 @@ use Rattle.law_logged_changes.specs.Pointers.{Reaches, PointersApart}
 use Rattle.world.specs.State.{WorldState}
 use Rattle.world.specs.Told.{IsTold, pairs_of}
 use Rattle.world.specs.EngineCalls.{with_opening}
-use Rattle.desks.specs.Holding.{IsFresh}
 use Rattle.opened_world.specs.Laid.{version_of, IsLaid, IsFreshOf}
 
 opened_with : (row : Option (List Value)) → IsOpenedWith row (version_of row)

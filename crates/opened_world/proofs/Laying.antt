@@ -1,19 +1,18 @@
 -- A database grows together with the world that holds it.
-use Rattle.std.proofs.Common.{◌≡◌, ◌≢◌, ◌∙◌, sym, ap, subst, refl, ℕ, ◌+◌, ◌*◌, ◌^◌, ◌<◌, Bool, true, false, cond, List, [], ◌∷◌, ◌++◌, length, Option, None, Some, slice_get, arith}
-use Rattle.std.specs.Prelude.{IfSome, IsSome, IsTrue, IsSomeAnd, is_some, All}
-use Rattle.std.specs.Ordering.{eq_by_cmp}
-use Rattle.std.specs.FinMap.{get, insert, from_entries, get-empty, get-insert}
+use Rattle.std.proofs.Common.{◌≡◌, ◌≢◌, ◌∙◌, sym, ap, subst, refl, ℕ, ◌+◌, Bool, true, false, cond, List, [], ◌∷◌, ◌++◌, length, Option, None, Some, slice_get, arith}
+use Rattle.std.specs.Prelude.{IsSome, IsTrue, IsSomeAnd, is_some}
+use Rattle.std.specs.FinMap.{get, insert, get-empty, get-insert}
 use Rattle.inno_types.specs.declared.value.Value.{Value}
 use Rattle.inno_types.specs.declared.value.Column.{Column}
 use Rattle.inno_types.specs.declared.value.Schema.{Schema}
 use Rattle.key_codec.specs.Keys.{HasKey, key_code}
-use Rattle.inno_db.specs.Database.{Database, key_of, key_in, place_cmp}
+use Rattle.inno_db.specs.Database.{Database, database_of, key_of, key_in, place_cmp}
 use Rattle.inno_db.specs.Changes.{apply_one}
 use Rattle.inno_db.specs.Order.{place_cmp_total}
 use Rattle.inno_db.specs.declared.change.Change.TheVariants.{Create, Put}
 use Rattle.inno_db.proofs.Keys.{key_in-at}
 use Rattle.row_codec.specs.Rows.{version_code}
-use Rattle.entries.specs.Pairs.{Pair, value_of}
+use Rattle.entries.specs.Pairs.{value_of}
 use Rattle.entries.specs.Index.{Index}
 use Rattle.entries.specs.Lists.{empty_index}
 use Rattle.chain.specs.declared.kept.Kept.{Kept}
@@ -25,9 +24,9 @@ use Rattle.row_versions.specs.Laws.{same_place_equiv}
 use Rattle.law_fitting_rows.specs.Storable.{IsStorable}
 use Rattle.law_fitting_rows.proofs.Applying.{AreFitting-no_rows, AreFitting-apply_one}
 use Rattle.law_fitting_rows.proofs.Numbers.{empty-Has64Bits, apply_one-Has64Bits}
-use Rattle.law_coded_rows.specs.Edits.{clustered_index, key_index}
-use Rattle.law_coded_rows.specs.Records.{IsClustered, IsRecordWith}
-use Rattle.law_coded_rows.specs.Tables.{HasItsColumns, HasNoPairs, AreCoded, AreCodedAs, what_is_there, in_table}
+use Rattle.law_coded_rows.specs.Edits.{clustered_index}
+use Rattle.law_coded_rows.specs.Records.{IsRecordWith}
+use Rattle.law_coded_rows.specs.Tables.{HasNoPairs, AreCoded, AreCodedAs, what_is_there, in_table}
 use Rattle.law_coded_rows.proofs.Values.{same_place}
 use Rattle.law_coded_rows.proofs.Tables.{lag_stays, pushed_here, pushed_elsewhere}
 use Rattle.law_coded_rows.proofs.FromTables.{absent}
@@ -36,16 +35,20 @@ use Rattle.world.specs.State.{WorldState, index_of}
 use Rattle.world.specs.Told.{IsTold, pairs_in, pairs_of}
 use Rattle.world.specs.EngineCalls.{IsNew, LaysTable}
 use Rattle.row_changes.specs.declared.row_edit.RowEdit.TheVariants as edits
-use Rattle.row_changes.specs.Edits.{IsRowFor, IsKeyAt}
+use Rattle.row_changes.specs.Edits.{IsKeyAt}
 use Rattle.row_changes.specs.Keys.{IsChangingKeys}
 use Rattle.row_changes.proofs.Pushed.{key_at, first_rows}
 use Rattle.row_changes.proofs.Telling.{HasPut, pairs_told, puts_pairs, tells, coded_again}
 use Rattle.law_changing_rows.proofs.Entering.{with_version, pushed_version}
 use Rattle.law_held_entries.proofs.Tables.{its_columns}
-use Rattle.shared_lists.specs.Fitting.{CanBeCoded, FitsWell}
+use Rattle.shared_lists.specs.Fitting.{FitsWell}
 use Rattle.opened_world.specs.Laid.{no_db, version_of, IsLaid, PutsNewRecord, HasRecordThere, TakesKeysOver}
 
 -- ---- a database without tables
+
+pub empty_db : (schemas : List Schema) (tables : List (List (List Value))) → schemas ≡ [] → tables ≡ [] → database_of schemas tables ≡ no_db
+empty_db schemas tables no-schemas no-tables =
+    subst (λ (s : List Schema). database_of s tables ≡ no_db) (sym no-schemas) (subst (λ (t : List (List (List Value))). database_of [] t ≡ no_db) (sym no-tables) refl)
 
 pub laid_new : (state : WorldState) → IsNew state → IsLaid no_db state
 laid_new state new =
@@ -106,8 +109,8 @@ module _ (db : Database) (schema : Schema) (old new : WorldState) (storable : Is
 abbrev pub at_row : ℕ → Schema → List Value → Place
 at_row table schema row = record { table = table; key = key_of schema row }
 
-module _ (db : Database) (table : ℕ) (row : List Value) (schema : Schema) (old mid new : WorldState) (key : List ℕ) (laid : IsLaid db old) (there : slice_get old.schemas table ≡ Some schema) (storable : IsStorable schema)
-    (puts : PutsNewRecord table schema row old mid key) (over : TakesKeysOver table key row mid new) (told : IsTold mid) where
+module _ (db : Database) (table : ℕ) (row : List Value) (schema : Schema) (old mid : WorldState) (key : List ℕ) (laid : IsLaid db old) (there : slice_get old.schemas table ≡ Some schema) (storable : IsStorable schema)
+    (puts : PutsNewRecord table schema row old mid key) (told : IsTold mid) where
   abbrev place : Place
   place = at_row table schema row
 
@@ -194,8 +197,8 @@ module _ (db : Database) (table : ℕ) (row : List Value) (schema : Schema) (old
     go true is = ap (λ (vs : List Version). version ∷ vs) (ap (λ (p : Place). versions_at p laid.chains) (sym (same_place place other is)) ∙ none_before)
     go false is = laid.versions other
 
-  pub laid_row : FitsWell db.schemas (Put table row) → IsLaid (apply_one db (Put table row)) new
-  laid_row fits =
+  pub laid_row : (new : WorldState) → TakesKeysOver table key row mid new → FitsWell db.schemas (Put table row) → IsLaid (apply_one db (Put table row)) new
+  laid_row new over fits =
       record {
         fits = record { fitting = AreFitting-apply_one db (Put table row) laid.fits.fitting fits.0; numbers = apply_one-Has64Bits db (Put table row) laid.fits.numbers fits.1 };
         chains = chains;
@@ -207,6 +210,10 @@ module _ (db : Database) (table : ℕ) (row : List Value) (schema : Schema) (old
         txns = ap (λ (s : WorldState). s.txns) over.rest ∙ (ap (λ (s : WorldState). s.txns) puts.inserts.beside.rest ∙ laid.txns);
         sessions = ap (λ (s : WorldState). s.sessions) over.rest ∙ (ap (λ (s : WorldState). s.sessions) puts.inserts.beside.rest ∙ laid.sessions);
       }
+
+-- the schema of the table of a change that fits
+pub its_table : (found : Option Schema) (schema : Schema) (P : Schema → Type 0) → found ≡ Some schema → IsSomeAnd found P → P schema
+its_table found schema P is all = subst (λ (o : Option Schema). IsSomeAnd o P) is all
 
 -- ---- a row that is there
 

@@ -1,6 +1,7 @@
 -- A sum that stands still at its type's end.
-use Rattle.std.proofs.Common.{◌≡◌, ℕ, ◌+◌, ◌-◌, ◌^◌, min, arith}
-use Rattle.sql_history.specs.Counts.{capped}
+use Rattle.std.proofs.Common.{◌≡◌, ℕ, ◌≤◌, arith}
+use Rattle.sql_history.specs.Counts.{capped, most_rows}
 
-pub capped_more : (a b : ℕ) → min (capped a + b) (2 ^ 64 - 1) ≡ capped (a + b)
-capped_more a b = omega arith
+-- a count that is few is the whole count
+pub few_counted : (n rows : ℕ) → rows ≡ capped n → rows ≤ most_rows → (rows ≡ n) × (n ≤ most_rows)
+few_counted n rows is few = (omega (arith, is, few), omega (arith, is, few))

@@ -1,5 +1,5 @@
 -- The keys of a table take a row over, step by step.
-use Rattle.std.proofs.Common.{◌≡◌, ◌∙◌, sym, ap, subst, refl, ℕ, ◌≤◌, List, length, Option, None, Some, slice_get, arith}
+use Rattle.std.proofs.Common.{false, ◌≡◌, ◌∙◌, ap, subst, refl, ℕ, ◌≤◌, List, length, None, Some, slice_get, arith}
 use Rattle.std.specs.Prelude.{All}
 use Rattle.inno_types.specs.declared.value.Value.{Value}
 use Rattle.inno_types.specs.declared.value.Column.{Column}
@@ -11,12 +11,17 @@ use Rattle.law_fitting_rows.specs.Storable.{IsStorable}
 use Rattle.law_fitting_rows.specs.Fitting.{FitsTable}
 use Rattle.law_fitting_rows.proofs.Coding.{short_key, short_value}
 use Rattle.row_codec.specs.Rows.{version_code}
+use Rattle.store_api.specs.declared.moves.Move.TheVariants as moves
+use Rattle.entries.specs.Calls.{Inserts}
+use Rattle.law_coded_rows.specs.Edits.{clustered_index}
 use Rattle.world.specs.State.{WorldState}
+use Rattle.world.specs.Indexes.{Changes}
 use Rattle.row_changes.specs.declared.keys_change.KeysChange.{KeysChange}
 use Rattle.row_changes.specs.declared.reached.Reached.TheVariants.{Went, Done}
 use Rattle.row_changes.specs.Edits.{IsRowFor}
 use Rattle.row_changes.specs.Told.{HasRows}
 use Rattle.row_changes.specs.Keys.{IsChangingKeys, ChangesKeys}
+use Rattle.opened_world.specs.Laid.{PutsNewRecord}
 
 -- the bytes are the key of the row
 pub row_for : (schema : Schema) (row : List Value) (key : List ℕ) → FitsTable schema row → All Has64Bits row
@@ -34,6 +39,17 @@ key_short schema row key storable is = let short = short_key schema row key stor
 pub value_short : (schema : Schema) (row : List Value) (key value : List ℕ) → IsStorable schema → IsRowFor schema row key → value ≡ version_code schema (record { row = row; writer = 0; pointer = 0; marked = false }) → length value ≤ 1024
 value_short schema row key value storable is value_is =
     short_value schema (record { row = row; writer = 0; pointer = 0; marked = false }) key value storable (record { fits = is.fits.columns; key_is = is.key_is; value_is = value_is })
+
+-- a record that was inserted
+pub new_record : (table : ℕ) (schema : Schema) (row : List Value) (old new : WorldState) (key value : List ℕ) (index : ℕ) → IsRowFor schema row key
+    → value ≡ version_code schema (record { row = row; writer = 0; pointer = 0; marked = false }) → index ≡ clustered_index table
+    → Changes index 0 None (λ before after answer. Inserts 0 key value before after answer) old new moves.Done → PutsNewRecord table schema row old new key
+new_record table schema row old new key value index row_is value_is index_is inserts =
+    record {
+      row_is = row_is;
+      inserts = subst (λ i. Changes i 0 None (λ before after answer. Inserts 0 key (version_code schema (record { row = row; writer = 0; pointer = 0; marked = false })) before after answer) old new moves.Done) index_is
+          (subst (λ v. Changes index 0 None (λ before after answer. Inserts 0 key v before after answer) old new moves.Done) value_is inserts);
+    }
 
 -- since this change began the keys have come so far
 pub record IsTaking (start : KeysChange) (old now : WorldState) (change : KeysChange) : Type 0 where

@@ -18,7 +18,7 @@ use Rattle.world.specs.State.{WorldState}
 use Rattle.world.specs.Indexes.{Changes}
 use Rattle.row_changes.specs.Told.{HasRows}
 use Rattle.row_changes.specs.Edits.{IsRowFor}
-use Rattle.row_changes.specs.Keys.{IsChangingKeys, StaysBesideKeys}
+use Rattle.row_changes.specs.Keys.{IsChangingKeys}
 use Rattle.shared_lists.specs.Fitting.{CanBeCoded}
 use Rattle.desks.specs.Holding.{IsFresh}
 use Rattle.opened_world.specs.declared.opening.OpenBad.{OpenBad}

@@ -1,6 +1,6 @@
 //! A database that grows table by table and row by row, together with the world that holds it.
 
-ghost use Rattle.std.specs.Prelude.{◌≡◌, ◌<◌, ◌≢◌, Err, IfErr, IfOk, OnOk, length, None};
+ghost use Rattle.std.specs.Prelude.{◌≡◌, ◌<◌, ◌≢◌, Err, IfErr, IfOk, OnOk, length, slice_get, None, Some};
 ghost use Rattle.std.specs.FinMap.{get};
 ghost use Rattle.inno_db.specs.Changes.{apply_one};
 ghost use Rattle.inno_db.specs.Keeping.{CanApply};
@@ -98,7 +98,7 @@ impl Opening {
             mut db,
             mut world,
         } = self;
-        let schema = &db.schemas().as_slice()[usize::from(table)];
+        let schema = table_of(&db, table);
         let key = match put_record(alloc, &mut world, table, schema, &row) {
             Ok(key) => key,
             Err(reason) => return Err(reason),
@@ -127,6 +127,14 @@ impl Opening {
             Err(_) => Err(OpenBad::NoMemory),
         }
     }
+}
+
+/// The table of a number.
+fn table_of(db: &Db, table: u8) -> &Schema
+    requires { table < length db.now.schemas }
+    ensures { slice_get db.now.schemas table ≡ Some result.now }
+{
+    &db.schemas().as_slice()[usize::from(table)]
 }
 
 /// Makes a change of the database itself.

@@ -1,5 +1,10 @@
-use Rattle.opened_world.proofs.Laying.{laid_new}
+use Rattle.std.proofs.Common.{sym, subst, ◌∙◌}
+use Rattle.list_world.specs.Parts.{world_of}
+use Rattle.opened_world.specs.Laid.{IsLaid}
+use Rattle.opened_world.proofs.Laying.{empty_db, laid_new}
 use Rattle.opened_world.proofs.opening.Opening.new.Goals as goal
 
 pub invariant_of-result : goal.invariant_of-result
-invariant_of-result c = laid_new _ c.in_ok-new.ensures
+invariant_of-result c =
+    subst (λ db. IsLaid db (world_of c.in_ok-new.field-0)) (sym (c.new-3.ensures ∙ empty_db c.new.result c.new-2.result c.new.ensures c.new-2.ensures))
+    (laid_new (world_of c.in_ok-new.field-0) c.in_ok-new.ensures)
