@@ -1,3 +1,5 @@
 pub mod Meaning
+pub mod Same
 pub mod Sound
 pub mod Started
+pub mod Written

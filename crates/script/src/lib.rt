@@ -5,7 +5,9 @@
 mod printing;
 mod reading;
 mod script;
+mod writing;
 
 pub use printing::transcript;
 pub use reading::{one_meaning, read_script};
-pub use script::{Directives, Script, ScriptBad, ScriptItem, Tick};
+pub use script::{Directives, Script, ScriptBad, ScriptItem, Tick, WriteBad};
+pub use writing::write_script;

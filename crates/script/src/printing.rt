@@ -168,14 +168,14 @@ fn push_byte(out: &mut Vec<u8>, b: u8) -> Result<(), AllocError>
     }
 }
 
-fn push_number(alloc: Global, out: &mut Vec<u8>, n: u64) -> Result<(), AllocError>
+pub(crate) fn push_number(alloc: Global, out: &mut Vec<u8>, n: u64) -> Result<(), AllocError>
     ensures { OnOk result (out.new.items ≡ out.old.items ++ decimal n) }
 {
     let digits = n.to_string(alloc)?;
     push_text(out, digits.as_str())
 }
 
-fn push_text(out: &mut Vec<u8>, text: &str) -> Result<(), AllocError>
+pub(crate) fn push_text(out: &mut Vec<u8>, text: &str) -> Result<(), AllocError>
     ensures { OnOk result (out.new.items ≡ out.old.items ++ text.now) }
 {
     out.extend_from_slice(text.as_bytes())
