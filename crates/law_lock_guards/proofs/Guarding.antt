@@ -7,18 +7,19 @@ use Rattle.std.specs.Cmp.Lexicographic.{pointwise, bytes_decides}
 use Rattle.inno_types.specs.declared.lock.Spot.{Spot}
 use Rattle.inno_types.specs.declared.lock.Lock.{Lock}
 use Rattle.store_api.specs.declared.answers.Asked.{Asked}
+use Rattle.store_api.specs.declared.answers.Undo.{Undo}
 use Rattle.store_api.specs.declared.answers.Asked.TheVariants.{Granted, Waits, NoMemory}
 use Rattle.lock_rules.specs.Kinds.{is_shared, same_kind, same_mode}
 use Rattle.lock_rules.specs.Spots.{same_spot}
 use Rattle.lock_rules.specs.Conflicts.{same_lock, same_reason}
 use Rattle.lock_rules.specs.Coverage.{stands_in, without_record}
 use Rattle.lock_rules.specs.Rules.{FitsItsRule}
-use Rattle.lock_rules.proofs.Booleans.{first, or_cases, split}
+use Rattle.lock_rules.proofs.Booleans.{first, or_cases, or_right, split}
 use Rattle.lock_rules.proofs.Beside.{spot_same}
 use Rattle.lock_table.specs.Queue.{serve, without, without_lock, is_covered}
 use Rattle.lock_table.specs.Records.{copies, after_removal, after_end}
 use Rattle.lock_table.specs.View.{Table, IsAnswered}
-use Rattle.law_lock_guards.specs.Guards.{IsSpotOf, is_lock_at, is_gap_lock_at, is_record_lock_at, has_gap, has_record, has_alone, Guards, Pins}
+use Rattle.law_lock_guards.specs.Guards.{IsSpotOf, is_lock_at, is_gap_lock_at, is_record_lock_at, has_gap, has_record, has_alone, Guards, Guarded, Pins}
 use Rattle.law_lock_guards.specs.Stand.{Inserts, Removes}
 use Rattle.law_lock_guards.proofs.Spots.{Stands, new_spot, spot_before, stood, stays, gone_not, spot_after}
 use Rattle.law_lock_guards.proofs.Locks.{any_front, any_behind, any_served, any_kept, lock_at, only_inserter, has_copy, moved_keeps, moved_gap, any_removed}
@@ -33,6 +34,12 @@ pub record KeepsLocks (txn index : ℕ) (old new : List Lock) : Type 0 where
 
 pub guards_kept : (txn index : ℕ) (records : List (List ℕ)) (key : List ℕ) (old new : List Lock) → KeepsLocks txn index old new → Guards txn index records old key → Guards txn index records new key
 guards_kept txn index records key old new keeps was = record { gap = λ spot at. keeps.gaps spot (was.gap spot at); own = λ stands. keeps.records key (was.own stands) }
+
+pub guarded_kept : (txn index : ℕ) (records : List (List ℕ)) (key : List ℕ) (made : ℕ) (log : List Undo) (old new : List Lock) → KeepsLocks txn index old new → Guarded txn index records old key made log → Guarded txn index records new key made log
+guarded_kept txn index records key made log old new keeps was = elim was [
+  | inl guards ↦ inl (guards_kept txn index records key old new keeps guards)
+  | inr pinned ↦ inr (record { pins = record { stands = pinned.pins.stands; own = keeps.records key pinned.pins.own }; older = pinned.older })
+]
 
 pub all_locks : (txn index : ℕ) (old new : List Lock) → ((p : Lock → Bool) → ((lock : Lock) → p lock ≡ true → (lock.txn == txn) ≡ true) → list_any p old ≡ true → list_any p new ≡ true) → KeepsLocks txn index old new
 all_locks txn index old new each = record {
@@ -128,6 +135,9 @@ module _ (txn inserter : ℕ) (records : List (List ℕ)) (new_key key : List �
       | inr there ↦ kept_record key (was.own there)
     ];
   }
+
+  pub inserted_pins : Pins txn new.index records old key → Pins txn new.index (new_key ∷ records) locks key
+  inserted_pins was = record { stands = or_right (pointwise nat_eq new_key key) _ was.stands; own = kept_record key was.own }
 
 -- ---- a record goes
 
