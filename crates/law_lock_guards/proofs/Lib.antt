@@ -6,3 +6,4 @@ pub mod Clashes
 pub mod Pinning
 pub mod Granting
 pub mod Outside
+pub mod GivenBack

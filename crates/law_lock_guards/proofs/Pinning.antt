@@ -1,5 +1,5 @@
 -- What is guarded through changes of records, with the undo log beside.
-use Rattle.std.proofs.Common.{◌≡◌, ◌≢◌, ◌∙◌, ℕ, suc, ◌-◌, ◌≤◌, true, false, List, ◌∷◌, inl, inr, sym, ap, subst, arith}
+use Rattle.std.proofs.Common.{◌≡◌, ◌≢◌, ◌∙◌, ℕ, zero, suc, ◌-◌, ◌≤◌, Bool, true, false, List, [], ◌∷◌, refl, inl, inr, sym, ap, subst, arith}
 use Rattle.std.specs.Prelude.{◌==◌, ◌&&◌, ◌*◌, nat_eq, length, take, Some}
 use Rattle.std.specs.List.{list_any, AllByRecursion}
 use Rattle.std.specs.Cmp.Lexicographic.{pointwise, bytes_decides}
@@ -31,6 +31,20 @@ module _ (index : ℕ) (key : List ℕ) (made : ℕ) (undo : Undo) (log : List U
 
   pub not_newest : IsOlder index key made (undo ∷ log) → is_creation index key undo ≡ false
   not_newest was = or_false-left (is_creation index key undo) _ (sym newer ∙ was)
+
+-- none is newer than all of them
+pub newest_all : (index : ℕ) (key : List ℕ) (log : List Undo) → IsOlder index key (length log) log
+newest_all index key log = let none : length log - length log ≡ 0 = omega arith in ap (λ n. list_any (is_creation index key) (take n log)) none
+
+-- and fewer are newer than more of them
+fewer_taken : (p : Undo → Bool) (m n : ℕ) (log : List Undo) → m ≤ n → list_any p (take n log) ≡ false → list_any p (take m log) ≡ false
+fewer_taken p zero n log le none = refl
+fewer_taken p (suc m) zero log le none = absurd (omega (arith, le))
+fewer_taken p (suc m) (suc n) [] le none = refl
+fewer_taken p (suc m) (suc n) (undo ∷ log) le none = or_false (p undo) _ (or_false-left (p undo) _ none) (fewer_taken p m n log (omega (arith, le)) (or_false-right (p undo) _ none))
+
+pub older_later : (index : ℕ) (key : List ℕ) (made later : ℕ) (log : List Undo) → made ≤ later → IsOlder index key made log → IsOlder index key later log
+older_later index key made later log le was = fewer_taken (is_creation index key) (length log - later) (length log - made) log (omega (arith, le)) was
 
 not_of_change : (index : ℕ) (key : List ℕ) (undo : Undo) → undo.kind ≡ 2 → is_creation index key undo ≡ false
 not_of_change index key undo is = ap (λ k. undo.table * 8 == index && pointwise nat_eq undo.key key && k == 1) is ∙ and_false (undo.table * 8 == index && pointwise nat_eq undo.key key)

@@ -1,10 +1,10 @@
 -- The spot of a key when records appear and go.
-use Rattle.std.proofs.Common.{◌≡◌, ◌≢◌, ◌∙◌, ℕ, true, List, [], ◌∷◌, ◌⊎◌, inl, inr, refl, sym, ap, subst}
+use Rattle.std.proofs.Common.{◌≡◌, ◌≢◌, ◌∙◌, ℕ, true, false, List, [], ◌∷◌, ◌⊎◌, inl, inr, refl, sym, ap, subst}
 use Rattle.std.specs.Prelude.{◌||◌, not, nat_eq, cond, Option, None, Some}
 use Rattle.std.specs.List.{list_any, list_all}
 use Rattle.std.specs.Cmp.Lexicographic.{pointwise, bytes_decides}
 use Rattle.lock_rules.specs.Coverage.{is_below, is_before, is_in_gap, stands_in, without_record}
-use Rattle.lock_rules.proofs.Booleans.{first, second, both, or_left, or_right, or_cases, implies, implied, true_false, split}
+use Rattle.lock_rules.proofs.Booleans.{first, second, both, or_left, or_right, or_cases, or_false-left, or_false-right, implies, implied, true_false, split}
 use Rattle.lock_table.proofs.Covering.{below_trans, not_both, one_of, before_trans}
 use Rattle.law_lock_guards.specs.Guards.{IsSpotOf}
 
@@ -68,6 +68,75 @@ one_gap records key (Some a) (Some b) sa sb ga gb =
 -- a key that lies in a gap has no record
 pub new_not : (records : List (List ℕ)) (key : List ℕ) (spot : Option (List ℕ)) → is_in_gap records spot key ≡ true → Stands records key → ⊥
 new_not records key spot gap stands = not_itself key (in_gap-behind records spot key key gap stands (in_gap-before records spot key gap))
+
+-- each key has one spot alone
+pub one_spot : (records : List (List ℕ)) (key : List ℕ) (a b : Option (List ℕ)) → IsSpotOf records key a → IsSpotOf records key b → a ≡ b
+one_spot records key a b first second =
+    elim first.at [
+      | inl here ↦ elim second.at [
+        | inl also ↦ here ∙ sym also
+        | inr gap ↦ absurd (new_not records key b gap (subst (λ (s : Option (List ℕ)). stands_in records s ≡ true) here first.stands))
+      ]
+      | inr gap ↦ elim second.at [
+        | inl also ↦ absurd (new_not records key a gap (subst (λ (s : Option (List ℕ)). stands_in records s ≡ true) also second.stands))
+        | inr other ↦ one_gap records key a b first.stands second.stands gap other
+      ]
+    ]
+
+one_more : (r : List ℕ) (records : List (List ℕ)) (spot : Option (List ℕ)) → stands_in records spot ≡ true → stands_in (r ∷ records) spot ≡ true
+one_more r records None stands = refl
+one_more r records (Some q) stands = or_right (pointwise nat_eq r q) _ stands
+
+-- where no record of a key stands, the key lies in the gap before the least one above it, or before the supremum
+record IsLeast (records : List (List ℕ)) (key : List ℕ) : Type 0 where
+  spot : Option (List ℕ)
+  stands : stands_in records spot ≡ true
+  gap : is_in_gap records spot key ≡ true
+
+least : (key : List ℕ) (records : List (List ℕ)) → stands_in records (Some key) ≡ false → IsLeast records key
+least key [] absent = record { spot = None; stands = refl; gap = refl }
+least key (r ∷ records) absent =
+    let rest = least key records (or_false-right (pointwise nat_eq r key) _ absent) in
+    elim (one_of r key) [
+      | inl below ↦ record {
+        spot = rest.spot;
+        stands = one_more r records rest.spot rest.stands;
+        gap = in_gap-from (r ∷ records) rest.spot key (in_gap-before records rest.spot key rest.gap) (λ q stands before.
+            elim (or_cases (pointwise nat_eq r q) _ stands) [
+              | inl same ↦ subst (λ (k : List ℕ). is_below k key ≡ true) ((bytes_decides r q).0 same) below
+              | inr there ↦ in_gap-behind records rest.spot key q rest.gap there before
+            ]);
+      }
+      | inr other ↦ elim other [
+        | inl same ↦ absurd (true_false _ ((bytes_decides r key).1 same) (or_false-left (pointwise nat_eq r key) _ absent))
+        | inr above ↦
+            split (is_before r rest.spot)
+            (λ before. record {
+              spot = Some r;
+              stands = or_left _ _ ((bytes_decides r r).1 refl);
+              gap = in_gap-from (r ∷ records) (Some r) key above (λ q stands under.
+                  elim (or_cases (pointwise nat_eq r q) _ stands) [
+                    | inl same ↦ absurd (not_itself r (subst (λ (k : List ℕ). is_below k r ≡ true) (sym ((bytes_decides r q).0 same)) under))
+                    | inr there ↦ in_gap-behind records rest.spot key q rest.gap there (before_trans q r rest.spot under before)
+                  ]);
+            })
+            (λ not_before. record {
+              spot = rest.spot;
+              stands = one_more r records rest.spot rest.stands;
+              gap = in_gap-from (r ∷ records) rest.spot key (in_gap-before records rest.spot key rest.gap) (λ q stands before.
+                  elim (or_cases (pointwise nat_eq r q) _ stands) [
+                    | inl same ↦ absurd (true_false _ (subst (λ (k : List ℕ). is_before k rest.spot ≡ true) (sym ((bytes_decides r q).0 same)) before) not_before)
+                    | inr there ↦ in_gap-behind records rest.spot key q rest.gap there before
+                  ]);
+            })
+      ]
+    ]
+
+pub some_spot : (records : List (List ℕ)) (key : List ℕ) → (spot : Option (List ℕ)) × IsSpotOf records key spot
+some_spot records key =
+    split (stands_in records (Some key))
+    (λ stands. (Some key, record { stands = stands; at = inl refl }))
+    (λ absent. let found = least key records absent in (found.spot, record { stands = found.stands; at = inr found.gap }))
 
 -- ---- a record is inserted before the next spot
 

@@ -1,6 +1,6 @@
 //! What is guarded stays guarded.
 
-ghost use Rattle.std.specs.Prelude.{◌≡◌, ◌≢◌, ℕ, true, Option, List, [], ◌∷◌};
+ghost use Rattle.std.specs.Prelude.{◌≡◌, ◌≢◌, ℕ, true, false, Option, List, [], ◌∷◌};
 ghost use Rattle.std.specs.List.{AllByRecursion};
 ghost use Rattle.inno_types.specs.declared.lock.Spot.{Spot};
 ghost use Rattle.inno_types.specs.declared.lock.Lock.{Lock};
@@ -8,9 +8,9 @@ ghost use Rattle.store_api.specs.declared.answers.Asked.{Asked};
 ghost use Rattle.store_api.specs.declared.answers.Undo.{Undo};
 ghost use Rattle.lock_rules.specs.Coverage.{without_record};
 ghost use Rattle.lock_rules.specs.Rules.{FitsItsRule};
-ghost use Rattle.lock_table.specs.Queue.{serve, without, without_lock};
+ghost use Rattle.lock_table.specs.Queue.{serve, without, without_lock, is_covered};
 ghost use Rattle.lock_table.specs.Records.{after_removal, after_end};
-ghost use Rattle.lock_table.specs.View.{Table, IsAnswered};
+ghost use Rattle.lock_table.specs.View.{Table, IsAnswered, IsGranted};
 ghost use Rattle.law_lock_guards.specs.Guards.{Guards, Guarded, Pins, has_record, has_alone};
 ghost use Rattle.law_lock_guards.specs.Stand.{Inserts, Removes};
 
@@ -74,6 +74,17 @@ pub fn releases_of_others_keep_guards()
         → txn ≢ gone.txn → Guarded txn index records granted key made log → Guarded txn index records (serve (without_lock gone granted) [] waiting).granted key made log }
     ensures alone { (txn index : ℕ) (key : List ℕ) (gone : Lock) (granted waiting : List Lock)
         → txn ≢ gone.txn → has_alone txn index key granted ≡ true → has_alone txn index key (serve (without_lock gone granted) [] waiting).granted ≡ true }
+{}
+
+/// A lock that no other covered may be given back as soon as it is granted: each transaction, its own too, then has what it
+/// had before.
+pub fn new_locks_given_back_keep_guards()
+    ensures guards { (txn index : ℕ) (records : List (List ℕ)) (key : List ℕ) (old new : Table) (lock : Lock) → is_covered old.granted lock ≡ false → IsGranted old new lock
+        → Guards txn index records old.granted key → Guards txn index records (serve (without_lock lock new.granted) [] new.waiting).granted key }
+    ensures guarded { (txn index : ℕ) (records : List (List ℕ)) (key : List ℕ) (made : ℕ) (log : List Undo) (old new : Table) (lock : Lock) → is_covered old.granted lock ≡ false → IsGranted old new lock
+        → Guarded txn index records old.granted key made log → Guarded txn index records (serve (without_lock lock new.granted) [] new.waiting).granted key made log }
+    ensures alone { (txn index : ℕ) (key : List ℕ) (old new : Table) (lock : Lock) → is_covered old.granted lock ≡ false → IsGranted old new lock
+        → has_alone txn index key old.granted ≡ true → has_alone txn index key (serve (without_lock lock new.granted) [] new.waiting).granted ≡ true }
 {}
 
 /// So does a request that is taken back, by whomever.

@@ -1,12 +1,19 @@
 //! What a search guards with the locks that it is granted, spot by spot.
 
-ghost use Rattle.std.specs.Prelude.{◌≡◌, ℕ, true, false, Option, Some, List};
+ghost use Rattle.std.specs.Prelude.{◌≡◌, ℕ, ◌≤◌, true, false, Option, Some, List, length};
 ghost use Rattle.inno_types.specs.declared.lock.Lock.{Lock};
+ghost use Rattle.store_api.specs.declared.answers.Undo.{Undo};
 ghost use Rattle.lock_rules.specs.Kinds.{locks_gap, locks_record, is_shared};
 ghost use Rattle.lock_rules.specs.Conflicts.{kind_of};
 ghost use Rattle.lock_rules.specs.Coverage.{stands_in, is_in_gap};
 ghost use Rattle.lock_table.specs.View.{Table, IsGranted};
-ghost use Rattle.law_lock_guards.specs.Guards.{Guards, has_gap, has_record, has_alone};
+ghost use Rattle.law_lock_guards.specs.Guards.{IsSpotOf, Guards, Pinned, has_gap, has_record, has_alone};
+
+/// Each key has a spot, and one alone.
+pub fn each_key_has_one_spot()
+    ensures some { (records : List (List ℕ)) (key : List ℕ) → (spot : Option (List ℕ)) × IsSpotOf records key spot }
+    ensures one { (records : List (List ℕ)) (key : List ℕ) (spot other : Option (List ℕ)) → IsSpotOf records key spot → IsSpotOf records key other → spot ≡ other }
+{}
 
 /// Who is granted a request has what it asked for, also where a lock that it had covers the request.
 pub fn granted_requests_lock_their_spots()
@@ -30,4 +37,13 @@ pub fn next_key_locks_guard_their_records()
     ensures { (txn index : ℕ) (records : List (List ℕ)) (locks : List Lock) (key : List ℕ)
         → stands_in records (Some key) ≡ true → has_gap txn index (Some key) locks ≡ true → has_record txn index key locks ≡ true
         → Guards txn index records locks key }
+{}
+
+/// Who has the record that its unique search finds has it pinned, as its log is now, and as it is counted later.
+pub fn records_found_are_pinned()
+    ensures found { (txn index : ℕ) (records : List (List ℕ)) (locks : List Lock) (key : List ℕ) (log : List Undo)
+        → stands_in records (Some key) ≡ true → has_record txn index key locks ≡ true
+        → Pinned txn index records locks key (length log) log }
+    ensures later { (txn index : ℕ) (records : List (List ℕ)) (locks : List Lock) (key : List ℕ) (made later : ℕ) (log : List Undo)
+        → made ≤ later → Pinned txn index records locks key made log → Pinned txn index records locks key later log }
 {}

@@ -127,19 +127,19 @@ served_fewer held earlier (asked ∷ queue) =
       | false ↦ omega (arith, served_fewer (held ++ asked ∷ []) earlier queue)
     ]
 
-without_upto : (txn : ℕ) (queue : List Lock) → length (without txn queue) ≤ length queue
-without_upto txn [] = omega arith
-without_upto txn (w ∷ queue) =
-    elim (w.txn == txn) as (λ b. length (cond (not b) (w ∷ without txn queue) (without txn queue)) ≤ length (w ∷ queue)) [
-      | true ↦ omega (arith, without_upto txn queue)
-      | false ↦ omega (arith, without_upto txn queue)
+pub filter_upto : (test : Lock → Bool) (queue : List Lock) → length (filter test queue) ≤ length queue
+filter_upto test [] = omega arith
+filter_upto test (w ∷ queue) =
+    elim (test w) as (λ b. length (cond b (w ∷ filter test queue) (filter test queue)) ≤ length (w ∷ queue)) [
+      | true ↦ omega (arith, filter_upto test queue)
+      | false ↦ omega (arith, filter_upto test queue)
     ]
 
 pub without_fewer : (txn : ℕ) (queue : List Lock) → is_waiting txn queue ≡ true → length (without txn queue) < length queue
 without_fewer txn [] waits = cc
 without_fewer txn (w ∷ queue) waits =
     split (w.txn == txn)
-    (λ own. subst (λ b. length (cond (not b) (w ∷ without txn queue) (without txn queue)) < length (w ∷ queue)) (sym own) (omega (arith, without_upto txn queue)))
+    (λ own. subst (λ b. length (cond (not b) (w ∷ without txn queue) (without txn queue)) < length (w ∷ queue)) (sym own) (omega (arith, filter_upto (λ lock. not (lock.txn == txn)) queue)))
     (λ other. subst (λ b. length (cond (not b) (w ∷ without txn queue) (without txn queue)) < length (w ∷ queue)) (sym other)
     (omega (arith, without_fewer txn queue (elim (or_cases (w.txn == txn) _ waits) [ inl own ↦ absurd (true_false _ own other) | inr rest ↦ rest ]))))
 
