@@ -62,7 +62,8 @@ no_intent_of_record Intent is = cc
 -- a lock covers its like
 like_covers : (held lock : Lock) → same_lock held lock ≡ true → is_intent (kind_of held) ≡ false → covers held lock ≡ true
 like_covers held lock is other =
-    let front = first (held.txn == lock.txn && same_spot held.spot lock.spot && same_kind held.kind lock.kind && same_mode held.mode lock.mode) (same_reason held.reason lock.reason) is in
+    let front = first (held.txn == lock.txn && same_spot held.spot lock.spot && same_kind held.kind lock.kind && same_mode held.mode lock.mode)
+    (same_reason held.reason lock.reason) is in
     let kinds = first (held.txn == lock.txn && same_spot held.spot lock.spot && same_kind held.kind lock.kind) (same_mode held.mode lock.mode) front in
     let places = first (held.txn == lock.txn && same_spot held.spot lock.spot) (same_kind held.kind lock.kind) kinds in
     let spots : held.spot ≡ lock.spot = spot_same held.spot lock.spot (second (held.txn == lock.txn) _ places) in
@@ -73,7 +74,8 @@ like_covers held lock is other =
 
 module _ (lock : Lock) where
   -- so where no lock covers it, none is like it
-  older_stay : (p : Lock → Bool) → ((held : Lock) → p held ≡ true → is_intent (kind_of held) ≡ false) → (held : List Lock) → is_covered held lock ≡ false → list_any p held ≡ true → list_any p (without_lock lock held) ≡ true
+  older_stay : (p : Lock → Bool) → ((held : Lock) → p held ≡ true → is_intent (kind_of held) ≡ false) → (held : List Lock) → is_covered held lock ≡ false
+      → list_any p held ≡ true → list_any p (without_lock lock held) ≡ true
   older_stay p kinds [] free has = has
   older_stay p kinds (w ∷ held) free has =
       elim (or_cases (p w) _ has) [
@@ -111,8 +113,10 @@ module _ (lock : Lock) where
 
     pub given_back_at_once : (txn index : ℕ) → KeepsLocks txn index old.granted after
     given_back_at_once txn index = record {
-      gaps = λ spot has. stays (is_gap_lock_at txn index spot) (λ held gap. no_intent_of_gap (kind_of held) (second (is_lock_at txn index spot held) _ gap)) has;
-      records = λ key has. stays (is_record_lock_at txn index key) (λ held own. no_intent_of_record (kind_of held) (second (is_lock_at txn index (Some key) held) _ own)) has;
+      gaps = λ spot has. stays (is_gap_lock_at txn index spot)
+          (λ held gap. no_intent_of_gap (kind_of held) (second (is_lock_at txn index spot held) _ gap)) has;
+      records = λ key has. stays (is_record_lock_at txn index key)
+          (λ held own. no_intent_of_record (kind_of held) (second (is_lock_at txn index (Some key) held) _ own)) has;
       alone = λ key has.
           stays (λ held. is_record_lock_at txn index key held && not (is_shared held.mode))
           (λ held own. no_intent_of_record (kind_of held) (second (is_lock_at txn index (Some key) held) _ (first (is_record_lock_at txn index key held) _ own))) has;

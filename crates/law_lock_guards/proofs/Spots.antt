@@ -17,7 +17,8 @@ Stands records key = stands_in records (Some key) ≡ true
 pub in_gap-before : (records : List (List ℕ)) (spot : Option (List ℕ)) (key : List ℕ) → is_in_gap records spot key ≡ true → is_before key spot ≡ true
 in_gap-before records spot key h = first (is_before key spot) _ h
 
-all_behind : (records : List (List ℕ)) (spot : Option (List ℕ)) (key q : List ℕ) → list_all (λ r. not (is_before r spot) || is_below r key) records ≡ true → Stands records q → is_before q spot ≡ true → is_below q key ≡ true
+all_behind : (records : List (List ℕ)) (spot : Option (List ℕ)) (key q : List ℕ) → list_all (λ r. not (is_before r spot) || is_below r key) records ≡ true
+    → Stands records q → is_before q spot ≡ true → is_below q key ≡ true
 all_behind [] spot key q all stands before = cc
 all_behind (r ∷ records) spot key q all stands before =
     elim (or_cases (pointwise nat_eq r q) _ stands) [
@@ -27,20 +28,25 @@ all_behind (r ∷ records) spot key q all stands before =
     ]
 
 -- each record before the spot lies below the key
-pub in_gap-behind : (records : List (List ℕ)) (spot : Option (List ℕ)) (key q : List ℕ) → is_in_gap records spot key ≡ true → Stands records q → is_before q spot ≡ true → is_below q key ≡ true
+pub in_gap-behind : (records : List (List ℕ)) (spot : Option (List ℕ)) (key q : List ℕ) → is_in_gap records spot key ≡ true → Stands records q
+    → is_before q spot ≡ true → is_below q key ≡ true
 in_gap-behind records spot key q h stands before = all_behind records spot key q (second (is_before key spot) _ h) stands before
 
-behind_all : (records : List (List ℕ)) (spot : Option (List ℕ)) (key : List ℕ) → ((q : List ℕ) → Stands records q → is_before q spot ≡ true → is_below q key ≡ true) → list_all (λ r. not (is_before r spot) || is_below r key) records ≡ true
+behind_all : (records : List (List ℕ)) (spot : Option (List ℕ)) (key : List ℕ)
+    → ((q : List ℕ) → Stands records q → is_before q spot ≡ true → is_below q key ≡ true)
+    → list_all (λ r. not (is_before r spot) || is_below r key) records ≡ true
 behind_all [] spot key each = refl
 behind_all (r ∷ records) spot key each =
     both _ _ (implied (is_before r spot) (is_below r key) (each r (or_left _ _ ((bytes_decides r r).1 refl))))
     (behind_all records spot key (λ q stands before. each q (or_right (pointwise nat_eq r q) _ stands) before))
 
-pub in_gap-from : (records : List (List ℕ)) (spot : Option (List ℕ)) (key : List ℕ) → is_before key spot ≡ true → ((q : List ℕ) → Stands records q → is_before q spot ≡ true → is_below q key ≡ true) → is_in_gap records spot key ≡ true
+pub in_gap-from : (records : List (List ℕ)) (spot : Option (List ℕ)) (key : List ℕ) → is_before key spot ≡ true
+    → ((q : List ℕ) → Stands records q → is_before q spot ≡ true → is_below q key ≡ true) → is_in_gap records spot key ≡ true
 in_gap-from records spot key before each = both _ _ before (behind_all records spot key each)
 
 -- a gap among fewer records
-pub in_gap-fewer : (old new : List (List ℕ)) (spot : Option (List ℕ)) (key : List ℕ) → ((q : List ℕ) → Stands new q → Stands old q) → is_in_gap old spot key ≡ true → is_in_gap new spot key ≡ true
+pub in_gap-fewer : (old new : List (List ℕ)) (spot : Option (List ℕ)) (key : List ℕ) → ((q : List ℕ) → Stands new q → Stands old q)
+    → is_in_gap old spot key ≡ true → is_in_gap new spot key ≡ true
 in_gap-fewer old new spot key fewer h =
     in_gap-from new spot key (in_gap-before old spot key h) (λ q stands before. in_gap-behind old spot key q h (fewer q stands) before)
 
@@ -50,7 +56,8 @@ pub not_itself : (a : List ℕ) → is_below a a ≡ true → ⊥
 not_itself a h = not_both a a h h
 
 -- two spots in whose gap a key lies are one
-pub one_gap : (records : List (List ℕ)) (key : List ℕ) (a b : Option (List ℕ)) → stands_in records a ≡ true → stands_in records b ≡ true → is_in_gap records a key ≡ true → is_in_gap records b key ≡ true → a ≡ b
+pub one_gap : (records : List (List ℕ)) (key : List ℕ) (a b : Option (List ℕ)) → stands_in records a ≡ true → stands_in records b ≡ true
+    → is_in_gap records a key ≡ true → is_in_gap records b key ≡ true → a ≡ b
 one_gap records key None None sa sb ga gb = refl
 one_gap records key None (Some b) sa sb ga gb =
     absurd (not_both b key (in_gap-behind records None key b ga sb refl) (in_gap-before records (Some b) key gb))
@@ -140,7 +147,8 @@ some_spot records key =
 
 -- ---- a record is inserted before the next spot
 
-module _ (records : List (List ℕ)) (new key : List ℕ) (next : Option (List ℕ)) (next_stands : stands_in records next ≡ true) (follows : is_in_gap records next new ≡ true) where
+module _ (records : List (List ℕ)) (new key : List ℕ) (next : Option (List ℕ)) (next_stands : stands_in records next ≡ true)
+    (follows : is_in_gap records next new ≡ true) where
   -- the next spot was that of the new key
   pub new_spot : IsSpotOf records new next
   new_spot = record { stands = next_stands; at = inr follows }
@@ -195,7 +203,8 @@ module _ (gone : List ℕ) where
         | inl same ↦ absurd (differ (sym ((bytes_decides r q).0 same) ∙ (bytes_decides r gone).0 is))
         | inr rest ↦ stays records q differ rest
       ]))
-      (λ is_not. subst (λ b. list_any (λ k. pointwise nat_eq k q) (cond (not b) (r ∷ without_record gone records) (without_record gone records)) ≡ true) (sym is_not)
+      (λ is_not. subst (λ b. list_any (λ k. pointwise nat_eq k q) (cond (not b) (r ∷ without_record gone records) (without_record gone records)) ≡ true)
+      (sym is_not)
       (elim (or_cases (pointwise nat_eq r q) _ stands) [
         | inl same ↦ or_left _ _ same
         | inr rest ↦ or_right (pointwise nat_eq r q) _ (stays records q differ rest)
@@ -211,7 +220,9 @@ module _ (gone : List ℕ) where
         | inr rest ↦ gone_not records rest
       ])
 
-  module _ (records : List (List ℕ)) (next : Option (List ℕ)) (was : Stands records gone) (next_stands : stands_in (without_record gone records) next ≡ true) (follows : is_in_gap (without_record gone records) next gone ≡ true) (key : List ℕ) where
+  module _ (records : List (List ℕ)) (next : Option (List ℕ)) (was : Stands records gone)
+      (next_stands : stands_in (without_record gone records) next ≡ true) (follows : is_in_gap (without_record gone records) next gone ≡ true)
+      (key : List ℕ) where
     abbrev left : List (List ℕ)
     left = without_record gone records
 
@@ -251,7 +262,9 @@ module _ (gone : List ℕ) where
       | inl here ↦ absurd (not_both gone key (subst (λ (s : Option (List ℕ)). is_before gone s ≡ true) here before) less)
       | inr gap ↦
           let below : (q : List ℕ) → Stands records q → is_before q (Some gone) ≡ true → is_below q key ≡ true =
-          λ q stands under. in_gap-behind left spot key q gap (stays records q (λ e. not_itself gone (subst (λ (k : List ℕ). is_below k gone ≡ true) e under)) stands) (before_trans q gone spot under before) in (
+          λ q stands under. in_gap-behind left spot key q gap
+          (stays records q (λ e. not_itself gone (subst (λ (k : List ℕ). is_below k gone ≡ true) e under)) stands)
+          (before_trans q gone spot under before) in (
             one_gap left gone spot next now.stands next_stands
                 (in_gap-from left spot gone before (λ q stands under. below_trans q key gone (in_gap-behind left spot key q gap stands under) less)) follows,
             record { stands = was; at = inr (in_gap-from records (Some gone) key less below) },
@@ -262,7 +275,8 @@ module _ (gone : List ℕ) where
     pub spot_after : (spot : Option (List ℕ)) → IsSpotOf left key spot → IsSpotOf records key spot ⊎ WasGone spot
     spot_after spot now =
         elim (one_of key gone) [
-          | inl less ↦ split (is_before gone spot) (λ before. inr (between spot now less before)) (λ not_before. inl (same_spot_before spot now (λ before. absurd (true_false _ before not_before))))
+          | inl less ↦ split (is_before gone spot) (λ before. inr (between spot now less before))
+              (λ not_before. inl (same_spot_before spot now (λ before. absurd (true_false _ before not_before))))
           | inr other ↦ elim other [
             | inl same ↦ inr (own_gone spot now same)
             | inr more ↦ inl (same_spot_before spot now (λ before. more))

@@ -26,7 +26,8 @@ pub record IsLess (old_granted old_waiting granted waiting : List Lock) : Type 0
   pub part : IsPart waiting old_waiting
   pub locks : (lock : Lock) → IsIn granted lock → IsIn old_granted lock ⊎ (is_waiting lock.txn waiting ≡ false)
 
-pub stood_before : (old_granted old_waiting granted waiting : List Lock) → AreSingle old_waiting → IsLess old_granted old_waiting granted waiting → (cycle : List Edge) → IsCycle granted waiting cycle → IsCycle old_granted old_waiting cycle
+pub stood_before : (old_granted old_waiting granted waiting : List Lock) → AreSingle old_waiting → IsLess old_granted old_waiting granted waiting
+    → (cycle : List Edge) → IsCycle granted waiting cycle → IsCycle old_granted old_waiting cycle
 stood_before old_granted old_waiting granted waiting single less cycle is =
     elsewhere granted waiting cycle is old_granted old_waiting single
     (λ e there wait holder. record {
@@ -46,12 +47,14 @@ stood_before old_granted old_waiting granted waiting single less cycle is =
 
 -- ---- grants, and what is given back
 
-pub granted_less : (old : Table) (lock : Lock) (new : Table) → IsGranted old new lock → is_waiting lock.txn old.waiting ≡ false → IsLess old.granted old.waiting new.granted new.waiting
+pub granted_less : (old : Table) (lock : Lock) (new : Table) → IsGranted old new lock → is_waiting lock.txn old.waiting ≡ false
+    → IsLess old.granted old.waiting new.granted new.waiting
 granted_less old lock new is dead =
     subst (λ (t : Table). IsLess old.granted old.waiting t.granted t.waiting) (sym is.lists)
     (record { part = part_itself old.waiting; locks = λ other there. one_more (is_covered old.granted lock) other there })
   where
-    one_more : (b : Bool) (other : Lock) → IsIn (cond b old.granted (old.granted ++ lock ∷ [])) other → IsIn old.granted other ⊎ (is_waiting other.txn old.waiting ≡ false)
+    one_more : (b : Bool) (other : Lock) → IsIn (cond b old.granted (old.granted ++ lock ∷ [])) other
+        → IsIn old.granted other ⊎ (is_waiting other.txn old.waiting ≡ false)
     one_more true other there = inl there
     one_more false other there = elim (in_cases old.granted (lock ∷ []) other there) [
       | inl before ↦ inl before
@@ -69,13 +72,15 @@ served_less kept left granted waiting single = record {
   ];
 }
 
-pub withdrawn_less : (left : Lock → Bool) (granted waiting : List Lock) → AreSingle waiting → IsLess granted waiting (serve granted [] (filter left waiting)).granted (serve granted [] (filter left waiting)).waiting
+pub withdrawn_less : (left : Lock → Bool) (granted waiting : List Lock) → AreSingle waiting
+    → IsLess granted waiting (serve granted [] (filter left waiting)).granted (serve granted [] (filter left waiting)).waiting
 withdrawn_less left granted waiting single = record {
   part = part_of_part _ (filter left waiting) waiting (served_part granted [] (filter left waiting)) (filtered_part left waiting);
   locks = λ lock there. served_locks granted [] (filter left waiting) (single_filter left waiting single) lock there;
 }
 
-pub released_less : (kept : Lock → Bool) (granted waiting : List Lock) → AreSingle waiting → IsLess granted waiting (serve (filter kept granted) [] waiting).granted (serve (filter kept granted) [] waiting).waiting
+pub released_less : (kept : Lock → Bool) (granted waiting : List Lock) → AreSingle waiting
+    → IsLess granted waiting (serve (filter kept granted) [] waiting).granted (serve (filter kept granted) [] waiting).waiting
 released_less kept granted waiting single = record {
   part = served_part (filter kept granted) [] waiting;
   locks = λ lock there. elim (served_locks (filter kept granted) [] waiting single lock there) [
@@ -97,9 +102,11 @@ copies_own txn new next (w ∷ locks) lock there =
       | inr rest ↦ copies_own txn new next locks lock rest
     ])
     (λ not_copied.
-    copies_own txn new next locks lock (subst (λ b. IsIn (cond b (as_gap (number_of CopiedOnInsert) new w ∷ copies txn new next locks) (copies txn new next locks)) lock) not_copied there))
+    copies_own txn new next locks lock
+    (subst (λ b. IsIn (cond b (as_gap (number_of CopiedOnInsert) new w ∷ copies txn new next locks) (copies txn new next locks)) lock) not_copied there))
 
-pub inserted_less : (txn : ℕ) (new next : Spot) (granted waiting : List Lock) → is_waiting txn waiting ≡ false → IsLess granted waiting (granted ++ copies txn new next granted) waiting
+pub inserted_less : (txn : ℕ) (new next : Spot) (granted waiting : List Lock) → is_waiting txn waiting ≡ false
+    → IsLess granted waiting (granted ++ copies txn new next granted) waiting
 inserted_less txn new next granted waiting dead = record {
   part = part_itself waiting;
   locks = λ lock there. elim (in_cases granted (copies txn new next granted) lock there) [

@@ -46,7 +46,8 @@ behind txn held earlier [] e there = absurd there
 behind txn held earlier (asked ∷ queue) e there =
     split (asked.txn == txn)
     (λ here.
-    let found = of_blockers txn held earlier asked e (subst (λ b. IsIn (cond b (map (edge_to txn) (blockers held earlier asked)) (edges_behind txn held (earlier ++ asked ∷ []) queue)) e) here there) in
+    let found = of_blockers txn held earlier asked e
+    (subst (λ b. IsIn (cond b (map (edge_to txn) (blockers held earlier asked)) (edges_behind txn held (earlier ++ asked ∷ []) queue)) e) here there) in
     record {
       asked = asked;
       lock = found.0;
@@ -57,7 +58,8 @@ behind txn held earlier (asked ∷ queue) e there =
       from = elim found.3 [ inl granted ↦ inl granted | inr before ↦ inr (inl before) ];
     })
     (λ other.
-    let rest = behind txn held (earlier ++ asked ∷ []) queue e (subst (λ b. IsIn (cond b (map (edge_to txn) (blockers held earlier asked)) (edges_behind txn held (earlier ++ asked ∷ []) queue)) e) other there) in
+    let rest = behind txn held (earlier ++ asked ∷ []) queue e
+    (subst (λ b. IsIn (cond b (map (edge_to txn) (blockers held earlier asked)) (edges_behind txn held (earlier ++ asked ∷ []) queue)) e) other there) in
     record {
       asked = rest.asked;
       lock = rest.lock;
@@ -95,7 +97,8 @@ wait_from_edge granted waiting e stands =
 
 -- ---- to an edge
 
-to_blockers : (txn : ℕ) (held earlier : List Lock) (asked lock : Lock) → conflicts lock asked ≡ true → IsIn held lock ⊎ IsIn earlier lock → IsIn (map (edge_to txn) (blockers held earlier asked)) (edge_to txn lock)
+to_blockers : (txn : ℕ) (held earlier : List Lock) (asked lock : Lock) → conflicts lock asked ≡ true → IsIn held lock ⊎ IsIn earlier lock
+    → IsIn (map (edge_to txn) (blockers held earlier asked)) (edge_to txn lock)
 to_blockers txn held earlier asked lock blocks from =
     in_map (edge_to txn) (blockers held earlier asked) lock
     (elim from [
@@ -107,7 +110,8 @@ ahead : (txn : ℕ) (held earlier queue : List Lock) → AreSingle queue → (as
     → IsIn held lock ⊎ (IsIn earlier lock ⊎ IsBefore queue lock asked) → IsIn (edges_behind txn held earlier queue) (edge_to txn lock)
 ahead txn held earlier [] single asked lock there own blocks from = absurd there
 ahead txn held earlier (w ∷ queue) single asked lock (inl here) own blocks from =
-    subst (λ b. IsIn (cond b (map (edge_to txn) (blockers held earlier w)) (edges_behind txn held (earlier ++ w ∷ []) queue)) (edge_to txn lock)) (sym (eq-eqb w.txn txn (ap (λ (l : Lock). l.txn) here ∙ own)))
+    subst (λ b. IsIn (cond b (map (edge_to txn) (blockers held earlier w)) (edges_behind txn held (earlier ++ w ∷ []) queue)) (edge_to txn lock))
+    (sym (eq-eqb w.txn txn (ap (λ (l : Lock). l.txn) here ∙ own)))
     (to_blockers txn held earlier w lock (subst (λ (l : Lock). conflicts lock l ≡ true) (sym here) blocks)
     (elim from [
       | inl granted ↦ inl granted
@@ -131,7 +135,9 @@ ahead txn held earlier (w ∷ queue) single asked lock (inr there) own blocks fr
     ]))
   where
     apart : (w.txn == txn) ≡ false
-    apart = split (w.txn == txn) (λ same. absurd (true_false _ (subst (λ t. is_waiting t queue ≡ true) (own ∙ sym (eqb-true w.txn txn same)) (in_waits queue asked there)) single.0)) (λ other. other)
+    apart = split (w.txn == txn)
+        (λ same. absurd (true_false _ (subst (λ t. is_waiting t queue ≡ true) (own ∙ sym (eqb-true w.txn txn same)) (in_waits queue asked there)) single.0))
+        (λ other. other)
 
 pub edge_from_wait : (granted waiting : List Lock) (e : Edge) → AreSingle waiting → IsWait granted waiting e → IsEdge granted waiting e
 edge_from_wait granted waiting e single wait =
@@ -169,7 +175,9 @@ module _ (granted waiting : List Lock) (cycle : List Edge) (is : IsCycle granted
       ])
 
   -- where each of its edges stands in other lists, so does the cycle
-  pub elsewhere : (old_granted old_waiting : List Lock) → AreSingle old_waiting → ((e : Edge) → IsIn cycle e → IsWait granted waiting e → is_waiting e.holder waiting ≡ true → IsWait old_granted old_waiting e) → IsCycle old_granted old_waiting cycle
+  pub elsewhere : (old_granted old_waiting : List Lock) → AreSingle old_waiting
+      → ((e : Edge) → IsIn cycle e → IsWait granted waiting e → is_waiting e.holder waiting ≡ true → IsWait old_granted old_waiting e)
+      → IsCycle old_granted old_waiting cycle
   elsewhere old_granted old_waiting single each = record {
     stand = All-from_recursion (IsEdge old_granted old_waiting) cycle (in_all (IsEdge old_granted old_waiting) cycle
         (λ e there. edge_from_wait old_granted old_waiting e single (each e there (stand e there) (holder_waits e there))));

@@ -54,7 +54,8 @@ module _ {A : Type 0} where
 
   pub filter_in : (test : A → Bool) (xs : List A) (y : A) → IsIn xs y → test y ≡ true → IsIn (filter test xs) y
   filter_in test [] y is passes = absurd is
-  filter_in test (x ∷ xs) y (inl here) passes = subst (λ b. IsIn (cond b (x ∷ filter test xs) (filter test xs)) y) (sym (subst (λ z. test z ≡ true) (sym here) passes)) (inl here)
+  filter_in test (x ∷ xs) y (inl here) passes = subst (λ b. IsIn (cond b (x ∷ filter test xs) (filter test xs)) y)
+      (sym (subst (λ z. test z ≡ true) (sym here) passes)) (inl here)
   filter_in test (x ∷ xs) y (inr there) passes =
       let rest = filter_in test xs y there passes in
       elim (test x) as (λ b. IsIn (cond b (x ∷ filter test xs) (filter test xs)) y) [ true ↦ inr rest | false ↦ rest ]

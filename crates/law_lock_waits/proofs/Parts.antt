@@ -60,7 +60,8 @@ pub served_part : (held earlier queue : List Lock) → IsPart (serve held earlie
 served_part held earlier [] = subst (IsPart earlier) (sym (append-nil earlier)) (part_itself earlier)
 served_part held earlier (asked ∷ queue) =
     elim (is_blocked held earlier asked) as (λ b. IsPart (cond b (serve held (earlier ++ asked ∷ []) queue) (serve (held ++ asked ∷ []) earlier queue)).waiting (earlier ++ asked ∷ queue)) [
-      | true ↦ subst (IsPart (serve held (earlier ++ asked ∷ []) queue).waiting) (append_assoc earlier (asked ∷ []) queue) (served_part held (earlier ++ asked ∷ []) queue)
+      | true ↦ subst (IsPart (serve held (earlier ++ asked ∷ []) queue).waiting) (append_assoc earlier (asked ∷ []) queue)
+          (served_part held (earlier ++ asked ∷ []) queue)
       | false ↦ part_of_part _ (earlier ++ queue) _ (served_part (held ++ asked ∷ []) earlier queue) (part_less earlier asked queue)
     ]
 
@@ -86,7 +87,8 @@ single_out (e ∷ earlier) asked queue single =
     (single_out earlier asked queue single.1)
   where
     in_waits_of : e.txn ≡ asked.txn → is_waiting e.txn (earlier ++ asked ∷ queue) ≡ true
-    in_waits_of same = subst (λ t. is_waiting t (earlier ++ asked ∷ queue) ≡ true) (sym same) (in_waits (earlier ++ asked ∷ queue) asked (in_behind earlier (asked ∷ queue) asked (inl refl)))
+    in_waits_of same = subst (λ t. is_waiting t (earlier ++ asked ∷ queue) ≡ true) (sym same)
+        (in_waits (earlier ++ asked ∷ queue) asked (in_behind earlier (asked ∷ queue) asked (inl refl)))
 
 single_rest : (earlier : List Lock) (asked : Lock) (queue : List Lock) → AreSingle (earlier ++ asked ∷ queue) → AreSingle (earlier ++ queue)
 single_rest [] asked queue single = single.1
@@ -99,11 +101,13 @@ served_locks held earlier [] single lock there = inl there
 served_locks held earlier (asked ∷ queue) single lock there =
     split (is_blocked held earlier asked)
     (λ blocked.
-    subst (λ b. IsIn held lock ⊎ (is_waiting lock.txn (cond b (serve held (earlier ++ asked ∷ []) queue) (serve (held ++ asked ∷ []) earlier queue)).waiting ≡ false)) (sym blocked)
+    subst (λ b. IsIn held lock ⊎ (is_waiting lock.txn (cond b (serve held (earlier ++ asked ∷ []) queue) (serve (held ++ asked ∷ []) earlier queue)).waiting ≡ false))
+    (sym blocked)
     (served_locks held (earlier ++ asked ∷ []) queue (subst AreSingle (sym (append_assoc earlier (asked ∷ []) queue)) single) lock
     (subst (λ b. IsIn (cond b (serve held (earlier ++ asked ∷ []) queue) (serve (held ++ asked ∷ []) earlier queue)).granted lock) blocked there)))
     (λ free.
-    subst (λ b. IsIn held lock ⊎ (is_waiting lock.txn (cond b (serve held (earlier ++ asked ∷ []) queue) (serve (held ++ asked ∷ []) earlier queue)).waiting ≡ false)) (sym free)
+    subst (λ b. IsIn held lock ⊎ (is_waiting lock.txn (cond b (serve held (earlier ++ asked ∷ []) queue) (serve (held ++ asked ∷ []) earlier queue)).waiting ≡ false))
+    (sym free)
     (elim (served_locks (held ++ asked ∷ []) earlier queue (single_rest earlier asked queue single) lock
     (subst (λ b. IsIn (cond b (serve held (earlier ++ asked ∷ []) queue) (serve (held ++ asked ∷ []) earlier queue)).granted lock) free there)) [
       | inr done ↦ inr done

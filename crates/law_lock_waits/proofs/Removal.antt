@@ -44,7 +44,8 @@ module _ (by : Option ℕ) (gone next : Spot) where
   left_from : (queue : List Lock) (lock : Lock) → IsIn (left_by by gone next queue) lock → IsGap lock
   left_from [] lock there = absurd there
   left_from (w ∷ queue) lock there = go (same_spot w.spot gone && becomes_gap by w) (left_from queue lock) there where
-    go : (b : Bool) → (IsIn (left_by by gone next queue) lock → IsGap lock) → IsIn (cond b (as_gap (number_of RecordWent) next w ∷ left_by by gone next queue) (left_by by gone next queue)) lock → IsGap lock
+    go : (b : Bool) → (IsIn (left_by by gone next queue) lock → IsGap lock)
+        → IsIn (cond b (as_gap (number_of RecordWent) next w ∷ left_by by gone next queue) (left_by by gone next queue)) lock → IsGap lock
     go true rest (inl here) = (w, here)
     go true rest (inr behind) = rest behind
     go false rest behind = rest behind
@@ -60,7 +61,8 @@ module _ (by : Option ℕ) (gone next : Spot) where
   is_inserter : (lock asked : Lock) → IsGap lock → conflicts lock asked ≡ true → (is_intent asked.kind && same_spot asked.spot next) ≡ true
   is_inserter lock asked (w, is) blocks =
       let gap : conflicts (as_gap (number_of RecordWent) next w) asked ≡ true = subst (λ (l : Lock). conflicts l asked ≡ true) (sym is) blocks in
-      let spots : next ≡ asked.spot = spot_same next asked.spot (second (not (w.txn == asked.txn)) _ (first (not (w.txn == asked.txn) && same_spot next asked.spot) _ gap)) in
+      let spots : next ≡ asked.spot = spot_same next asked.spot
+      (second (not (w.txn == asked.txn)) _ (first (not (w.txn == asked.txn) && same_spot next asked.spot) _ gap)) in
       both _ _
       (gap_blocks (is_some asked.spot.key) asked.kind w.mode asked.mode (second (not (w.txn == asked.txn) && same_spot next asked.spot) _ gap))
       (subst (λ (s : Spot). same_spot s next ≡ true) spots (spot_refl next))
@@ -93,7 +95,8 @@ module _ (by : Option ℕ) (gone next : Spot) where
     part = part_of_part _ left waiting (served_part held [] left) (filtered_part (λ asked. not (same_spot asked.spot gone)) waiting)
 
     -- a lock that stands in the way of one who waits is an old one, or a gap lock on the next spot
-    lock_from : (lock : Lock) → IsIn (serve held [] left).granted lock → is_waiting lock.txn (serve held [] left).waiting ≡ true → IsIn granted lock ⊎ IsGap lock
+    lock_from : (lock : Lock) → IsIn (serve held [] left).granted lock → is_waiting lock.txn (serve held [] left).waiting ≡ true
+        → IsIn granted lock ⊎ IsGap lock
     lock_from lock there waits = elim (served_locks held [] left (single_filter (λ asked. not (same_spot asked.spot gone)) waiting single) lock there) [
       | inr done ↦ absurd (true_false _ waits done)
       | inl before ↦ elim (in_cases (moved by gone next granted) (left_by by gone next waiting) lock before) [
@@ -102,7 +105,8 @@ module _ (by : Option ℕ) (gone next : Spot) where
       ]
     ]
 
-    pub removal_closes : (cycle : List Edge) → IsCycle (after_removal by gone next granted waiting).granted (after_removal by gone next granted waiting).waiting cycle
+    pub removal_closes : (cycle : List Edge)
+        → IsCycle (after_removal by gone next granted waiting).granted (after_removal by gone next granted waiting).waiting cycle
         → IsCycle granted waiting cycle ⊎ Meets (inserters next waiting) cycle
     removal_closes cycle is =
         elim (one_of_both (inserters next waiting) (waiters cycle)) [

@@ -15,7 +15,8 @@ use Rattle.law_lock_waits.proofs.Members.{contains_from_in}
 use Rattle.law_lock_waits.proofs.Calls.{queued_closes}
 use Rattle.law_lock_waits.proofs.Removal.{removal_closes}
 
-pub all_meet_asker : (old new : Table) (lock : Lock) (edges : List Edge) → AreSound old.granted old.waiting → AreFree old.granted old.waiting → IsQueued old new lock edges → AllMeet (lock.txn ∷ []) new.granted new.waiting
+pub all_meet_asker : (old new : Table) (lock : Lock) (edges : List Edge) → AreSound old.granted old.waiting → AreFree old.granted old.waiting
+    → IsQueued old new lock edges → AllMeet (lock.txn ∷ []) new.granted new.waiting
 all_meet_asker old new lock edges sound free is cycle stands =
     elim (queued_closes old.granted old.waiting lock sound.single cycle (subst (λ (ws : List Lock). IsCycle old.granted ws cycle) is.waiting (subst (λ (ls : List Lock). IsCycle ls new.waiting cycle) is.granted stands))) [
       | inl stood ↦ absurd (free cycle stood)
@@ -25,10 +26,12 @@ all_meet_asker old new lock edges sound free is cycle stands =
 module _ (by : Option ℕ) (gone next : Spot) (granted waiting : List Lock) (sound : AreSound granted waiting) where
   pub sound_removed : AreSound (after_removal by gone next granted waiting).granted (after_removal by gone next granted waiting).waiting
   sound_removed =
-      let locks = locks_moved granted waiting sound by gone next (moved by gone next granted) (moved by gone next granted ++ left_by by gone next waiting) refl refl in
+      let locks = locks_moved granted waiting sound by gone next (moved by gone next granted)
+      (moved by gone next granted ++ left_by by gone next waiting) refl refl in
       let requests = requests_left granted waiting sound (λ asked. not (same_spot asked.spot gone)) (elsewhere gone waiting) refl in
       served (moved by gone next granted ++ left_by by gone next waiting) (elsewhere gone waiting) locks.0 requests.0 locks.1 requests.1
 
-  pub all_meet_inserters : AreFree granted waiting → AllMeet (inserters next waiting) (after_removal by gone next granted waiting).granted (after_removal by gone next granted waiting).waiting
+  pub all_meet_inserters : AreFree granted waiting
+      → AllMeet (inserters next waiting) (after_removal by gone next granted waiting).granted (after_removal by gone next granted waiting).waiting
   all_meet_inserters free cycle stands =
       elim (removal_closes by gone next granted waiting sound.single cycle stands) [ inl stood ↦ absurd (free cycle stood) | inr meets ↦ meets ]

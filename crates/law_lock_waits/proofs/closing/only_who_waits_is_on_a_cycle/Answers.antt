@@ -7,4 +7,5 @@ use Rattle.law_lock_waits.proofs.closing.only_who_waits_is_on_a_cycle.Goals as g
 
 pub returns : goal.returns
 returns c granted waiting cycle is =
-    All-from_recursion (λ edge. is_waiting edge.holder waiting ≡ true) cycle (in_all (λ edge. is_waiting edge.holder waiting ≡ true) cycle (λ edge there. holder_waits granted waiting cycle is edge there))
+    All-from_recursion (λ edge. is_waiting edge.holder waiting ≡ true) cycle
+    (in_all (λ edge. is_waiting edge.holder waiting ≡ true) cycle (λ edge there. holder_waits granted waiting cycle is edge there))

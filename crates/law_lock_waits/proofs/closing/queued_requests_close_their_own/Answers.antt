@@ -7,4 +7,5 @@ use Rattle.law_lock_waits.proofs.closing.queued_requests_close_their_own.Goals a
 
 pub returns : goal.returns
 returns c old new lock edges cycle single is stands =
-    queued_closes old.granted old.waiting lock single cycle (subst (λ (ws : List Lock). IsCycle old.granted ws cycle) is.waiting (subst (λ (ls : List Lock). IsCycle ls new.waiting cycle) is.granted stands))
+    queued_closes old.granted old.waiting lock single cycle
+    (subst (λ (ws : List Lock). IsCycle old.granted ws cycle) is.waiting (subst (λ (ls : List Lock). IsCycle ls new.waiting cycle) is.granted stands))

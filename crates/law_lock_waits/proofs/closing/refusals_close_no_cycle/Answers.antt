@@ -5,4 +5,5 @@ use Rattle.deadlock.specs.Cycles.{IsCycle}
 use Rattle.law_lock_waits.proofs.closing.refusals_close_no_cycle.Goals as goal
 
 pub returns : goal.returns
-returns c old new lock cycle is stands = subst (λ (ws : List Lock). IsCycle old.granted ws cycle) is.waiting (subst (λ (ls : List Lock). IsCycle ls new.waiting cycle) is.granted stands)
+returns c old new lock cycle is stands = subst (λ (ws : List Lock). IsCycle old.granted ws cycle) is.waiting
+    (subst (λ (ls : List Lock). IsCycle ls new.waiting cycle) is.granted stands)

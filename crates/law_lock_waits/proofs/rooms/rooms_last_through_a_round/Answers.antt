@@ -6,4 +6,5 @@ use Rattle.law_lock_waits.proofs.Rounds.{fewer_after}
 use Rattle.law_lock_waits.proofs.rooms.rooms_last_through_a_round.Goals as goal
 
 pub returns : goal.returns
-returns c victim lists rooms waits has = rooms_fewer (length (after_withdrawal victim lists).waiting) (length lists.waiting - 1) rooms (omega (arith, fewer_after lists victim waits)) has
+returns c victim lists rooms waits has = rooms_fewer (length (after_withdrawal victim lists).waiting) (length lists.waiting - 1) rooms
+    (omega (arith, fewer_after lists victim waits)) has

@@ -16,7 +16,8 @@ returns c = record {
       rooms_fewer (length (after_end txn granted waiting).waiting) (length waiting) rooms
       (omega (arith, served_fewer (without txn granted) [] (without txn waiting), filter_upto (λ lock. not (lock.txn == txn)) waiting)) has;
   released = λ gone granted waiting rooms has.
-      rooms_fewer (length (serve (without_lock gone granted) [] waiting).waiting) (length waiting) rooms (omega (arith, served_fewer (without_lock gone granted) [] waiting)) has;
+      rooms_fewer (length (serve (without_lock gone granted) [] waiting).waiting) (length waiting) rooms
+      (omega (arith, served_fewer (without_lock gone granted) [] waiting)) has;
   removed = λ by gone next granted waiting rooms has.
       rooms_fewer (length (after_removal by gone next granted waiting).waiting) (length waiting) rooms
       (omega (arith, served_fewer (moved by gone next granted ++ left_by by gone next waiting) [] (elsewhere gone waiting), filter_upto (λ asked. not (same_spot asked.spot gone)) waiting)) has;
