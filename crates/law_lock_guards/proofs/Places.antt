@@ -21,7 +21,7 @@ use Rattle.lock_rules.proofs.Beside.{spot_refl, spot_same, key_refl}
 use Rattle.lock_table.specs.Queue.{serve, without, without_lock, is_blocked, is_covered}
 use Rattle.lock_table.specs.Records.{becomes_gap, as_gap, copies, moved, left_by, elsewhere, after_removal, after_end}
 use Rattle.lock_table.specs.Coverage.{IsInsertion}
-use Rattle.lock_table.specs.View.{Table, IsAnswered}
+use Rattle.lock_table.specs.View.{Table, HasPlaces, IsAnswered, IsGranted, must_wait}
 use Rattle.lock_table.proofs.Soundness.{all_left, all_copies, all_served}
 use Rattle.law_lock_guards.specs.Stand.{LocksStand, AllStand, Removes}
 use Rattle.law_lock_guards.proofs.Spots.{stays, new_not}
@@ -148,6 +148,17 @@ module _ (records : List (List ℕ)) (new_key : List ℕ) (new next : Spot) (ins
       or_false _ _
       (list_any-append (λ lock. conflicts lock asked) granted (copies txn new next granted) ∙ or_false _ _ (none_on_new granted all.granted_stand asked at) (own_copies txn granted asked own))
       (none_on_new waiting all.waiting_stand asked at)
+
+need_not : (table : Table) (asked : Lock) → is_blocked table.granted table.waiting asked ≡ false → must_wait table asked ≡ false
+need_not table asked free = ap (λ b. not (is_covered table.granted asked) && b) free ∙ and_false (not (is_covered table.granted asked))
+
+-- what need not wait, and has room, is granted
+pub granted_with_room : (inserted last : Table) (asked : Lock) (answer : Asked) → is_blocked inserted.granted inserted.waiting asked ≡ false
+    → HasPlaces 1 inserted
+    → IsAnswered inserted last asked answer → IsGranted inserted last asked
+granted_with_room inserted last asked Granted free room is = is
+granted_with_room inserted last asked (Waits edges) free room is = absurd (true_false _ is.waits (need_not inserted asked free))
+granted_with_room inserted last asked NoMemory free room is = absurd (is.full (need_not inserted asked free) room)
 
 -- ---- a record goes
 

@@ -26,6 +26,6 @@ pub use searching::{
 };
 pub use standing::{
     ends_leave_locks_standing, insertions_leave_locks_standing, new_records_are_free,
-    releases_leave_locks_standing, removals_leave_locks_standing, requests_leave_locks_standing,
-    withdrawals_leave_locks_standing,
+    new_records_with_room_are_granted, releases_leave_locks_standing,
+    removals_leave_locks_standing, requests_leave_locks_standing, withdrawals_leave_locks_standing,
 };
