@@ -16,29 +16,35 @@ length-copies txn new next (w ∷ locks) =
     go (is_own_gap txn next w) (length-copies txn new next locks) ∙ sym (sum_by-cons (λ lock. cond (is_own_gap txn next lock) 1 0) w locks)
   where
     go : (b : Bool) → length (copies txn new next locks) ≡ own_gaps txn next locks
-        → length (cond b (as_gap (number_of CopiedOnInsert) new w ∷ copies txn new next locks) (copies txn new next locks)) ≡ cond b 1 0 + own_gaps txn next locks
+        → length (cond b (as_gap (number_of CopiedOnInsert) new w ∷ copies txn new next locks) (copies txn new next locks))
+        ≡ cond b 1 0 + own_gaps txn next locks
     go true same = omega (arith, same)
     go false same = omega (arith, same)
 
-module _ (txn : ℕ) (new next : Spot) (old now : List Lock) (i before capacity : ℕ) (so_far : IsCopied txn new next old now i before capacity) (within : i < length old) (w : Lock) (at : w ≡ get_or now i w) where
+module _ (txn : ℕ) (new next : Spot) (old now : List Lock) (i before capacity : ℕ) (so_far : IsCopied txn new next old now i before capacity)
+    (within : i < length old) (w : Lock) (at : w ≡ get_or now i w) where
   abbrev copy : Lock
   copy = as_gap (number_of CopiedOnInsert) new w
 
   rest : drop i old ≡ w ∷ drop (i + 1) old
-  rest = drop_more old i w within ∙ ap (λ v. v ∷ drop (i + 1) old) (sym (get_or_append_left old so_far.done w i within) ∙ (sym (ap (λ ls. get_or ls i w) so_far.items) ∙ sym at))
+  rest = drop_more old i w within ∙ ap (λ v. v ∷ drop (i + 1) old)
+      (sym (get_or_append_left old so_far.done w i within) ∙ (sym (ap (λ ls. get_or ls i w) so_far.items) ∙ sym at))
 
   count : own_gaps txn next (drop i old) ≡ cond (is_own_gap txn next w) 1 0 + own_gaps txn next (drop (i + 1) old)
   count = ap (own_gaps txn next) rest ∙ sum_by-cons (λ lock. cond (is_own_gap txn next lock) 1 0) w (drop (i + 1) old)
 
-  step : copies txn new next (drop i old) ≡ cond (is_own_gap txn next w) (copy ∷ copies txn new next (drop (i + 1) old)) (copies txn new next (drop (i + 1) old))
+  abbrev behind : List Lock
+  behind = copies txn new next (drop (i + 1) old)
+
+  step : copies txn new next (drop i old) ≡ cond (is_own_gap txn next w) (copy ∷ behind) behind
   step = ap (copies txn new next) rest
 
   pub copied_one : is_own_gap txn next w ≡ true → IsCopied txn new next old (now ++ copy ∷ []) (i + 1) before capacity
   copied_one own = record {
     done = so_far.done ++ copy ∷ [];
     items = ap (λ ls. ls ++ copy ∷ []) so_far.items ∙ append_assoc old so_far.done (copy ∷ []);
-    same = append_assoc so_far.done (copy ∷ []) (copies txn new next (drop (i + 1) old))
-        ∙ (sym (ap (λ ls. so_far.done ++ ls) (step ∙ ap (λ b. cond b (copy ∷ copies txn new next (drop (i + 1) old)) (copies txn new next (drop (i + 1) old))) own)) ∙ so_far.same);
+    same = append_assoc so_far.done (copy ∷ []) behind
+        ∙ (sym (ap (λ ls. so_far.done ++ ls) (step ∙ ap (λ b. cond b (copy ∷ behind) behind) own)) ∙ so_far.same);
     room = omega (arith, so_far.room, count ∙ ap (λ b. cond b 1 0 + own_gaps txn next (drop (i + 1) old)) own, length-append now (copy ∷ []));
     stays = so_far.stays;
   }
@@ -47,7 +53,7 @@ module _ (txn : ℕ) (new next : Spot) (old now : List Lock) (i before capacity 
   skipped_one other = record {
     done = so_far.done;
     items = so_far.items;
-    same = sym (ap (λ ls. so_far.done ++ ls) (step ∙ ap (λ b. cond b (copy ∷ copies txn new next (drop (i + 1) old)) (copies txn new next (drop (i + 1) old))) other)) ∙ so_far.same;
+    same = sym (ap (λ ls. so_far.done ++ ls) (step ∙ ap (λ b. cond b (copy ∷ behind) behind) other)) ∙ so_far.same;
     room = omega (arith, so_far.room, count ∙ ap (λ b. cond b 1 0 + own_gaps txn next (drop (i + 1) old)) other);
     stays = so_far.stays;
   }
