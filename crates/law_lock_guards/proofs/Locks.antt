@@ -41,7 +41,8 @@ any_served p held earlier (asked ∷ queue) h =
     ]
 
 -- nor does a test that all of these locks pass
-pub any_kept : (p test : Lock → Bool) → ((lock : Lock) → p lock ≡ true → test lock ≡ true) → (xs : List Lock) → list_any p xs ≡ true → list_any p (filter test xs) ≡ true
+pub any_kept : (p test : Lock → Bool) → ((lock : Lock) → p lock ≡ true → test lock ≡ true) → (xs : List Lock) → list_any p xs ≡ true
+    → list_any p (filter test xs) ≡ true
 any_kept p test passes [] h = h
 any_kept p test passes (x ∷ xs) h =
     elim (or_cases (p x) _ h) [
@@ -86,7 +87,8 @@ spot_is spot other index key = λ i. record { index = (index i); key = (key i) }
 -- ---- a record is inserted
 
 module _ (inserter : ℕ) (next : Spot) (intention : Lock) where
-  blocks : (txn : ℕ) → txn ≢ inserter → intention.txn ≡ inserter → intention.kind ≡ Intent → intention.spot ≡ next → (lock : Lock) → is_gap_lock_at txn next.index next.key lock ≡ true → conflicts lock intention ≡ true
+  blocks : (txn : ℕ) → txn ≢ inserter → intention.txn ≡ inserter → intention.kind ≡ Intent → intention.spot ≡ next → (lock : Lock)
+      → is_gap_lock_at txn next.index next.key lock ≡ true → conflicts lock intention ≡ true
   blocks txn differ own kind spot lock is =
       let at = lock_at txn next.index next.key lock (first (is_lock_at txn next.index next.key lock) _ is) in
       let here : lock.spot ≡ next = spot_is lock.spot next at.here at.key in
@@ -97,12 +99,14 @@ module _ (inserter : ℕ) (next : Spot) (intention : Lock) where
       (ap (λ k. kinds_conflict (kind_of lock) lock.mode (kind_at (is_some intention.spot.key) k) intention.mode) kind ∙ second (is_lock_at txn next.index next.key lock) _ is)
 
   -- whoever has the gap of the next spot is the one who may insert before it
-  pub only_inserter : (txn : ℕ) (locks : List Lock) → txn ≢ inserter → MayInsert inserter next locks intention → has_gap txn next.index next.key locks ≡ true → ⊥
+  pub only_inserter : (txn : ℕ) (locks : List Lock) → txn ≢ inserter → MayInsert inserter next locks intention
+      → has_gap txn next.index next.key locks ≡ true → ⊥
   only_inserter txn locks differ may has =
       true_false _ (any_other (is_gap_lock_at txn next.index next.key) (λ held. conflicts held intention) (blocks txn differ may.own may.kind may.spot) locks has) may.free
 
 -- and has it on the new record too
-pub has_copy : (txn : ℕ) (new next : Spot) (locks : List Lock) → has_gap txn next.index next.key locks ≡ true → has_gap txn new.index new.key (copies txn new next locks) ≡ true
+pub has_copy : (txn : ℕ) (new next : Spot) (locks : List Lock) → has_gap txn next.index next.key locks ≡ true
+    → has_gap txn new.index new.key (copies txn new next locks) ≡ true
 has_copy txn new next [] has = has
 has_copy txn new next (lock ∷ locks) has =
     elim (or_cases (is_gap_lock_at txn next.index next.key lock) _ has) [
@@ -111,7 +115,8 @@ has_copy txn new next (lock ∷ locks) has =
           let copied : (lock.txn == txn && same_spot lock.spot next && locks_gap lock.kind) ≡ true =
           both _ _ (both _ _ (eq-eqb lock.txn txn at.own) (ap (λ (s : Spot). same_spot s next) (spot_is lock.spot next at.here at.key) ∙ spot_refl next))
           (sym (gap_kind (is_some lock.spot.key) lock.kind) ∙ second (is_lock_at txn next.index next.key lock) _ this) in
-          subst (λ b. list_any (is_gap_lock_at txn new.index new.key) (cond b (as_gap (number_of CopiedOnInsert) new lock ∷ copies txn new next locks) (copies txn new next locks)) ≡ true) (sym copied)
+          subst (λ b. list_any (is_gap_lock_at txn new.index new.key) (cond b (as_gap (number_of CopiedOnInsert) new lock ∷ copies txn new next locks) (copies txn new next locks)) ≡ true)
+          (sym copied)
           (or_left _ _ (both _ _ (at_lock txn new.index new.key (as_gap (number_of CopiedOnInsert) new lock) (record { own = at.own; here = refl; key = refl })) refl))
       | inr rest ↦
           let more = has_copy txn new next locks rest in
@@ -130,11 +135,14 @@ pick false named rule rest e = inr e
 -- the number tells the rule
 number_is : (n : ℕ) (rule : Rule) → rule_of n ≡ Some rule → n ≡ number_of rule
 number_is n rule e =
-    one 1 UniqueFound _ e refl (λ e. one 2 UniqueMarked _ e refl (λ e. one 3 UniqueAbsent _ e refl (λ e. one 4 RangeRecord _ e refl (λ e. one 5 PastRange _ e refl (λ e.
-    one 6 ClusteredOfEntry _ e refl (λ e. one 7 ToInsert _ e refl (λ e. one 8 Inserted _ e refl (λ e. one 9 DuplicateCheck _ e refl (λ e. one 10 Changed _ e refl (λ e.
+    one 1 UniqueFound _ e refl
+    (λ e. one 2 UniqueMarked _ e refl (λ e. one 3 UniqueAbsent _ e refl (λ e. one 4 RangeRecord _ e refl (λ e. one 5 PastRange _ e refl (λ e.
+    one 6 ClusteredOfEntry _ e refl
+    (λ e. one 7 ToInsert _ e refl (λ e. one 8 Inserted _ e refl (λ e. one 9 DuplicateCheck _ e refl (λ e. one 10 Changed _ e refl (λ e.
     one 11 LowerSearch _ e refl (λ e. one 12 RecordWent _ e refl (λ e. one 13 CopiedOnInsert None e refl (λ e. cc)))))))))))))
   where
-    one : (k : ℕ) (named : Rule) (rest : Option Rule) → cond (n == k) (Some named) rest ≡ Some rule → k ≡ number_of named → (rest ≡ Some rule → n ≡ number_of rule) → n ≡ number_of rule
+    one : (k : ℕ) (named : Rule) (rest : Option Rule) → cond (n == k) (Some named) rest ≡ Some rule → k ≡ number_of named
+        → (rest ≡ Some rule → n ≡ number_of rule) → n ≡ number_of rule
     one k named rest e is others = elim (pick (n == k) named rule rest e) [ inl here ↦ eqb-true n k here.0 ∙ is ∙ ap number_of here.1 | inr more ↦ others more ]
 
 level_same : (a b : Level) → same_level a b ≡ true → a ≡ b
@@ -165,14 +173,16 @@ module _ (by : Option ℕ) (lock : Lock) where
   is_of_change None rule = false
   is_of_change (Some txn) rule = lock.txn == txn && (rule == number_of Inserted || rule == number_of Changed)
 
-  upper_left : (rule : ℕ) → ((o : Option ℕ) → not (is_of_change o rule) ≡ true) → is_upper lock.reason.level ≡ true → (not (is_of_change by rule) && is_left rule) ≡ true
+  upper_left : (rule : ℕ) → ((o : Option ℕ) → not (is_of_change o rule) ≡ true) → is_upper lock.reason.level ≡ true
+      → (not (is_of_change by rule) && is_left rule) ≡ true
   upper_left rule no_change upper = both _ _ (no_change by) (or_left _ _ (or_left _ _ (or_left _ _ upper)))
 
   unchanged : (rule : ℕ) → (rule == number_of Inserted || rule == number_of Changed) ≡ false → (o : Option ℕ) → not (is_of_change o rule) ≡ true
   unchanged rule neither None = refl
   unchanged rule neither (Some txn) = ap (λ b. not (lock.txn == txn && b)) neither ∙ ap not (and_false (lock.txn == txn))
 
-  by_rule : (rule : Rule) → locks_gap (rule_kind rule) ≡ true → is_for rule lock.reason.level ≡ true → (not (is_of_change by (number_of rule)) && is_left (number_of rule)) ≡ true
+  by_rule : (rule : Rule) → locks_gap (rule_kind rule) ≡ true → is_for rule lock.reason.level ≡ true
+      → (not (is_of_change by (number_of rule)) && is_left (number_of rule)) ≡ true
   by_rule UniqueMarked gap upper = upper_left 2 (unchanged 2 refl) upper
   by_rule UniqueAbsent gap upper = upper_left 3 (unchanged 3 refl) upper
   by_rule RangeRecord gap upper = upper_left 4 (unchanged 4 refl) upper
@@ -201,24 +211,33 @@ module _ (by : Option ℕ) (lock : Lock) where
           let front = first (is_for rule c.level && is_case_of rule c && same_spot lock.spot c.spot && same_kind lock.kind (rule_kind rule)) _
           (first (is_for rule c.level && is_case_of rule c && same_spot lock.spot c.spot && same_kind lock.kind (rule_kind rule) && same_mode lock.mode (rule_mode rule c.mode)) _ given) in
           let kinds = second (is_for rule c.level && is_case_of rule c && same_spot lock.spot c.spot) _ front in
-          let for_level = first (is_for rule c.level) _ (first (is_for rule c.level && is_case_of rule c) _ (first (is_for rule c.level && is_case_of rule c && same_spot lock.spot c.spot) _ front)) in
+          let for_level = first (is_for rule c.level) _
+          (first (is_for rule c.level && is_case_of rule c) _ (first (is_for rule c.level && is_case_of rule c && same_spot lock.spot c.spot) _ front)) in
           let number : lock.reason.rule ≡ number_of rule =
-          eqb-true lock.reason.rule c.rule (first (lock.reason.rule == c.rule) _ (first (lock.reason.rule == c.rule && lock.reason.item == c.item) _ reason)) ∙ number_is c.rule rule is in
-          let level : lock.reason.level ≡ c.level = level_same lock.reason.level c.level (second (lock.reason.rule == c.rule && lock.reason.item == c.item) _ reason) in
-          let tests = subst (λ n. (not (is_of_change by n) && is_left n) ≡ true) (sym number) (by_rule rule (gap_rule lock.kind (rule_kind rule) kinds kind) (ap (is_for rule) level ∙ for_level)) in
-          both _ _ (both _ _ (not_intent lock.kind kind) (ap not (undone_is by) ∙ first (not (is_of_change by lock.reason.rule)) _ tests)) (second (not (is_of_change by lock.reason.rule)) _ tests)
+          eqb-true lock.reason.rule c.rule
+          (first (lock.reason.rule == c.rule) _ (first (lock.reason.rule == c.rule && lock.reason.item == c.item) _ reason))
+          ∙ number_is c.rule rule is in
+          let level : lock.reason.level ≡ c.level = level_same lock.reason.level c.level
+          (second (lock.reason.rule == c.rule && lock.reason.item == c.item) _ reason) in
+          let tests = subst (λ n. (not (is_of_change by n) && is_left n) ≡ true) (sym number)
+          (by_rule rule (gap_rule lock.kind (rule_kind rule) kinds kind) (ap (is_for rule) level ∙ for_level)) in
+          both _ _ (both _ _ (not_intent lock.kind kind) (ap not (undone_is by) ∙ first (not (is_of_change by lock.reason.rule)) _ tests))
+          (second (not (is_of_change by lock.reason.rule)) _ tests)
 
 module _ (by : Option ℕ) (gone next : Spot) where
   -- locks on other spots stay
-  pub moved_keeps : (p : Lock → Bool) → ((lock : Lock) → p lock ≡ true → same_spot lock.spot gone ≡ false) → (locks : List Lock) → list_any p locks ≡ true → list_any p (moved by gone next locks) ≡ true
+  pub moved_keeps : (p : Lock → Bool) → ((lock : Lock) → p lock ≡ true → same_spot lock.spot gone ≡ false) → (locks : List Lock) → list_any p locks ≡ true
+      → list_any p (moved by gone next locks) ≡ true
   moved_keeps p elsewhere [] has = has
   moved_keeps p elsewhere (lock ∷ locks) has =
       elim (or_cases (p lock) _ has) [
-        | inl this ↦ subst (λ b. list_any p (cond b (cond (becomes_gap by lock) (as_gap (number_of RecordWent) next lock ∷ moved by gone next locks) (moved by gone next locks)) (lock ∷ moved by gone next locks)) ≡ true) (sym (elsewhere lock this)) (or_left _ _ this)
+        | inl this ↦ subst (λ b. list_any p (cond b (cond (becomes_gap by lock) (as_gap (number_of RecordWent) next lock ∷ moved by gone next locks) (moved by gone next locks)) (lock ∷ moved by gone next locks)) ≡ true)
+            (sym (elsewhere lock this)) (or_left _ _ this)
         | inr rest ↦ moved_more p lock locks (moved_keeps p elsewhere locks rest)
       ]
     where
-      moved_more : (p : Lock → Bool) (lock : Lock) (locks : List Lock) → list_any p (moved by gone next locks) ≡ true → list_any p (moved by gone next (lock ∷ locks)) ≡ true
+      moved_more : (p : Lock → Bool) (lock : Lock) (locks : List Lock) → list_any p (moved by gone next locks) ≡ true
+          → list_any p (moved by gone next (lock ∷ locks)) ≡ true
       moved_more p lock locks more =
           elim (same_spot lock.spot gone) as (λ b. list_any p (cond b (cond (becomes_gap by lock) (as_gap (number_of RecordWent) next lock ∷ moved by gone next locks) (moved by gone next locks)) (lock ∷ moved by gone next locks)) ≡ true) [
             | true ↦ elim (becomes_gap by lock) as (λ b. list_any p (cond b (as_gap (number_of RecordWent) next lock ∷ moved by gone next locks) (moved by gone next locks)) ≡ true) [ true ↦ or_right _ _ more | false ↦ more ]
@@ -226,7 +245,8 @@ module _ (by : Option ℕ) (gone next : Spot) where
           ]
 
   -- and whoever had the gap of the record that went has that of the next spot
-  pub moved_gap : (txn : ℕ) (locks : List Lock) → AllByRecursion FitsItsRule locks → has_gap txn gone.index gone.key locks ≡ true → has_gap txn next.index next.key (moved by gone next locks) ≡ true
+  pub moved_gap : (txn : ℕ) (locks : List Lock) → AllByRecursion FitsItsRule locks → has_gap txn gone.index gone.key locks ≡ true
+      → has_gap txn next.index next.key (moved by gone next locks) ≡ true
   moved_gap txn [] fit has = has
   moved_gap txn (lock ∷ locks) fit has =
       elim (or_cases (is_gap_lock_at txn gone.index gone.key lock) _ has) [
@@ -234,7 +254,8 @@ module _ (by : Option ℕ) (gone next : Spot) where
             let at = lock_at txn gone.index gone.key lock (first (is_lock_at txn gone.index gone.key lock) _ this) in
             let here : same_spot lock.spot gone ≡ true = ap (λ (s : Spot). same_spot s gone) (spot_is lock.spot gone at.here at.key) ∙ spot_refl gone in
             let outlives = gap_outlives by lock fit.0 (second (is_lock_at txn gone.index gone.key lock) _ this) in
-            subst (λ b. list_any p (cond b (cond (becomes_gap by lock) (gap lock ∷ moved by gone next locks) (moved by gone next locks)) (lock ∷ moved by gone next locks)) ≡ true) (sym here)
+            subst (λ b. list_any p (cond b (cond (becomes_gap by lock) (gap lock ∷ moved by gone next locks) (moved by gone next locks)) (lock ∷ moved by gone next locks)) ≡ true)
+            (sym here)
             (subst (λ b. list_any p (cond b (gap lock ∷ moved by gone next locks) (moved by gone next locks)) ≡ true) (sym outlives)
             (or_left _ _ (both _ _ (at_lock txn next.index next.key (gap lock) (record { own = at.own; here = refl; key = refl })) refl)))
         | inr rest ↦
@@ -252,6 +273,8 @@ module _ (by : Option ℕ) (gone next : Spot) where
       gap lock = as_gap (number_of RecordWent) next lock
 
   -- what is in the list of those moved is granted in the end
-  pub any_removed : (p : Lock → Bool) (granted waiting : List Lock) → list_any p (moved by gone next granted) ≡ true → list_any p (after_removal by gone next granted waiting).granted ≡ true
+  pub any_removed : (p : Lock → Bool) (granted waiting : List Lock) → list_any p (moved by gone next granted) ≡ true
+      → list_any p (after_removal by gone next granted waiting).granted ≡ true
   any_removed p granted waiting has =
-      any_served p (moved by gone next granted ++ left_by by gone next waiting) [] (elsewhere gone waiting) (any_front p (moved by gone next granted) (left_by by gone next waiting) has)
+      any_served p (moved by gone next granted ++ left_by by gone next waiting) [] (elsewhere gone waiting)
+      (any_front p (moved by gone next granted) (left_by by gone next waiting) has)

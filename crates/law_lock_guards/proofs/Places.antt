@@ -21,7 +21,7 @@ use Rattle.lock_rules.proofs.Beside.{spot_refl, spot_same, key_refl}
 use Rattle.lock_table.specs.Queue.{serve, without, without_lock, is_blocked, is_covered}
 use Rattle.lock_table.specs.Records.{becomes_gap, as_gap, copies, moved, left_by, elsewhere, after_removal, after_end}
 use Rattle.lock_table.specs.Coverage.{IsInsertion}
-use Rattle.lock_table.specs.View.{Table, IsAnswered}
+use Rattle.lock_table.specs.View.{Table, HasPlaces, IsAnswered, IsGranted, must_wait}
 use Rattle.lock_table.proofs.Soundness.{all_left, all_copies, all_served}
 use Rattle.law_lock_guards.specs.Stand.{LocksStand, AllStand, Removes}
 use Rattle.law_lock_guards.proofs.Spots.{stays, new_not}
@@ -41,7 +41,8 @@ module _ (index : ℕ) (records : List (List ℕ)) where
   abbrev IsThere : Lock → Type 0
   IsThere lock = lock.spot.index ≡ index → stands_in records lock.spot.key ≡ true
 
-  served_stand : (held queue : List Lock) → LocksStand index records held → LocksStand index records queue → AllStand index records (serve held [] queue).granted (serve held [] queue).waiting
+  served_stand : (held queue : List Lock) → LocksStand index records held → LocksStand index records queue
+      → AllStand index records (serve held [] queue).granted (serve held [] queue).waiting
   served_stand held queue some others = let both = all_served IsThere held [] queue some tt others in record { granted_stand = both.0; waiting_stand = both.1 }
 
   filtered_stand : (test : Lock → Bool) (locks : List Lock) → LocksStand index records locks → LocksStand index records (filter test locks)
@@ -55,7 +56,9 @@ module _ (index : ℕ) (records : List (List ℕ)) where
 
   -- ---- requests, and what is given back
 
-  pub answered_stand : (old new : Table) (lock : Lock) (answer : Asked) → IsAnswered old new lock answer → (lock.spot.index ≡ index → stands_in records lock.spot.key ≡ true) → AllStand index records old.granted old.waiting → AllStand index records new.granted new.waiting
+  pub answered_stand : (old new : Table) (lock : Lock) (answer : Asked) → IsAnswered old new lock answer
+      → (lock.spot.index ≡ index → stands_in records lock.spot.key ≡ true) → AllStand index records old.granted old.waiting
+      → AllStand index records new.granted new.waiting
   answered_stand old new lock Granted is there all =
       subst (λ (t : Table). AllStand index records t.granted t.waiting) (sym is.lists)
       (record {
@@ -74,14 +77,19 @@ module _ (index : ℕ) (records : List (List ℕ)) where
     waiting_stand = subst (LocksStand index records) (sym is.waiting) all.waiting_stand;
   }
 
-  pub ended_stand : (txn : ℕ) (granted waiting : List Lock) → AllStand index records granted waiting → AllStand index records (after_end txn granted waiting).granted (after_end txn granted waiting).waiting
-  ended_stand txn granted waiting all = served_stand (without txn granted) (without txn waiting) (without_stand txn granted all.granted_stand) (without_stand txn waiting all.waiting_stand)
+  pub ended_stand : (txn : ℕ) (granted waiting : List Lock) → AllStand index records granted waiting
+      → AllStand index records (after_end txn granted waiting).granted (after_end txn granted waiting).waiting
+  ended_stand txn granted waiting all = served_stand (without txn granted) (without txn waiting) (without_stand txn granted all.granted_stand)
+      (without_stand txn waiting all.waiting_stand)
 
-  pub withdrawn_stand : (txn : ℕ) (granted waiting : List Lock) → AllStand index records granted waiting → AllStand index records (serve granted [] (without txn waiting)).granted (serve granted [] (without txn waiting)).waiting
+  pub withdrawn_stand : (txn : ℕ) (granted waiting : List Lock) → AllStand index records granted waiting
+      → AllStand index records (serve granted [] (without txn waiting)).granted (serve granted [] (without txn waiting)).waiting
   withdrawn_stand txn granted waiting all = served_stand granted (without txn waiting) all.granted_stand (without_stand txn waiting all.waiting_stand)
 
-  pub released_stand : (gone : Lock) (granted waiting : List Lock) → AllStand index records granted waiting → AllStand index records (serve (without_lock gone granted) [] waiting).granted (serve (without_lock gone granted) [] waiting).waiting
-  released_stand gone granted waiting all = served_stand (without_lock gone granted) waiting (filtered_stand (λ lock. not (same_lock lock gone)) granted all.granted_stand) all.waiting_stand
+  pub released_stand : (gone : Lock) (granted waiting : List Lock) → AllStand index records granted waiting
+      → AllStand index records (serve (without_lock gone granted) [] waiting).granted (serve (without_lock gone granted) [] waiting).waiting
+  released_stand gone granted waiting all = served_stand (without_lock gone granted) waiting
+      (filtered_stand (λ lock. not (same_lock lock gone)) granted all.granted_stand) all.waiting_stand
 
 -- ---- a record is inserted
 
@@ -94,9 +102,11 @@ module _ (records : List (List ℕ)) (new_key : List ℕ) (new next : Spot) (ins
   new_stands = ap (stands_in (new_key ∷ records)) insertion.new_key ∙ or_left _ _ (key_refl (Some new_key))
 
   locks_over : (locks : List Lock) → LocksStand new.index records locks → LocksStand new.index (new_key ∷ records) locks
-  locks_over locks all = all_weaker (IsThere new.index records) (IsThere new.index (new_key ∷ records)) (λ lock there here. more_stand new.index lock.spot.key (there here)) locks all
+  locks_over locks all = all_weaker (IsThere new.index records) (IsThere new.index (new_key ∷ records))
+      (λ lock there here. more_stand new.index lock.spot.key (there here)) locks all
 
-  pub inserted_stand : (txn : ℕ) (granted waiting : List Lock) → AllStand new.index records granted waiting → AllStand new.index (new_key ∷ records) (granted ++ copies txn new next granted) waiting
+  pub inserted_stand : (txn : ℕ) (granted waiting : List Lock) → AllStand new.index records granted waiting
+      → AllStand new.index (new_key ∷ records) (granted ++ copies txn new next granted) waiting
   inserted_stand txn granted waiting all = record {
     granted_stand = all_append (IsThere new.index (new_key ∷ records)) granted (copies txn new next granted) (locks_over granted all.granted_stand)
         (all_copies (IsThere new.index (new_key ∷ records)) txn new next (λ lock here. new_stands) granted);
@@ -104,7 +114,8 @@ module _ (records : List (List ℕ)) (new_key : List ℕ) (new next : Spot) (ins
   }
 
   -- no lock stands on the new record
-  none_on_new : (locks : List Lock) → LocksStand new.index records locks → (asked : Lock) → asked.spot ≡ new → list_any (λ lock. conflicts lock asked) locks ≡ false
+  none_on_new : (locks : List Lock) → LocksStand new.index records locks → (asked : Lock) → asked.spot ≡ new
+      → list_any (λ lock. conflicts lock asked) locks ≡ false
   none_on_new [] all asked at = refl
   none_on_new (lock ∷ locks) all asked at =
       or_false (conflicts lock asked) _
@@ -123,18 +134,31 @@ module _ (records : List (List ℕ)) (new_key : List ℕ) (new next : Spot) (ins
   own_copies txn (lock ∷ locks) asked own =
       let rest = own_copies txn locks asked own in
       split (lock.txn == txn && same_spot lock.spot next && locks_gap lock.kind)
-      (λ copied. subst (λ b. list_any (λ held. conflicts held asked) (cond b (as_gap (number_of CopiedOnInsert) new lock ∷ copies txn new next locks) (copies txn new next locks)) ≡ false) (sym copied)
+      (λ copied. subst (λ b. list_any (λ held. conflicts held asked) (cond b (as_gap (number_of CopiedOnInsert) new lock ∷ copies txn new next locks) (copies txn new next locks)) ≡ false)
+      (sym copied)
       (or_false (conflicts (as_gap (number_of CopiedOnInsert) new lock) asked) _
       (ap (λ b. not b && same_spot new asked.spot && kinds_conflict Gap lock.mode (kind_of asked) asked.mode) (eq-eqb lock.txn asked.txn (eqb-true lock.txn txn (first (lock.txn == txn) _ (first (lock.txn == txn && same_spot lock.spot next) _ copied)) ∙ sym own)))
       rest))
       (λ not_copied. subst (λ b. list_any (λ held. conflicts held asked) (cond b (as_gap (number_of CopiedOnInsert) new lock ∷ copies txn new next locks) (copies txn new next locks)) ≡ false) (sym not_copied) rest)
 
   -- so the inserter's lock of it is granted at once
-  pub new_is_free : (txn : ℕ) (granted waiting : List Lock) (asked : Lock) → AllStand new.index records granted waiting → asked.txn ≡ txn → asked.spot ≡ new → is_blocked (granted ++ copies txn new next granted) waiting asked ≡ false
+  pub new_is_free : (txn : ℕ) (granted waiting : List Lock) (asked : Lock) → AllStand new.index records granted waiting → asked.txn ≡ txn
+      → asked.spot ≡ new → is_blocked (granted ++ copies txn new next granted) waiting asked ≡ false
   new_is_free txn granted waiting asked all own at =
       or_false _ _
       (list_any-append (λ lock. conflicts lock asked) granted (copies txn new next granted) ∙ or_false _ _ (none_on_new granted all.granted_stand asked at) (own_copies txn granted asked own))
       (none_on_new waiting all.waiting_stand asked at)
+
+need_not : (table : Table) (asked : Lock) → is_blocked table.granted table.waiting asked ≡ false → must_wait table asked ≡ false
+need_not table asked free = ap (λ b. not (is_covered table.granted asked) && b) free ∙ and_false (not (is_covered table.granted asked))
+
+-- what need not wait, and has room, is granted
+pub granted_with_room : (inserted last : Table) (asked : Lock) (answer : Asked) → is_blocked inserted.granted inserted.waiting asked ≡ false
+    → HasPlaces 1 inserted
+    → IsAnswered inserted last asked answer → IsGranted inserted last asked
+granted_with_room inserted last asked Granted free room is = is
+granted_with_room inserted last asked (Waits edges) free room is = absurd (true_false _ is.waits (need_not inserted asked free))
+granted_with_room inserted last asked NoMemory free room is = absurd (is.full (need_not inserted asked free) room)
 
 -- ---- a record goes
 
@@ -157,9 +181,11 @@ module _ (by : Option ℕ) (records : List (List ℕ)) (gone_key : List ℕ) (go
   moved_stand (lock ∷ locks) all =
       let rest = moved_stand locks all.1 in
       split (same_spot lock.spot gone)
-      (λ same. subst (λ b. LocksStand gone.index left (cond b (cond (becomes_gap by lock) (as_gap (number_of RecordWent) next lock ∷ moved by gone next locks) (moved by gone next locks)) (lock ∷ moved by gone next locks))) (sym same)
+      (λ same. subst (λ b. LocksStand gone.index left (cond b (cond (becomes_gap by lock) (as_gap (number_of RecordWent) next lock ∷ moved by gone next locks) (moved by gone next locks)) (lock ∷ moved by gone next locks)))
+      (sym same)
       (elim (becomes_gap by lock) as (λ b. LocksStand gone.index left (cond b (as_gap (number_of RecordWent) next lock ∷ moved by gone next locks) (moved by gone next locks))) [ true ↦ ((λ here. removes.next_stands), rest) | false ↦ rest ]))
-      (λ other. subst (λ b. LocksStand gone.index left (cond b (cond (becomes_gap by lock) (as_gap (number_of RecordWent) next lock ∷ moved by gone next locks) (moved by gone next locks)) (lock ∷ moved by gone next locks))) (sym other)
+      (λ other. subst (λ b. LocksStand gone.index left (cond b (cond (becomes_gap by lock) (as_gap (number_of RecordWent) next lock ∷ moved by gone next locks) (moved by gone next locks)) (lock ∷ moved by gone next locks)))
+      (sym other)
       (left_there lock other all.0, rest))
 
   elsewhere_stand : (queue : List Lock) → LocksStand gone.index records queue → LocksStand gone.index left (elsewhere gone queue)

@@ -1,7 +1,9 @@
 -- What a transaction's locks keep of the keys of one index: no other puts a record at the key, or changes or removes the
 -- one that is there. An index has the list of its records' keys.
-use Rattle.std.specs.Prelude.{◌≡◌, ◌⊎◌, ℕ, ◌==◌, ◌&&◌, Bool, true, not, List, Option, Some}
+use Rattle.std.specs.Prelude.{◌≡◌, ◌⊎◌, ℕ, ◌-◌, ◌*◌, ◌==◌, ◌&&◌, nat_eq, Bool, true, false, not, List, length, take, Option, Some}
 use Rattle.std.specs.List.{list_any}
+use Rattle.std.specs.Cmp.Lexicographic.{pointwise}
+use Rattle.store_api.specs.declared.answers.Undo.{Undo}
 use Rattle.inno_types.specs.declared.lock.Lock.{Lock}
 use Rattle.lock_rules.specs.Kinds.{locks_gap, locks_record, is_shared}
 use Rattle.lock_rules.specs.Spots.{same_key}
@@ -46,3 +48,20 @@ pub record Guards (txn index : ℕ) (records : List (List ℕ)) (locks : List Lo
 pub record Pins (txn index : ℕ) (records : List (List ℕ)) (locks : List Lock) (key : List ℕ) : Type 0 where
   pub stands : stands_in records (Some key) ≡ true
   pub own : has_record txn index key locks ≡ true
+
+-- the undo record tells that this record of a clustered index is new: whoever takes the change back removes it
+abbrev pub is_creation : ℕ → List ℕ → Undo → Bool
+is_creation index key undo = undo.table * 8 == index && pointwise nat_eq undo.key key && undo.kind == 1
+
+-- in a log, the newest record first, none that is newer than so many of the oldest ones tells that the record is new
+abbrev pub IsOlder : ℕ → List ℕ → ℕ → List Undo → Type 0
+IsOlder index key made log = list_any (is_creation index key) (take (length log - made) log) ≡ false
+
+-- It keeps it, too, through a rollback to where its log had so many records.
+pub record Pinned (txn index : ℕ) (records : List (List ℕ)) (locks : List Lock) (key : List ℕ) (made : ℕ) (log : List Undo) : Type 0 where
+  pub pins : Pins txn index records locks key
+  pub older : IsOlder index key made log
+
+-- The transaction has searched for the key when its log had so many records, and keeps what it has found or not found.
+abbrev pub Guarded : ℕ → ℕ → List (List ℕ) → List Lock → List ℕ → ℕ → List Undo → Type 0
+Guarded txn index records locks key made log = Guards txn index records locks key ⊎ Pinned txn index records locks key made log

@@ -1,16 +1,17 @@
 //! What is guarded stays guarded.
 
-ghost use Rattle.std.specs.Prelude.{◌≡◌, ◌≢◌, ℕ, true, Option, List, [], ◌∷◌};
+ghost use Rattle.std.specs.Prelude.{◌≡◌, ◌≢◌, ℕ, true, false, Option, List, [], ◌∷◌};
 ghost use Rattle.std.specs.List.{AllByRecursion};
 ghost use Rattle.inno_types.specs.declared.lock.Spot.{Spot};
 ghost use Rattle.inno_types.specs.declared.lock.Lock.{Lock};
 ghost use Rattle.store_api.specs.declared.answers.Asked.{Asked};
+ghost use Rattle.store_api.specs.declared.answers.Undo.{Undo};
 ghost use Rattle.lock_rules.specs.Coverage.{without_record};
 ghost use Rattle.lock_rules.specs.Rules.{FitsItsRule};
-ghost use Rattle.lock_table.specs.Queue.{serve, without, without_lock};
+ghost use Rattle.lock_table.specs.Queue.{serve, without, without_lock, is_covered};
 ghost use Rattle.lock_table.specs.Records.{after_removal, after_end};
-ghost use Rattle.lock_table.specs.View.{Table, IsAnswered};
-ghost use Rattle.law_lock_guards.specs.Guards.{Guards, Pins, has_record, has_alone};
+ghost use Rattle.lock_table.specs.View.{Table, IsAnswered, IsGranted};
+ghost use Rattle.law_lock_guards.specs.Guards.{Guards, Guarded, Pins, has_record, has_alone};
 ghost use Rattle.law_lock_guards.specs.Stand.{Inserts, Removes};
 
 /// When a record is inserted, each transaction guards what it has guarded: of another's gap the insertion would have had to
@@ -47,24 +48,51 @@ pub fn removals_keep_other_records()
 
 /// A request keeps what is guarded, however it is answered.
 pub fn requests_keep_guards()
-    ensures { (txn index : ℕ) (records : List (List ℕ)) (key : List ℕ) (old new : Table) (lock : Lock) (answer : Asked)
+    ensures guards { (txn index : ℕ) (records : List (List ℕ)) (key : List ℕ) (old new : Table) (lock : Lock) (answer : Asked)
         → IsAnswered old new lock answer → Guards txn index records old.granted key → Guards txn index records new.granted key }
+    ensures guarded { (txn index : ℕ) (records : List (List ℕ)) (key : List ℕ) (made : ℕ) (log : List Undo) (old new : Table) (lock : Lock) (answer : Asked)
+        → IsAnswered old new lock answer → Guarded txn index records old.granted key made log → Guarded txn index records new.granted key made log }
+    ensures alone { (txn index : ℕ) (key : List ℕ) (old new : Table) (lock : Lock) (answer : Asked)
+        → IsAnswered old new lock answer → has_alone txn index key old.granted ≡ true → has_alone txn index key new.granted ≡ true }
 {}
 
 /// So does the end of another transaction.
 pub fn ends_of_others_keep_guards()
-    ensures { (txn other index : ℕ) (records : List (List ℕ)) (key : List ℕ) (granted waiting : List Lock)
+    ensures guards { (txn other index : ℕ) (records : List (List ℕ)) (key : List ℕ) (granted waiting : List Lock)
         → txn ≢ other → Guards txn index records granted key → Guards txn index records (after_end other granted waiting).granted key }
+    ensures guarded { (txn other index : ℕ) (records : List (List ℕ)) (key : List ℕ) (made : ℕ) (log : List Undo) (granted waiting : List Lock)
+        → txn ≢ other → Guarded txn index records granted key made log → Guarded txn index records (after_end other granted waiting).granted key made log }
+    ensures alone { (txn other index : ℕ) (key : List ℕ) (granted waiting : List Lock)
+        → txn ≢ other → has_alone txn index key granted ≡ true → has_alone txn index key (after_end other granted waiting).granted ≡ true }
 {}
 
 /// So does a lock that another gives back.
 pub fn releases_of_others_keep_guards()
-    ensures { (txn index : ℕ) (records : List (List ℕ)) (key : List ℕ) (gone : Lock) (granted waiting : List Lock)
+    ensures guards { (txn index : ℕ) (records : List (List ℕ)) (key : List ℕ) (gone : Lock) (granted waiting : List Lock)
         → txn ≢ gone.txn → Guards txn index records granted key → Guards txn index records (serve (without_lock gone granted) [] waiting).granted key }
+    ensures guarded { (txn index : ℕ) (records : List (List ℕ)) (key : List ℕ) (made : ℕ) (log : List Undo) (gone : Lock) (granted waiting : List Lock)
+        → txn ≢ gone.txn → Guarded txn index records granted key made log → Guarded txn index records (serve (without_lock gone granted) [] waiting).granted key made log }
+    ensures alone { (txn index : ℕ) (key : List ℕ) (gone : Lock) (granted waiting : List Lock)
+        → txn ≢ gone.txn → has_alone txn index key granted ≡ true → has_alone txn index key (serve (without_lock gone granted) [] waiting).granted ≡ true }
+{}
+
+/// A lock that no other covered may be given back as soon as it is granted: each transaction, its own too, then has what it
+/// had before.
+pub fn new_locks_given_back_keep_guards()
+    ensures guards { (txn index : ℕ) (records : List (List ℕ)) (key : List ℕ) (old new : Table) (lock : Lock) → is_covered old.granted lock ≡ false → IsGranted old new lock
+        → Guards txn index records old.granted key → Guards txn index records (serve (without_lock lock new.granted) [] new.waiting).granted key }
+    ensures guarded { (txn index : ℕ) (records : List (List ℕ)) (key : List ℕ) (made : ℕ) (log : List Undo) (old new : Table) (lock : Lock) → is_covered old.granted lock ≡ false → IsGranted old new lock
+        → Guarded txn index records old.granted key made log → Guarded txn index records (serve (without_lock lock new.granted) [] new.waiting).granted key made log }
+    ensures alone { (txn index : ℕ) (key : List ℕ) (old new : Table) (lock : Lock) → is_covered old.granted lock ≡ false → IsGranted old new lock
+        → has_alone txn index key old.granted ≡ true → has_alone txn index key (serve (without_lock lock new.granted) [] new.waiting).granted ≡ true }
 {}
 
 /// So does a request that is taken back, by whomever.
 pub fn withdrawals_keep_guards()
-    ensures { (txn other index : ℕ) (records : List (List ℕ)) (key : List ℕ) (granted waiting : List Lock)
+    ensures guards { (txn other index : ℕ) (records : List (List ℕ)) (key : List ℕ) (granted waiting : List Lock)
         → Guards txn index records granted key → Guards txn index records (serve granted [] (without other waiting)).granted key }
+    ensures guarded { (txn other index : ℕ) (records : List (List ℕ)) (key : List ℕ) (made : ℕ) (log : List Undo) (granted waiting : List Lock)
+        → Guarded txn index records granted key made log → Guarded txn index records (serve granted [] (without other waiting)).granted key made log }
+    ensures alone { (txn other index : ℕ) (key : List ℕ) (granted waiting : List Lock)
+        → has_alone txn index key granted ≡ true → has_alone txn index key (serve granted [] (without other waiting)).granted ≡ true }
 {}

@@ -3,17 +3,29 @@
 #![tactic(auto)]
 
 mod alone;
+mod barring;
 mod guards;
+mod pins;
+mod searching;
 mod standing;
 
-pub use alone::nobody_is_beside;
+pub use alone::{nobody_is_beside, nobody_is_granted_what_another_has_alone};
+pub use barring::{rows_before_lie_outside, rows_behind_lie_outside};
 pub use guards::{
-    ends_of_others_keep_guards, insertions_keep_guards, releases_of_others_keep_guards,
-    removals_keep_guards, removals_keep_other_records, requests_keep_guards,
-    withdrawals_keep_guards,
+    ends_of_others_keep_guards, insertions_keep_guards, new_locks_given_back_keep_guards,
+    releases_of_others_keep_guards, removals_keep_guards, removals_keep_other_records,
+    requests_keep_guards, withdrawals_keep_guards,
+};
+pub use pins::{
+    changes_keep_what_is_guarded, insertions_keep_what_is_guarded,
+    own_removals_keep_what_is_guarded, removals_of_others_keep_what_is_guarded,
+};
+pub use searching::{
+    each_key_has_one_spot, gap_locks_guard_their_gaps, granted_requests_lock_their_spots,
+    next_key_locks_guard_their_records, records_found_are_pinned,
 };
 pub use standing::{
     ends_leave_locks_standing, insertions_leave_locks_standing, new_records_are_free,
-    releases_leave_locks_standing, removals_leave_locks_standing, requests_leave_locks_standing,
-    withdrawals_leave_locks_standing,
+    new_records_with_room_are_granted, releases_leave_locks_standing,
+    removals_leave_locks_standing, requests_leave_locks_standing, withdrawals_leave_locks_standing,
 };

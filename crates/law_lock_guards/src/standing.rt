@@ -8,7 +8,7 @@ ghost use Rattle.lock_rules.specs.Coverage.{stands_in, without_record};
 ghost use Rattle.lock_table.specs.Queue.{serve, without, without_lock, is_blocked};
 ghost use Rattle.lock_table.specs.Records.{copies, after_removal, after_end};
 ghost use Rattle.lock_table.specs.Coverage.{IsInsertion};
-ghost use Rattle.lock_table.specs.View.{Table, IsAnswered};
+ghost use Rattle.lock_table.specs.View.{Table, HasPlaces, IsAnswered, IsGranted};
 ghost use Rattle.law_lock_guards.specs.Stand.{AllStand, Removes};
 
 /// A request on a record or the supremum leaves all locks standing.
@@ -51,6 +51,17 @@ pub fn new_records_are_free()
         → AllStand new.index records granted waiting
         → asked.txn ≡ txn → asked.spot ≡ new
         → is_blocked (granted ++ copies txn new next granted) waiting asked ≡ false }
+{}
+
+/// Where room was taken for it, no want of memory comes in between, either.
+pub fn new_records_with_room_are_granted()
+    ensures { (txn : ℕ) (records : List (List ℕ)) (new_key : List ℕ) (new next : Spot) (old inserted last : Table) (asked : Lock) (answer : Asked)
+        → IsInsertion records new_key new next
+        → AllStand new.index records old.granted old.waiting
+        → inserted.granted ≡ old.granted ++ copies txn new next old.granted → inserted.waiting ≡ old.waiting
+        → HasPlaces 1 inserted
+        → asked.txn ≡ txn → asked.spot ≡ new
+        → IsAnswered inserted last asked answer → IsGranted inserted last asked }
 {}
 
 /// And a record that goes leaves all locks standing.

@@ -4,3 +4,4 @@ mod Gaps
 pub mod Rooms
 pub mod Soundness
 pub mod Covering
+pub mod Copying

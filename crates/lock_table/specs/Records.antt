@@ -1,5 +1,5 @@
 -- What becomes of locks when records appear and go.
-use Rattle.std.specs.Prelude.{ℕ, Bool, false, ◌==◌, ◌&&◌, ◌||◌, not, if◌then◌else◌, Option, None, Some, List, [], ◌∷◌, ◌++◌, filter}
+use Rattle.std.specs.Prelude.{ℕ, Bool, false, ◌==◌, ◌&&◌, ◌||◌, not, if◌then◌else◌, Option, None, Some, List, [], ◌∷◌, ◌++◌, filter, count_by}
 use Rattle.inno_types.specs.declared.lock.LockKind.TheVariants.{Gap}
 use Rattle.inno_types.specs.declared.lock.Spot.{Spot}
 use Rattle.inno_types.specs.declared.lock.Lock.{Lock}
@@ -47,6 +47,14 @@ elsewhere gone queue = filter (λ asked. not (same_spot asked.spot gone)) queue
 
 abbrev pub after_removal : Option ℕ → Spot → Spot → List Lock → List Lock → Lists
 after_removal by gone next granted waiting = serve (moved by gone next granted ++ left_by by gone next waiting) [] (elsewhere gone waiting)
+
+-- the lock is one of the transaction, of the gap before the spot
+abbrev pub is_own_gap : ℕ → Spot → Lock → Bool
+is_own_gap txn next lock = lock.txn == txn && same_spot lock.spot next && locks_gap lock.kind
+
+-- how many such locks there are
+abbrev pub own_gaps : ℕ → Spot → List Lock → ℕ
+own_gaps txn next locks = count_by (is_own_gap txn next) locks
 
 -- a record is inserted: the inserter's own locks of the gap on the next spot are copied to the record
 abbrev pub copies : ℕ → Spot → Spot → List Lock → List Lock

@@ -1,5 +1,5 @@
 -- What contracts see of a lock table, and what a request makes of it.
-use Rattle.std.specs.Prelude.{◌≡◌, ◌≢◌, ℕ, Bool, true, false, ◌&&◌, not, if◌then◌else◌, List, [], ◌∷◌, ◌++◌, length, map}
+use Rattle.std.specs.Prelude.{◌≡◌, ◌≢◌, ◌+◌, ◌≤◌, ℕ, Bool, true, false, ◌&&◌, not, if◌then◌else◌, List, [], ◌∷◌, ◌++◌, length, map}
 use Rattle.inno_types.specs.declared.lock.Lock.{Lock}
 use Rattle.inno_types.specs.declared.lock.Edge.{Edge}
 use Rattle.store_api.specs.declared.answers.Asked.{Asked}
@@ -17,10 +17,16 @@ pub record Table : Type 0 where
   pub waiting : List Lock
   -- the memory for cycles
   pub rooms : List CycleRoom
+  -- the memory for locks: for so many that are granted or asked for
+  pub capacity : ℕ
 
 -- the table with these lists
 abbrev pub with_lists : Table → Lists → Table
-with_lists t lists = record { granted = lists.granted; waiting = lists.waiting; rooms = t.rooms }
+with_lists t lists = record { granted = lists.granted; waiting = lists.waiting; rooms = t.rooms; capacity = t.capacity }
+
+-- there is memory to grant so many locks more
+abbrev pub HasPlaces : ℕ → Table → Type 0
+HasPlaces locks t = length t.granted + length t.waiting + locks ≤ t.capacity
 
 -- locks by two rules are never asked for: what becomes of a lock when its record goes, and copies
 abbrev pub IsAskedFor : ℕ → Type 0
@@ -37,7 +43,8 @@ granted_with granted lock = if is_covered granted lock then granted else granted
 -- the lock is granted at once
 pub record IsGranted (old new : Table) (lock : Lock) : Type 0 where
   pub free : must_wait old lock ≡ false
-  pub lists : new ≡ record { granted = granted_with old.granted lock; waiting = old.waiting; rooms = old.rooms }
+  pub lists : new ≡ record { granted = granted_with old.granted lock; waiting = old.waiting; rooms = old.rooms; capacity = new.capacity }
+  pub stays : old.capacity ≤ new.capacity
 
 -- the lock is queued behind all requests; the answer has all its edges
 pub record IsQueued (old new : Table) (lock : Lock) (edges : List Edge) : Type 0 where
@@ -46,15 +53,19 @@ pub record IsQueued (old new : Table) (lock : Lock) (edges : List Edge) : Type 0
   pub granted : new.granted ≡ old.granted
   pub waiting : new.waiting ≡ old.waiting ++ lock ∷ []
   pub rooms : HasRooms (length new.waiting) new.rooms
+  pub stays : old.capacity ≤ new.capacity
 
--- want of memory changes nothing; there is as much memory for cycles as before
-pub record IsRefused (old new : Table) : Type 0 where
+-- want of memory changes nothing; there is as much memory as before
+pub record IsRefused (old new : Table) (lock : Lock) : Type 0 where
   pub granted : new.granted ≡ old.granted
   pub waiting : new.waiting ≡ old.waiting
   pub rooms : KeepsRooms old.rooms new.rooms
+  pub stays : old.capacity ≤ new.capacity
+  -- a lock that need not wait is refused only where there was none for it
+  pub full : must_wait old lock ≡ false → ¬ HasPlaces 1 old
 
 -- what a request is answered
 abbrev pub IsAnswered : Table → Table → Lock → Asked → Type 0
 IsAnswered old new lock Granted = IsGranted old new lock
 IsAnswered old new lock (Waits edges) = IsQueued old new lock edges
-IsAnswered old new lock NoMemory = IsRefused old new
+IsAnswered old new lock NoMemory = IsRefused old new lock

@@ -65,6 +65,7 @@ pub fn serve(granted: &mut Vec<KeptLock>, waiting: &mut Vec<KeptLock>)
     ensures granted { granted.new.items ≡ (queue.serve granted.old.items [] waiting.old.items).granted }
     ensures waiting { waiting.new.items ≡ (queue.serve granted.old.items [] waiting.old.items).waiting }
     ensures room { length granted.new.items + length waiting.new.items ≤ vec_capacity granted.new }
+    ensures capacity { vec_capacity granted.new ≡ vec_capacity granted.old }
 {
     let mut earlier = 0;
     while earlier < waiting.len() {
@@ -171,7 +172,7 @@ pub fn move_locks(granted: &mut Vec<KeptLock>, by: Option<u64>, gone: &Spot, nex
     requires { IsShort next.now.key }
     ensures items { granted.new.items ≡ records.moved by gone.now next.now granted.old.items }
     ensures fewer { length granted.new.items ≤ length granted.old.items }
-    ensures capacity { vec_capacity granted.old ≤ vec_capacity granted.new }
+    ensures capacity { vec_capacity granted.new ≡ vec_capacity granted.old }
 {
     let mut i = 0;
     while i < granted.len() {
@@ -200,6 +201,7 @@ pub fn leave_gaps(
     ensures granted { granted.new.items ≡ granted.old.items ++ records.left_by by gone.now next.now waiting.old.items }
     ensures waiting { waiting.new.items ≡ records.elsewhere gone.now waiting.old.items }
     ensures room { length granted.new.items + length waiting.new.items ≤ vec_capacity granted.new }
+    ensures capacity { vec_capacity granted.new ≡ vec_capacity granted.old }
 {
     for asked in waiting.iter() {
         if asked.is_at(gone) && becomes_gap(by, asked) {
@@ -209,22 +211,36 @@ pub fn leave_gaps(
     keep_elsewhere(waiting, gone);
 }
 
-/// The copies of the inserter's own locks of the gap into which a record was inserted.
-pub fn copies(
-    alloc: Global,
-    granted: &[KeptLock],
-    txn: u64,
-    new: &Spot,
-    next: &Spot,
-) -> Result<Vec<KeptLock>, AllocError>
-    requires { IsShort new.now.key }
-    ensures { IfOk result (λ own. own.items ≡ records.copies txn new.now next.now granted.now) }
+/// Whether the lock is one of the transaction, of the gap before the spot.
+fn is_own_gap(lock: &KeptLock, txn: u64, next: &Spot) -> bool
+    ensures { result ≡ records.is_own_gap txn next.now lock.now }
 {
-    let mut own = Vec::new(alloc);
-    for lock in granted {
-        if lock.txn() == txn && lock.is_at(next) && locks_gap(lock.kind()) {
-            own.push(lock.as_gap(Rule::CopiedOnInsert.number(), new))?;
+    lock.txn() == txn && lock.is_at(next) && locks_gap(lock.kind())
+}
+
+/// How many locks of the gap before the spot the transaction has.
+pub fn own_gaps(granted: &[KeptLock], txn: u64, next: &Spot) -> usize
+    ensures count { result ≡ records.own_gaps txn next.now granted.now }
+    ensures within { result ≤ length granted.now }
+{
+    granted
+        .iter()
+        .filter(|lock| is_own_gap(lock, txn, next))
+        .count()
+}
+
+/// Copies the inserter's own locks of the gap into which a record was inserted to the record. There is room for them.
+pub fn copy_gaps(granted: &mut Vec<KeptLock>, txn: u64, new: &Spot, next: &Spot)
+    requires short { IsShort new.now.key }
+    requires room { length granted.old.items + records.own_gaps txn next.now granted.old.items ≤ vec_capacity granted.old }
+    ensures items { granted.new.items ≡ granted.old.items ++ records.copies txn new.now next.now granted.old.items }
+    ensures capacity { vec_capacity granted.new ≡ vec_capacity granted.old }
+{
+    for i in 0..granted.len() {
+        let lock = &granted[i];
+        if is_own_gap(lock, txn, next) {
+            let copy = lock.as_gap(Rule::CopiedOnInsert.number(), new);
+            granted.push_reserved(copy);
         }
     }
-    Ok(own)
 }

@@ -1,17 +1,17 @@
 //! The table of all locks. Each call that changes it says what its two lists are afterwards.
 
-ghost use Rattle.std.specs.Prelude.{◌≡◌, ◌∷◌, ◌++◌, [], false, true, not, length, map, OnOk, OnErr, IfOk};
+ghost use Rattle.std.specs.Prelude.{◌≡◌, ℕ, ◌+◌, ◌≤◌, ◌∷◌, ◌++◌, [], false, true, not, length, map, OnOk, OnErr, IfOk, IsOk};
 ghost use Rattle.lock_rules.specs.Rules.{FitsItsRule};
 ghost use Rattle.lock_table.specs.Keys.{IsShort};
 ghost use Rattle.lock_table.specs.Queue.{AreSound, blockers, edge_to, edges_of, is_blocked, is_covered, is_waiting, serve, without, without_lock};
-ghost use Rattle.lock_table.specs.Records.{after_removal, after_end, copies};
+ghost use Rattle.lock_table.specs.Records.{after_removal, after_end, copies, own_gaps};
 ghost use Rattle.lock_table.specs.Room.{HasRooms, KeepsRooms};
-ghost use Rattle.lock_table.specs.View.{with_lists, IsAskedFor, IsAnswered};
+ghost use Rattle.lock_table.specs.View.{with_lists, must_wait, HasPlaces, IsAskedFor, IsAnswered};
 
 use crate::kept::KeptLock;
 use crate::lists::{
-    copies, edges_of, edges_to, give_back, is_blocked, is_waiting, keep_others, leave_gaps,
-    move_locks, serve,
+    copy_gaps, edges_of, edges_to, give_back, is_blocked, is_waiting, keep_others, leave_gaps,
+    move_locks, own_gaps, serve,
 };
 use crate::room::{CycleRoom, widen};
 use inno_types::{Edges, Lock, Spot};
@@ -36,7 +36,7 @@ impl Model for LockTable {
 
     ghost Value = { Table };
 
-    ghost view = { λ t. record { granted = t.granted.items; waiting = t.waiting.items; rooms = t.rooms.items } };
+    ghost view = { λ t. record { granted = t.granted.items; waiting = t.waiting.items; rooms = t.rooms.items; capacity = vec_capacity t.granted } };
 
     ghost invariant = { λ t. AreSound t.granted.items t.waiting.items × (length t.granted.items + length t.waiting.items ≤ vec_capacity t.granted) };
 }
@@ -44,7 +44,7 @@ impl Model for LockTable {
 impl LockTable {
     /// No lock is granted and nobody waits.
     pub fn new(alloc: Global) -> Self
-        ensures { result ≡ record { granted = []; waiting = []; rooms = [] } }
+        ensures { result ≡ record { granted = []; waiting = []; rooms = []; capacity = 0 } }
     {
         LockTable {
             alloc,
@@ -77,6 +77,26 @@ impl LockTable {
                 Err(NoMemory) => Asked::NoMemory,
             }
         }
+    }
+
+    /// Whether a request for this lock would wait, without making it.
+    pub fn would_wait(&self, lock: &Lock) -> bool
+        requires { IsShort lock.now.spot.key }
+        ensures { result ≡ must_wait self.now lock.now }
+    {
+        !self.holds(lock) && is_blocked(&self.granted, &self.waiting, &KeptLock::new(lock))
+    }
+
+    /// Takes the memory for the locks of a record that the transaction is about to insert before the next one: for the
+    /// copies that `on_insert` makes, and for one lock more that is granted without a wait.
+    pub fn lock_room(&mut self, txn: u64, next: &Spot) -> Result<(), NoMemory>
+        ensures room { OnOk result (HasPlaces (own_gaps txn next.now self.old.granted + 1) self.new) }
+        ensures same { self.new ≡ record self.old { capacity = self.new.capacity } }
+        ensures stays { self.old.capacity ≤ self.new.capacity }
+    {
+        let own = own_gaps(&self.granted, txn, next);
+        self.granted.reserve(self.waiting.len() + own + 1)?;
+        Ok(())
     }
 
     /// Whether no request of the transaction waits.
@@ -119,15 +139,17 @@ impl LockTable {
     }
 
     /// The transaction inserts a record before the next one, or before the supremum: its own locks of the gap there are
-    /// copied to the record. Want of memory changes nothing.
+    /// copied to the record. Want of memory changes nothing. Where there is memory for the copies, none is taken.
     pub fn on_insert(&mut self, txn: u64, new: &Spot, next: &Spot) -> Result<(), NoMemory>
         requires { IsShort new.now.key }
-        ensures ok { OnOk result (self.new ≡ record self.old { granted = self.old.granted ++ copies txn new.now next.now self.old.granted }) }
+        ensures ok { OnOk result (self.new ≡ record self.old { granted = self.old.granted ++ copies txn new.now next.now self.old.granted; capacity = self.new.capacity }) }
         ensures err { OnErr result (self.new ≡ self.old) }
+        ensures stays { self.old.capacity ≤ self.new.capacity }
+        ensures sure { (locks : ℕ) → HasPlaces (own_gaps txn next.now self.old.granted + locks) self.old → IsOk result × HasPlaces locks self.new }
     {
-        let mut own = copies(self.alloc, &self.granted, txn, new, next)?;
-        self.granted.reserve(self.waiting.len() + own.len())?;
-        self.granted.append(&mut own)?;
+        let own = own_gaps(&self.granted, txn, next);
+        self.granted.reserve(self.waiting.len() + own)?;
+        copy_gaps(&mut self.granted, txn, new, next);
         Ok(())
     }
 
@@ -198,6 +220,7 @@ impl LockTable {
         ensures rooms { OnOk result (HasRooms (length self.new.waiting) self.new.rooms) }
         ensures err { OnErr result (self.new.waiting ≡ self.old.waiting) }
         ensures stays { KeepsRooms self.old.rooms self.new.rooms }
+        ensures capacity { self.old.capacity ≤ self.new.capacity }
     {
         let edges = edges_to(self.alloc, &self.granted, &self.waiting, &asked)?;
         let waiting = self.waiting.len() + 1;
@@ -210,11 +233,13 @@ impl LockTable {
     fn grant(&mut self, asked: KeptLock) -> Result<(), NoMemory>
         requires fits { FitsItsRule asked }
         requires free { is_blocked self.old.granted self.old.waiting asked ≡ false }
-        ensures ok { OnOk result (self.new ≡ record self.old { granted = self.old.granted ++ asked ∷ [] }) }
+        ensures ok { OnOk result (self.new ≡ record self.old { granted = self.old.granted ++ asked ∷ []; capacity = self.new.capacity }) }
         ensures err { OnErr result (self.new ≡ self.old) }
+        ensures stays { self.old.capacity ≤ self.new.capacity }
+        ensures full { OnErr result (¬ HasPlaces 1 self.old) }
     {
         self.granted.reserve(self.waiting.len() + 1)?;
-        self.granted.push(asked)?;
+        self.granted.push_reserved(asked);
         Ok(())
     }
 }

@@ -1,4 +1,4 @@
-use Rattle.std.proofs.Common.{◌≡◌, ◌++◌, ◌≤◌, drop, vec_capacity}
+use Rattle.std.proofs.Common.{◌≡◌, ◌++◌, drop, vec_capacity}
 use Rattle.lock_table.specs.Records as records
 use Rattle.lock_table.proofs.lists.leave_gaps.Given as goal
 
@@ -6,5 +6,5 @@ use Rattle.lock_table.proofs.lists.leave_gaps.Given as goal
 abbrev pub invariant-loop-asked : goal.invariant-loop-asked
 invariant-loop-asked l = record {
   same : l.granted.items ++ records.left_by l.by l.gone l.next (drop l.asked-index l.asked-items) ≡ l.initial.granted.items ++ records.left_by l.by l.gone l.next l.asked-items;
-  room : vec_capacity l.initial.granted ≤ vec_capacity l.granted;
+  stays : vec_capacity l.granted ≡ vec_capacity l.initial.granted;
 }
