@@ -72,6 +72,7 @@ module _ (index width : ℕ) (zeros : List ℕ) (size : length zeros ≡ 4096) (
       record {
         fields = record {
           level = kind ∙ ap (λ (n : ℕ). if n == 0 then 3 else 4) (sym level);
+          depth = omega (arith, level);
           width = omega (arith, width_is narrow, some);
           inside = omega (arith, none);
           low = no_fence (slice_index leaf 34) (take 80 (drop 36 leaf)) low_len (All-take (λ byte. byte ≡ 0) 80 (drop 36 leaf) (zeros_past 0));

@@ -1,16 +1,19 @@
 -- Pages taken one after another: what was taken before stays taken, and all else stays as it was.
-use Rattle.std.proofs.Common.{◌≡◌, ◌≢◌, ℕ, ◌<◌, ◌≤◌, ◌==◌, ◌||◌, inl, inr, ◌⊎◌, List, [], ◌∷◌, ◌++◌, Bool, true, false, refl, sym, ap, ◌∙◌, subst, arith, length-append, eq-eqb}
-use Rattle.std.specs.Prelude.{IsTrue}
+use Rattle.std.proofs.Common.{◌≡◌, ◌≢◌, ℕ, ◌<◌, ◌≤◌, ◌==◌, ◌||◌, inl, inr, ◌⊎◌, List, [], ◌∷◌, ◌++◌, Bool, true, false, ◌+◌, length, take, drop, refl, sym, ap, ◌∙◌, subst, arith, length-append, length-drop, eq-eqb}
+use Rattle.std.specs.Prelude.{slice_index, IsTrue}
+use Rattle.std.proofs.lemmas.Bool.{cases_eq}
+use Rattle.std.proofs.lemmas.List.{length-take-le}
 use Rattle.std.proofs.lemmas.Bool.Decides.{nat_tests}
 use Rattle.std.proofs.lemmas.List.Folds.{list_any-append}
 use Rattle.page_format.specs.Words.{u32_at}
-use Rattle.mtr.specs.Seen.{MtrState, is_in, capacity_of, AreDistinct}
+use Rattle.mtr.specs.Seen.{MtrState, is_in, capacity_of, AreDistinct, with_bytes}
 use Rattle.mtr.specs.Calls.{SamePages, SeesAt, Consults}
 use Rattle.mtr.proofs.Consulting.{goes_then}
-use Rattle.space_map.specs.Map.{map_page, mark_of, IsFree, free_among}
+use Rattle.space_map.specs.Map.{map_page, byte_of, mark_of, IsFree, free_among}
 use Rattle.space_map.specs.Taking.{HasPageCount, MarksPage}
 use Rattle.space_map.specs.Taking as taking
-use Rattle.catalog.specs.Creating.{ReservesPages, Reserves}
+use Rattle.space_map.proofs.Marked.{index_other, byte_inside}
+use Rattle.catalog.specs.Creating.{the_map, KeepsMap, ReservesPages, Reserves}
 use Rattle.catalog.proofs.Freeing.{free_same, free_one_less, mark_kept}
 
 -- ---- pages of two lists
@@ -56,6 +59,70 @@ distinct_then (p ∷ a) b first next apart = (
   distinct_then a b first.1 next (λ q h. apart q (in_tail q p a h)),
 )
 
+-- ---- the bytes of the map
+
+pub out_of_map : (p : ℕ) → 5 ≤ p → is_in p the_map ≡ false
+out_of_map p behind = grind (arith, nat_tests)
+
+pub true_false : (b : Bool) → b ≡ true → b ≡ false → ⊥
+true_false b yes' no' = cc
+
+same_length : (at byte : ℕ) (l : List ℕ) → at < length l → length (with_bytes at (byte ∷ []) l) ≡ length l
+same_length at byte l inside =
+    let rest = byte ∷ drop (at + 1) l in
+    omega (arith, length-append (take at l) rest, length-take-le at l (omega arith), length-drop (at + 1) l)
+
+keeps_same : (old new : ℕ → List ℕ) → new ≡ old → KeepsMap [] old new
+keeps_same old new same = record {
+  sizes = λ page inside. ap (λ (f : ℕ → List ℕ). length (f page)) same;
+  bytes = λ page at inside apart. ap (λ (f : ℕ → List ℕ). slice_index (f page) at) same;
+}
+
+in_first : (p : ℕ) (a b : List ℕ) → is_in p a ≡ true → is_in p (a ++ b) ≡ true
+in_first p a b h = in_both p a b ∙ ap (λ (x : Bool). x || is_in p b) h
+
+or_last : (a b : Bool) → b ≡ true → (a || b) ≡ true
+or_last true b h = refl
+or_last false b h = h
+
+in_last : (p : ℕ) (a b : List ℕ) → is_in p b ≡ true → is_in p (a ++ b) ≡ true
+in_last p a b h = in_both p a b ∙ or_last (is_in p a) (is_in p b) h
+
+keeps_then : (a b : List ℕ) (old mid new : ℕ → List ℕ) → KeepsMap a old mid → KeepsMap b mid new → KeepsMap (a ++ b) old new
+keeps_then a b old mid new first next = record {
+  sizes = λ page inside. next.sizes page inside ∙ first.sizes page inside;
+  bytes = λ page at inside apart.
+      next.bytes page at inside (λ root h. apart root (in_last root a b h)) ∙ first.bytes page at inside (λ root h. apart root (in_first root a b h));
+}
+
+-- a page behind the map is written
+keeps_behind : (roots : List ℕ) (page : ℕ) (bytes : List ℕ) (old mid new : MtrState) → 5 ≤ page → KeepsMap roots old.seen mid.seen → SeesAt page bytes mid new → KeepsMap roots old.seen new.seen
+keeps_behind roots page bytes old mid new behind kept sees =
+    let same : (p : ℕ) → is_in p the_map ≡ true → new.seen p ≡ mid.seen p = λ p inside. sees.elsewhere p (λ is. true_false (is_in p the_map) inside (out_of_map p (omega (arith, is)))) in
+    record {
+      sizes = λ p inside. ap (λ (l : List ℕ). length l) (same p inside) ∙ kept.sizes p inside;
+      bytes = λ p at inside apart. ap (λ (l : List ℕ). slice_index l at) (same p inside) ∙ kept.bytes p at inside apart;
+    }
+
+-- the bit of one page is set
+keeps_marked : (page mark : ℕ) (old new : MtrState) → MarksPage page mark old new → KeepsMap (page ∷ []) old.seen new.seen
+keeps_marked page mark old new marked =
+    let map = map_page page in
+    let at = byte_of page in
+    let inside : at < length (old.seen map) = omega (arith, marked.size, byte_inside page) in
+    record {
+      sizes = λ p known. elim (cases_eq p map) [
+        | inl same ↦ subst (λ (n : ℕ). length (new.seen n) ≡ length (old.seen n)) (sym same) (ap (λ (l : List ℕ). length l) marked.seen.here ∙ same_length at marked.byte (old.seen map) inside)
+        | inr apart ↦ ap (λ (l : List ℕ). length l) (marked.seen.elsewhere p apart)
+      ];
+      bytes = λ p i known apart. elim (cases_eq p map) [
+        | inl same ↦
+            let other : i ≢ at = λ here. apart page (in_head page []) (sym same) (sym here) in
+            subst (λ (n : ℕ). slice_index (new.seen n) i ≡ slice_index (old.seen n) i) (sym same) (ap (λ (l : List ℕ). slice_index l i) marked.seen.here ∙ index_other at marked.byte i (old.seen map) inside other)
+        | inr elsewhere ↦ ap (λ (l : List ℕ). slice_index l i) (marked.seen.elsewhere p elsewhere)
+      ];
+    }
+
 -- ---- nothing is taken
 
 pub reserves_same : (old new : MtrState) → SamePages old new → ReservesPages [] [] old new
@@ -69,6 +136,7 @@ reserves_same old new same = record {
   used = λ page h. absurd (cc);
   marks = λ page inside out. ap (λ (f : ℕ → List ℕ). mark_of f page) same.seen;
   free = omega (arith, ap (λ (f : ℕ → List ℕ). free_among f 0 (capacity_of old)) same.seen);
+  map = keeps_same old.seen new.seen same.seen;
   elsewhere = λ page out written map. ap (λ (f : ℕ → List ℕ). f page) same.seen;
 }
 
@@ -106,6 +174,7 @@ module _ (a b wa wb : List ℕ) (old mid new : MtrState) (first : ReservesPages 
         let last = ap (free_among new.seen 0) first.counted in
         let between = ap (free_among mid.seen 0) first.counted in
         omega (arith, first.free, next.free, last, between, length-append a b);
+    map = keeps_then a b old.seen mid.seen new.seen first.map next.map;
     elsewhere = λ p h w m.
         let out = in_neither p a b h in
         let unwritten = in_neither p wa wb w in
@@ -126,7 +195,7 @@ first_out p q rest h = let parts = or_neither (q == p) (is_in p rest) h in ap (�
 rest_out : (p q : ℕ) (rest : List ℕ) → is_in p (q ∷ rest) ≡ false → is_in p rest ≡ false
 rest_out p q rest h = (or_neither (q == p) (is_in p rest) h).1
 
-not_map : (p page : ℕ) → page < 65536 → is_in p (2 ∷ 3 ∷ 4 ∷ []) ≡ false → p ≢ map_page page
+not_map : (p page : ℕ) → page < 65536 → is_in p the_map ≡ false → p ≢ map_page page
 not_map p page inside out =
     let two = apart_if_out p 2 (first_out p 2 (3 ∷ 4 ∷ []) out) in
     let three = apart_if_out p 3 (first_out p 3 (4 ∷ []) (rest_out p 2 (3 ∷ 4 ∷ []) out)) in
@@ -150,12 +219,10 @@ reserves_taken page old new takes counts = record {
         used = λ p h. ap (mark_of new.seen) (sym (same_if_in p page h)) ∙ marked.here;
         marks = λ p under out. marked.others p (apart_if_out p page out);
         free = free_one_less old.seen new.seen page (capacity_of old) free.within free.unmarked marked.here marked.others;
+        map = keeps_marked page 1 old new marked;
         elsewhere = λ p out written map. marked.seen.elsewhere p (not_map p page inside map);
       };
 }
-
-pub true_false : (b : Bool) → b ≡ true → b ≡ false → ⊥
-true_false b yes' no' = cc
 
 -- bytes are put on a page that was taken
 pub reserves_put : (roots : List ℕ) (page : ℕ) (bytes : List ℕ) (old mid new : MtrState) → capacity_of old ≤ 65536 → 21 ≤ page → is_in page roots ≡ true → ReservesPages roots [] old mid → SeesAt page bytes mid new → ReservesPages roots [] old new
@@ -171,6 +238,7 @@ reserves_put roots page bytes old mid new few above known first sees = record {
   free =
       let same = free_same mid.seen new.seen (capacity_of old) (λ p below. mark_kept mid new page bytes (omega arith) sees p (omega arith)) in
       omega (arith, same, first.free);
+  map = keeps_behind roots page bytes old mid new (omega arith) first.map sees;
   elsewhere = λ p h w m. sees.elsewhere p (λ same. true_false (is_in p roots) (ap (λ (n : ℕ). is_in n roots) same ∙ known) h) ∙ first.elsewhere p h w m;
 }
 
@@ -188,11 +256,9 @@ reserves_written page bytes old new few behind sees = record {
   free =
       let same = free_same old.seen new.seen (capacity_of old) (λ p below. mark_kept old new page bytes behind sees p (omega arith)) in
       omega (arith, same);
+  map = keeps_behind [] page bytes old old new behind (keeps_same old.seen old.seen refl) sees;
   elsewhere = λ p h w m. sees.elsewhere p (apart_if_out p page w);
 }
-
-pub out_of_map : (p : ℕ) → 5 ≤ p → is_in p (2 ∷ 3 ∷ 4 ∷ []) ≡ false
-out_of_map p behind = grind (arith, nat_tests)
 
 pub out_if_apart : (p page : ℕ) → p ≢ page → is_in p (page ∷ []) ≡ false
 out_if_apart p page apart = grind (arith, nat_tests)

@@ -4,7 +4,7 @@ use Rattle.std.specs.Prelude.{IsTrue}
 use Rattle.inno_types.specs.declared.value.Schema.{Schema}
 use Rattle.mtr.specs.Seen.{MtrState, is_in, claim, capacity_of, IsWithin, with_bytes}
 use Rattle.mtr.specs.Calls.{Makes, Puts}
-use Rattle.mtr.proofs.Consulting.{goes_then, consults_none, claim_left}
+use Rattle.mtr.proofs.Consulting.{goes_then, put_goes, consults_none, claim_left}
 use Rattle.space_map.specs.Map.{mark_of, IsFree}
 use Rattle.space_map.specs.Taking.{map_pages, HasPageCount}
 use Rattle.space_map.specs.Taking as taking
@@ -55,9 +55,9 @@ module _ (root : ℕ) (old first : MtrState) (takes : taking.Takes root old firs
     module _ (index width : ℕ) (small : index < 2 ^ 32) (narrow : width < 2 ^ 16) (some : 0 < width) (new : MtrState) (puts : Puts root 20 (leaf_head index width) second new) where
       written : Reserves (root ∷ []) [] old new
       written = record {
-        goes = goes_then old second new cleared.goes puts.goes;
+        goes = goes_then old second new cleared.goes (put_goes root 20 (leaf_head index width) second new (λ first. omega (arith, first)) puts);
         pages = λ told.
-            let told_second = puts.goes.told told in
+            let told_second = puts.keeps.told told in
             let few : capacity_of old ≤ 65536 = omega (arith, (counts (makes.goes.told told_second)).1) in
             reserves_put (root ∷ []) root (with_bytes 20 (leaf_head index width) (second.seen root)) old second new few above (in_head root []) (cleared.pages told_second) (puts.pages told);
       }
@@ -65,9 +65,9 @@ module _ (root : ℕ) (old first : MtrState) (takes : taking.Takes root old firs
       pub makes_root : MakesRoot index width root old new
       makes_root = record {
         reserves = written;
-        counts = λ told. counts (makes.goes.told (puts.goes.told told));
+        counts = λ told. counts (makes.goes.told (puts.keeps.told told));
         above = above;
-        leaf = λ told. subst (IsEmptyLeaf index width) (sym (puts.pages told).here) (leaf_on_zeros index width (second.seen root) (makes.pages (puts.goes.told told)).here small narrow some);
+        leaf = λ told. subst (IsEmptyLeaf index width) (sym (puts.pages told).here) (leaf_on_zeros index width (second.seen root) (makes.pages (puts.keeps.told told)).here small narrow some);
         deals = omega (arith, claim_first, claim_one_more map_pages root first.visited, ap (claim map_pages) makes.visited_is, ap (claim map_pages) puts.visited_is);
       }
 

@@ -1,5 +1,5 @@
 -- What making a table does to the pages, and why none is made.
-use Rattle.std.specs.Prelude.{◌≡◌, ◌⊎◌, ℕ, zero, suc, ◌+◌, ◌*◌, ◌<◌, ◌≤◌, true, false, List, [], ◌∷◌, ◌++◌, length, slice_get, slice_index, IsTrue, Option, Some, None}
+use Rattle.std.specs.Prelude.{◌≡◌, ◌≢◌, ◌⊎◌, ℕ, zero, suc, ◌+◌, ◌*◌, ◌<◌, ◌≤◌, true, false, List, [], ◌∷◌, ◌++◌, length, slice_get, slice_index, IsTrue, Option, Some, None}
 use Rattle.std.specs.Int.{w16, w32, to_be_bytes}
 use Rattle.std.specs.List.{flat_map}
 use Rattle.inno_types.specs.declared.value.Kind.{Kind}
@@ -17,7 +17,7 @@ use Rattle.store_api.specs.declared.visits.SpaceBad.{SpaceBad}
 use Rattle.store_api.specs.declared.visits.SpaceBad.TheVariants as space
 use Rattle.mtr.specs.Seen.{MtrState, is_in, claim, capacity_of, AreDistinct, IsShut, with_bytes}
 use Rattle.mtr.specs.Calls.{Goes, SeesAt, IsReason}
-use Rattle.space_map.specs.Map.{mark_of, IsFree, free_among}
+use Rattle.space_map.specs.Map.{map_page, byte_of, mark_of, IsFree, free_among}
 use Rattle.space_map.specs.Taking.{map_pages, HasPageCount, Miscounts}
 use Rattle.catalog_entry.specs.declared.held.Held.{Held}
 use Rattle.schema_codec.specs.Numbers.{u32_bytes}
@@ -90,7 +90,16 @@ AreEmptyRoots s table which (root ∷ roots) pages =
 
 -- ---- what is left
 
--- These pages were free and are marked as used now. But for them, the map and those that were written all is as before.
+abbrev pub the_map : List ℕ
+the_map = 2 ∷ 3 ∷ 4 ∷ []
+
+-- On the pages of the map each byte is as before that has the bit of none of these pages.
+pub record KeepsMap (roots : List ℕ) (old new : ℕ → List ℕ) : Type 0 where
+  pub sizes : (page : ℕ) → is_in page the_map ≡ true → length (new page) ≡ length (old page)
+  pub bytes : (page at : ℕ) → is_in page the_map ≡ true → ((root : ℕ) → is_in root roots ≡ true → map_page root ≡ page → byte_of root ≢ at)
+      → slice_index (new page) at ≡ slice_index (old page) at
+
+-- These pages were free and are marked as used now. But for them, their bits and those that were written all is as before.
 pub record ReservesPages (roots written : List ℕ) (old new : MtrState) : Type 0 where
   pub standing : new.standing ≡ old.standing
   pub fault : new.fault ≡ old.fault
@@ -101,7 +110,8 @@ pub record ReservesPages (roots written : List ℕ) (old new : MtrState) : Type 
   pub used : (page : ℕ) → is_in page roots ≡ true → mark_of new.seen page ≡ 1
   pub marks : (page : ℕ) → page < 65536 → is_in page roots ≡ false → mark_of new.seen page ≡ mark_of old.seen page
   pub free : free_among new.seen 0 (capacity_of old) + length roots ≡ free_among old.seen 0 (capacity_of old)
-  pub elsewhere : (page : ℕ) → is_in page roots ≡ false → is_in page written ≡ false → is_in page (2 ∷ 3 ∷ 4 ∷ []) ≡ false → new.seen page ≡ old.seen page
+  pub map : KeepsMap roots old.seen new.seen
+  pub elsewhere : (page : ℕ) → is_in page roots ≡ false → is_in page written ≡ false → is_in page the_map ≡ false → new.seen page ≡ old.seen page
 
 pub record Reserves (roots written : List ℕ) (old new : MtrState) : Type 0 where
   pub goes : Goes old new

@@ -1,5 +1,5 @@
 //! The catalog: which tables there are, with the root pages of their indexes. It stands on pages 5 to 20, one table each.
-//! Only this crate writes to these pages once files are made.
+//! No other crate writes to these pages.
 #![tactic(auto)]
 
 mod creating;

@@ -1,30 +1,36 @@
-//! One file of a disk. It is opened at its first use, and made by its first write.
+//! One file of a disk. It is opened at its first use, for this process alone, and made by its first write.
 
 ghost use Rattle.std.specs.Prelude.{◌≤◌, IfOk, length};
 
-use std::fs::{File, Files, OpenFile, OpenOptions};
+use crate::locking::LockFiles;
+use crate::reading::read_some;
+use std::fs::{File, OpenFile, OpenOptions};
 use std::io;
 use std::io::{ErrorKind, Read, Seek, SeekFrom, Write};
+use std::os::unix::fs::OpenOptionsExt;
 use std::path::Path;
 
+/// What a file's owner alone may do with it: read and write.
+const OWNER_ALONE: u32 = 0o600;
+
 #[derive(Drop)]
-pub struct AreaFile<R: Files> {
+pub struct AreaFile<R: LockFiles> {
     /// None where the name is no text; each call then fails.
     path: Option<String>,
     file: Option<R::File>,
-    /// Whether the file was made since its folder was last synced.
-    is_new: bool,
+    /// Whether this object has brought the file's name to the medium. Who made the file may have been killed before.
+    is_named: bool,
     /// Whether a sync has failed. The system may have dropped what it could not write then, so no later sync
     /// may succeed.
     is_broken: bool,
 }
 
-impl<R: Files> AreaFile<R> {
+impl<R: LockFiles> AreaFile<R> {
     pub fn new(path: Option<String>) -> Self {
         AreaFile {
             path,
             file: None,
-            is_new: false,
+            is_named: false,
             is_broken: false,
         }
     }
@@ -32,7 +38,18 @@ impl<R: Files> AreaFile<R> {
     fn path(&self) -> io::Result<&str> {
         match &self.path {
             Some(path) => Ok(path.as_str()),
-            None => Err(io::Error::from(ErrorKind::InvalidInput)),
+            None => Err(io::Error::new(ErrorKind::InvalidInput, "the name is no text")),
+        }
+    }
+
+    /// Keeps an open file, unless another process has it open.
+    fn keep(&mut self, runtime: &R, file: R::File) -> io::Result<()> {
+        if runtime.lock_alone(&file)? {
+            self.file = Some(file);
+            Ok(())
+        } else {
+            let why = "another process has the database open";
+            Err(io::Error::new(ErrorKind::WouldBlock, why))
         }
     }
 
@@ -44,19 +61,24 @@ impl<R: Files> AreaFile<R> {
         let mut options = OpenOptions::new();
         options.read(true).write(true);
         match options.open(runtime, self.path()?) {
-            Ok(file) => self.file = Some(file),
-            Err(error) if error.kind() == ErrorKind::NotFound => {}
-            Err(error) => return Err(error),
+            Ok(file) => self.keep(runtime, file),
+            Err(error) if error.kind() == ErrorKind::NotFound => Ok(()),
+            Err(error) => Err(error),
         }
-        Ok(())
     }
 
-    /// Opens the file, or makes it.
+    /// Opens the file, or makes it for its owner alone.
     fn open_or_make(&mut self, runtime: &R) -> io::Result<()> {
         self.open(runtime)?;
         if self.file.is_none() {
-            self.file = Some(File::create_new(runtime, self.path()?)?);
-            self.is_new = true;
+            let mut options = OpenOptions::new();
+            options
+                .read(true)
+                .write(true)
+                .create_new(true)
+                .mode(OWNER_ALONE);
+            let file = options.open(runtime, self.path()?)?;
+            self.keep(runtime, file)?;
         }
         Ok(())
     }
@@ -87,18 +109,23 @@ impl<R: Files> AreaFile<R> {
         }
     }
 
-    /// Brings the file to the medium, and its name too where it is new.
+    /// Brings the file to the medium. The first time its name and all that the system keeps of it go there too, since
+    /// it may be new, or may have been left by a process that was killed before its own sync.
     pub fn sync(&mut self, runtime: &R) -> io::Result<()> {
         if self.is_broken {
-            return Err(io::Error::from(ErrorKind::Other));
+            let why = "an earlier sync of the file failed";
+            return Err(io::Error::new(ErrorKind::Other, why));
         }
         self.is_broken = true;
+        self.open(runtime)?;
         if let Some(file) = &self.file {
-            OpenFile::sync_all(file)?;
-        }
-        if self.is_new {
-            sync_folder(runtime, self.path()?)?;
-            self.is_new = false;
+            if self.is_named {
+                OpenFile::sync_data(file)?;
+            } else {
+                OpenFile::sync_all(file)?;
+                sync_folder(runtime, self.path()?)?;
+                self.is_named = true;
+            }
         }
         self.is_broken = false;
         Ok(())
@@ -112,7 +139,7 @@ fn read_at<F: Read + Seek>(file: &mut F, at: u64, into: &mut [u8]) -> io::Result
     file.seek(SeekFrom::Start(at))?;
     let mut filled = 0;
     while filled < into.len() {
-        let count = file.read(&mut into[filled..])?;
+        let count = read_some(file, &mut into[filled..])?;
         if count == 0 {
             break;
         }
@@ -128,7 +155,7 @@ fn write_at<F: Write + Seek>(file: &mut F, at: u64, bytes: &[u8]) -> io::Result<
 }
 
 /// Brings the names in a file's folder to the medium.
-fn sync_folder<R: Files>(runtime: &R, path: &str) -> io::Result<()> {
+fn sync_folder<R: LockFiles>(runtime: &R, path: &str) -> io::Result<()> {
     let folder = match Path::new(path).parent() {
         Some(folder) if !folder.as_str().is_empty() => folder,
         _ => Path::new("."),

@@ -3,25 +3,27 @@
 ghost use Rattle.std.specs.Prelude.{None};
 
 use crate::area::AreaFile;
-use crate::fault::counted;
+use crate::fault::Faults;
+use crate::locking::LockFiles;
 use crate::path::path_of;
 use inno_types::Bytes;
 use std::alloc::Global;
-use std::fs::Files;
+use std::io;
 use store_api::{Area, Disk, Failed, NoMemory};
 
-/// The files NAME.log, NAME.dbl and NAME.pag. A missing file has length 0, and is made by its first write.
+/// The files NAME.log, NAME.dbl and NAME.pag. A missing file has length 0, and is made by its first write, for its owner
+/// alone. Each is locked from its first use until the disk is dropped, so that calls of another process on it fail.
 #[derive(Drop)]
-pub struct FileDisk<R: Files> {
+pub struct FileDisk<R: LockFiles> {
     runtime: R,
     log: AreaFile<R>,
     double: AreaFile<R>,
     pages: AreaFile<R>,
     moment: u64,
-    faults: u64,
+    faults: Faults,
 }
 
-impl<R: Files> FileDisk<R> {
+impl<R: LockFiles> FileDisk<R> {
     /// Opens nothing yet. Where the name is no text, each call of the disk fails.
     pub fn new(runtime: R, alloc: Global, name: &Bytes) -> Result<FileDisk<R>, NoMemory>
     where
@@ -37,13 +39,18 @@ impl<R: Files> FileDisk<R> {
             double,
             pages,
             moment: 0,
-            faults: 0,
+            faults: Faults::none(),
         })
+    }
+
+    /// Why the last call that failed did, as where another process has the database open.
+    pub fn last_error(&self) -> Option<&io::Error> {
+        self.faults.last()
     }
 }
 
-impl<R: Files> Disk for FileDisk<R> {
-    ghost past = { λ d. record { moment = d.moment; faults = d.faults; state_at = λ _. None } };
+impl<R: LockFiles> Disk for FileDisk<R> {
+    ghost past = { λ d. record { moment = d.moment; faults = d.faults.count; state_at = λ _. None } };
 
     ghost seen_may_be_left = { λ d m s told. absurd (Prim.cc) };
 
@@ -54,7 +61,7 @@ impl<R: Files> Disk for FileDisk<R> {
             Area::Double => self.double.len(&self.runtime),
             Area::Pages => self.pages.len(&self.runtime),
         };
-        counted(&mut self.faults, outcome)
+        self.faults.counted(outcome)
     }
 
     fn read(&mut self, area: Area, at: u64, into: &mut [u8]) -> Result<usize, Failed> {
@@ -64,7 +71,7 @@ impl<R: Files> Disk for FileDisk<R> {
             Area::Double => self.double.read(&self.runtime, at, into),
             Area::Pages => self.pages.read(&self.runtime, at, into),
         };
-        counted(&mut self.faults, outcome)
+        self.faults.counted(outcome)
     }
 
     fn write(&mut self, area: Area, at: u64, bytes: &[u8]) -> Result<(), Failed> {
@@ -74,7 +81,7 @@ impl<R: Files> Disk for FileDisk<R> {
             Area::Double => self.double.write(&self.runtime, at, bytes),
             Area::Pages => self.pages.write(&self.runtime, at, bytes),
         };
-        counted(&mut self.faults, outcome)
+        self.faults.counted(outcome)
     }
 
     fn sync(&mut self, area: Area) -> Result<(), Failed> {
@@ -84,7 +91,7 @@ impl<R: Files> Disk for FileDisk<R> {
             Area::Double => self.double.sync(&self.runtime),
             Area::Pages => self.pages.sync(&self.runtime),
         };
-        counted(&mut self.faults, outcome)
+        self.faults.counted(outcome)
     }
 
     fn moment(&self) -> u64 {

@@ -1,16 +1,19 @@
 //! The trusted edge: files, standard output and the machine's clock. Each object tells nothing of content,
-//! and counts its faults. Nothing here decides anything.
+//! and counts its faults. No contract says what files do: crates/tests_log runs each call over files that fail.
 #![tactic(auto)]
 
 mod area;
 mod clock;
 mod disk;
 mod fault;
+mod locking;
 mod path;
+mod reading;
 mod sink;
 mod source;
 
 pub use clock::SystemClock;
 pub use disk::FileDisk;
+pub use locking::LockFiles;
 pub use sink::StdSink;
 pub use source::FileSource;

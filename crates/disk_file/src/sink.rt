@@ -1,7 +1,11 @@
 //! Standard output as a sink.
 
 ghost use Rattle.std.specs.Prelude.{None};
+ghost use Rattle.std.specs.Io.{WritesAtMost};
 
+use crate::reading::{TRIES, is_interrupted};
+use std::io;
+use std::io::ErrorKind;
 use store_api::{Failed, Sink};
 
 /// Prints what it takes.
@@ -23,7 +27,7 @@ impl<P: Print> Sink for StdSink<P> {
     ghost faults = { λ sink. sink.faults };
 
     fn write(&mut self, piece: &[u8]) -> Result<usize, Failed> {
-        match self.printer.write_some(piece) {
+        match print_some(&self.printer, piece) {
             Ok(count) if count > 0 || piece.is_empty() => Ok(count),
             _ => {
                 self.faults = self.faults.saturating_add(1);
@@ -31,4 +35,17 @@ impl<P: Print> Sink for StdSink<P> {
             }
         }
     }
+}
+
+/// Prints some bytes, and tries again where a signal has interrupted it.
+fn print_some<P: Print>(printer: &P, piece: &[u8]) -> io::Result<usize>
+    ensures { WritesAtMost result piece.now }
+{
+    for _ in 0..TRIES {
+        let outcome = printer.write_some(piece);
+        if !is_interrupted(&outcome) {
+            return outcome;
+        }
+    }
+    Err(io::Error::from(ErrorKind::Interrupted))
 }

@@ -3,13 +3,14 @@
 ghost use Rattle.std.specs.Prelude.{None};
 ghost use Rattle.std.specs.Io.{ReadsAtMost};
 
-use crate::fault::counted;
+use crate::fault::Faults;
 use crate::path::path_of;
+use crate::reading::read_some;
 use inno_types::Bytes;
 use std::alloc::Global;
 use std::fs::{File, Files};
 use std::io;
-use std::io::{ErrorKind, Read};
+use std::io::ErrorKind;
 use store_api::{Failed, NoMemory, Source};
 
 /// Gives the bytes of a file, which it opens at the first use.
@@ -17,7 +18,7 @@ use store_api::{Failed, NoMemory, Source};
 pub struct FileSource<R: Files> {
     runtime: R,
     input: Input<R>,
-    faults: u64,
+    faults: Faults,
 }
 
 impl<R: Files> FileSource<R> {
@@ -30,7 +31,7 @@ impl<R: Files> FileSource<R> {
         Ok(FileSource {
             runtime,
             input: Input { path, file: None },
-            faults: 0,
+            faults: Faults::none(),
         })
     }
 }
@@ -58,7 +59,7 @@ impl<R: Files> Input<R> {
     {
         self.open(runtime)?;
         match &mut self.file {
-            Some(file) => file.read(into),
+            Some(file) => read_some(file, into),
             None => Err(io::Error::from(ErrorKind::NotFound)),
         }
     }
@@ -67,10 +68,10 @@ impl<R: Files> Input<R> {
 impl<R: Files> Source for FileSource<R> {
     ghost left = { λ _. None };
 
-    ghost faults = { λ source. source.faults };
+    ghost faults = { λ source. source.faults.count };
 
     fn read(&mut self, into: &mut [u8]) -> Result<usize, Failed> {
         let outcome = self.input.read(&self.runtime, into);
-        counted(&mut self.faults, outcome)
+        self.faults.counted(outcome)
     }
 }

@@ -1,14 +1,15 @@
 -- How the states that a disk in memory tells go on.
-use Rattle.std.proofs.Common.{◌≡◌, ℕ, ◌+◌, ◌<◌, ◌≤◌, Bool, true, false, Some, None, List, [], ◌∷◌, ◌++◌, length, take, refl, sym, ◌∙◌, ap, subst, arith}
+use Rattle.std.proofs.Common.{◌≡◌, ℕ, ◌+◌, ◌<◌, ◌≤◌, Bool, true, false, Some, None, List, [], ◌∷◌, ◌++◌, length, take, ◌⊎◌, inl, inr, refl, sym, ◌∙◌, ap, subst, arith}
 use Rattle.std.proofs.lemmas.Bool.Decides.{nat_tests}
 use Rattle.std.proofs.lemmas.List.{take-append-le, take_all, length_push}
 use Rattle.std.proofs.lemmas.List.Sums.{fold_push}
 use Rattle.store_api.specs.Areas.{State}
 use Rattle.store_api.specs.Causes.{next_count}
-use Rattle.store_api.specs.Past.{Goes}
+use Rattle.store_api.specs.Past.{Past, Goes, Ticks}
 use Rattle.disk_mem.specs.declared.areas.Areas.{Areas}
 use Rattle.disk_mem.specs.declared.call.Call.{Call}
-use Rattle.std.specs.Prelude.{Result, Ok, Err, OnOk, is_ok, ◌&&◌}
+use Rattle.std.specs.Prelude.{Result, Ok, Err, OnOk, is_ok, not, ◌&&◌}
+use Rattle.disk_mem.specs.Named.{is_named, Obeys}
 use Rattle.disk_mem.specs.Replay.{resting, Tells, after_call, state_after, told_at, past_of}
 
 told_within : (start : Areas) (calls : List Call) (m : ℕ) → m ≤ length calls → told_at start calls m ≡ Some (state_after start (take m calls))
@@ -73,3 +74,42 @@ pub OnOk-tells : {T E : Type 0} (start : Areas) (calls new : List Call) (before 
 OnOk-tells start calls new before now faults (Ok x) true done is recorded = told_after start calls new before now faults (recorded refl)
 OnOk-tells start calls new before now faults (Ok x) false done is recorded = absurd (cc)
 OnOk-tells start calls new before now faults (Err e) kept done is recorded = tt
+
+-- ---- the calls that are named
+
+not_recorded : (kept refused : Bool) → kept && not refused ≡ false → (refused ≡ true) ⊎ (kept ≡ false)
+not_recorded true true h = inl refl
+not_recorded true false h = absurd (cc)
+not_recorded false refused h = inr refl
+
+never : (kept refused : Bool) → refused ≡ true → kept && not refused ≡ false
+never true true h = refl
+never true false h = absurd (cc)
+never false refused h = refl
+
+untold : (start : Areas) (calls new : List Call) (before now faults : ℕ) → length calls ≤ before → now ≡ next_count before → new ≡ calls → Ticks now → Tells (past_of start new now faults) → ⊥
+untold start calls new before now faults some clock is ticks tells =
+    let none = told_past start new now (omega (arith, some, clock, ticks, ap length is)) in
+    let told = tells.1 in
+    absurd (cc)
+
+pub obeys : {T E : Type 0} (named : List ℕ) (number : ℕ) (start : Areas) (calls new : List Call) (before now faults : ℕ) (result : Result T E) (kept refused : Bool) → is_ok result ≡ kept && not refused → refused ≡ is_named named number
+    → now ≡ next_count before → length calls ≤ before → (kept ≡ false → new ≡ calls) → Obeys named number (past_of start new now faults) result
+obeys named number start calls new before now faults (Ok x) kept refused is refused_is clock some dropped = record {
+  fails = λ h. is ∙ never kept refused (refused_is ∙ h);
+  spares = tt;
+}
+obeys named number start calls new before now faults (Err e) kept refused is refused_is clock some dropped = record {
+  fails = λ h. refl;
+  spares = elim (not_recorded kept refused (sym is)) [
+    | inl h ↦ inl (sym refused_is ∙ h)
+    | inr h ↦ inr (untold start calls new before now faults some clock (dropped h))
+  ];
+}
+
+-- what the first of two calls told stands for both
+pub obeys_ok : {T U E F : Type 0} (named : List ℕ) (number : ℕ) (past : Past) (x : T) (y : U) → Obeys {T = T} {E = E} named number past (Ok x) → Obeys {T = U} {E = F} named number past (Ok y)
+obeys_ok named number past x y h = record { fails = h.fails; spares = tt }
+
+pub obeys_err : {T U E F : Type 0} (named : List ℕ) (number : ℕ) (past : Past) (d : E) (e : F) → Obeys {T = T} {E = E} named number past (Err d) → Obeys {T = U} {E = F} named number past (Err e)
+obeys_err named number past d e h = record { fails = λ _. refl; spares = h.spares }

@@ -2,7 +2,7 @@
 
 ghost use Rattle.std.specs.Prelude.{◌≡◌, ◌-◌, ◌^◌, ◌<◌, ◌≤◌, ◌↔◌, [], Some, IfOk, OnOk, IsTrue, is_ok, length, take, drop, vec_len};
 ghost use Rattle.store_api.specs.Areas.{State, IsImage, contents_of, Within, Looked, Wrote, Synced};
-ghost use Rattle.store_api.specs.Causes.{HasCause};
+ghost use Rattle.store_api.specs.Causes.{HasCause, next_count};
 ghost use Rattle.store_api.specs.Past.{Goes, Now};
 ghost use Rattle.disk_mem.specs.Left.{image_by};
 ghost use Rattle.disk_mem.specs.Seen.{seen_may_be_left};
@@ -33,9 +33,12 @@ pub struct MemDisk {
 }
 
 impl MemDisk {
+    ghost use Rattle.disk_mem.specs.Named.{disk_fails, is_named, Obeys};
+
     /// A disk of empty areas. It takes no memory.
     pub fn new(alloc: Global, fail: Ids) -> Result<MemDisk, NoMemory>
-        ensures { IfOk result (λ disk. IsResting empty_image (⟦<MemDisk as Disk>⟧.past disk)) }
+        ensures resting { IfOk result (λ disk. IsResting empty_image (⟦<MemDisk as Disk>⟧.past disk)) }
+        ensures named { IfOk result (λ disk. disk_fails disk ≡ fail) }
     {
         Ok(MemDisk {
             alloc,
@@ -54,6 +57,7 @@ impl MemDisk {
         ensures bytes { IfOk result (λ disk. (s : State) → (⟦<MemDisk as Disk>⟧.past self.now).state_at moment ≡ Some s
             → IsResting (image_by pick s) (⟦<MemDisk as Disk>⟧.past disk)) }
         ensures allowed { OnOk result ((s : State) → (⟦<MemDisk as Disk>⟧.past self.now).state_at moment ≡ Some s → IsImage s (image_by pick s)) }
+        ensures unnamed { IfOk result (λ disk. disk_fails disk ≡ []) }
     {
         let calls = &self.calls[..self.calls.len().min(moment as usize)];
         let log = image_of(self.alloc, &self.start.log, Area::Log, calls, pick)?;
@@ -68,7 +72,8 @@ impl MemDisk {
         double: Vec<u8>,
         pages: Vec<u8>,
     ) -> Result<MemDisk, NoMemory>
-        ensures { IfOk result (λ disk. IsResting (record { log = log.items; double = double.items; pages = pages.items }) (⟦<MemDisk as Disk>⟧.past disk)) }
+        ensures resting { IfOk result (λ disk. IsResting (record { log = log.items; double = double.items; pages = pages.items }) (⟦<MemDisk as Disk>⟧.past disk)) }
+        ensures unnamed { IfOk result (λ disk. disk_fails disk ≡ []) }
     {
         let start = Areas {
             log: Vec::from_slice(alloc, &log)?,
@@ -87,7 +92,9 @@ impl MemDisk {
     }
 
     /// Whether the next call is to fail.
-    fn is_refused(&self) -> bool {
+    fn is_refused(&self) -> bool
+        ensures { result ≡ is_named self.now.fail (next_count self.now.moment) }
+    {
         self.fail
             .as_slice()
             .contains(&self.moment.saturating_add(1))
@@ -106,6 +113,8 @@ impl MemDisk {
         ensures cause { HasCause self.old.faults self.new.faults result }
         ensures areas { self.new.areas ≡ self.old.areas }
         ensures tells { OnOk result (Tells (past_of self.new.start self.new.calls.items self.new.moment self.new.faults)) }
+        ensures obeys { Obeys self.old.fail (next_count self.old.moment) (past_of self.new.start self.new.calls.items self.new.moment self.new.faults) result }
+        ensures named { self.new.fail ≡ self.old.fail }
     {
         let done = !self.is_refused();
         let told = self.is_told();
@@ -116,6 +125,8 @@ impl MemDisk {
 }
 
 impl Disk for MemDisk {
+    ghost use Rattle.disk_mem.specs.Named.{disk_fails, Obeys};
+
     ghost past = { λ d. past_of d.start d.calls.items d.moment d.faults };
 
     ghost seen_may_be_left = { λ d m s told. seen_may_be_left d.start d.calls.items m s told };
@@ -125,6 +136,8 @@ impl Disk for MemDisk {
         ensures goes { Goes (Within area (Looked (is_ok result))) (⟦<MemDisk as Disk>⟧.past self.old) (⟦<MemDisk as Disk>⟧.past self.new) }
         ensures cause { HasCause (⟦<MemDisk as Disk>⟧.past self.old).faults (⟦<MemDisk as Disk>⟧.past self.new).faults result }
         ensures tells { OnOk result (Tells (⟦<MemDisk as Disk>⟧.past self.new)) }
+        ensures obeys { Obeys (disk_fails self.old) (next_count (⟦<MemDisk as Disk>⟧.past self.old).moment) (⟦<MemDisk as Disk>⟧.past self.new) result }
+        ensures named { disk_fails self.new ≡ disk_fails self.old }
     {
         self.look()?;
         Ok(self.areas.bytes(area).len() as u64)
@@ -136,6 +149,8 @@ impl Disk for MemDisk {
         ensures goes { Goes (Within area (Looked (is_ok result))) (⟦<MemDisk as Disk>⟧.past self.old) (⟦<MemDisk as Disk>⟧.past self.new) }
         ensures cause { HasCause (⟦<MemDisk as Disk>⟧.past self.old).faults (⟦<MemDisk as Disk>⟧.past self.new).faults result }
         ensures tells { OnOk result (Tells (⟦<MemDisk as Disk>⟧.past self.new)) }
+        ensures obeys { Obeys (disk_fails self.old) (next_count (⟦<MemDisk as Disk>⟧.past self.old).moment) (⟦<MemDisk as Disk>⟧.past self.new) result }
+        ensures named { disk_fails self.new ≡ disk_fails self.old }
     {
         self.look()?;
         Ok(copy_from(self.areas.bytes(area), at, into))
@@ -145,6 +160,8 @@ impl Disk for MemDisk {
         ensures goes { Goes (Within area (Wrote at bytes.now (is_ok result))) (⟦<MemDisk as Disk>⟧.past self.old) (⟦<MemDisk as Disk>⟧.past self.new) }
         ensures cause { HasCause (⟦<MemDisk as Disk>⟧.past self.old).faults (⟦<MemDisk as Disk>⟧.past self.new).faults result }
         ensures tells { OnOk result (Tells (⟦<MemDisk as Disk>⟧.past self.new)) }
+        ensures obeys { Obeys (disk_fails self.old) (next_count (⟦<MemDisk as Disk>⟧.past self.old).moment) (⟦<MemDisk as Disk>⟧.past self.new) result }
+        ensures named { disk_fails self.new ≡ disk_fails self.old }
     {
         let done = !self.is_refused();
         let told = self.is_told();
@@ -166,6 +183,8 @@ impl Disk for MemDisk {
         ensures goes { Goes (Within area (Synced (is_ok result))) (⟦<MemDisk as Disk>⟧.past self.old) (⟦<MemDisk as Disk>⟧.past self.new) }
         ensures cause { HasCause (⟦<MemDisk as Disk>⟧.past self.old).faults (⟦<MemDisk as Disk>⟧.past self.new).faults result }
         ensures tells { OnOk result (Tells (⟦<MemDisk as Disk>⟧.past self.new)) }
+        ensures obeys { Obeys (disk_fails self.old) (next_count (⟦<MemDisk as Disk>⟧.past self.old).moment) (⟦<MemDisk as Disk>⟧.past self.new) result }
+        ensures named { disk_fails self.new ≡ disk_fails self.old }
     {
         let done = !self.is_refused();
         let told = self.is_told();

@@ -1,6 +1,10 @@
 //! A sink in memory. It tells what it has taken, and fails at the calls that it is told to fail.
 
-ghost use Rattle.std.specs.Prelude.{◌≡◌, [], ◌++◌, IfOk, Some, OnErr, OnOk};
+ghost use Rattle.std.specs.Prelude.{◌≡◌, ◌<◌, [], ◌++◌, IfOk, Some, OnErr, OnOk, is_ok, length, true, false};
+ghost use Rattle.std.specs.Io.{WritesAtMost};
+ghost use Rattle.std.specs.Io.KnownBytes.{WriteAppends};
+ghost use Rattle.store_api.specs.Causes.{HasCause, next_count};
+ghost use Rattle.disk_mem.specs.Named.{sink_fails, sink_calls, is_named};
 
 use crate::call::count;
 use inno_types::{Bytes, Ids};
@@ -22,6 +26,8 @@ pub struct MemSink {
 impl MemSink {
     pub fn new(alloc: Global, fail: Ids) -> Result<MemSink, NoMemory>
         ensures taken { IfOk result (λ sink. ⟦<MemSink as Sink>⟧.taken sink ≡ Some []) }
+        ensures named { IfOk result (λ sink. sink_fails sink ≡ fail) }
+        ensures none { IfOk result (λ sink. sink_calls sink ≡ 0) }
     {
         Ok(MemSink {
             alloc,
@@ -45,7 +51,16 @@ impl Sink for MemSink {
 
     ghost faults = { λ sink. sink.faults };
 
-    fn write(&mut self, piece: &[u8]) -> Result<usize, Failed> {
+    fn write(&mut self, piece: &[u8]) -> Result<usize, Failed>
+        ensures bound { WritesAtMost result piece.now }
+        ensures some { IfOk result (λ n. 0 < length piece.now → 0 < n) }
+        ensures bytes { WriteAppends (⟦<MemSink as Sink>⟧.taken self.old) (⟦<MemSink as Sink>⟧.taken self.new) result piece.now }
+        ensures cause { HasCause (⟦<MemSink as Sink>⟧.faults self.old) (⟦<MemSink as Sink>⟧.faults self.new) result }
+        ensures fails { is_named (sink_fails self.old) (next_count (sink_calls self.old)) ≡ true → is_ok result ≡ false }
+        ensures whole { IfOk result (λ n. n ≡ length piece.now) }
+        ensures named { sink_fails self.new ≡ sink_fails self.old }
+        ensures counted { sink_calls self.new ≡ next_count (sink_calls self.old) }
+    {
         self.calls = self.calls.saturating_add(1);
         let done = !self.fail.as_slice().contains(&self.calls);
         count(done, &mut self.faults)?;

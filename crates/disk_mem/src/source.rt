@@ -1,6 +1,9 @@
 //! A source of bytes in memory. It tells what is left, and fails at the calls that it is told to fail.
 
-ghost use Rattle.std.specs.Prelude.{◌≡◌, ◌<◌, ◌≤◌, [], ◌++◌, ℕ, List, IfOk, Some, take, drop, length};
+ghost use Rattle.std.specs.Prelude.{◌≡◌, ◌<◌, ◌≤◌, [], ◌++◌, ℕ, List, IfOk, Some, take, drop, length, not, is_ok};
+ghost use Rattle.std.specs.Io.{ReadsAtMost};
+ghost use Rattle.std.specs.Io.KnownBytes.{ReadConsumes};
+ghost use Rattle.store_api.specs.Causes.{HasCause, next_count};
 
 use crate::call::count;
 use inno_types::{Bytes, Ids};
@@ -21,9 +24,13 @@ pub struct MemSource {
 }
 
 impl MemSource {
+    ghost use Rattle.disk_mem.specs.Named.{source_fails, source_calls};
+
     /// It takes no memory.
     pub fn new(_alloc: Global, bytes: Bytes, fail: Ids) -> Result<MemSource, NoMemory>
         ensures left { IfOk result (λ source. ⟦<MemSource as Source>⟧.left source ≡ Some bytes) }
+        ensures named { IfOk result (λ source. source_fails source ≡ fail) }
+        ensures none { IfOk result (λ source. source_calls source ≡ 0) }
     {
         Ok(MemSource {
             bytes,
@@ -36,11 +43,20 @@ impl MemSource {
 }
 
 impl Source for MemSource {
+    ghost use Rattle.disk_mem.specs.Named.{source_fails, source_calls, is_named};
+
     ghost left = { λ source. Some (drop source.at source.bytes) };
 
     ghost faults = { λ source. source.faults };
 
-    fn read(&mut self, into: &mut [u8]) -> Result<usize, Failed> {
+    fn read(&mut self, into: &mut [u8]) -> Result<usize, Failed>
+        ensures bound { ReadsAtMost result into.new }
+        ensures bytes { ReadConsumes (⟦<MemSource as Source>⟧.left self.old) (⟦<MemSource as Source>⟧.left self.new) result into.new }
+        ensures cause { HasCause (⟦<MemSource as Source>⟧.faults self.old) (⟦<MemSource as Source>⟧.faults self.new) result }
+        ensures exact { is_ok result ≡ not (is_named (source_fails self.old) (next_count (source_calls self.old))) }
+        ensures named { source_fails self.new ≡ source_fails self.old }
+        ensures counted { source_calls self.new ≡ next_count (source_calls self.old) }
+    {
         self.calls = self.calls.saturating_add(1);
         let done = !self.fail.as_slice().contains(&self.calls);
         count(done, &mut self.faults)?;

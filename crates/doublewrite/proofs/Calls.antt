@@ -23,20 +23,20 @@ meant at to bytes page ok p0 p1 is_at is_page goes =
 module _ (before : State) (batch : BatchView) (is : IsBatch batch) where
   -- after the write
   record IsCopied (ok : Bool) (s : State) : Type 0 where
-    ready : IsReady batch before
+    ready : IsReady before
     copying : IsCopying before batch s
     seen : IsTrue ok → s.double.seen ≡ overwritten before.double.seen (copies_write before batch)
 
-  copies : (ok : Bool) (s : State) → IsReady batch before → Within Double (Wrote 0 batch.bytes ok) before s → IsCopied ok s
+  copies : (ok : Bool) (s : State) → IsReady before → Within Double (Wrote 0 batch.bytes ok) before s → IsCopied ok s
   copies ok s ready within = record {
     ready = ready;
     copying = record { synced = within.here.synced; writes = within.here.writes; pages_is = within.elsewhere Pages (λ same. cc); log_is = within.elsewhere Log (λ same. cc) };
     seen = within.here.seen;
   }
 
-  copies_from : (ok : Bool) (b s : State) → IsReadyAs before batch b → Within Double (Wrote 0 batch.bytes ok) b s → IsCopied ok s
+  copies_from : (ok : Bool) (b s : State) → IsReadyAs before b → Within Double (Wrote 0 batch.bytes ok) b s → IsCopied ok s
   copies_from ok b s ready within =
-      copies ok s (subst (IsReady batch) ready.0 ready.1) (subst (λ (r : State). Within Double (Wrote 0 batch.bytes ok) r s) ready.0 within)
+      copies ok s (subst IsReady ready.0 ready.1) (subst (λ (r : State). Within Double (Wrote 0 batch.bytes ok) r s) ready.0 within)
 
   copy_unsynced : (ok : Bool) (b s : State) → IsCopied ok b → Within Double (Synced false) b s → IsCopied false s
   copy_unsynced ok b s is_copied within =
@@ -64,9 +64,9 @@ module _ (before : State) (batch : BatchView) (is : IsBatch batch) where
   keeps_copied : (ok : Bool) (s : State) → IsCopied ok s → KeepsPages before batch s
   keeps_copied ok s is_copied = keeps_copying before batch is is_copied.ready s is_copied.copying
 
-  module _ (p0 p1 : Past) (known : Now (IsReadyAs before batch) p0) (ok : Bool) (write : Goes (Within Double (Wrote 0 batch.bytes ok)) p0 p1) where
+  module _ (p0 p1 : Past) (known : Now (IsReadyAs before) p0) (ok : Bool) (write : Goes (Within Double (Wrote 0 batch.bytes ok)) p0 p1) where
     is_copied : Now (IsCopied ok) p1
-    is_copied = Now-goes (IsReadyAs before batch) (IsCopied ok) (Within Double (Wrote 0 batch.bytes ok)) p0 p1 known write (copies_from ok)
+    is_copied = Now-goes (IsReadyAs before) (IsCopied ok) (Within Double (Wrote 0 batch.bytes ok)) p0 p1 known write (copies_from ok)
 
     pub during_copy : Meanwhile (KeepsPages before batch) p0 p1
     during_copy =
@@ -77,7 +77,7 @@ module _ (before : State) (batch : BatchView) (is : IsBatch batch) where
         let after = Now-goes (IsCopied ok) (IsCopied false) (Within Double (Synced false)) p1 p2 is_copied sync (copy_unsynced ok) in
         Meanwhile-goes (KeepsPages before batch) _ p0 p1 p2 during_copy sync (Now-weaker (IsCopied false) (KeepsPages before batch) p2 after (keeps_copied false))
 
-  module _ (p0 p1 p2 : Past) (known : Now (IsReadyAs before batch) p0) (write : Goes (Within Double (Wrote 0 batch.bytes true)) p0 p1) (sync : Goes (Within Double (Synced true)) p1 p2) where
+  module _ (p0 p1 p2 : Past) (known : Now (IsReadyAs before) p0) (write : Goes (Within Double (Wrote 0 batch.bytes true)) p0 p1) (sync : Goes (Within Double (Synced true)) p1 p2) where
     pub after_copies : Now (IsStagedHonestly before batch) p2
     after_copies = Now-goes (IsCopied true) (IsStagedHonestly before batch) (Within Double (Synced true)) p1 p2 (is_copied p0 p1 known true write) sync copy_synced
 

@@ -5,7 +5,7 @@ use Rattle.store_api.specs.Areas.{Write, Contents, State, Image, MayLeave, IsIma
 use Rattle.store_api.proofs.Pieces.{piece_front}
 use Rattle.doublewrite.specs.Reading.{IsGoodPage, IsCopyIn, IsPageIn, place_of}
 use Rattle.doublewrite.specs.Batches.{BatchView, IsBatch, IsInBatch, IsInBatchToo, page_at}
-use Rattle.doublewrite.specs.Kept.{HadCopy, IsSettled, IsReady, WasPage, KeepsPages, IsStaged, filled}
+use Rattle.doublewrite.specs.Kept.{HadCopy, IsSettled, IsReady, IsPageReady, WasPage, KeepsPages, IsStaged, filled}
 use Rattle.doublewrite.proofs.Bytes.{inside, filled_same, filled_whole, untouched}
 use Rattle.doublewrite.proofs.Wholes.{wrote_by, honest_page, settled_good}
 
@@ -26,7 +26,7 @@ pub record IsCopying (before : State) (batch : BatchView) (s : State) : Type 0 w
   pub pages_is : s.pages ≡ before.pages
   pub log_is : s.log ≡ before.log
 
-module _ (before : State) (batch : BatchView) (is : IsBatch batch) (ready : IsReady batch before) where
+module _ (before : State) (batch : BatchView) (is : IsBatch batch) (ready : IsReady before) where
   -- a good copy that this write put whole is the batch's
   put_copy : (number k : ℕ) (bytes : List ℕ) → IsGoodPage number bytes → Puts (4096 * k) bytes (copies_write before batch) → IsInBatch batch number bytes
   put_copy number k bytes good puts =
@@ -45,20 +45,20 @@ module _ (before : State) (batch : BatchView) (is : IsBatch batch) (ready : IsRe
     left_pages = subst (λ (c : Contents). MayLeave c image.pages) now.pages_is left.pages
 
     -- a page that isn't good in its place had no copy
-    none_had : (number : ℕ) → (IsGoodPage number (place_of number image.pages) → ⊥) → (bytes : List ℕ) → HadCopy number before.double bytes → ⊥
-    none_had number bad bytes had =
+    none_had : (number : ℕ) → IsPageReady batch before number → (IsGoodPage number (place_of number image.pages) → ⊥) → (bytes : List ℕ) → HadCopy number before.double bytes → ⊥
+    none_had number page bad bytes had =
         ⊎_elim
         (λ (settled : IsSettled number before.pages). bad (settled_good number before.pages image.pages settled left_pages))
         (λ (none : (other : List ℕ) → HadCopy number before.double other → ⊥). none bytes had)
-        (ready.settled number)
+        page.settled
 
     -- a copy is the batch's then
-    copy_of : (number : ℕ) (bytes : List ℕ) → (IsGoodPage number (place_of number image.pages) → ⊥) → IsCopyIn image.double number bytes → IsInBatch batch number bytes
-    copy_of number bytes bad copy =
+    copy_of : (number : ℕ) (bytes : List ℕ) → IsPageReady batch before number → (IsGoodPage number (place_of number image.pages) → ⊥) → IsCopyIn image.double number bytes → IsInBatch batch number bytes
+    copy_of number bytes page bad copy =
         let good : IsGoodPage number (piece 4096 copy.slot image.double) = subst (IsGoodPage number) (sym copy.stands) copy.good in
         let whole : WasWhole s.double (4096 * copy.slot) bytes = subst (WasWhole s.double (4096 * copy.slot)) copy.stands (honest_page copy.slot number s.double image.double honest.double good) in
         ⊎_elim
-        (λ (old : WasWhole before.double (4096 * copy.slot) bytes). absurd (none_had number bad bytes (record { slot = copy.slot; below = copy.below; good = copy.good; whole = old })))
+        (λ (old : WasWhole before.double (4096 * copy.slot) bytes). absurd (none_had number page bad bytes (record { slot = copy.slot; below = copy.below; good = copy.good; whole = old })))
         (λ (new : Puts (4096 * copy.slot) bytes (copies_write before batch)). put_copy number copy.slot bytes copy.good new)
         (wrote_by before.double s.double (copies_write before batch) (4096 * copy.slot) bytes now.synced now.writes whole)
 
@@ -69,16 +69,16 @@ module _ (before : State) (batch : BatchView) (is : IsBatch batch) (ready : IsRe
           (subst (WasWhole s.pages (4096 * number)) stands (honest_page number number s.pages image.pages honest.pages (subst (IsGoodPage number) (sym stands) good))),
     )
 
-    read_copying : (number : ℕ) (content : Option (List ℕ)) → IsPageIn image.pages image.double number content → WasPage before number content ⊎ IsInBatchToo batch number content
-    read_copying number (Some bytes) read = elim read [
+    read_copying : (number : ℕ) (content : Option (List ℕ)) → IsPageReady batch before number → IsPageIn image.pages image.double number content → WasPage before number content ⊎ IsInBatchToo batch number content
+    read_copying number (Some bytes) page read = elim read [
       | inl there ↦ inl (place_was number bytes there.0 there.1)
-      | inr copied ↦ inr (copy_of number bytes copied.0 copied.1.copy)
+      | inr copied ↦ inr (copy_of number bytes page copied.0 copied.1.copy)
     ]
-    read_copying number None read = inl (λ settled. read.0 (settled_good number before.pages image.pages settled left_pages))
+    read_copying number None page read = inl (λ settled. read.0 (settled_good number before.pages image.pages settled left_pages))
 
   pub keeps_copying : (s : State) → IsCopying before batch s → KeepsPages before batch s
   keeps_copying s now = record {
-    each = λ image left honest number content read. read_copying s now image left honest number content read;
+    each = λ image left honest number content page read. read_copying s now image left honest number content page read;
     log_is = now.log_is;
   }
 
@@ -109,7 +109,6 @@ module _ (before : State) (batch : BatchView) (is : IsBatch batch) (ready : IsRe
 
   pub staged : (s : State) → s.double ≡ record { seen = double_then; synced = double_then; writes = [] } → s.pages ≡ before.pages → s.log ≡ before.log → IsStaged before batch s
   staged s double pages log = record {
-    ready = ready;
     double = double_then;
     double_is = double;
     copies = copies_then;

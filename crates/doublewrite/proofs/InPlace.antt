@@ -124,7 +124,6 @@ module _ (before : State) (batch : BatchView) (is : IsBatch batch) (slot : ℕ) 
   wrote_one t synced writes double log =
       let page = good_at batch is slot below in
       record {
-        ready = staged.ready;
         double = staged.double;
         double_is = double ∙ staged.double_is;
         copies = staged.copies;
@@ -161,7 +160,6 @@ module _ (before : State) (batch : BatchView) (s : State) (staged : IsStaged bef
   -- a sync that failed
   pub sync_failed : (t : State) → t.pages.synced ≡ s.pages.synced → t.pages.writes ≡ s.pages.writes → t.double ≡ s.double → t.log ≡ s.log → IsStaged before batch t
   sync_failed t synced writes double log = record {
-    ready = staged.ready;
     double = staged.double;
     double_is = double ∙ staged.double_is;
     copies = staged.copies;
@@ -179,7 +177,6 @@ module _ (before : State) (batch : BatchView) (s : State) (staged : IsStaged bef
       let none : t.pages.writes ≡ [] = ap (λ (c : Contents). c.writes) pages in
       let same : t.pages.synced ≡ s.pages.seen = ap (λ (c : Contents). c.synced) pages in
       record {
-        ready = staged.ready;
         double = staged.double;
         double_is = double ∙ staged.double_is;
         copies = staged.copies;

@@ -5,7 +5,7 @@ use Rattle.store_api.specs.Areas.{Contents, State, Image, IsImage, IsHonest, Was
 use Rattle.page_format.specs.Words.{number_of, lsn_of}
 use Rattle.doublewrite.specs.Reading.{IsGoodPage, IsCopyIn, IsNewestCopy, IsPageIn, place_of}
 use Rattle.doublewrite.specs.Batches.{BatchView, IsBatch, IsInBatch, IsInBatchToo, number_at}
-use Rattle.doublewrite.specs.Kept.{HadCopy, IsSettled, WasPage, KeepsPages, IsStaged}
+use Rattle.doublewrite.specs.Kept.{HadCopy, IsSettled, IsPageReady, WasPage, KeepsPages, IsStaged}
 use Rattle.doublewrite.proofs.Batched.{good_at, in_or_out}
 use Rattle.doublewrite.proofs.Wholes.{left_alone, honest_page, settled_good}
 
@@ -40,8 +40,8 @@ module _ (before : State) (batch : BatchView) (is : IsBatch batch) (s : State) (
   good_still number out settled = settled_good number s.pages image.pages (staged.settled number out settled) left.pages
 
   -- the newest copy of a page that isn't good in its place is the batch's
-  newest_is : (number : ℕ) (bytes : List ℕ) → (IsGoodPage number (place_of number image.pages) → ⊥) → IsNewestCopy image.double number bytes → IsInBatch batch number bytes
-  newest_is number bytes bad copied =
+  newest_is : (number : ℕ) (bytes : List ℕ) → IsPageReady batch before number → (IsGoodPage number (place_of number image.pages) → ⊥) → IsNewestCopy image.double number bytes → IsInBatch batch number bytes
+  newest_is number bytes ready bad copied =
       ⊎_elim
       (λ (own : IsInBatch batch number bytes). own)
       (λ (had : HadCopy number before.double bytes).
@@ -50,12 +50,12 @@ module _ (before : State) (batch : BatchView) (is : IsBatch batch) (s : State) (
       ⊎_elim
       (λ (same : bytes ≡ there.0). subst (IsInBatch batch number) (sym same) there.1)
       (λ (older : lsn_of bytes < lsn_of there.0). let newest = copied.newest there.0 (own_copy number there.0 there.1) in absurd (omega (arith, older, newest)))
-      (staged.ready.older number there.0 bytes there.1 had))
+      (ready.older there.0 bytes there.1 had))
       (λ (out : (page : List ℕ) → IsInBatch batch number page → ⊥).
       ⊎_elim
       (λ (settled : IsSettled number before.pages). absurd (bad (good_still number out settled)))
       (λ (none : (other : List ℕ) → HadCopy number before.double other → ⊥). absurd (none bytes had))
-      (staged.ready.settled number))
+      ready.settled)
       (in_or_out batch number))
       (copy_was number bytes copied.copy)
 
@@ -64,12 +64,12 @@ module _ (before : State) (batch : BatchView) (is : IsBatch batch) (s : State) (
       let whole = subst (WasWhole s.pages (4096 * number)) stands (honest_page number number s.pages image.pages honest.pages (subst (IsGoodPage number) (sym stands) good)) in
       ⊎_elim (λ (new : IsInBatch batch number bytes). inr new) (λ (old : WasWhole before.pages (4096 * number) bytes). inl (good, old)) (staged.held number bytes good whole)
 
-  read_staged : (number : ℕ) (content : Option (List ℕ)) → IsPageIn image.pages image.double number content → WasPage before number content ⊎ IsInBatchToo batch number content
-  read_staged number (Some bytes) read = elim read [
+  read_staged : (number : ℕ) (content : Option (List ℕ)) → IsPageReady batch before number → IsPageIn image.pages image.double number content → WasPage before number content ⊎ IsInBatchToo batch number content
+  read_staged number (Some bytes) ready read = elim read [
     | inl there ↦ place_is number bytes there.0 there.1
-    | inr copied ↦ inr (newest_is number bytes copied.0 copied.1)
+    | inr copied ↦ inr (newest_is number bytes ready copied.0 copied.1)
   ]
-  read_staged number None read =
+  read_staged number None ready read =
       ⊎_elim
       (λ (there : (page : List ℕ) × IsInBatch batch number page). absurd (read.1 there.0 (own_copy number there.0 there.1)))
       (λ (out : (page : List ℕ) → IsInBatch batch number page → ⊥). inl (λ settled. read.0 (good_still number out settled)))
@@ -77,6 +77,6 @@ module _ (before : State) (batch : BatchView) (is : IsBatch batch) (s : State) (
 
 pub keeps_staged : (before : State) (batch : BatchView) → IsBatch batch → (s : State) → IsStaged before batch s → KeepsPages before batch s
 keeps_staged before batch is s staged = record {
-  each = λ image left honest number content read. read_staged before batch is s staged image left honest number content read;
+  each = λ image left honest number content ready read. read_staged before batch is s staged image left honest number content ready read;
   log_is = staged.log_is;
 }

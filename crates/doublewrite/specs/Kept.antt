@@ -33,16 +33,19 @@ HasHonestReads c = (k : ℕ) → PassesSum (filled k c.seen) → WasWhole c (409
 
 -- ---- before a batch is staged
 
--- Each page is good in its place for good, or has no copy in Double. Copies there of the batch's pages are older, or the same.
-pub record IsReady (batch : BatchView) (s : State) : Type 0 where
+-- What a read gives of Pages and Double is no page by chance.
+pub record IsReady (s : State) : Type 0 where
   pub read_pages : HasHonestReads s.pages
   pub read_copies : HasHonestReads s.double
-  pub settled : (number : ℕ) → IsSettled number s.pages ⊎ ((bytes : List ℕ) → HadCopy number s.double bytes → ⊥)
-  pub older : (number : ℕ) (bytes other : List ℕ) → IsInBatch batch number bytes → HadCopy number s.double other → (other ≡ bytes) ⊎ (lsn_of other < lsn_of bytes)
 
 -- this state, which is ready
-abbrev pub IsReadyAs : State → BatchView → State → Type 0
-IsReadyAs before batch s = (s ≡ before) × IsReady batch s
+abbrev pub IsReadyAs : State → State → Type 0
+IsReadyAs before s = (s ≡ before) × IsReady s
+
+-- The page is good in its place for good, or has no copy in Double. Copies of it there are older than the batch's, or the same.
+pub record IsPageReady (batch : BatchView) (s : State) (number : ℕ) : Type 0 where
+  pub settled : IsSettled number s.pages ⊎ ((bytes : List ℕ) → HadCopy number s.double bytes → ⊥)
+  pub older : (bytes other : List ℕ) → IsInBatch batch number bytes → HadCopy number s.double other → (other ≡ bytes) ⊎ (lsn_of other < lsn_of bytes)
 
 -- The page had this content in its place, whole, at the last sync or by a write since. It had none where its place wasn't good for good.
 abbrev pub WasPage : State → ℕ → Option (List ℕ) → Type 0
@@ -51,16 +54,16 @@ WasPage s number None = IsSettled number s.pages → ⊥
 
 -- ---- at each moment from then on
 
--- a crash leaves each page with its old content or with that of the batch
+-- a crash leaves each page that was ready with its old content or with that of the batch
 pub record KeepsPages (before : State) (batch : BatchView) (s : State) : Type 0 where
-  pub each : (image : Image) → IsImage s image → IsHonest s image → (number : ℕ) (content : Option (List ℕ)) → IsPageIn image.pages image.double number content → WasPage before number content ⊎ IsInBatchToo batch number content
+  pub each : (image : Image) → IsImage s image → IsHonest s image → (number : ℕ) (content : Option (List ℕ)) → IsPageReady batch before number
+      → IsPageIn image.pages image.double number content → WasPage before number content ⊎ IsInBatchToo batch number content
   pub log_is : s.log ≡ before.log
 
 -- ---- after its copies are synced
 
 -- Double holds the copies for good, and nothing that was written in Pages since is anything but the batch's pages in their places.
 pub record IsStaged (before : State) (batch : BatchView) (s : State) : Type 0 where
-  pub ready : IsReady batch before
   pub double : List ℕ
   pub double_is : s.double ≡ record { seen = double; synced = double; writes = [] }
   pub copies : (k : ℕ) → k < batch.count → piece 4096 k double ≡ page_at batch k

@@ -1,5 +1,5 @@
 //! Up to 64 sealed pages that are written together.
-//! The buffer pool fills a batch; the doublewrite writes it.
+//! `stage` takes a batch that its caller has filled.
 
 ghost use Rattle.std.specs.Prelude.{◌≡◌, ◌≢◌, [], ◌+◌, ◌*◌, ◌<◌, ◌≤◌, ◌++◌, ℕ, length, vec_len, vec_capacity, IfOk, MatchBool};
 ghost use Rattle.store_api.specs.Areas.{PassesSum};

@@ -1,5 +1,5 @@
 //! The doublewrite: a page is written in place only after a copy of it is synced, and repair puts torn pages right.
-//! Only this crate writes to the areas Double and Pages once files are made.
+//! No other crate writes to the areas Double and Pages.
 #![tactic(auto)]
 
 mod batch;

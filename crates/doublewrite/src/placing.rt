@@ -1,5 +1,5 @@
 //! A batch on its way to its places: first the copies, and once they are synced each page in place.
-//! Nothing else writes pages in place but the repair.
+//! No other code writes pages in place but the repair.
 
 ghost use Rattle.std.specs.Prelude.{◌≡◌, ◌↔◌, ◌+◌, ◌*◌, ◌<◌, ◌≤◌, ℕ, length, IsTrue, OnOk, OnErr, IfOk, IfErr};
 ghost use Rattle.store_api.specs.Areas.{State};
@@ -34,8 +34,8 @@ impl Model for Staged {
 /// Writes the copies of all pages in one write, and syncs.
 fn copy_all<D: Disk>(disk: &mut D, batch: &Batch) -> Result<(), Failed>
     ensures cause { HasCause (D.past disk.old).faults (D.past disk.new).faults result }
-    ensures stands { (before : State) → Now (IsReadyAs before batch.now) (D.past disk.old) → OnOk result (Now (IsStagedHonestly before batch.now) (D.past disk.new)) }
-    ensures crash { (before : State) → Now (IsReadyAs before batch.now) (D.past disk.old) → Meanwhile (KeepsPages before batch.now) (D.past disk.old) (D.past disk.new) }
+    ensures stands { (before : State) → Now (IsReadyAs before) (D.past disk.old) → OnOk result (Now (IsStagedHonestly before batch.now) (D.past disk.new)) }
+    ensures crash { (before : State) → Now (IsReadyAs before) (D.past disk.old) → Meanwhile (KeepsPages before batch.now) (D.past disk.old) (D.past disk.new) }
 {
     disk.write(Area::Double, 0, batch.as_bytes())?;
     disk.sync(Area::Double)?;
@@ -71,10 +71,10 @@ pub fn stage<D: Disk>(disk: &mut D, batch: Batch) -> Result<Staged, (Batch, Fail
     ensures cause { HasCause (D.past disk.old).faults (D.past disk.new).faults result }
 
     // The batch may be placed from then on,
-    ensures stands { (before : State) → Now (IsReadyAs before batch) (D.past disk.old) → OnOk result (Now (IsStagedHonestly before batch) (D.past disk.new)) }
+    ensures stands { (before : State) → Now (IsReadyAs before) (D.past disk.old) → OnOk result (Now (IsStagedHonestly before batch) (D.past disk.new)) }
 
-    // and at each moment of the call a crash leaves each page with its old content or with that of the batch.
-    ensures crash { (before : State) → Now (IsReadyAs before batch) (D.past disk.old) → Meanwhile (KeepsPages before batch) (D.past disk.old) (D.past disk.new) }
+    // and at each moment of the call a crash leaves each page that was ready with its old content or with that of the batch.
+    ensures crash { (before : State) → Now (IsReadyAs before) (D.past disk.old) → Meanwhile (KeepsPages before batch) (D.past disk.old) (D.past disk.new) }
 {
     match copy_all(disk, &batch) {
         Ok(()) => Ok(Staged { batch, placed: 0 }),
@@ -107,7 +107,7 @@ impl Staged {
         // So many pages are in their places, and all of them for good where none is left.
         ensures placed { Now (HasPlaced self.old) (D.past disk.old) → Now (HasPlaced self.new) (D.past disk.new) }
 
-        // At each moment of the call a crash leaves each page with its old content or with that of the batch.
+        // At each moment of the call a crash leaves each page that was ready with its old content or with that of the batch.
         ensures crash { (before : State) → Now (IsStagedHonestly before self.old.batch) (D.past disk.old) → Meanwhile (KeepsPages before self.old.batch) (D.past disk.old) (D.past disk.new) }
     {
         match place_page(disk, &self.batch, self.placed) {

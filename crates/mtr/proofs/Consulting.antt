@@ -1,15 +1,30 @@
 -- Calls that look at some pages and change nothing, one after another.
-use Rattle.std.proofs.Common.{◌≡◌, ℕ, inl, inr, List, [], ◌∷◌, ◌++◌, ◌≤◌, length, true, refl, sym, ap, ◌∙◌, subst, arith}
+use Rattle.std.proofs.Common.{◌≡◌, ◌≢◌, ℕ, inl, inr, List, [], ◌∷◌, ◌++◌, ◌≤◌, length, true, refl, sym, ap, ◌∙◌, subst, arith}
 use Rattle.std.specs.Prelude.{Result, Ok, Err}
 use Rattle.store_api.specs.Causes.{Rose}
 use Rattle.store_api.specs.declared.visits.Visit.{Visit}
 use Rattle.store_api.specs.declared.visits.Visit.TheVariants.{Failed, Again, Bad}
 use Rattle.mtr.specs.Seen.{MtrState, is_in, visit, visit_all, claim, AreAmong, AreDistinct, Visits, IsShut}
-use Rattle.mtr.specs.Calls.{Goes, SamePages, Looks, Explains, Asks, Consults, IsReason}
+use Rattle.mtr.specs.Calls.{Goes, Puts, SamePages, Looks, Explains, Asks, Consults, IsReason}
 use Rattle.mtr.proofs.Claims.{claim_all, claim_place}
 
+rose_later : (a b c : ℕ) → a ≤ b → Rose b c → Rose a c
+rose_later a b c first rose = omega arith
+
+rose_sooner : (a b c : ℕ) → b ≤ c → Rose a b → Rose a c
+rose_sooner a b c next rose = omega arith
+
 pub goes_then : (a b c : MtrState) → Goes a b → Goes b c → Goes a c
-goes_then a b c first next = record { told = λ told. first.told (next.told told); faults = omega (arith, first.faults, next.faults); whole = next.whole ∙ first.whole }
+goes_then a b c first next = record {
+  told = λ told. first.told (next.told told);
+  stays = λ told good. next.stays (first.stays told (λ rose. good (rose_sooner a.faults b.faults c.faults next.faults rose))) (λ rose. good (rose_later a.faults b.faults c.faults first.faults rose));
+  faults = omega (arith, first.faults, next.faults);
+  whole = next.whole ∙ first.whole;
+}
+
+-- bytes that are put on another page than page 0 leave its count
+pub put_goes : (page at : ℕ) (bytes : List ℕ) (old new : MtrState) → page ≢ 0 → Puts page at bytes old new → Goes old new
+put_goes page at bytes old new apart puts = record { told = puts.keeps.told; stays = puts.stays (λ first. absurd (apart first)); faults = puts.keeps.faults; whole = puts.keeps.whole }
 
 pub same_then : (a b c : MtrState) → SamePages a b → SamePages b c → SamePages a c
 same_then a b c first next = record { standing = next.standing ∙ first.standing; seen = next.seen ∙ first.seen; fault = next.fault ∙ first.fault }
@@ -46,7 +61,7 @@ visits_none pages old new is = record { asked = []; known = tt; visited_is = is 
 -- without any call
 pub consults_none : (pages : List ℕ) (s : MtrState) → Consults pages s s
 consults_none pages s = record {
-  goes = record { told = λ told. told; faults = omega arith; whole = refl };
+  goes = record { told = λ told. told; stays = λ told good. told; faults = omega arith; whole = refl };
   same = λ told. record { standing = refl; seen = refl; fault = refl };
   visits = visits_none pages s s refl;
   spare = refl;
@@ -73,9 +88,6 @@ pub claim_left : (pages : List ℕ) (old new : MtrState) → AreDistinct pages �
 claim_left pages old new distinct visits = ap (claim pages) visits.visited_is ∙ claim_all pages visits.asked old.visited distinct visits.known
 
 -- ---- reasons
-
-rose_later : (a b c : ℕ) → a ≤ b → Rose b c → Rose a c
-rose_later a b c first rose = omega arith
 
 pub reason_asked : (pages : List ℕ) (Breaks : ℕ → ℕ → (ℕ → List ℕ) → Type 0) (page : ℕ) (old new : MtrState) (why : Visit) → is_in page pages ≡ true → Looks old.visited old new → Explains page old new why → IsReason pages Breaks old new why
 reason_asked pages Breaks page old new Failed known looks rose = rose

@@ -1,3 +1,4 @@
 pub mod Behind
 pub mod Claims
 pub mod Consulting
+pub mod Counted

@@ -1,13 +1,25 @@
 -- What the calls of a mini-transaction make of what it sees.
 use Rattle.std.specs.Prelude.{◌≡◌, ◌≢◌, ◌⊎◌, ℕ, ◌+◌, ◌≤◌, List, [], length, replicate, IsTrue, Option, Some, None, Result, MatchResult, if◌then◌else◌}
+use Rattle.page_format.specs.Words.{u32_at}
 use Rattle.store_api.specs.Causes.{Rose}
 use Rattle.store_api.specs.declared.visits.Visit.{Visit}
 use Rattle.store_api.specs.declared.visits.Visit.TheVariants.{Failed, Again, Bad}
-use Rattle.mtr.specs.Seen.{MtrState, is_in, visit, Visits, IsShut, with_bytes}
+use Rattle.mtr.specs.Seen.{MtrState, is_in, visit, Visits, IsShut, with_bytes, capacity_of}
+
+-- pages that were told are told still, unless the disk has failed
+abbrev pub StaysTold : MtrState → MtrState → Type 0
+StaysTold old new = IsTrue old.told → (Rose old.faults new.faults → ⊥) → IsTrue new.told
 
 -- What each call keeps: pages that are told were told before, the disk's faults don't fall, and a beginning has the same spare.
+pub record Keeps (old new : MtrState) : Type 0 where
+  pub told : IsTrue new.told → IsTrue old.told
+  pub faults : old.faults ≤ new.faults
+  pub whole : new.whole ≡ old.whole
+
+-- The same, of a call that leaves page 0's count of pages or lowers it: it never stops telling by itself.
 pub record Goes (old new : MtrState) : Type 0 where
   pub told : IsTrue new.told → IsTrue old.told
+  pub stays : StaysTold old new
   pub faults : old.faults ≤ new.faults
   pub whole : new.whole ≡ old.whole
 
@@ -42,9 +54,14 @@ pub record Makes (page : ℕ) (old new : MtrState) : Type 0 where
   pub visited_is : new.visited ≡ visit page old.visited
   pub spare : Spends 5 old new
 
--- The page is seen with these bytes.
+-- page 0 will count no more pages than before
+abbrev pub CountsNoMore : ℕ → ℕ → List ℕ → MtrState → Type 0
+CountsNoMore page at bytes old = page ≡ 0 → u32_at 44 (with_bytes at bytes (old.seen page)) ≤ capacity_of old
+
+-- The page is seen with these bytes. Pages are told still, unless page 0 counts more of them now.
 pub record Puts (page at : ℕ) (bytes : List ℕ) (old new : MtrState) : Type 0 where
-  pub goes : Goes old new
+  pub keeps : Keeps old new
+  pub stays : CountsNoMore page at bytes old → StaysTold old new
   pub pages : IsTrue new.told → SeesAt page (with_bytes at bytes (old.seen page)) old new
   pub visited_is : new.visited ≡ old.visited
   pub spare : Spends (length bytes + 9) old new

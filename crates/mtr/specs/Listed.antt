@@ -1,7 +1,8 @@
 -- What pages in two vectors show to a mini-transaction: each page is in the pool, and none breaks a rule.
-use Rattle.std.specs.Prelude.{◌≡◌, ℕ, List, slice_index_or, true, None, IsTrue}
+use Rattle.std.specs.Prelude.{◌≡◌, ℕ, ◌≤◌, List, slice_index_or, true, None, IsTrue}
+use Rattle.page_format.specs.Words.{u32_at}
 use Rattle.mtr.specs.declared.store.Store.{Store}
-use Rattle.mtr.specs.Seen.{MtrState}
+use Rattle.mtr.specs.Seen.{MtrState, capacity_of}
 use Rattle.mtr.specs.Calls.{SeesAt}
 
 -- a page of a list, blank past its end
@@ -22,9 +23,10 @@ state_of s = record {
   faults = 0;
 }
 
--- The page is seen with these bytes. Pages that are told were told before.
+-- The page is seen with these bytes. Pages are told still, unless page 0 counts more of them now.
 pub record Replaces (page : ℕ) (bytes : List ℕ) (old new : MtrState) : Type 0 where
   pub told : IsTrue new.told → IsTrue old.told
+  pub stays : (page ≡ 0 → u32_at 44 bytes ≤ capacity_of old) → IsTrue old.told → IsTrue new.told
   pub pages : IsTrue new.told → SeesAt page bytes old new
   pub visited_is : new.visited ≡ old.visited
   pub spare_is : new.spare ≡ old.spare

@@ -1,5 +1,5 @@
 //! The pages by number, as one mini-transaction sees them: a trait, and pages in memory that meet it.
-//! Trees, undo logs, the space map and the catalog read and change pages through this trait alone.
+//! The space map and the catalog read and change pages through this trait alone.
 #![tactic(auto)]
 
 mod listed;

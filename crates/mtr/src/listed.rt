@@ -3,13 +3,14 @@
 
 ghost use Rattle.std.specs.Prelude.{◌≡◌, ℕ, ◌+◌, ◌<◌, ◌≤◌, length, IsTrue, IsOk, IfOk, OnOk, OnErr, Err};
 ghost use Rattle.mtr.specs.Resting.{IsResting};
+ghost use Rattle.mtr.specs.declared.listed.ListedPages.{ListedPages as Listed};
 
 use crate::pages::Mtr;
 use crate::store::Store;
 use std::alloc::Global;
 use store_api::{FreshBad, NoMemory, Visit};
 
-/// Pages in memory. They are told as long as page 0 counts no more than there are.
+/// Pages in memory. They are told as long as page 0 counts no more than there are, since no call of theirs fails.
 #[derive(Drop)]
 pub struct ListedPages {
     store: Store,
@@ -24,6 +25,11 @@ impl ListedPages {
             store: Store::new(alloc, pages, spare)?,
         })
     }
+
+    /// Pages in memory count no fault. So they are told through all calls, unless page 0 counts more of them.
+    pub fn counts_no_fault()
+        ensures { (m : Listed) → (⟦<ListedPages as Mtr>⟧.state m).faults ≡ 0 }
+    {}
 }
 
 impl Mtr for ListedPages {

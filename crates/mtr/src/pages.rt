@@ -1,5 +1,5 @@
-//! The pages by number, as one mini-transaction sees them.
-//! A pool with its log meets this trait, and so do pages in memory.
+//! What a mini-transaction may do with pages, as a trait.
+//! Only `ListedPages` meets it; the code above is generic over it.
 
 ghost use Rattle.std.specs.Prelude.{◌≡◌, ℕ, ◌+◌, ◌<◌, ◌≤◌, length, IsTrue, IsOk, IfOk, OnOk, OnErr, Err, Ok};
 ghost use Rattle.std.specs.Io.BufRead.{Rests};
@@ -34,7 +34,7 @@ pub trait Mtr {
         ensures again { result ≡ Err FreshAgain → IsShut page (state self.old) }
         ensures memory { result ≡ Err NoFreshMemory → (state self.old).spare < 5 };
 
-    /// Puts bytes in the page, from byte 20 on.
+    /// Puts bytes in the page, from byte 20 on. Where page 0 counts more pages by it, pages may be told no more.
     fn put(&mut self, page: u32, at: u16, bytes: &[u8]) -> Result<(), NoMemory>
         requires begins { 20 ≤ at }
         requires ends { at + length bytes.now ≤ 4096 }

@@ -69,6 +69,7 @@ edited old new records fields keeps count_is room body =
     ∙ drop_at (concat records) body.rest (length records * record_len_of old) (length-concat (record_len_of old) records body.wide) in (
       record {
         level = kind ∙ fields.level ∙ ap (λ (l : ℕ). if l == 0 then 3 else 4) (sym level);
+        depth = omega (arith, level, fields.depth);
         width = omega (arith, width, fields.width);
         inside = rw used room;
         low = rw (low_len, low) fields.low;

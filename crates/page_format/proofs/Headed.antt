@@ -58,6 +58,7 @@ tree_from old new fields same low high =
     let rest : drop (208 + count_of new * record_len_of new) new ≡ drop (208 + count_of old * record_len_of old) old = ap (λ (k : ℕ). drop (208 + k) new) used ∙ back_more new old 196 (208 + count_of old * record_len_of old) (omega arith) same.body in (
       record {
         level = same.kind ∙ fields.level ∙ ap (λ (l : ℕ). if l == 0 then 3 else 4) (sym same.level);
+        depth = omega (arith, same.level, fields.depth);
         width = omega (arith, same.width, fields.width);
         inside = rw used fields.inside;
         low = low;

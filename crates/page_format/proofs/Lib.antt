@@ -1,3 +1,4 @@
+pub mod Between
 pub mod Bodies
 pub mod Edited
 pub mod Halves

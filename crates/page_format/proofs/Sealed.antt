@@ -1,14 +1,14 @@
 -- A page whose sum is set.
-use Rattle.std.proofs.Common.{◌≡◌, ℕ, ◌^◌, ◌<◌, Bool, true, false, List, ◌++◌, take, drop, refl, sym, ap, ◌∙◌, arith}
+use Rattle.std.proofs.Common.{◌≡◌, ℕ, ◌^◌, ◌<◌, ◌≤◌, Bool, true, false, List, ◌++◌, take, drop, refl, sym, ap, ◌∙◌, subst, arith}
 use Rattle.std.specs.Int.{w16, w32, w64, to_be_bytes, from_be_bytes}
-use Rattle.std.specs.Prelude.{MatchBool}
+use Rattle.std.specs.Prelude.{MatchBool, Option, slice_index}
 use Rattle.std.proofs.lemmas.List.{take_at, drop_at}
 use Rattle.std.proofs.lemmas.Nat.{from_be_bytes-to_be_bytes_8}
 use Rattle.sum64.specs.Fnv.{fnv_of}
 use Rattle.sum64.proofs.Bound.{fnv_of_below}
 use Rattle.store_api.specs.Areas.{PassesSum}
-use Rattle.page_format.specs.Words.{u16_at, u32_at, number_of, kind_of, records_of, pieces}
-use Rattle.page_format.specs.Shape.{HasFields, HasOrder, HasTreeFields, HasPlainFields, AreRising, IsPage, is_tree}
+use Rattle.page_format.specs.Words.{u16_at, u32_at, number_of, kind_of, low_of, high_of, records_of, fence, pieces}
+use Rattle.page_format.specs.Shape.{HasFields, HasOrder, HasTreeFields, HasPlainFields, HasTreeOrder, IsOrdered, IsPage, is_tree}
 use Rattle.page_format.proofs.Headed.{back_part, back_byte, back_more, tree_from}
 
 pub sealed : (old new : List ℕ) (sum : ℕ) → sum ≡ fnv_of (drop 8 old) → new ≡ to_be_bytes w64 sum ++ drop 8 old → PassesSum new × (drop 8 new ≡ drop 8 old)
@@ -48,6 +48,19 @@ same_records old new back =
     let body = back_more new old 8 208 (omega arith) back in
     λ i. pieces (width i) (count i) (body i)
 
+fence_of : (old new : List ℕ) (len at : ℕ) → 8 ≤ len → 8 ≤ at → drop 8 new ≡ drop 8 old → fence (slice_index new len) (take 80 (drop at new)) ≡ fence (slice_index old len) (take 80 (drop at old))
+fence_of old new len at behind_len behind_at back =
+    let same = back_byte new old 8 len (omega arith) back in
+    let part = back_part new old 8 at 80 (omega arith) back in
+    λ j. fence (same j) (part j)
+
+same_order : (old new : List ℕ) → drop 8 new ≡ drop 8 old → HasTreeOrder old → HasTreeOrder new
+same_order old new back order =
+    let low = fence_of old new 34 36 (omega arith) (omega arith) back in
+    let high = fence_of old new 35 116 (omega arith) (omega arith) back in
+    let between = subst (λ (rs : List (List ℕ)). IsOrdered (low_of old) (high_of old) rs) (sym (same_records old new back)) order in
+    subst (λ (f : Option (List ℕ)). IsOrdered f (high_of new) (records_of new)) (sym low) (subst (λ (f : Option (List ℕ)). IsOrdered (low_of old) f (records_of new)) (sym high) between)
+
 pub readable : (old new : List ℕ) → PassesSum new → drop 8 new ≡ drop 8 old → HasFields old → HasOrder old → IsPage (number_of old) new
 unfolding u32_at
 readable old new sum back fields order =
@@ -56,5 +69,5 @@ readable old new sum back fields order =
       sum = sum;
       number_is = ap (from_be_bytes w32) (back_part new old 8 8 4 (omega arith) back);
       fields = match_along (is_tree (kind_of old)) (is_tree (kind_of new)) (HasTreeFields old) (HasPlainFields old) (HasTreeFields new) (HasPlainFields new) kind (λ t. (same_tree old new back t).0) (same_plain old new back) fields;
-      order = match_along (is_tree (kind_of old)) (is_tree (kind_of new)) (AreRising (records_of old)) (Unit {0}) (AreRising (records_of new)) (Unit {0}) kind (λ r. rw (same_records old new back) r) (λ u. u) order;
+      order = match_along (is_tree (kind_of old)) (is_tree (kind_of new)) (HasTreeOrder old) (Unit {0}) (HasTreeOrder new) (Unit {0}) kind (same_order old new back) (λ u. u) order;
     }

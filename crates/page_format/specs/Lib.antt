@@ -1,4 +1,5 @@
 pub mod Changes
+pub mod Fences
 pub mod Found
 pub mod Refused
 pub mod Shape

@@ -8,7 +8,7 @@ use Rattle.page_format.specs.declared.read.PageBad.TheVariants.{Sum, Number, Sha
 use Rattle.page_format.specs.Words.{number_of}
 use Rattle.page_format.specs.Shape.{HasFields, HasOrder}
 
--- the rule that a page's shape breaks: 1 of its fields, 2 of its records' order
+-- the rule that a page's shape breaks: 1 of its fields, 2 of the order of its records and fences
 abbrev pub BreaksRule : ℕ → List ℕ → Type 0
 BreaksRule rule bytes = ((rule ≡ 1) × (HasFields bytes → ⊥)) ⊎ ((rule ≡ 2) × HasFields bytes × (HasOrder bytes → ⊥))
 

@@ -1,10 +1,11 @@
--- What a page must be by itself: its fields have their values, and its records rise.
-use Rattle.std.specs.Prelude.{◌≡◌, ℕ, ◌+◌, ◌*◌, ◌<◌, ◌≤◌, List, [], ◌∷◌, take, drop, slice_index, All, Bool, IsTrue, ◌==◌, ◌||◌, if◌then◌else◌, MatchBool}
+-- What a page must be by itself: its fields have their values, and its records rise between its fences.
+use Rattle.std.specs.Prelude.{◌≡◌, ℕ, ◌+◌, ◌*◌, ◌<◌, ◌≤◌, List, [], ◌∷◌, take, drop, slice_index, All, Option, Bool, IsTrue, ◌==◌, ◌||◌, if◌then◌else◌, MatchBool}
 use Rattle.std.specs.declared.cmp.Ordering.TheVariants.{Less}
 use Rattle.std.specs.Ordering.{nat_cmp}
 use Rattle.std.specs.Cmp.Lexicographic.{slice_cmp}
 use Rattle.store_api.specs.Areas.{PassesSum}
-use Rattle.page_format.specs.Words.{number_of, kind_of, level_of, count_of, record_len_of, records_of}
+use Rattle.page_format.specs.Words.{number_of, kind_of, level_of, count_of, record_len_of, low_of, high_of, records_of}
+use Rattle.page_format.specs.Fences.{DoFencesRise, BeginsInside, EndsInside}
 
 abbrev pub AreZeros : List ℕ → Type 0
 AreZeros bytes = All (λ byte. byte ≡ 0) bytes
@@ -26,9 +27,10 @@ pub record IsFence (len : ℕ) (bytes : List ℕ) : Type 0 where
   pub fits : fence_width len ≤ 80
   pub padded : AreZeros (drop (fence_width len) bytes)
 
--- a leaf has level 0, and an inner page has another
+-- a leaf has level 0, and an inner page another of 1 to 7
 pub record HasTreeFields (bytes : List ℕ) : Type 0 where
   pub level : kind_of bytes ≡ (if level_of bytes == 0 then 3 else 4)
+  pub depth : level_of bytes ≤ 7
   pub width : 0 < record_len_of bytes
   pub inside : 208 + count_of bytes * record_len_of bytes ≤ 4096
   pub low : IsFence (slice_index bytes 34) (take 80 (drop 36 bytes))
@@ -50,8 +52,18 @@ AreRising [] = Unit {0}
 AreRising (x ∷ []) = Unit {0}
 AreRising (x ∷ y ∷ more) = (slice_cmp nat_cmp x y ≡ Less) × AreRising (y ∷ more)
 
+-- The records rise, and lie between the fences, which rise too.
+pub record IsOrdered (low high : Option (List ℕ)) (records : List (List ℕ)) : Type 0 where
+  pub rising : AreRising records
+  pub fences : DoFencesRise low high
+  pub first : BeginsInside low records
+  pub last : EndsInside high records
+
+abbrev pub HasTreeOrder : List ℕ → Type 0
+HasTreeOrder bytes = IsOrdered (low_of bytes) (high_of bytes) (records_of bytes)
+
 abbrev pub HasOrder : List ℕ → Type 0
-HasOrder bytes = MatchBool (is_tree (kind_of bytes)) (AreRising (records_of bytes)) (Unit {0})
+HasOrder bytes = MatchBool (is_tree (kind_of bytes)) (HasTreeOrder bytes) (Unit {0})
 
 -- These bytes are the page of that number.
 pub record IsPage (number : ℕ) (bytes : List ℕ) : Type 0 where

@@ -3,6 +3,7 @@
 #![tactic(auto)]
 
 mod edits;
+mod fences;
 mod header;
 mod numbers;
 mod page;

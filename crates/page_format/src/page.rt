@@ -1,5 +1,5 @@
 //! A page, and the calls that read and change it.
-//! Everything above works on pages through these.
+//! The batches of the doublewrite are made of such pages; the crates over `mtr` work on bytes.
 
 ghost use Rattle.std.specs.Prelude.{◌≡◌, ℕ, [], ◌+◌, ◌*◌, ◌<◌, ◌≤◌, length, drop, take, map, slice_index_or, insert, remove, IfOk, IfErr, MatchBool};
 ghost use Rattle.store_api.specs.Areas.{PassesSum};

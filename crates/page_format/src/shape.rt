@@ -1,10 +1,11 @@
-//! Whether bytes have the shape of a page: the values of the fields, and the order of the records.
+//! Whether bytes have the shape of a page: the values of the fields, and the order of the records and fences.
 //! Each test answers true exactly where the fact in its contract holds.
 
 ghost use Rattle.std.specs.Prelude.{◌≡◌, ◌+◌, ◌*◌, ◌≤◌, ◌<◌, length, take, drop, slice_index, ◌==◌, if◌then◌else◌, MatchBool, IsTrue};
 ghost use Rattle.page_format.specs.Words.{kind_of, level_of, count_of, record_len_of, records_of, pieces};
-ghost use Rattle.page_format.specs.Shape.{AreZeros, IsFence, HasTreeFields, HasPlainFields, HasFields, AreRising, HasOrder, fence_width, is_tree};
+ghost use Rattle.page_format.specs.Shape.{AreZeros, IsFence, HasTreeFields, HasPlainFields, HasFields, AreRising, IsOrdered, HasTreeOrder, HasOrder, fence_width, is_tree};
 
+use crate::fences::{begins_inside, do_fences_rise, ends_inside};
 use crate::numbers::{behind, read_u16};
 use std::cmp::Ordering;
 
@@ -15,6 +16,9 @@ pub const RECORDS: usize = 208;
 
 /// The length of a fence that isn't there.
 pub const NO_FENCE: u8 = 255;
+
+/// The highest level of a tree.
+const TOP: u8 = 7;
 
 fn are_zeros(bytes: &[u8]) -> bool
     ensures { MatchBool result (AreZeros bytes.now) (AreZeros bytes.now → ⊥) }
@@ -43,6 +47,9 @@ fn has_tree_fields(bytes: &[u8]) -> bool
     let width = usize::from(read_u16(bytes, 32));
     let end = RECORDS + usize::from(read_u16(bytes, 22)) * width;
     if bytes[20] != tree_kind(bytes[21]) {
+        return false;
+    }
+    if bytes[21] > TOP {
         return false;
     }
     if width == 0 {
@@ -105,14 +112,32 @@ fn are_rising(count: u16, width: usize, records: &[u8]) -> bool
     true
 }
 
+/// Whether the records of a tree page rise, between fences that rise.
+fn has_tree_order(bytes: &[u8]) -> bool
+    requires size { length bytes.now ≡ 4096 }
+    requires fields { HasTreeFields bytes.now }
+    ensures { MatchBool result (HasTreeOrder bytes.now) (HasTreeOrder bytes.now → ⊥) }
+{
+    let width = usize::from(read_u16(bytes, 32));
+    if !are_rising(read_u16(bytes, 22), width, behind(bytes, RECORDS)) {
+        return false;
+    }
+    if !do_fences_rise(bytes) {
+        return false;
+    }
+    if !begins_inside(bytes) {
+        return false;
+    }
+    ends_inside(bytes)
+}
+
 pub fn has_order(bytes: &[u8]) -> bool
     requires size { length bytes.now ≡ 4096 }
     requires fields { HasFields bytes.now }
     ensures { MatchBool result (HasOrder bytes.now) (HasOrder bytes.now → ⊥) }
 {
     if is_tree_kind(bytes[20]) {
-        let width = usize::from(read_u16(bytes, 32));
-        are_rising(read_u16(bytes, 22), width, behind(bytes, RECORDS))
+        has_tree_order(bytes)
     } else {
         true
     }

@@ -7,7 +7,7 @@ use Rattle.std.proofs.lemmas.List.{get_or_append_left, get_or-append_right, leng
 use Rattle.mtr.specs.Seen.{MtrState, IsShown, with_bytes}
 use Rattle.mtr.specs.Calls.{SamePages, SeesAt, Puts, Consults}
 use Rattle.mtr.proofs.Behind.{byte-behind}
-use Rattle.mtr.proofs.Consulting.{goes_then, visits_then, visits_none}
+use Rattle.mtr.proofs.Consulting.{goes_then, put_goes, visits_then, visits_none}
 use Rattle.space_map.specs.Map.{map_page, byte_of, mark_of}
 use Rattle.space_map.specs.Taking.{map_pages, MarksPage, Marks}
 
@@ -37,7 +37,7 @@ index_before at b i map within early =
     let front : length (take at map) ≡ at = length-take-le at map (omega arith) in
     get_or_append_left (take at map) (b ∷ drop (at + 1) map) 0 i (omega (arith, front)) ∙ get_or-take at map i 0 early
 
-index_other : (at b i : ℕ) (map : List ℕ) → at < length map → i ≢ at → slice_index (with_bytes at (b ∷ []) map) i ≡ slice_index map i
+pub index_other : (at b i : ℕ) (map : List ℕ) → at < length map → i ≢ at → slice_index (with_bytes at (b ∷ []) map) i ≡ slice_index map i
 index_other at b i map within ne = elim (cases_lt i at) [ inl early ↦ index_before at b i map within early | inr late ↦ index_behind at b i map within (omega arith) ]
 
 -- ---- marks
@@ -46,7 +46,7 @@ index_other at b i map within ne = elim (cases_lt i at) [ inl early ↦ index_be
 same_place : (page other : ℕ) → map_page other ≡ map_page page → byte_of other ≡ byte_of page → other % 8 ≡ page % 8 → other ≡ page
 same_place page other map byte bit = omega arith
 
-byte_inside : (page : ℕ) → byte_of page < 4096
+pub byte_inside : (page : ℕ) → byte_of page < 4096
 byte_inside page = omega arith
 
 -- the byte at a page's place, on the page of the map as it is seen now
@@ -80,6 +80,7 @@ pub marks_page : (page mark byte : ℕ) (bytes : List ℕ) (old new : MtrState) 
 marks_page page mark byte bytes old new shown sees bit bits =
     let shows : slice_index bytes (byte_of page) ≡ slice_index (old.seen (map_page page)) (byte_of page) = byte-behind (byte_of page) bytes (old.seen (map_page page)) (omega arith) shown.same in
     record {
+      size = shown.size;
       byte = byte;
       seen = sees;
       here = ap (λ (n : ℕ). bit_at n (page % 8)) (new_byte page byte old new shown.size sees) ∙ bit;
@@ -98,9 +99,9 @@ seen_through page bytes old between new same sees = record {
 pub marks : (page mark byte : ℕ) (bytes : List ℕ) (old between new : MtrState) → (IsTrue old.told → IsShown (old.seen (map_page page)) bytes) → Consults map_pages old between → Puts (map_page page) (byte_of page) (byte ∷ []) between new
     → bit_at byte (page % 8) ≡ mark → ((bit : ℕ) → bit < 8 → bit ≢ page % 8 → bit_at byte bit ≡ bit_at (slice_index bytes (byte_of page)) bit) → Marks page mark old new
 marks page mark byte bytes old between new shown looked put bit bits = record {
-  goes = goes_then old between new looked.goes put.goes;
+  goes = goes_then old between new looked.goes (put_goes (map_page page) (byte_of page) (byte ∷ []) between new (λ first. omega (arith, first)) put);
   pages = λ told.
-      let told_between = put.goes.told told in
+      let told_between = put.keeps.told told in
       let same = looked.same told_between in
       let sees = subst (λ (f : ℕ → List ℕ). SeesAt (map_page page) (with_bytes (byte_of page) (byte ∷ []) (f (map_page page))) between new) same.seen (put.pages told) in
       marks_page page mark byte bytes old new (shown (looked.goes.told told_between)) (seen_through (map_page page) _ old between new same sees) bit bits;

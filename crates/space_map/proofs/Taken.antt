@@ -1,5 +1,5 @@
 -- A page is looked for and then marked.
-use Rattle.std.proofs.Common.{◌≡◌, ℕ, ◌≤◌, List, [], ◌∷◌, Option, Some, None, ap, ◌∙◌, subst, arith}
+use Rattle.std.proofs.Common.{◌≡◌, ℕ, ◌≤◌, List, [], ◌∷◌, length, Option, Some, None, sym, ap, ◌∙◌, subst, arith}
 use Rattle.std.specs.Prelude.{IsTrue}
 use Rattle.page_format.specs.Words.{u32_at}
 use Rattle.store_api.specs.declared.visits.SpaceBad.{SpaceBad}
@@ -13,6 +13,7 @@ use Rattle.space_map.proofs.Marked.{seen_through}
 
 marks_page_later : (page mark : ℕ) (old between new : MtrState) → SamePages old between → MarksPage page mark between new → MarksPage page mark old new
 marks_page_later page mark old between new same marked = record {
+  size = sym (ap (λ (f : ℕ → List ℕ). length (f (map_page page))) same.seen) ∙ marked.size;
   byte = marked.byte;
   seen = seen_through (map_page page) _ old between new same (subst (λ (f : ℕ → List ℕ). SeesAt (map_page page) (with_bytes (byte_of page) (marked.byte ∷ []) (f (map_page page))) between new) same.seen marked.seen);
   here = marked.here;

@@ -1,5 +1,5 @@
 -- What taking a page and giving one back make of the pages, and why neither is done.
-use Rattle.std.specs.Prelude.{◌≡◌, ◌≢◌, ℕ, ◌<◌, ◌≤◌, List, [], ◌∷◌, IsTrue}
+use Rattle.std.specs.Prelude.{◌≡◌, ◌≢◌, ℕ, ◌<◌, ◌≤◌, List, [], ◌∷◌, length, IsTrue}
 use Rattle.page_format.specs.Words.{u32_at}
 use Rattle.store_api.specs.declared.visits.SpaceBad.{SpaceBad}
 use Rattle.store_api.specs.declared.visits.SpaceBad.TheVariants.{Full, Visit, NoMemory}
@@ -21,6 +21,7 @@ Miscounts page rule pages = (page ≡ 0) × (rule ≡ 1) × (HasPageCount pages 
 
 -- One byte of the map has changed: the page has this mark, and the others have theirs.
 pub record MarksPage (page mark : ℕ) (old new : MtrState) : Type 0 where
+  pub size : length (old.seen (map_page page)) ≡ 4096
   pub byte : ℕ
   pub seen : SeesAt (map_page page) (with_bytes (byte_of page) (byte ∷ []) (old.seen (map_page page))) old new
   pub here : mark_of new.seen page ≡ mark

@@ -1,5 +1,5 @@
 //! The map of used pages: one is taken, given back, and the free ones are counted.
-//! Only this crate writes to pages 2 to 4 once files are made.
+//! No other crate writes to pages 2 to 4.
 #![tactic(auto)]
 
 mod bits;

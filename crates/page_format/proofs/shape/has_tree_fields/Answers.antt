@@ -19,6 +19,7 @@ returns c =
     by_last c.are_zeros-2.result (HasTreeFields c.args.bytes.now) (AreZeros c.behind.result.now) c.are_zeros-2.ensures
     (λ zeros. record {
       level = c.if-bytes-tree_kind.false ∙ c.tree_kind.ensures;
+      depth = omega (arith, c.if-bytes-gt-TOP.false);
       width = omega (arith, width);
       inside = rw (count, width) at end;
       low = c.if-not-is_fence.ensures;

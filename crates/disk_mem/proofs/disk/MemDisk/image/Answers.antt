@@ -20,7 +20,7 @@ returns-clause-bytes c =
     (sym (c.in_ok-double.ensures d.start (sym c.deref-3.ensures.value)) ∙ ap (λ (t : State). left_by pick t.double) state)
     (sym (c.in_ok-pages.ensures d.start (sym c.deref-4.ensures.value)) ∙ ap (λ (t : State). left_by pick t.pages) state)
     resting)
-    c.holding.ensures
+    c.holding.ensures.resting
 
 always : {T E P : Type 0} (r : Result T E) → P → OnOk r P
 always (Ok x) p = p

@@ -4,7 +4,7 @@ use Rattle.store_api.specs.Areas.{Within, Looked}
 use Rattle.disk_mem.specs.Replay.{state_after}
 use Rattle.disk_mem.specs.declared.call.Call.TheVariants.{Look}
 use Rattle.std.specs.Prelude.{not}
-use Rattle.disk_mem.proofs.Recorded.{Goes-call, OnOk-tells}
+use Rattle.disk_mem.proofs.Recorded.{Goes-call, OnOk-tells, obeys}
 use Rattle.disk_mem.proofs.Steps.{looks}
 use Rattle.disk_mem.proofs.disk.MemDisk.look.Goals as goal
 
@@ -24,3 +24,9 @@ returns-clause-tells c =
     let told = λ (kept : c.record-recorded.result ≡ true). c.is_told-told.ensures.0 (c.record-recorded.ensures.told kept) in
     OnOk-tells d.start d.calls.items c.record-recorded.new.calls.items d.moment c.saturating_add-self.result c.count.new.faults c.count.result c.record-recorded.result (not c.is_refused-done.result) c.count.ensures.variant
     (λ kept. (Look, omega (arith, told kept), omega (arith, told kept), c.record-recorded.ensures.recorded kept))
+
+pub returns-clause-obeys : goal.returns-clause-obeys
+returns-clause-obeys c =
+    let d = c.args.self.now in
+    obeys d.fail _ d.start d.calls.items c.record-recorded.new.calls.items d.moment c.saturating_add-self.result c.count.new.faults c.count.result c.record-recorded.result c.is_refused-done.result c.count.ensures.variant c.is_refused-done.ensures
+    c.saturating_add-self.ensures (omega arith) c.record-recorded.ensures.not

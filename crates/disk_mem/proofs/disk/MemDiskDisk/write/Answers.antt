@@ -3,7 +3,7 @@ use Rattle.std.specs.Prelude.{is_ok, not, ◌&&◌}
 use Rattle.store_api.specs.Areas.{Within, Wrote}
 use Rattle.disk_mem.specs.Replay.{state_after, change, after_write}
 use Rattle.disk_mem.specs.declared.call.Call.TheVariants.{Write}
-use Rattle.disk_mem.proofs.Recorded.{Goes-call, OnOk-tells}
+use Rattle.disk_mem.proofs.Recorded.{Goes-call, OnOk-tells, obeys}
 use Rattle.disk_mem.proofs.Steps.{writes}
 use Rattle.disk_mem.proofs.disk.MemDiskDisk.write.Goals as goal
 
@@ -31,3 +31,9 @@ returns-clause-tells c =
     (λ kept.
     let call = c.record_write-recorded.ensures.recorded kept in
     (Write c.args.area c.args.at call.0 done, omega (arith, told kept), omega (arith, told kept), call.2))
+
+pub returns-clause-obeys : goal.returns-clause-obeys
+returns-clause-obeys c =
+    let d = c.args.self.now in
+    obeys d.fail _ d.start d.calls.items c.record_write-recorded.new.calls.items d.moment c.saturating_add-self.result c.count.new.faults c.count.result c.record_write-recorded.result c.is_refused-done.result c.count.ensures.variant c.is_refused-done.ensures
+    c.saturating_add-self.ensures (omega arith) c.record_write-recorded.ensures.not

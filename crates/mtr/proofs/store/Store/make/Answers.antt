@@ -1,5 +1,6 @@
 use Rattle.std.proofs.Common.{ℕ, List, ap, ◌∙◌, arith}
 use Rattle.mtr.specs.Seen.{visit}
+use Rattle.mtr.proofs.Counted.{none_counted}
 use Rattle.mtr.proofs.store.Store.make.Goals as goal
 
 pub returns-clause-made : goal.returns-clause-made
@@ -7,7 +8,12 @@ returns-clause-made c =
     let written = c.replace.ensures in
     let looks = c.visit.ensures.looks in
     record {
-      goes = record { told = λ told. written.told (looks.goes.told told); faults = omega arith; whole = looks.goes.whole ∙ written.whole_is };
+      goes = record {
+        told = λ told. written.told (looks.goes.told told);
+        stays = λ told good. looks.goes.stays (written.stays (λ first. none_counted _) told) good;
+        faults = omega arith;
+        whole = looks.goes.whole ∙ written.whole_is;
+      };
       pages = λ told.
           let same = looks.pages told in
           let here = written.pages (looks.goes.told told) in

@@ -1,0 +1,91 @@
+//! Whether the fences of a tree page rise, and its records lie between them.
+//! Only the test of a page's order asks this.
+
+ghost use Rattle.std.specs.Prelude.{◌≡◌, [], ◌+◌, ◌≤◌, ◌<◌, length, take, drop, slice_index_or, MatchBool};
+ghost use Rattle.page_format.specs.Words.{count_of, low_of, high_of, records_of};
+ghost use Rattle.page_format.specs.Found.{key_cmp};
+ghost use Rattle.page_format.specs.Fences.{DoFencesRise, BeginsInside, EndsInside};
+ghost use Rattle.page_format.specs.Shape.{HasTreeFields};
+
+use crate::numbers::{behind, read_u16};
+use crate::records::place_of;
+use crate::shape::NO_FENCE;
+use std::cmp::Ordering;
+
+/// A fence's bytes.
+fn fence_at(bytes: &[u8], at: usize, len: u8) -> &[u8]
+    requires fits { len ≤ 80 }
+    requires inside { at + 80 ≤ length bytes.now }
+    ensures { result.now ≡ take len (take 80 (drop at bytes.now)) }
+{
+    behind(bytes, at).split_at(usize::from(len)).0
+}
+
+/// How the first bytes of a record stand to a fence.
+fn against(fence: &[u8], rec: &[u8]) -> Ordering
+    ensures { result ≡ key_cmp fence.now rec.now }
+{
+    let len = rec.len().min(fence.len());
+    rec.split_at(len).0.cmp(fence)
+}
+
+/// The record of that number.
+fn record_at(bytes: &[u8], i: u16) -> &[u8]
+    requires size { length bytes.now ≡ 4096 }
+    requires fields { HasTreeFields bytes.now }
+    requires place { i < count_of bytes.now }
+    ensures { result.now ≡ slice_index_or (records_of bytes.now) i [] }
+{
+    let width = usize::from(read_u16(bytes, 32));
+    behind(bytes, place_of(bytes, i)).split_at(width).0
+}
+
+/// Whether the low fence stands before the high one.
+pub fn do_fences_rise(bytes: &[u8]) -> bool
+    requires size { length bytes.now ≡ 4096 }
+    requires fields { HasTreeFields bytes.now }
+    ensures { MatchBool result (DoFencesRise (low_of bytes.now) (high_of bytes.now)) (DoFencesRise (low_of bytes.now) (high_of bytes.now) → ⊥) }
+{
+    if bytes[34] == NO_FENCE {
+        return true;
+    }
+    if bytes[35] == NO_FENCE {
+        return true;
+    }
+    let low = fence_at(bytes, 36, bytes[34]);
+    let high = fence_at(bytes, 116, bytes[35]);
+    low.cmp(high).is_lt()
+}
+
+/// Whether the first record doesn't begin below the low fence.
+pub fn begins_inside(bytes: &[u8]) -> bool
+    requires size { length bytes.now ≡ 4096 }
+    requires fields { HasTreeFields bytes.now }
+    ensures { MatchBool result (BeginsInside (low_of bytes.now) (records_of bytes.now)) (BeginsInside (low_of bytes.now) (records_of bytes.now) → ⊥) }
+{
+    if bytes[34] == NO_FENCE {
+        return true;
+    }
+    if read_u16(bytes, 22) == 0 {
+        return true;
+    }
+    let low = fence_at(bytes, 36, bytes[34]);
+    !against(low, record_at(bytes, 0)).is_lt()
+}
+
+/// Whether the last record begins below the high fence.
+pub fn ends_inside(bytes: &[u8]) -> bool
+    requires size { length bytes.now ≡ 4096 }
+    requires fields { HasTreeFields bytes.now }
+    ensures { MatchBool result (EndsInside (high_of bytes.now) (records_of bytes.now)) (EndsInside (high_of bytes.now) (records_of bytes.now) → ⊥) }
+{
+    let count = read_u16(bytes, 22);
+    if bytes[35] == NO_FENCE {
+        return true;
+    }
+    if count == 0 {
+        return true;
+    }
+    let high = fence_at(bytes, 116, bytes[35]);
+    against(high, record_at(bytes, count - 1)).is_lt()
+}
