@@ -46,6 +46,7 @@ fn table(alloc: Global, letter: u8) -> Result<Schema, AllocError>
 }
 
 /// The database with another row of one of its tables.
+#[tactic(auto, using(crate::proofs::Fitting::fits_well))]
 fn with_row(
     alloc: Global,
     opening: Opening,
@@ -66,6 +67,7 @@ fn with_row(
 }
 
 /// The tables without rows.
+#[tactic(auto, using(crate::proofs::Fitting::storable))]
 fn tables(alloc: Global) -> Result<Opening, NoMemory>
     ensures { IfOk result HasBoth }
 {
@@ -89,6 +91,7 @@ pub fn laid_down(alloc: Global) -> Result<Opening, NoMemory>
 }
 
 /// Whether a row that is there is refused.
+#[tactic(auto, using(crate::proofs::Fitting::fits_well))]
 pub fn refuses_a_row_that_is_there(alloc: Global) -> Result<bool, NoMemory> {
     let opening = with_row(alloc, tables(alloc)?, T, 1, 2)?;
     let row = Row::from_vec(vec![in alloc; Value::Int(1), Value::Int(3)]?);
