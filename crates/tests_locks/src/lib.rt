@@ -7,6 +7,8 @@ mod cycles;
 #[cfg(test)]
 mod requests;
 #[cfg(test)]
+mod rooms;
+#[cfg(test)]
 mod rules;
 #[cfg(test)]
 mod turns;

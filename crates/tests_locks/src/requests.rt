@@ -44,7 +44,7 @@ fn case_of(rule: Rule, mode: Mode, spot: Spot) -> Case {
 }
 
 /// The lock that a transaction at REPEATABLE READ asks for by this rule.
-fn due(
+pub fn due(
     alloc: Global,
     txn: u64,
     rule: Rule,
@@ -77,7 +77,7 @@ fn assert_fits(rt: &impl Abort, lock: &Lock, case: Case)
 }
 
 /// Asks for the lock, and says for how many it waits.
-fn ask(
+pub fn ask(
     rt: &impl Abort,
     table: &mut LockTable,
     (lock, case): (Lock, Case),
