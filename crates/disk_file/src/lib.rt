@@ -1,5 +1,5 @@
 //! The trusted edge: files, standard output and the machine's clock. Each object tells nothing of content,
-//! and counts its faults. No contract says what files do: crates/tests_log runs each call over files that fail.
+//! and counts its faults. No contract says what files do.
 #![tactic(auto)]
 
 mod area;
