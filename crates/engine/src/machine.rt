@@ -60,11 +60,7 @@ pub fn mount<D: Disk>(alloc: Global, disk: D) -> Result<Engine<D>, (D, MountBad)
 }
 
 /// Opens an engine over a disk, with a database that was laid down. A refusal hands the disk back.
-pub fn open<D: Disk>(
-    alloc: Global,
-    disk: D,
-    opening: Opening,
-) -> Result<Engine<D>, (D, MountBad)>
+pub fn open<D: Disk>(alloc: Global, disk: D, opening: Opening) -> Result<Engine<D>, (D, MountBad)>
     ensures ok { IfOk result (IsOpened disk opening) }
     ensures err { IfErr result (λ e. (e.0 ≡ disk) × IsRefused opening e.1) }
 {
@@ -76,11 +72,7 @@ pub fn open<D: Disk>(
 }
 
 /// An engine that nobody has joined.
-fn seated<D: Disk>(
-    alloc: Global,
-    disk: D,
-    lists: SqlLists<WorldLists<ListWorld>>,
-) -> Engine<D>
+fn seated<D: Disk>(alloc: Global, disk: D, lists: SqlLists<WorldLists<ListWorld>>) -> Engine<D>
     requires first { (db : Database) × AreFirst db lists }
     requires idle { (s : ℕ) → task_of s lists ≡ TaskIdle }
     ensures { result ≡ record { disk = disk; lists = lists; seats = [] } }
@@ -105,10 +97,7 @@ fn new_lists(alloc: Global) -> Result<SqlLists<WorldLists<ListWorld>>, NoMemory>
 }
 
 /// The lists of a database, over a world in memory.
-fn lists_over(
-    alloc: Global,
-    opening: Opening,
-) -> Result<SqlLists<WorldLists<ListWorld>>, OpenBad>
+fn lists_over(alloc: Global, opening: Opening) -> Result<SqlLists<WorldLists<ListWorld>>, OpenBad>
     ensures first { IfOk result (AreFirst opening) }
     ensures idle { IfOk result (λ lists. (s : ℕ) → task_of s lists ≡ TaskIdle) }
     ensures large { IfErr result (IsTooLarge opening) }
