@@ -7,7 +7,7 @@ use std::fs;
 use std::test::Fail;
 use store_api::{Area, Clock, Disk, Failed, Sink, Source};
 
-fn name_of(alloc: Global, name: &[u8]) -> Result<Bytes, AllocError> {
+pub fn name_of(alloc: Global, name: &[u8]) -> Result<Bytes, AllocError> {
     Ok(Bytes::from_vec(Vec::from_slice(alloc, name)?))
 }
 

@@ -5,7 +5,11 @@
 #[cfg(test)]
 mod disks_in_memory;
 #[cfg(test)]
+mod failing_files;
+#[cfg(test)]
 mod files;
+#[cfg(test)]
+mod files_that_fail;
 #[cfg(test)]
 mod flushes;
 #[cfg(test)]
