@@ -8,6 +8,7 @@ use Rattle.std.specs.Prelude.{Result, Ok, Err, OnOk, OnErr}
 use Rattle.inno_types.specs.declared.reply.Item.{Item}
 use Rattle.inno_types.specs.declared.reply.Item.TheVariants.{Sql}
 use Rattle.inno_types.specs.declared.reply.Reply.{Reply}
+use Rattle.inno_db.specs.Database.{Database}
 use Rattle.inno_model.specs.declared.event.Event.{Event}
 use Rattle.inno_model.specs.declared.event.Event.TheVariants as events
 use Rattle.inno_model.specs.Past.{is_of, started, under_way, own, IsClosed}
@@ -84,10 +85,10 @@ first_seats db lists first idle =
           (record { rests = rests; rows_alone = subst (AllByRecursion IsOfRow) (sym nothing) tt }, ap (is_leaving u) first.past, idle u);
     }
 
-pub are_first : (all : AllLists) (lists : Lists) → (first : IsFirst all) → lists ≡ all.state → AreFirst first.db lists
-are_first all lists first is =
+pub are_first : (db : Database) (all : AllLists) (lists : Lists) → IsFirst all → all.state.past ≡ events.Opened db ∷ [] → lists ≡ all.state → AreFirst db lists
+are_first db all lists first past is =
     record {
-      past = ap (λ l. l.past) is ∙ first.past;
+      past = ap (λ l. l.past) is ∙ past;
       names = ap (λ l. l.names) is ∙ first.names;
       writer = ap (λ l. l.writer) is ∙ first.writer;
     }

@@ -49,7 +49,8 @@ impl<W: EngineWorld> WorldLists<W> {
     /// The lists of a world that nobody has joined.
     pub fn new(alloc: Global, world: W) -> Result<Self, NoMemory>
         requires { IsFresh (W.state world) }
-        ensures { IfOk result IsFirst }
+        ensures first { IfOk result IsFirst }
+        ensures past { IfOk result (λ lists. lists.state.past ≡ (W.state world).past) }
     {
         Ok(WorldLists {
             alloc,

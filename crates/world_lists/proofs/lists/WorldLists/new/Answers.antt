@@ -10,8 +10,8 @@ invariant_of-result g c =
     subst (λ (desks : List Desk). IsHeld (g.W.World.state c.args.world) None false desks 0 c.in_ok-new.field-0 c.in_ok-new-2.field-0) (sym c.new.ensures.items)
     (first_held (g.W.World.state c.args.world) c.in_ok-new.field-0 c.in_ok-new-2.field-0 c.requires c.in_ok-new-2.ensures.whole c.in_ok-new-2.ensures.stage)
 
-pub returns : goal.returns
-returns g c =
+pub returns-clause-first : goal.returns-clause-first
+returns-clause-first g c =
     record {
       db = c.requires.db;
       few_tables = c.requires.few_tables;
