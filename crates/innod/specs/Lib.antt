@@ -3,3 +3,4 @@ pub mod Streams
 pub mod Sessions
 pub mod Run
 pub mod Engines
+pub mod Causes

@@ -1,6 +1,7 @@
 //! Runs scripts of SQL on the storage engine, and prints what each session was answered.
 #![tactic(auto)]
 
+mod cause;
 mod input;
 mod outcome;
 mod output;
@@ -12,6 +13,7 @@ mod sessions;
 mod tests;
 mod words;
 
+pub use cause::cause_line;
 use disk_file::{FileDisk, FileSource, StdSink, SystemClock};
 use disk_mem::OpenGate;
 use inno_types::{Bytes, Listed};
@@ -24,55 +26,105 @@ pub use sessions::Sessions;
 use std::alloc::{AllocError, Global};
 use std::process::ExitCode;
 use std::{env, io};
+use store_api::NoMemory;
 pub use words::is_command;
 
 fn main(rt: HostRuntime) -> io::Result<ExitCode> {
-    let status = run_words(&rt)?;
+    let status = match words_of(&rt) {
+        Ok(words) => run_words(&rt, &words)?,
+        Err(error) if error.kind() == io::ErrorKind::InvalidData => {
+            tell(&rt, Fault::Usage, "", "")?;
+            1
+        }
+        Err(error) => return Err(error),
+    };
     if status != 0 {
         eprintln!(rt; "innod: status {status}")?;
     }
     Ok(ExitCode::from(status))
 }
 
-/// Runs the program's words over real objects.
-fn run_words(rt: &HostRuntime) -> io::Result<u8> {
+/// The program's words. One that is no UTF-8 is an error, of invalid data.
+fn words_of(rt: &HostRuntime) -> io::Result<Vec<String>> {
+    let mut words = Vec::new(rt.alloc());
+    for word in env::args(rt)? {
+        words.push(word)?;
+    }
+    Ok(words)
+}
+
+/// Runs the program's words over real objects, and says why they end without success.
+fn run_words(rt: &HostRuntime, words: &[String]) -> io::Result<u8> {
+    let file = word_at(words, 2);
+    let script = word_at(words, 3);
+    match run_over_files(rt, words, file, script) {
+        Ok((status, fault)) => {
+            tell(rt, fault, file, script)?;
+            Ok(status)
+        }
+        Err(NoMemory) => {
+            tell(rt, Fault::NoMemory, file, script)?;
+            Ok(8)
+        }
+    }
+}
+
+fn word_at(words: &[String], place: usize) -> &str {
+    match words.get(place) {
+        Some(word) => word.as_str(),
+        None => "",
+    }
+}
+
+fn run_over_files(
+    rt: &HostRuntime,
+    words: &[String],
+    file: &str,
+    script: &str,
+) -> Result<(u8, Fault), NoMemory> {
     let alloc = rt.alloc();
-    let words = words_of(rt)?;
-    let none = Listed::new(alloc);
-    let file = words.get(2).unwrap_or(&none);
-    let script = words.get(3).unwrap_or(&none);
-    let Ok(disk) = FileDisk::new(rt, alloc, file) else {
-        return Ok(8);
-    };
-    let Ok(mut source) = FileSource::new(rt, alloc, script) else {
+    let bytes = all_bytes(alloc, words)?;
+    let (file, script) = (bytes_of(alloc, file)?, bytes_of(alloc, script)?);
+    let disk = FileDisk::new(rt, alloc, &file)?;
+    let Ok(mut source) = FileSource::new(rt, alloc, &script) else {
         drop(disk);
-        return Ok(8);
+        return Err(NoMemory);
     };
     let mut sink = StdSink::new(rt);
     let clock = SystemClock::new(rt);
     let outcome = run(
         alloc,
-        &words,
+        &bytes,
         &mut source,
         disk,
         &mut sink,
         &clock,
         &OpenGate,
     );
-    let status = outcome.status;
+    let told = (outcome.status, outcome.fault);
     drop(outcome);
-    Ok(status)
+    Ok(told)
 }
 
-fn words_of(rt: &HostRuntime) -> io::Result<Vec<Bytes>> {
-    let alloc = rt.alloc();
-    let mut words = Vec::new(alloc);
-    for word in env::args(rt)? {
-        words.push(bytes_of(alloc, word.as_bytes())?)?;
+/// Says the cause of a fault, if there is one.
+fn tell(rt: &HostRuntime, fault: Fault, file: &str, script: &str) -> io::Result<()> {
+    if fault == Fault::Nothing {
+        return Ok(());
     }
-    Ok(words)
+    match cause_line(rt.alloc(), fault, file, script) {
+        Ok(line) => eprintln!(rt; "innod: {line}"),
+        Err(AllocError) => eprintln!(rt; "innod: not enough memory"),
+    }
 }
 
-fn bytes_of(alloc: Global, word: &[u8]) -> Result<Bytes, AllocError> {
-    Ok(Listed::from_vec(Vec::from_slice(alloc, word)?))
+fn all_bytes(alloc: Global, words: &[String]) -> Result<Vec<Bytes>, AllocError> {
+    let mut all = Vec::new(alloc);
+    for word in words {
+        all.push(bytes_of(alloc, word.as_str())?)?;
+    }
+    Ok(all)
+}
+
+fn bytes_of(alloc: Global, word: &str) -> Result<Bytes, AllocError> {
+    Ok(Listed::from_vec(Vec::from_slice(alloc, word.as_bytes())?))
 }

@@ -17,6 +17,14 @@ fn words(alloc: Global, words: &[&str]) -> Result<Vec<Bytes>, AllocError> {
     Ok(all)
 }
 
+/// The words, with a byte more in the last one.
+fn with_last_byte(mut words: Vec<Bytes>, byte: u8) -> Result<Vec<Bytes>, AllocError> {
+    if let Some(word) = words.last_mut() {
+        word.push(byte)?;
+    }
+    Ok(words)
+}
+
 fn numbers(alloc: Global, number: u64) -> Result<Ids, AllocError> {
     Ok(Listed::from_vec(Vec::from_slice(alloc, &[number])?))
 }
@@ -229,6 +237,10 @@ fn other_words_are_no_command(rt: HostRuntime) -> Result<(), Fail> {
         words(alloc, &["innod", "runs", "f", "s"])?,
         words(alloc, &["innod", "run", "-f", "s"])?,
         words(alloc, &["innod", "play", "f", ""])?,
+        words(alloc, &["innod", "play", "f", "s", "t"])?,
+        words(alloc, &["innod", "--help"])?,
+        words(alloc, &[])?,
+        with_last_byte(words(alloc, &["innod", "play", "f", "s"])?, 0xFF)?,
     ];
     for words in &all {
         let disk = MemDisk::new(alloc, Listed::new(alloc))?;

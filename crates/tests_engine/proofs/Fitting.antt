@@ -26,7 +26,7 @@ row_fits letter id a = FitsTable-from_row (table_named letter) (Int id ∷ Int a
 pub fits_well : (db : Database) (table : ℕ) (id a : ℤ) → HasBoth db → table ≤ 1 → FitsSigned w64 id → FitsSigned w64 a → FitsWell db.schemas (Put table (Int id ∷ Int a ∷ []))
 fits_well db table id a both few id-fits a-fits = (
   subst (λ (schemas : List Schema). FitsTables schemas (Put table (Int id ∷ Int a ∷ []))) (sym both) (here table few),
-  All-cons Has64Bits (Int id) (Int a ∷ []) (id-fits, All-cons Has64Bits (Int a) [] (a-fits, All-nil Has64Bits)),
+  All-cons Has64Bits (Int id) (Int a ∷ []) id-fits (All-cons Has64Bits (Int a) [] a-fits (All-nil Has64Bits)),
 ) where
   here : (n : ℕ) → n ≤ 1 → FitsTables (table_named t ∷ table_named u ∷ []) (Put n (Int id ∷ Int a ∷ []))
   here zero le = row_fits t id a

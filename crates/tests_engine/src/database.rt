@@ -1,6 +1,6 @@
 //! The database of the tests: t has 200 rows, whose a is the last digit of i, and u has 100, whose a is 7.
 
-ghost use Rattle.std.specs.Prelude.{◌≡◌, ◌≤◌, IfOk};
+ghost use Rattle.std.specs.Prelude.{◌≡◌, ◌≤◌, ◌∷◌, [], IfOk};
 ghost use Rattle.tests_engine.specs.Tables.{table_named, HasBoth};
 
 use inno_types::{Bytes, Column, Columns, Key, Keys, Kind, Row, Schema, Value};
@@ -84,8 +84,8 @@ pub fn laid_down(alloc: Global) -> Result<Opening, NoMemory>
     for id in 0..200 {
         opening = with_row(alloc, opening, T, id, id % 10)?;
     }
-    for id in 0..100 {
-        opening = with_row(alloc, opening, U, id, 7)?;
+    for number in 0..100 {
+        opening = with_row(alloc, opening, U, number, 7)?;
     }
     Ok(opening)
 }

@@ -22,11 +22,15 @@ pub enum Answer {
 }
 
 /// The answer of the only session to a statement.
+#[tactic(auto, using(crate::proofs::Sessions::is_idle, crate::proofs::Sessions::joined_step))]
 pub fn asked<D: Disk>(alloc: Global, engine: &mut Engine<D>, text: &str) -> Result<Answer, NoMemory>
     requires { IsJoined 0 engine.old }
     ensures { IsJoined 0 engine.new }
 {
-    if engine.is_working(0) || engine.left(0) {
+    if engine.is_working(0) {
+        return Ok(Answer::Nothing);
+    }
+    if engine.left(0) {
         return Ok(Answer::Nothing);
     }
     let text = Bytes::from_vec(Vec::from_slice(alloc, text.as_bytes())?);

@@ -11,7 +11,7 @@ use std::alloc::Global;
 use std::test::Fail;
 use store_api::NoMemory;
 
-fn make(alloc: Global, db: &mut Db, change: Change) -> Result<(), NoMemory> {
+pub fn make(alloc: Global, db: &mut Db, change: Change) -> Result<(), NoMemory> {
     if !db.can_apply(&change) {
         return Err(NoMemory);
     }

@@ -15,6 +15,8 @@ mod refusals;
 #[cfg(test)]
 mod rendering;
 #[cfg(test)]
+mod script_texts;
+#[cfg(test)]
 mod scripts;
 #[cfg(test)]
 mod statement;
