@@ -1,2 +1,2 @@
 mod Fitting
-mod Sessions
+mod Joined

@@ -22,7 +22,7 @@ pub enum Answer {
 }
 
 /// The answer of the only session to a statement.
-#[tactic(auto, using(crate::proofs::Sessions::is_idle, crate::proofs::Sessions::joined_step))]
+#[tactic(auto, using(crate::proofs::Joined::is_idle, crate::proofs::Joined::joined_step))]
 pub fn asked<D: Disk>(alloc: Global, engine: &mut Engine<D>, text: &str) -> Result<Answer, NoMemory>
     requires { IsJoined 0 engine.old }
     ensures { IsJoined 0 engine.new }
