@@ -13,7 +13,9 @@ use Rattle.sql_history.specs.Statements.{refused_at_once}
 use Rattle.sql_history.specs.Legal.{IsCreation, BeginsBy, CommitsBy, RollsBackBy, ChangesBy, EndsCreate, EndsTaken, BringsCommit}
 use Rattle.sql_lists.specs.Kept.{SetsQuietly}
 
-pub as_creation : (P : Stmt → Type 0) → ((table : List ℕ) (if_not_exists : Bool) (definitions : List Definition) → P (stmt.CreateTable table if_not_exists definitions)) → (statement : Stmt) → IsCreation statement → P statement
+pub as_creation : (P : Stmt → Type 0)
+    → ((table : List ℕ) (if_not_exists : Bool) (definitions : List Definition) → P (stmt.CreateTable table if_not_exists definitions)) → (statement : Stmt)
+    → IsCreation statement → P statement
 as_creation P here (stmt.CreateTable table if_not_exists definitions) kind = here table if_not_exists definitions
 as_creation P here (stmt.Select selected table condition lock) kind = elim kind [ ]
 as_creation P here (stmt.Insert table columns tuples) kind = elim kind [ ]
@@ -31,9 +33,11 @@ module _ (s : ℕ) (past : List Event) (setting : Setting) (statement : Stmt) (k
   pub begins_by : (outcome statement (base s past)).changes ≢ [] → BeginsBy s setting statement past
   begins_by = as_creation (λ x. (outcome x (base s past)).changes ≢ [] → BeginsBy s setting x past) (λ t i d some. some) statement kind
 
-  pub commits_by : (did begins_txn s past ≡ false) ⊎ HasMade (length (outcome statement (base s past)).changes) s (outcome statement (base s past)).changes past → CommitsBy s setting statement past
+  pub commits_by : (did begins_txn s past ≡ false) ⊎ HasMade (length (outcome statement (base s past)).changes) s (outcome statement (base s past)).changes
+      past → CommitsBy s setting statement past
   commits_by =
-      as_creation (λ x. (did begins_txn s past ≡ false) ⊎ HasMade (length (outcome x (base s past)).changes) s (outcome x (base s past)).changes past → CommitsBy s setting x past)
+      as_creation (λ x. (did begins_txn s past ≡ false) ⊎ HasMade (length (outcome x (base s past)).changes) s (outcome x (base s past)).changes past →
+      CommitsBy s setting x past)
       (λ t i d by. by) statement kind
 
   pub rolls_back_by : did begins_txn s past ≡ true → RollsBackBy s setting statement past
@@ -54,5 +58,6 @@ module _ (s : ℕ) (past : List Event) (setting : Setting) (statement : Stmt) (k
   quiet = as_creation (λ x. SetsQuietly x s past) (λ t i d. tt) statement kind
 
 -- what is set does not refuse it
-pub same_refusal : (s : ℕ) (a b : Setting) (statement : Stmt) → IsCreation statement → (h : List Event) → refused_at_once s a statement h ≡ None → refused_at_once s b statement h ≡ None
+pub same_refusal : (s : ℕ) (a b : Setting) (statement : Stmt) → IsCreation statement → (h : List Event) → refused_at_once s a statement h ≡ None
+    → refused_at_once s b statement h ≡ None
 same_refusal s a b = as_creation (λ x. (h : List Event) → refused_at_once s a x h ≡ None → refused_at_once s b x h ≡ None) (λ t i d h found. found)

@@ -2,5 +2,5 @@ mod Creations
 mod Tables
 mod Staying
 mod Stepping
-mod Moving
+pub mod Moving
 pub mod Others

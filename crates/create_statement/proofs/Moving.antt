@@ -19,85 +19,111 @@ use Rattle.inno_model.specs.Past.{is_of, of_item, started, level, own, begins, t
 use Rattle.sql_grammar.specs.Grammar.{Spells}
 use Rattle.sql_history.specs.Legal.{MayBegin}
 use Rattle.sql_history.specs.Items.{base}
+use Rattle.sql_history.specs.Counts.{last_moment}
 use Rattle.law_past_agreement.specs.Order.{created, is_creation}
 use Rattle.shared_lists.specs.Tasks.{Idle}
 use Rattle.shared_lists.specs.State.{State, IsNow, Adds, Closes, Stays, task_of, writer_without}
-use Rattle.sql_lists.specs.Kept.{AreStanding}
-use Rattle.sql_lists.specs.Steps.{Steps, changes_rows, HasRowsAlone, plain_edge, open_txn}
+use Rattle.sql_lists.specs.Kept.{AreStanding, OwesAck}
+use Rattle.sql_lists.specs.Going.{NearsAcked}
+use Rattle.sql_lists.specs.Steps.{Steps, GoesOnAcked, changes_rows, HasRowsAlone, plain_edge, open_txn}
 use Rattle.sql_lists.specs.declared.advance.Advance.TheVariants as advance
-use Rattle.sql_lists.proofs.Moving.{stays_none, moves_none, moves_stays, moves_adds, moves_closes}
+use Rattle.sql_lists.proofs.Moving.{stays_none, moves_none, moves_stays, moves_adds, moves_closes, below_phase}
 use Rattle.create_statement.specs.declared.machine.CreateStatement.{CreateStatement}
 use Rattle.create_statement.specs.declared.machine.CreateStatement.TheVariants as machine
 use Rattle.create_statement.specs.Making.{Makes}
 use Rattle.create_statement.specs.Knowing.{IsAt, IsToBegin, IsEmptied, HasOpened, IsCommitted, IsFinished, IsFailing, IsGivingUp}
-use Rattle.create_statement.specs.Running.{RunsBy, IsRunning}
+use Rattle.create_statement.specs.Running.{RunsBy, IsRunning, owes_ack, acked}
+use Rattle.create_statement.specs.Going.{to_go}
 use Rattle.create_statement.proofs.Tables.{tables_met, tables_begun}
 use Rattle.create_statement.proofs.Stepping.{none_of, not_some, moves_locks, rows_of_none, emptied_committed, emptied_closed, to_begin_committed, acks_now, committed_skipped, committed_made, acked_now, to_begin_acked, emptied_acked, committed_acked, opened_begun, at_begun, may_begin, opened_created, at_created, gives_up_closed, gives_up_still, gives_up_rolled}
 
 -- ---- by the answer
 
-pub lacks_memory : (s : ℕ) (old new : State) (m : CreateStatement) → Stays s old new → RunsBy new s m → task_of s old ≡ Idle → Steps IsRunning s old new m advance.NoMemory
+pub lacks_memory : (s : ℕ) (old new : State) (m : CreateStatement) → Stays s old new → RunsBy new s m → task_of s old ≡ Idle
+    → Steps IsRunning s old new m advance.NoMemory
 lacks_memory s old new m stays runs idle = (moves_stays s old new stays, (runs, stays.task_is ∙ idle), stays.past_is)
 
-pub waits : (s : ℕ) (state : State) (m : CreateStatement) (by : ℕ) (blockers : List Edge) → by ≢ s → state.writer ≡ Some by → IsOpen by state.past → blockers ≡ plain_edge (open_txn s state.past) (txn by state.past) ∷ [] → IsRunning state s m → Steps IsRunning s state state m (advance.Waiting by blockers)
+pub waits : (s : ℕ) (state : State) (m : CreateStatement) (by : ℕ) (blockers : List Edge) → by ≢ s → state.writer ≡ Some by → IsOpen by state.past
+    → blockers ≡ plain_edge (open_txn s state.past) (txn by state.past) ∷ [] → IsRunning state s m
+    → Steps IsRunning s state state m (advance.Waiting by blockers)
 waits s state m by blockers other holds is-open edge runs = (stays_none s state, runs, record { other = other; holds = holds; is_open = is-open; edge = edge })
 
-pub ends : (s : ℕ) (old new : State) (m : CreateStatement) (reply : Reply) → Adds (events.Ended s (started s old.past) reply) s old new → HasRowsAlone s old.past → task_of s old ≡ Idle → Steps IsRunning s old new m (advance.Done reply)
-ends s old new m reply adds rows idle = (moves_adds s (events.Ended s (started s old.past) reply) old new (grind (arith, nat_tests)) (λ changes. absurd (false≢true changes)) adds, adds.past_is, rows, adds.task_is ∙ idle)
+pub ends : (s : ℕ) (old new : State) (m : CreateStatement) (reply : Reply) → Adds (events.Ended s (started s old.past) reply) s old new
+    → HasRowsAlone s old.past → task_of s old ≡ Idle → Steps IsRunning s old new m (advance.Done reply)
+ends s old new m reply adds rows idle = (
+  moves_adds s (events.Ended s (started s old.past) reply) old new (grind (arith, nat_tests)) refl (λ changes. absurd (false≢true changes)) adds,
+  adds.past_is,
+  rows,
+  adds.task_is ∙ idle,
+)
 
 -- an entry of its own that changes no rows
-adds_one : (s : ℕ) (e : Event) (old new : State) (m : CreateStatement) → is_of s e ≡ true → changes_rows e ≡ false → started s (e ∷ old.past) ≡ started s old.past → Adds e s old new → RunsBy new s m → task_of s old ≡ Idle → Steps IsRunning s old new m advance.Went
-adds_one s e old new m mine spares same adds runs idle =
-    (moves_adds s e old new mine (λ changes. absurd (false≢true (sym spares ∙ changes))) adds, (runs, adds.task_is ∙ idle), ap (started s) adds.past_is ∙ same)
+adds_one : (s : ℕ) (e : Event) (old new : State) (m : CreateStatement) → is_of s e ≡ true → last_moment (e ∷ old.past) ≡ last_moment old.past
+    → changes_rows e ≡ false
+    → started s (e ∷ old.past) ≡ started s old.past → Adds e s old new → RunsBy new s m → task_of s old ≡ Idle → Steps IsRunning s old new m advance.Went
+adds_one s e old new m mine unacked spares same adds runs idle = (
+  moves_adds s e old new mine unacked (λ changes. absurd (false≢true (sym spares ∙ changes))) adds,
+  (runs, adds.task_is ∙ idle),
+  ap (started s)
+      adds.past_is ∙ same,
+)
 
-closes_one : (s : ℕ) (e : Event) (old new : State) (m : CreateStatement) → is_of s e ≡ true → changes_rows e ≡ false → started s (e ∷ old.past) ≡ started s old.past → Closes e s old new → RunsBy new s m → task_of s old ≡ Idle → Steps IsRunning s old new m advance.Went
-closes_one s e old new m mine spares same closes runs idle =
-    (moves_closes s e old new mine spares closes, (runs, closes.task_is ∙ idle), ap (started s) closes.past_is ∙ same)
+closes_one : (s : ℕ) (e : Event) (old new : State) (m : CreateStatement) → is_of s e ≡ true → last_moment (e ∷ old.past) ≡ last_moment old.past
+    → changes_rows e ≡ false
+    → started s (e ∷ old.past) ≡ started s old.past → Closes e s old new → RunsBy new s m → task_of s old ≡ Idle → Steps IsRunning s old new m advance.Went
+closes_one s e old new m mine unacked spares same closes runs idle =
+    (moves_closes s e old new mine unacked spares closes, (runs, closes.task_is ∙ idle), ap (started s) closes.past_is ∙ same)
 
 -- the session that is closed is no other that is open
 pub not_open : (s by : ℕ) (past : List Event) → IsClosed s past → IsOpen by past → by ≢ s
-not_open s by past closed is-open same = (let x : IsOpen s past = subst (λ t. IsOpen t past) same is-open in let y : is_some (level s past) ≡ false = ap is_some closed in cc)
+not_open s by past closed is-open same =
+    (let x : IsOpen s past = subst (λ t. IsOpen t past) same is-open in let y : is_some (level s past) ≡ false = ap is_some closed in cc)
 
 module _ (s : ℕ) (old new : State) (statement : Stmt) (l : Level) where
   -- ---- before a table is made
 
-  pub skips : IsRunning old s (machine.Asked statement l) → (outcome statement (base s old.past)).changes ≡ [] → Closes (events.Committed s) s old new → Steps IsRunning s old new (machine.Committed statement) advance.Went
+  pub skips : IsRunning old s (machine.Asked statement l) → (outcome statement (base s old.past)).changes ≡ [] → Closes (events.Committed s) s old new
+      → Steps IsRunning s old new (machine.Committed statement) advance.Went
   skips r none closes =
-      closes_one s (events.Committed s) old new (machine.Committed statement) (grind (arith, nat_tests)) refl refl closes
-      (subst (λ h. IsCommitted s statement h × (awaits_ack (of_item s h) ≡ true)) (sym closes.past_is) (committed_skipped s statement old.past r.0.0.at r.0.1 none, acks_now s statement old.past)) r.1
+      closes_one s (events.Committed s) old new (machine.Committed statement) (grind (arith, nat_tests)) refl refl refl closes
+      (subst (λ h. IsCommitted s statement h × (awaits_ack (of_item s h) ≡ true)) (sym closes.past_is)
+      (committed_skipped s statement old.past r.0.0.at r.0.1 none, acks_now s statement old.past)) r.1
 
-  pub closes_first : IsRunning old s (machine.Asked statement l) → Closes (events.Committed s) s old new → Steps IsRunning s old new (machine.Unacked statement l) advance.Went
+  pub closes_first : IsRunning old s (machine.Asked statement l) → Closes (events.Committed s) s old new
+      → Steps IsRunning s old new (machine.Unacked statement l) advance.Went
   closes_first r closes =
-      closes_one s (events.Committed s) old new (machine.Unacked statement l) (grind (arith, nat_tests)) refl refl closes
+      closes_one s (events.Committed s) old new (machine.Unacked statement l) (grind (arith, nat_tests)) refl refl refl closes
       (subst (λ h. IsToBegin s statement l h × IsEmptied s h × (awaits_ack (of_item s h) ≡ true)) (sym closes.past_is)
       (to_begin_committed s statement old.past l r.0.0, emptied_committed s statement old.past r.0.1, acks_now s statement old.past)) r.1
 
-  pub is_closed : IsRunning old s (machine.Asked statement l) → IsClosed s old.past → own s old.past ≡ [] → Steps IsRunning s old old (machine.Closed statement l) advance.Went
+  pub is_closed : IsRunning old s (machine.Asked statement l) → IsClosed s old.past → own s old.past ≡ []
+      → Steps IsRunning s old old (machine.Closed statement l) advance.Went
   is_closed r closed new-is = (moves_none s old, ((r.0.0, emptied_closed s statement old.past r.0.1 closed new-is, ap awaits_ack r.0.1), r.1), refl)
 
-  pub acks : IsRunning old s (machine.Unacked statement l) → Adds (events.Acked s 0) s old new → Steps IsRunning s old new (machine.Closed statement l) advance.Went
-  acks r adds =
-      adds_one s (events.Acked s 0) old new (machine.Closed statement l) (grind (arith, nat_tests)) refl refl adds
-      (subst (λ h. IsToBegin s statement l h × IsEmptied s h × (awaits_ack (of_item s h) ≡ false)) (sym adds.past_is)
-      (to_begin_acked s statement old.past l r.0.0, emptied_acked s statement old.past r.0.1, acked_now s statement old.past)) r.1
-
   pub lacks_asked : IsRunning old s (machine.Asked statement l) → Stays s old new → Steps IsRunning s old new machine.Failed advance.NoMemory
-  lacks_asked r stays = lacks_memory s old new machine.Failed stays (subst (IsGivingUp s) (sym stays.past_is) (gives_up_still s statement old.past r.0.0.at r.0.1 r.0.2)) r.1
+  lacks_asked r stays =
+      lacks_memory s old new machine.Failed stays (subst (IsGivingUp s) (sym stays.past_is) (gives_up_still s statement old.past r.0.0.at r.0.1 r.0.2)) r.1
 
   pub lacks_closed : IsRunning old s (machine.Closed statement l) → Stays s old new → Steps IsRunning s old new machine.Failed advance.NoMemory
-  lacks_closed r stays = lacks_memory s old new machine.Failed stays (subst (IsGivingUp s) (sym stays.past_is) (gives_up_closed s statement old.past r.0.0.at r.0.1.new r.0.1.made r.0.2)) r.1
+  lacks_closed r stays =
+      lacks_memory s old new machine.Failed stays
+      (subst (IsGivingUp s) (sym stays.past_is) (gives_up_closed s statement old.past r.0.0.at r.0.1.new r.0.1.made r.0.2)) r.1
 
   -- ---- its own transaction is opened
 
   some_change : (schema : Schema) (changes : List Change) → changes ≡ Create schema ∷ [] → changes ≢ []
   some_change schema changes is none = (let x : Create schema ∷ [] ≡ [] = sym is ∙ none in cc)
 
-  pub can_begin : (schema : Schema) → IsRunning old s (machine.Closed statement l) → AreStanding old.past → ((t : ℕ) → own t old.past ≡ []) → Makes statement schema (created old.past) → MayBegin Spells s (begins old.past + 1) l old.past
+  pub can_begin : (schema : Schema) → IsRunning old s (machine.Closed statement l) → AreStanding old.past → ((t : ℕ) → own t old.past ≡ [])
+      → Makes statement schema (created old.past) → MayBegin Spells s (begins old.past + 1) l old.past
   can_begin schema r stands empty makes =
       may_begin s statement old.past l r.0.0 r.0.1 r.0.2
-      (some_change schema _ (makes.changes (base s old.past) (tables_met s old.past stands (λ other ne. ap (list_any is_creation) (empty other)) (rows_of_none s old.past r.0.1.new) r.0.0.at.rows_before)))
+      (some_change schema _ (makes.changes (base s old.past)
+      (tables_met s old.past stands (λ other ne. ap (list_any is_creation) (empty other)) (rows_of_none s old.past r.0.1.new) r.0.0.at.rows_before)))
 
-  module _ (schema : Schema) (between : State) (r : IsRunning old s (machine.Closed statement l)) (stands : AreStanding old.past) (empty : (t : ℕ) → own t old.past ≡ []) (makes : Makes statement schema (created old.past)) (free : old.writer ≡ None) (adds : Adds (events.Begin s (begins old.past + 1) l) s old between) (locks : IsNow between.past s (task_of s between) (Some s) between new) where
+  module _ (schema : Schema) (between : State) (r : IsRunning old s (machine.Closed statement l)) (stands : AreStanding old.past)
+      (empty : (t : ℕ) → own t old.past ≡ []) (makes : Makes statement schema (created old.past)) (free : old.writer ≡ None)
+      (adds : Adds (events.Begin s (begins old.past + 1) l) s old between) (locks : IsNow between.past s (task_of s between) (Some s) between new) where
     abbrev e : Event
     e = events.Begin s (begins old.past + 1) l
 
@@ -108,11 +134,13 @@ module _ (s : ℕ) (old new : State) (statement : Stmt) (l : Level) where
     own_apart other = let x = empty other in grind (arith, nat_tests, x)
 
     tables : (base s (e ∷ old.past)).schemas ≡ created old.past
-    tables = tables_begun s (begins old.past + 1) l old.past r.0.0.at.rows_before ∙ tables_met s old.past stands (λ other ne. ap (list_any is_creation) (empty other)) (rows_of_none s old.past r.0.1.new) r.0.0.at.rows_before
+    tables =
+        tables_begun s (begins old.past + 1) l old.past r.0.0.at.rows_before ∙ tables_met s old.past stands
+        (λ other ne. ap (list_any is_creation) (empty other)) (rows_of_none s old.past r.0.1.new) r.0.0.at.rows_before
 
     pub opens : Steps IsRunning s old new (machine.Begun statement schema) advance.Went
     opens = (
-      moves_locks s e old between new (grind (arith, nat_tests)) refl free adds locks,
+      moves_locks s e old between new (grind (arith, nat_tests)) refl refl free adds locks,
       (
         record {
           at = subst (IsAt s statement) (sym past_is) (at_begun s statement old.past (begins old.past + 1) l r.0.0.at);
@@ -133,7 +161,9 @@ if_none : {X : Type 0} (o : Option X) (P : Type 0) → o ≡ None → IfNone o P
 if_none None P is holds = holds
 if_none (Some x) P is holds = absurd (not_some x (sym is))
 
-pub locks_now : (s : ℕ) (e : Event) (told : Option ℕ) (old between new : State) → old.writer ≡ None → Adds e s old between → told ≡ writer_without between.writer s → IfNone told (IsNow between.past s (task_of s between) (Some s) between new) → IsNow between.past s (task_of s between) (Some s) between new
+pub locks_now : (s : ℕ) (e : Event) (told : Option ℕ) (old between new : State) → old.writer ≡ None → Adds e s old between
+    → told ≡ writer_without between.writer s → IfNone told (IsNow between.past s (task_of s between) (Some s) between new)
+    → IsNow between.past s (task_of s between) (Some s) between new
 locks_now s e told old between new free adds is locks = if_none told _ (is ∙ ap (λ w. writer_without w s) (adds.writer_is ∙ free)) locks
 
 pub fits_now : (told : Option ℕ) (P : Type 0) → is_some told ≡ false → IfNone told P → P
@@ -142,17 +172,21 @@ fits_now told P none fits = if_none told P (none_of told none) fits
 module _ (s : ℕ) (old new : State) (statement : Stmt) where
   -- ---- the table is made
 
-  pub fails : (schema : Schema) → IsRunning old s (machine.Begun statement schema) → Stays s old new → Steps IsRunning s old new machine.Failing advance.NoMemory
+  pub fails : (schema : Schema) → IsRunning old s (machine.Begun statement schema) → Stays s old new
+      → Steps IsRunning s old new machine.Failing advance.NoMemory
   fails schema r stays =
-      lacks_memory s old new machine.Failing stays (subst (IsFailing s) (sym stays.past_is) (record { statement = statement; at = r.0.at; opened = r.0.opened; new = r.0.new })) r.1
+      lacks_memory s old new machine.Failing stays
+      (subst (IsFailing s) (sym stays.past_is) (record { statement = statement; at = r.0.at; opened = r.0.opened; new = r.0.new })) r.1
 
-  pub creates : (schema : Schema) → IsRunning old s (machine.Begun statement schema) → Adds (events.Changed s (Create schema)) s old new → Steps IsRunning s old new (machine.Made statement) advance.Went
+  pub creates : (schema : Schema) → IsRunning old s (machine.Begun statement schema) → Adds (events.Changed s (Create schema)) s old new
+      → Steps IsRunning s old new (machine.Made statement) advance.Went
   creates schema r adds =
       let e = events.Changed s (Create schema) in
       let past-is : new.past ≡ e ∷ old.past = adds.past_is in
       let here : own s (e ∷ old.past) ≡ Create schema ∷ own s old.past = grind (arith, nat_tests) in
-      let apart : (other : ℕ) → other ≢ s → own other (e ∷ old.past) ≡ [] = λ other ne. (let x = r.0.steady.alone other ne in grind (arith, nat_tests, ne, x)) in (
-        moves_adds s e old new (grind (arith, nat_tests)) (λ changes. r.0.steady.locked) adds,
+      let apart : (other : ℕ) → other ≢ s → own other (e ∷ old.past) ≡ [] =
+      λ other ne. (let x = r.0.steady.alone other ne in grind (arith, nat_tests, ne, x)) in (
+        moves_adds s e old new (grind (arith, nat_tests)) refl (λ changes. r.0.steady.locked) adds,
         (
           record {
             at = subst (IsAt s statement) (sym past-is) (at_created s statement old.past schema r.0.at);
@@ -167,22 +201,44 @@ module _ (s : ℕ) (old new : State) (statement : Stmt) where
         ap (started s) past-is,
       )
 
-  pub commits : IsRunning old s (machine.Made statement) → Closes (events.Committed s) s old new → Steps IsRunning s old new (machine.Committed statement) advance.Went
+  pub commits : IsRunning old s (machine.Made statement) → Closes (events.Committed s) s old new
+      → Steps IsRunning s old new (machine.Committed statement) advance.Went
   commits r closes =
-      closes_one s (events.Committed s) old new (machine.Committed statement) (grind (arith, nat_tests)) refl refl closes
-      (subst (λ h. IsCommitted s statement h × (awaits_ack (of_item s h) ≡ true)) (sym closes.past_is) (committed_made s statement old.past r.0.schema r.0.at r.0.opened r.0.own_is r.0.makes, acks_now s statement old.past)) r.1
+      closes_one s (events.Committed s) old new (machine.Committed statement) (grind (arith, nat_tests)) refl refl refl closes
+      (subst (λ h. IsCommitted s statement h × (awaits_ack (of_item s h) ≡ true)) (sym closes.past_is)
+      (committed_made s statement old.past r.0.schema r.0.at r.0.opened r.0.own_is r.0.makes, acks_now s statement old.past)) r.1
 
   -- ---- the end
-
-  pub acks_end : IsRunning old s (machine.Committed statement) → Adds (events.Acked s 0) s old new → Steps IsRunning s old new (machine.Ending statement) advance.Went
-  acks_end r adds =
-      adds_one s (events.Acked s 0) old new (machine.Ending statement) (grind (arith, nat_tests)) refl refl adds
-      (subst (λ h. IsCommitted s statement h × (awaits_ack (of_item s h) ≡ false)) (sym adds.past_is) (committed_acked s statement old.past r.0.0, acked_now s statement old.past)) r.1
 
   pub finished : IsRunning old s (machine.Ending statement) → IsFinished s statement old.past
   finished r = record { at = r.0.0.at; ends = r.0.0.ends; acked = r.0.1; rows_alone = rows_of_none s old.past r.0.0.new }
 
   pub rolls_back : IsRunning old s machine.Failing → Closes (events.RolledBack s) s old new → Steps IsRunning s old new machine.Failed advance.Went
   rolls_back r closes =
-      closes_one s (events.RolledBack s) old new machine.Failed (grind (arith, nat_tests)) refl refl closes
+      closes_one s (events.RolledBack s) old new machine.Failed (grind (arith, nat_tests)) refl refl refl closes
       (subst (IsGivingUp s) (sym closes.past_is) (gives_up_rolled s r.0.statement old.past r.0.at r.0.opened r.0.new)) r.1
+
+-- ---- the acknowledgement of a commit
+
+pub owes_it : (s : ℕ) (state : State) (m : CreateStatement) → owes_ack m ≡ true → IsRunning state s m → OwesAck s state.past
+owes_it s state (machine.Unacked statement l) owes r = record { owed = r.0.2; closed = r.0.1.closed }
+owes_it s state (machine.Committed statement) owes r = record { owed = r.0.1; closed = r.0.0.closed }
+owes_it s state m owes r = absurd (false≢true owes)
+
+pub goes_on_acked : (m : CreateStatement) → owes_ack m ≡ true → GoesOnAcked IsRunning m (acked m)
+goes_on_acked (machine.Unacked statement l) owes old new s moment r adds = (
+  subst (λ h. IsToBegin s statement l h × IsEmptied s h × (awaits_ack (of_item s h) ≡ false)) (sym adds.past_is)
+      (to_begin_acked s statement old.past moment l r.0.0, emptied_acked s statement old.past moment r.0.1, acked_now s statement old.past moment),
+  adds.task_is ∙ r.1,
+)
+goes_on_acked (machine.Committed statement) owes old new s moment r adds = (
+  subst (λ h. IsCommitted s statement h × (awaits_ack (of_item s h) ≡ false)) (sym adds.past_is)
+      (committed_acked s statement old.past moment r.0.0, acked_now s statement old.past moment),
+  adds.task_is ∙ r.1,
+)
+goes_on_acked m owes old new s moment r adds = absurd (false≢true owes)
+
+pub acked_nears : (m : CreateStatement) → owes_ack m ≡ true → NearsAcked to_go m (acked m)
+acked_nears (machine.Unacked statement l) owes old new s = below_phase 7 6 _ _ _ _ _ _ (omega arith)
+acked_nears (machine.Committed statement) owes old new s = below_phase 3 2 _ _ _ _ _ _ (omega arith)
+acked_nears m owes old new s = absurd (false≢true owes)

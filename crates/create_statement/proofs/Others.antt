@@ -17,7 +17,8 @@ use Rattle.sql_history.specs.Waiting.{is_victim}
 use Rattle.sql_history.specs.Legal.{CommittedFirst, LeavesIt, EndsCreate}
 use Rattle.law_past_agreement.specs.Order.{IsOfRow, created}
 use Rattle.shared_lists.specs.State.{State}
-use Rattle.sql_lists.specs.Steps.{Adding, HasRowsAlone, StaysRunning, changes_rows}
+use Rattle.sql_lists.specs.Steps.{HasRowsAlone, StaysRunning, changes_rows}
+use Rattle.sql_lists.proofs.Moving.{AddingOne, StaysByOne, stays_running}
 use Rattle.sql_lists.proofs.Staying.{StaysAtWork, at_work, other_of, within_of_other, point_stays, steady_on, base_on}
 use Rattle.create_statement.specs.declared.machine.CreateStatement.{CreateStatement}
 use Rattle.create_statement.specs.declared.machine.CreateStatement.TheVariants as machine
@@ -78,7 +79,10 @@ module _ (e : Event) (h : List Event) (s : ℕ) (other : is_of s e ≡ false) wh
       let stays : point s (e ∷ h) ≡ point s h = point_stays e h s c.over (work.over ∙ c.over) in
       record {
         at = at_other statement c.at;
-        ends = subst (λ p. EndsCreate s (outcome statement (base s p)).changes (e ∷ h)) (sym stays) (ends_on s e h (outcome statement (base s (point s h))).changes same.level_is (did_same begins_txn) (did_same commits_txn) (did_same rolls_back_txn) stays c.ends);
+        ends =
+            subst (λ p. EndsCreate s (outcome statement (base s p)).changes (e ∷ h)) (sym stays)
+            (ends_on s e h (outcome statement (base s (point s h))).changes same.level_is (did_same begins_txn) (did_same commits_txn)
+            (did_same rolls_back_txn) stays c.ends);
         over = work.over ∙ c.over;
         closed = same.level_is ∙ c.closed;
         new = same.own_is ∙ c.new;
@@ -126,11 +130,12 @@ not_true : (b : Bool) → (b ≡ true → ⊥) → b ≡ false
 not_true true refuted = absurd (refuted refl)
 not_true false refuted = refl
 
-module _ (old new : State) (t s : ℕ) (differ : t ≢ s) (e : Event) (mine : is_of t e ≡ true) (adds : new.past ≡ e ∷ old.past) (writes : changes_rows e ≡ true → new.writer ≡ Some t) (keeps : old.writer ≡ Some s → new.writer ≡ Some s) where
+module _ (old new : State) (t s : ℕ) (differ : t ≢ s) (e : Event) (mine : is_of t e ≡ true) (adds : new.past ≡ e ∷ old.past)
+    (writes : changes_rows e ≡ true → new.writer ≡ Some t) (keeps : old.writer ≡ Some s → new.writer ≡ Some s) where
   other : is_of s e ≡ false
   other = other_of e t s mine (λ is. differ (sym is))
 
-  adding : Adding t old new
+  adding : AddingOne t old new
   adding = inr (e, mine, adds, writes)
 
   at_past : (P : List Event → Type 0) → P (e ∷ old.past) → P new.past
@@ -146,7 +151,9 @@ module _ (old new : State) (t s : ℕ) (differ : t ≢ s) (e : Event) (mine : is
         steady = steady_on old new t s differ adding keeps m.steady;
         makes = ap (λ db. (outcome statement db).changes) (base_on old new t s differ adding keeps m.steady) ∙ m.makes;
         storable = m.storable;
-        few = at_past (λ h. length (created h) < MOST_TABLES) (subst (λ schemas. length schemas < MOST_TABLES) (sym (created_other e old.past t mine spares)) m.few);
+        few =
+            at_past (λ h. length (created h) < MOST_TABLES)
+            (subst (λ schemas. length schemas < MOST_TABLES) (sym (created_other e old.past t mine spares)) m.few);
       }
 
   made_it_on : (statement : Stmt) → HasMadeIt old s statement → HasMadeIt new s statement
@@ -173,9 +180,11 @@ module _ (old new : State) (t s : ℕ) (differ : t ≢ s) (e : Event) (mine : is
   adds_on (machine.Begun statement schema) r = to_make_on statement schema r
   adds_on (machine.Made statement) r = made_it_on statement r
   adds_on (machine.Committed statement) r =
-      at_past (λ h. IsCommitted s statement h × (awaits_ack (of_item s h) ≡ true)) (committed_on e old.past s other statement r.0, acks e old.past s other ∙ r.1)
+      at_past (λ h. IsCommitted s statement h × (awaits_ack (of_item s h) ≡ true))
+      (committed_on e old.past s other statement r.0, acks e old.past s other ∙ r.1)
   adds_on (machine.Ending statement) r =
-      at_past (λ h. IsCommitted s statement h × (awaits_ack (of_item s h) ≡ false)) (committed_on e old.past s other statement r.0, acks e old.past s other ∙ r.1)
+      at_past (λ h. IsCommitted s statement h × (awaits_ack (of_item s h) ≡ false))
+      (committed_on e old.past s other statement r.0, acks e old.past s other ∙ r.1)
   adds_on machine.Failing r = at_past (IsFailing s) (failing_on e old.past s other r)
   adds_on machine.Failed r = at_past (IsGivingUp s) (gives_up_on e old.past s other r)
 
@@ -212,9 +221,12 @@ module _ (old new : State) (t s : ℕ) (differ : t ≢ s) (same_past : new.past 
   same_on machine.Failing r = as_before (IsFailing s) r
   same_on machine.Failed r = as_before (IsGivingUp s) r
 
-pub runs_on : StaysRunning IsRunning
+runs_on : StaysByOne IsRunning
 runs_on old new t s m differ (inl same) keeps same_task r = (same_on old new t s differ same keeps m r.0, same_task ∙ r.1)
 runs_on old new t s m differ (inr adds) keeps same_task r = (adds_on old new t s differ adds.0 adds.1 adds.2 adds.3 keeps m r.0, same_task ∙ r.1)
+
+pub stays : StaysRunning IsRunning
+stays = stays_running IsRunning runs_on
 
 -- ---- its item is under way
 

@@ -21,7 +21,8 @@ use Rattle.create_statement.specs.Knowing.{IsAt, IsToBegin, HasMadeNone}
 
 -- ---- an entry that neither starts nor ends an item
 
-abbrev pub takes_on : (s : ℕ) (statement : Stmt) (e : Event) (h : List Event) → is_within s e ≡ true → Takes Spells s statement h → Takes Spells s statement (e ∷ h)
+abbrev pub takes_on : (s : ℕ) (statement : Stmt) (e : Event) (h : List Event) → is_within s e ≡ true → Takes Spells s statement h
+    → Takes Spells s statement (e ∷ h)
 takes_on s statement e h within takes =
     record {
       asks = (takes.asks.0, item_within e h s within ∙ takes.asks.1, takes.asks.2);
@@ -30,18 +31,21 @@ takes_on s statement e h within takes =
       not_refused = inr (starts_not e h s within, takes.not_refused);
     }
 
-abbrev pub at_on : (s : ℕ) (statement : Stmt) (e : Event) (h : List Event) → is_within s e ≡ true → AllByRecursion IsOfRow (own_before s (e ∷ h)) → did is_victim s (e ∷ h) ≡ false → IsAt s statement h → IsAt s statement (e ∷ h)
+abbrev pub at_on : (s : ℕ) (statement : Stmt) (e : Event) (h : List Event) → is_within s e ≡ true → AllByRecursion IsOfRow (own_before s (e ∷ h))
+    → did is_victim s (e ∷ h) ≡ false → IsAt s statement h → IsAt s statement (e ∷ h)
 at_on s statement e h within rows victim at =
     record { takes = takes_on s statement e h within at.takes; kind = at.kind; no_victim = victim; rows_before = rows }
 
-pub to_begin_on : (s : ℕ) (statement : Stmt) (l : Level) (e : Event) (h : List Event) → is_within s e ≡ true → AllByRecursion IsOfRow (own_before s (e ∷ h)) → did is_victim s (e ∷ h) ≡ false → IsToBegin s statement l h → IsToBegin s statement l (e ∷ h)
+pub to_begin_on : (s : ℕ) (statement : Stmt) (l : Level) (e : Event) (h : List Event) → is_within s e ≡ true
+    → AllByRecursion IsOfRow (own_before s (e ∷ h)) → did is_victim s (e ∷ h) ≡ false → IsToBegin s statement l h → IsToBegin s statement l (e ∷ h)
 to_begin_on s statement l e h within rows victim b =
     record { at = at_on s statement e h within rows victim b.at; level_is = b.level_is }
 
 -- ---- the point
 
 -- an entry that changes nothing of the session's
-pub made_on : (s : ℕ) (e : Event) (h : List Event) → is_over s (e ∷ h) ≡ is_over s h → own s (e ∷ h) ≡ own s h → before_turn s (e ∷ h) ≡ before_turn s h → HasMadeNone s h → HasMadeNone s (e ∷ h)
+pub made_on : (s : ℕ) (e : Event) (h : List Event) → is_over s (e ∷ h) ≡ is_over s h → own s (e ∷ h) ≡ own s h → before_turn s (e ∷ h) ≡ before_turn s h
+    → HasMadeNone s h → HasMadeNone s (e ∷ h)
 made_on s e h same-over same-own same-turn made = go (is_over s h) refl where
   go : (over : Bool) → is_over s h ≡ over → HasMadeNone s (e ∷ h)
   go true is = let same = point_stays e h s is (same-over ∙ is) in subst (λ p. own s p ≡ own_before s p) (sym same) made
@@ -50,7 +54,9 @@ made_on s e h same-over same-own same-turn made = go (is_over s h) refl where
       subst (λ p. own s p ≡ own_before s p) (sym (point_now (e ∷ h) s (same-over ∙ is))) (same-own ∙ (was ∙ ap (own s) (sym same-turn)))
 
 -- an entry that leaves how the item is to end
-pub ends_on : (s : ℕ) (e : Event) (h : List Event) (changes : List Change) → level s (e ∷ h) ≡ level s h → did begins_txn s (e ∷ h) ≡ did begins_txn s h → did commits_txn s (e ∷ h) ≡ did commits_txn s h → did rolls_back_txn s (e ∷ h) ≡ did rolls_back_txn s h → point s (e ∷ h) ≡ point s h → EndsCreate s changes h → EndsCreate s changes (e ∷ h)
+pub ends_on : (s : ℕ) (e : Event) (h : List Event) (changes : List Change) → level s (e ∷ h) ≡ level s h → did begins_txn s (e ∷ h) ≡ did begins_txn s h
+    → did commits_txn s (e ∷ h) ≡ did commits_txn s h → did rolls_back_txn s (e ∷ h) ≡ did rolls_back_txn s h → point s (e ∷ h) ≡ point s h
+    → EndsCreate s changes h → EndsCreate s changes (e ∷ h)
 ends_on s e h [] same-level same-begun same-committed same-rolled same ends = (same-level ∙ ends.0, same-begun ∙ ends.1, same-rolled ∙ ends.2)
 ends_on s e h (change ∷ changes) same-level same-begun same-committed same-rolled same ends = (
   record { closed = same-level ∙ ends.0.closed; committed = same-committed ∙ ends.0.committed; not_rolled_back = same-rolled ∙ ends.0.not_rolled_back },
@@ -67,18 +73,19 @@ pub record IsStill (s : ℕ) (h : List Event) : Type 0 where
   pub own_same : own s h ≡ own_before s h
 
 pub still : (s : ℕ) (h : List Event) → of_item s h ≡ [] → IsStill s h
-still s h none = record { turn = turn s h none; before = before s h none; own_is = own_is s h none; own_same = own_is s h none ∙ ap (own s) (sym (before s h none)) } where
-  turn : (s : ℕ) (h : List Event) → of_item s h ≡ [] → of_turn s h ≡ []
-  turn s [] none = refl
-  turn s (e ∷ h) none = grind (arith, nat_tests, turn s h, none)
+still s h none =
+    record { turn = turn s h none; before = before s h none; own_is = own_is s h none; own_same = own_is s h none ∙ ap (own s) (sym (before s h none)) } where
+      turn : (s : ℕ) (h : List Event) → of_item s h ≡ [] → of_turn s h ≡ []
+      turn s [] none = refl
+      turn s (e ∷ h) none = grind (arith, nat_tests, turn s h, none)
 
-  before : (s : ℕ) (h : List Event) → of_item s h ≡ [] → before_turn s h ≡ before_item s h
-  before s [] none = refl
-  before s (e ∷ h) none = grind (arith, nat_tests, before s h, none)
+      before : (s : ℕ) (h : List Event) → of_item s h ≡ [] → before_turn s h ≡ before_item s h
+      before s [] none = refl
+      before s (e ∷ h) none = grind (arith, nat_tests, before s h, none)
 
-  own_is : (s : ℕ) (h : List Event) → of_item s h ≡ [] → own s h ≡ own s (before_item s h)
-  own_is s [] none = refl
-  own_is s (e ∷ h) none = grind (arith, nat_tests, own_is s h, none)
+      own_is : (s : ℕ) (h : List Event) → of_item s h ≡ [] → own s h ≡ own s (before_item s h)
+      own_is s [] none = refl
+      own_is s (e ∷ h) none = grind (arith, nat_tests, own_is s h, none)
 
 pub goes_on_still : (s : ℕ) (h : List Event) → of_item s h ≡ [] → is_over s h ≡ false
 goes_on_still s h none = ap (list_any closes) (still s h none).turn
@@ -98,10 +105,14 @@ set_before s (events.Started t j item ∷ h) setting none set =
       | inl same ↦ rw same.0 set
       | inr differ ↦ rw differ.0 (set_before s h setting (grind (arith, nat_tests, none, differ.0)) set)
     ]
-set_before s (events.Begin t n l ∷ h) setting none set = set_before s h setting (grind (arith, nat_tests, none)) (either_other (eqb t s) _ _ (grind (arith, nat_tests, none)) set)
-set_before s (events.Committed t ∷ h) setting none set = set_before s h setting (grind (arith, nat_tests, none)) (either_other (eqb t s) _ _ (grind (arith, nat_tests, none)) set)
-set_before s (events.RolledBack t ∷ h) setting none set = set_before s h setting (grind (arith, nat_tests, none)) (either_other (eqb t s) _ _ (grind (arith, nat_tests, none)) set)
-set_before s (events.Ended t j reply ∷ h) setting none set = set_before s h setting (grind (arith, nat_tests, none)) (either_other (eqb t s) _ _ (grind (arith, nat_tests, none)) set)
+set_before s (events.Begin t n l ∷ h) setting none set =
+    set_before s h setting (grind (arith, nat_tests, none)) (either_other (eqb t s) _ _ (grind (arith, nat_tests, none)) set)
+set_before s (events.Committed t ∷ h) setting none set =
+    set_before s h setting (grind (arith, nat_tests, none)) (either_other (eqb t s) _ _ (grind (arith, nat_tests, none)) set)
+set_before s (events.RolledBack t ∷ h) setting none set =
+    set_before s h setting (grind (arith, nat_tests, none)) (either_other (eqb t s) _ _ (grind (arith, nat_tests, none)) set)
+set_before s (events.Ended t j reply ∷ h) setting none set =
+    set_before s h setting (grind (arith, nat_tests, none)) (either_other (eqb t s) _ _ (grind (arith, nat_tests, none)) set)
 set_before s (e ∷ h) setting none set = set_before s h setting (grind (arith, nat_tests, none)) set
 
 -- ---- an entry of another session

@@ -19,7 +19,7 @@ use Rattle.inno_model.specs.Past.{is_of, of_item, did, begins_txn, commits_txn, 
 use Rattle.sql_grammar.specs.Grammar.{Spells}
 use Rattle.sql_history.specs.Items.{own_before, of_turn, is_over, point, base, HasMade}
 use Rattle.sql_history.specs.Settings.{Setting, HasSet, next_level}
-use Rattle.sql_history.specs.Counts.{rows_kept, most_rows}
+use Rattle.sql_history.specs.Counts.{last_moment, rows_kept, most_rows}
 use Rattle.sql_history.specs.Waiting.{is_victim}
 use Rattle.sql_history.specs.Legal.{IsCreation, EndsCreate, MayBegin, MayChange, MayCommit, MayRollBack}
 use Rattle.law_past_agreement.specs.Order.{IsOfRow}
@@ -27,6 +27,7 @@ use Rattle.shared_lists.specs.State.{State, IsNow, Adds, task_of}
 use Rattle.sql_lists.specs.Kept.{MayReply}
 use Rattle.sql_lists.specs.Steps.{Moves, changes_rows, HasRowsAlone, IsTaken}
 use Rattle.sql_lists.proofs.Staying.{point_now, point_before, point_stays}
+use Rattle.sql_lists.proofs.Moving.{adding_one}
 use Rattle.create_statement.specs.Knowing.{IsAt, IsToBegin, HasMadeNone, IsEmptied, HasOpened, IsCommitted, IsFinished, IsGivingUp}
 use Rattle.create_statement.proofs.Creations.{begins_by, commits_by, rolls_back_by, changes_by, ends_taken, brings, same_refusal}
 use Rattle.create_statement.proofs.Staying.{at_on, to_begin_on, made_on, ends_on, still, goes_on_still, made_still, set_before}
@@ -37,11 +38,14 @@ not_some x is = cc
 -- ---- moves
 
 -- where nobody may write the session comes to
-pub moves_locks : (t : ℕ) (e : Event) (old between new : State) → is_of t e ≡ true → changes_rows e ≡ false → old.writer ≡ None → Adds e t old between → IsNow between.past t (task_of t between) (Some t) between new → Moves t old new
-moves_locks t e old between new mine spares free adds locks =
+pub moves_locks : (t : ℕ) (e : Event) (old between new : State) → is_of t e ≡ true → last_moment (e ∷ old.past) ≡ last_moment old.past
+    → changes_rows e ≡ false → old.writer ≡ None
+    → Adds e t old between → IsNow between.past t (task_of t between) (Some t) between new → Moves t old new
+moves_locks t e old between new mine unacked spares free adds locks =
     record {
       names_stay = locks.names_are ∙ adds.names_are;
-      adding = inr (e, mine, locks.past_is ∙ adds.past_is, λ is. absurd (false≢true (sym spares ∙ is)));
+      adding = adding_one t e old new mine (locks.past_is ∙ adds.past_is) (λ is. absurd (false≢true (sym spares ∙ is)));
+      acks_none = ap last_moment (locks.past_is ∙ adds.past_is) ∙ unacked;
       writer_stays = λ s differ is. absurd (not_some s (sym free ∙ is));
       tasks_stay = λ s differ. locks.others s differ ∙ adds.others s differ;
     }
@@ -74,7 +78,8 @@ sometime_too P Q too s (e ∷ past) (inr before) = inr (before.0, sometime_too P
 
 module _ (s : ℕ) (statement : Stmt) (h : List Event) where
   -- what was found set is what counts
-  pub begins_so : (l : Level) (setting : Setting) → (taken : IsTaken s statement h) → IsCreation statement → HasSet Spells s h setting → l ≡ next_level setting → IsToBegin s statement l h
+  pub begins_so : (l : Level) (setting : Setting) → (taken : IsTaken s statement h) → IsCreation statement → HasSet Spells s h setting
+      → l ≡ next_level setting → IsToBegin s statement l h
   begins_so l setting taken kind set is =
       record {
         at = record {
@@ -95,7 +100,13 @@ module _ (s : ℕ) (statement : Stmt) (h : List Event) where
 
   pub may_commit_first : IsAt s statement h → IsOpen s h → of_item s h ≡ [] → MayCommit Spells s h
   may_commit_first at is-open none =
-      record { is_open = is-open; statement = statement; takes = at.takes; by = commits_by s h at.takes.setting statement at.kind (inl (ap (list_any begins_txn) none)) }
+      record {
+        is_open = is-open;
+        statement = statement;
+        takes = at.takes;
+        by = commits_by s h at.takes.setting statement at.kind
+            (inl (ap (list_any begins_txn) none));
+      }
 
   closed_now : IsClosed s (events.Committed s ∷ h)
   closed_now = grind (arith, nat_tests)
@@ -135,22 +146,34 @@ module _ (s : ℕ) (statement : Stmt) (h : List Event) where
       }
 
   pub emptied_closed : of_item s h ≡ [] → IsClosed s h → own s h ≡ [] → IsEmptied s h
-  emptied_closed none closed new = record { closed = closed; new = new; not_begun = ap (list_any begins_txn) none; not_rolled_back = ap (list_any rolls_back_txn) none; made = made_still s h none }
+  emptied_closed none closed new =
+      record {
+        closed = closed;
+        new = new;
+        not_begun = ap (list_any begins_txn) none;
+        not_rolled_back = ap (list_any rolls_back_txn) none;
+        made = made_still
+            s h none;
+      }
 
-  ends_as : (p : List Event) (changes : List Change) → point s p ≡ h → (outcome statement (base s h)).changes ≡ changes → EndsCreate s changes p → EndsCreate s (outcome statement (base s (point s p))).changes p
+  ends_as : (p : List Event) (changes : List Change) → point s p ≡ h → (outcome statement (base s h)).changes ≡ changes → EndsCreate s changes p
+      → EndsCreate s (outcome statement (base s (point s p))).changes p
   ends_as p changes point-is is ends = subst (λ c. EndsCreate s c p) (sym (ap (λ q. (outcome statement (base s q)).changes) point-is ∙ is)) ends
 
   pub committed_skipped : IsAt s statement h → of_item s h ≡ [] → (outcome statement (base s h)).changes ≡ [] → IsCommitted s statement (events.Committed s ∷ h)
   committed_skipped at none is =
       record {
         at = at_committed at;
-        ends = ends_as (events.Committed s ∷ h) [] (point_is (goes_on_still s h none)) is (closed_now, not_begun_now none, not_rolled_now (ap (list_any rolls_back_txn) none));
+        ends =
+            ends_as (events.Committed s ∷ h) [] (point_is (goes_on_still s h none)) is
+            (closed_now, not_begun_now none, not_rolled_now (ap (list_any rolls_back_txn) none));
         over = over_now;
         closed = closed_now;
         new = new_now;
       }
 
-  pub finished_skipped : IsAt s statement h → of_item s h ≡ [] → HasRowsAlone s h → IsClosed s h → (outcome statement (base s h)).changes ≡ [] → IsFinished s statement h
+  pub finished_skipped : IsAt s statement h → of_item s h ≡ [] → HasRowsAlone s h → IsClosed s h → (outcome statement (base s h)).changes ≡ []
+      → IsFinished s statement h
   finished_skipped at none rows closed is =
       record {
         at = at;
@@ -159,19 +182,24 @@ module _ (s : ℕ) (statement : Stmt) (h : List Event) where
         rows_alone = rows;
       }
 
-  made_one : (schema : Schema) (p : List Event) → p ≡ h → own s h ≡ Create schema ∷ [] → own_before s h ≡ [] → HasMade (length (Create schema ∷ [])) s (Create schema ∷ []) p
+  made_one : (schema : Schema) (p : List Event) → p ≡ h → own s h ≡ Create schema ∷ [] → own_before s h ≡ []
+      → HasMade (length (Create schema ∷ [])) s (Create schema ∷ []) p
   made_one schema p is own-is none = rw is (own-is ∙ ap (λ changes. Create schema ∷ changes) (sym none))
 
-  pub may_commit_made : (schema : Schema) → IsAt s statement h → HasOpened s h → own s h ≡ Create schema ∷ [] → (outcome statement (base s h)).changes ≡ Create schema ∷ [] → MayCommit Spells s h
+  pub may_commit_made : (schema : Schema) → IsAt s statement h → HasOpened s h → own s h ≡ Create schema ∷ []
+      → (outcome statement (base s h)).changes ≡ Create schema ∷ [] → MayCommit Spells s h
   may_commit_made schema at opened own-is is =
       record {
         is_open = opened.is_open;
         statement = statement;
         takes = at.takes;
-        by = commits_by s h at.takes.setting statement at.kind (inr (subst (λ changes. HasMade (length changes) s changes h) (sym is) (made_one schema h refl own-is opened.none_before)));
+        by =
+            commits_by s h at.takes.setting statement at.kind
+            (inr (subst (λ changes. HasMade (length changes) s changes h) (sym is) (made_one schema h refl own-is opened.none_before)));
       }
 
-  pub committed_made : (schema : Schema) → IsAt s statement h → HasOpened s h → own s h ≡ Create schema ∷ [] → (outcome statement (base s h)).changes ≡ Create schema ∷ [] → IsCommitted s statement (events.Committed s ∷ h)
+  pub committed_made : (schema : Schema) → IsAt s statement h → HasOpened s h → own s h ≡ Create schema ∷ []
+      → (outcome statement (base s h)).changes ≡ Create schema ∷ [] → IsCommitted s statement (events.Committed s ∷ h)
   committed_made schema at opened own-is is =
       let point-is = point_is opened.not_over in
       record {
@@ -188,30 +216,32 @@ module _ (s : ℕ) (statement : Stmt) (h : List Event) where
 
   -- ---- its acknowledgement
 
-  pub acked_now : awaits_ack (of_item s (events.Acked s 0 ∷ h)) ≡ false
-  acked_now = grind (arith, nat_tests)
+  pub acked_now : (moment : ℕ) → awaits_ack (of_item s (events.Acked s moment ∷ h)) ≡ false
+  acked_now moment = grind (arith, nat_tests)
 
-  pub to_begin_acked : (l : Level) → IsToBegin s statement l h → IsToBegin s statement l (events.Acked s 0 ∷ h)
-  to_begin_acked l b = to_begin_on s statement l (events.Acked s 0) h refl b.at.rows_before (let x = b.at.no_victim in grind (arith, nat_tests, x)) b
+  pub to_begin_acked : (moment : ℕ) (l : Level) → IsToBegin s statement l h → IsToBegin s statement l (events.Acked s moment ∷ h)
+  to_begin_acked moment l b =
+      to_begin_on s statement l (events.Acked s moment) h refl b.at.rows_before (let x = b.at.no_victim in grind (arith, nat_tests, x)) b
 
-  pub emptied_acked : IsEmptied s h → IsEmptied s (events.Acked s 0 ∷ h)
-  emptied_acked empty =
+  pub emptied_acked : (moment : ℕ) → IsEmptied s h → IsEmptied s (events.Acked s moment ∷ h)
+  emptied_acked moment empty =
       record {
         closed = empty.closed;
         new = empty.new;
         not_begun = (let x = empty.not_begun in grind (arith, nat_tests, x));
         not_rolled_back = (let x = empty.not_rolled_back in grind (arith, nat_tests, x));
-        made = made_on s (events.Acked s 0) h (grind (arith, nat_tests)) refl refl empty.made;
+        made = made_on s (events.Acked s moment) h (grind (arith, nat_tests)) refl refl empty.made;
       }
 
-  pub committed_acked : IsCommitted s statement h → IsCommitted s statement (events.Acked s 0 ∷ h)
-  committed_acked c =
-      let over : is_over s (events.Acked s 0 ∷ h) ≡ true = (let x = c.over in grind (arith, nat_tests, x)) in
-      let stays : point s (events.Acked s 0 ∷ h) ≡ point s h = point_stays (events.Acked s 0) h s c.over over in
+  pub committed_acked : (moment : ℕ) → IsCommitted s statement h → IsCommitted s statement (events.Acked s moment ∷ h)
+  committed_acked moment c =
+      let over : is_over s (events.Acked s moment ∷ h) ≡ true = (let x = c.over in grind (arith, nat_tests, x)) in
+      let stays : point s (events.Acked s moment ∷ h) ≡ point s h = point_stays (events.Acked s moment) h s c.over over in
       record {
-        at = at_on s statement (events.Acked s 0) h refl c.at.rows_before (let x = c.at.no_victim in grind (arith, nat_tests, x)) c.at;
-        ends = subst (λ p. EndsCreate s (outcome statement (base s p)).changes (events.Acked s 0 ∷ h)) (sym stays)
-            (ends_on s (events.Acked s 0) h (outcome statement (base s (point s h))).changes refl (grind (arith, nat_tests)) (grind (arith, nat_tests)) (grind (arith, nat_tests)) stays c.ends);
+        at = at_on s statement (events.Acked s moment) h refl c.at.rows_before (let x = c.at.no_victim in grind (arith, nat_tests, x)) c.at;
+        ends = subst (λ p. EndsCreate s (outcome statement (base s p)).changes (events.Acked s moment ∷ h)) (sym stays)
+            (ends_on s (events.Acked s moment) h (outcome statement (base s (point s h))).changes refl (grind (arith, nat_tests)) (grind (arith, nat_tests))
+            (grind (arith, nat_tests)) stays c.ends);
         over = over;
         closed = c.closed;
         new = c.new;
@@ -234,7 +264,8 @@ module _ (s : ℕ) (statement : Stmt) (h : List Event) where
       let none : own_before s (events.Begin s n l ∷ h) ≡ [] = grind (arith, nat_tests) in
       at_on s statement (events.Begin s n l) h refl (subst (AllByRecursion IsOfRow) (sym none) tt) (let x = at.no_victim in grind (arith, nat_tests, x)) at
 
-  pub may_begin : (l : Level) → IsToBegin s statement l h → IsEmptied s h → awaits_ack (of_item s h) ≡ false → (outcome statement (base s h)).changes ≢ [] → MayBegin Spells s (begins h + 1) l h
+  pub may_begin : (l : Level) → IsToBegin s statement l h → IsEmptied s h → awaits_ack (of_item s h) ≡ false → (outcome statement (base s h)).changes ≢ []
+      → MayBegin Spells s (begins h + 1) l h
   may_begin l b empty acked some =
       record {
         numbered = refl;
@@ -284,7 +315,15 @@ module _ (s : ℕ) (statement : Stmt) (h : List Event) where
         text = at.takes.asks.0;
         item = at.takes.asks.1;
         acked = acked;
-        leaves = inl (record { statement = statement; takes = at.takes; brings = brings s h at.takes.setting statement at.kind; nothing = new; no_victim = at.no_victim });
+        leaves =
+            inl (record {
+              statement = statement;
+              takes = at.takes;
+              brings = brings s h at.takes.setting statement at.kind;
+              nothing = new;
+              no_victim =
+                  at.no_victim;
+            });
         made = made;
         rows_alone = rows_of_none s h new;
       }
@@ -315,7 +354,15 @@ module _ (s : ℕ) (statement : Stmt) (h : List Event) where
         text = here.takes.asks.0;
         item = here.takes.asks.1;
         acked = grind (arith, nat_tests);
-        leaves = inl (record { statement = statement; takes = here.takes; brings = brings s h at.takes.setting statement at.kind; nothing = none; no_victim = here.no_victim });
+        leaves =
+            inl (record {
+              statement = statement;
+              takes = here.takes;
+              brings = brings s h at.takes.setting statement at.kind;
+              nothing = none;
+              no_victim =
+                  here.no_victim;
+            });
         made = subst (λ p. own s p ≡ own_before s p) (sym (point_before (events.RolledBack s) h s opened.not_over over)) (new ∙ sym opened.none_before);
         rows_alone = rows_of_none s (events.RolledBack s ∷ h) none;
       }

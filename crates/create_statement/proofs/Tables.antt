@@ -44,7 +44,8 @@ made (other ∷ changes) = made changes
 
 schemas_after : (db : Database) (changes : List Change) → (changed db changes).schemas ≡ db.schemas ++ made changes
 schemas_after db [] = sym (append-nil db.schemas)
-schemas_after db (Create schema ∷ changes) = ap (λ schemas. schemas ++ schema ∷ []) (schemas_after db changes) ∙ append_assoc db.schemas (made changes) (schema ∷ [])
+schemas_after db (Create schema ∷ changes) =
+    ap (λ schemas. schemas ++ schema ∷ []) (schemas_after db changes) ∙ append_assoc db.schemas (made changes) (schema ∷ [])
 schemas_after db (Put table row ∷ changes) = schemas_after db changes
 schemas_after db (Remove table key ∷ changes) = schemas_after db changes
 
@@ -61,23 +62,29 @@ made_rows (Put table row ∷ changes) rows = made_rows changes rows.1
 made_rows (Remove table key ∷ changes) rows = made_rows changes rows.1
 
 -- nobody else makes a table, and the session has changed rows alone: its statement meets all tables that were made
-pub tables_met : (s : ℕ) (h : List Event) → AreStanding h → IsOnlyMaker s h → HasRowsAlone s h → AllByRecursion IsOfRow (own_before s h) → (base s h).schemas ≡ created h
+pub tables_met : (s : ℕ) (h : List Event) → AreStanding h → IsOnlyMaker s h → HasRowsAlone s h → AllByRecursion IsOfRow (own_before s h)
+    → (base s h).schemas ≡ created h
 tables_met s h stands only rows rows_before =
     let first = (opening h).schemas in
     let those = made (committed (commits h) h) in
-    let now : schemas_now s h ≡ first ++ (those ++ made (own s h)) = schemas_after (opening h) (own s h ++ committed (commits h) h) ∙ ap (λ schemas. first ++ schemas) (made_append (own s h) (committed (commits h) h)) in
+    let now : schemas_now s h ≡ first ++ (those ++ made (own s h)) =
+    schemas_after (opening h) (own s h ++ committed (commits h) h) ∙ ap (λ schemas. first ++ schemas) (made_append (own s h) (committed (commits h) h)) in
     schemas_after (opening h) (own_before s h ++ committed (commits h) h)
-    ∙ (ap (λ schemas. first ++ schemas) (made_append (own_before s h) (committed (commits h) h) ∙ ap (λ schemas. those ++ schemas) (made_rows (own_before s h) rows_before ∙ sym (made_rows (own s h) rows)))
+    ∙ (ap (λ schemas. first ++ schemas) (made_append (own_before s h) (committed (commits h) h) ∙ ap (λ schemas. those ++ schemas)
+    (made_rows (own_before s h) rows_before ∙ sym (made_rows (own s h) rows)))
     ∙ (sym now ∙ sym (stands.tables s only)))
 
 -- its transaction begins: it meets the same tables
-pub tables_begun : (s n : ℕ) (l : Level) (h : List Event) → AllByRecursion IsOfRow (own_before s h) → (base s (events.Begin s n l ∷ h)).schemas ≡ (base s h).schemas
+pub tables_begun : (s n : ℕ) (l : Level) (h : List Event) → AllByRecursion IsOfRow (own_before s h)
+    → (base s (events.Begin s n l ∷ h)).schemas ≡ (base s h).schemas
 tables_begun s n l h rows =
     let first = (opening h).schemas in
     let those = made (committed (commits h) h) in
     let none : own_before s (events.Begin s n l ∷ h) ≡ [] = grind (arith, nat_tests) in
     schemas_after (opening h) (own_before s (events.Begin s n l ∷ h) ++ committed (commits h) h)
-    ∙ (ap (λ schemas. first ++ schemas) (made_append (own_before s (events.Begin s n l ∷ h)) (committed (commits h) h) ∙ (ap (λ schemas. those ++ schemas) (ap made none ∙ sym (made_rows (own_before s h) rows)) ∙ sym (made_append (own_before s h) (committed (commits h) h))))
+    ∙ (ap (λ schemas. first ++ schemas) (made_append (own_before s (events.Begin s n l ∷ h)) (committed (commits h) h) ∙
+    (ap (λ schemas. those ++ schemas) (ap made none ∙ sym (made_rows (own_before s h) rows)) ∙ sym
+    (made_append (own_before s h) (committed (commits h) h))))
     ∙ sym (schemas_after (opening h) (own_before s h ++ committed (commits h) h)))
 
 -- ---- what the statement makes
@@ -87,7 +94,8 @@ none_either None answer none = none
 none_either (Some error) answer none = refl
 
 -- a table that is there is skipped
-pub makes_none : (schemas : List Schema) (statement : Stmt) → IsCreation statement → is_there schemas statement ≡ true → (db : Database) → db.schemas ≡ schemas → (outcome statement db).changes ≡ []
+pub makes_none : (schemas : List Schema) (statement : Stmt) → IsCreation statement → is_there schemas statement ≡ true → (db : Database)
+    → db.schemas ≡ schemas → (outcome statement db).changes ≡ []
 makes_none schemas =
     as_creation (λ x. is_there schemas x ≡ true → (db : Database) → db.schemas ≡ schemas → (outcome x db).changes ≡ [])
     (λ table i definitions there db same.
@@ -102,7 +110,9 @@ room : (n m : ℕ) → nat_le n m ≡ false → m < n
 room n m is = grind (arith, nat_tests, is)
 
 -- what it declares is made, where nothing refuses that and nothing of its name is there
-pub makes_declared : (schemas : List Schema) (table : List ℕ) (i : Bool) (definitions : List Definition) (schema : Schema) → refusal schemas (stmt.CreateTable table i definitions) ≡ None → is_there schemas (stmt.CreateTable table i definitions) ≡ false → schema_declared table definitions ≡ Some schema → Makes (stmt.CreateTable table i definitions) schema schemas
+pub makes_declared : (schemas : List Schema) (table : List ℕ) (i : Bool) (definitions : List Definition) (schema : Schema)
+    → refusal schemas (stmt.CreateTable table i definitions) ≡ None → is_there schemas (stmt.CreateTable table i definitions) ≡ false
+    → schema_declared table definitions ≡ Some schema → Makes (stmt.CreateTable table i definitions) schema schemas
 makes_declared schemas table i definitions schema allowed absent declared =
     let statement = stmt.CreateTable table i definitions in
     let full : refused_if (nat_le MOST_TABLES (length schemas)) (CatalogFull MOST_TABLES) None ≡ None =
@@ -118,8 +128,11 @@ makes_declared schemas table i definitions schema allowed absent declared =
     }
 
 -- so with whatever is declared
-pub makes_if_declared : (schemas : List Schema) (statement : Stmt) (table : List ℕ) (i : Bool) (definitions : List Definition) (told : Option Schema) → statement ≡ stmt.CreateTable table i definitions → refusal schemas statement ≡ None → is_there schemas statement ≡ false → told ≡ schema_declared table definitions → IfSome told (λ schema. Makes statement schema schemas)
+pub makes_if_declared : (schemas : List Schema) (statement : Stmt) (table : List ℕ) (i : Bool) (definitions : List Definition) (told : Option Schema)
+    → statement ≡ stmt.CreateTable table i definitions → refusal schemas statement ≡ None → is_there schemas statement ≡ false
+    → told ≡ schema_declared table definitions → IfSome told (λ schema. Makes statement schema schemas)
 makes_if_declared schemas statement table i definitions None is allowed absent declared = tt
 makes_if_declared schemas statement table i definitions (Some schema) is allowed absent declared =
     subst (λ x. Makes x schema schemas) (sym is)
-    (makes_declared schemas table i definitions schema (subst (λ x. refusal schemas x ≡ None) is allowed) (subst (λ x. is_there schemas x ≡ false) is absent) (sym declared))
+    (makes_declared schemas table i definitions schema (subst (λ x. refusal schemas x ≡ None) is allowed) (subst (λ x. is_there schemas x ≡ false) is absent)
+    (sym declared))

@@ -1,5 +1,5 @@
 -- What a CREATE TABLE knows between its steps, of the past and of who may write. It has nothing under way with rows.
-use Rattle.std.specs.Prelude.{◌≡◌, ℕ, true, false, []}
+use Rattle.std.specs.Prelude.{◌≡◌, ℕ, Bool, true, false, []}
 use Rattle.inno_model.specs.Past.{of_item, awaits_ack}
 use Rattle.shared_lists.specs.Tasks.{Idle}
 use Rattle.shared_lists.specs.State.{State, task_of}
@@ -18,6 +18,18 @@ RunsBy state s (machine.Committed stmt) = IsCommitted s stmt state.past × (awai
 RunsBy state s (machine.Ending stmt) = IsCommitted s stmt state.past × (awaits_ack (of_item s state.past) ≡ false)
 RunsBy state s machine.Failing = IsFailing s state.past
 RunsBy state s machine.Failed = IsGivingUp s state.past
+
+-- its commit is yet to be acknowledged
+abbrev pub owes_ack : CreateStatement → Bool
+owes_ack (machine.Unacked stmt level) = true
+owes_ack (machine.Committed stmt) = true
+owes_ack other = false
+
+-- the statement behind that
+abbrev pub acked : CreateStatement → CreateStatement
+acked (machine.Unacked stmt level) = machine.Closed stmt level
+acked (machine.Committed stmt) = machine.Ending stmt
+acked other = other
 
 abbrev pub IsRunning : State → ℕ → CreateStatement → Type 0
 IsRunning state s statement = RunsBy state s statement × (task_of s state ≡ Idle)

@@ -105,21 +105,6 @@ fn close<L: SharedLists>(
     (CreateStatement::Unacked { stmt, level }, Advance::Went)
 }
 
-pub fn step_unacked<L: SharedLists>(
-    stmt: Stmt,
-    level: Level,
-    session: u32,
-    lists: &mut SqlLists<L>,
-) -> (CreateStatement, Advance)
-    requires joined { session < length lists.old.names }
-    requires running { IsRunning lists.old session (CreateStatement.Unacked stmt level) }
-    ensures steps { Steps IsRunning session lists.old lists.new result.0 result.1 }
-    ensures nears { Nears to_go session lists.old (CreateStatement.Unacked stmt level) lists.new result.0 result.1 }
-{
-    lists.ack(session);
-    (CreateStatement::Closed { stmt, level }, Advance::Went)
-}
-
 /// Nothing of the session's is open: once nobody else may write it opens its own transaction.
 pub fn step_closed<L: SharedLists>(
     alloc: Global,

@@ -32,20 +32,6 @@ pub fn finish<L: SharedLists>(
     (CreateStatement::Failed, Advance::Done(Reply::Done))
 }
 
-pub fn step_committed<L: SharedLists>(
-    stmt: Stmt,
-    session: u32,
-    lists: &mut SqlLists<L>,
-) -> (CreateStatement, Advance)
-    requires joined { session < length lists.old.names }
-    requires running { IsRunning lists.old session (CreateStatement.Committed stmt) }
-    ensures steps { Steps IsRunning session lists.old lists.new result.0 result.1 }
-    ensures nears { Nears to_go session lists.old (CreateStatement.Committed stmt) lists.new result.0 result.1 }
-{
-    lists.ack(session);
-    (CreateStatement::Ending { stmt }, Advance::Went)
-}
-
 pub fn step_ending<L: SharedLists>(
     stmt: Stmt,
     session: u32,

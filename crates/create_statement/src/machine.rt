@@ -1,16 +1,17 @@
 //! A CREATE TABLE under way, its beginning and its steps.
 
-ghost use Rattle.std.specs.Prelude.{◌≡◌, ◌<◌, length};
+ghost use Rattle.std.specs.Prelude.{◌≡◌, ◌<◌, ℕ, true, false, length};
 ghost use Rattle.sql_history.specs.Legal.{IsCreation};
 ghost use Rattle.shared_lists.specs.Tasks.{Idle};
-ghost use Rattle.shared_lists.specs.State.{task_of};
-ghost use Rattle.sql_lists.specs.Steps.{IsTaken, Steps, StaysRunning};
-ghost use Rattle.sql_lists.specs.Going.{Nears};
-ghost use Rattle.create_statement.specs.Running.{IsRunning};
+ghost use Rattle.shared_lists.specs.State.{State, task_of};
+ghost use Rattle.sql_lists.specs.Kept.{OwesAck};
+ghost use Rattle.sql_lists.specs.Steps.{IsTaken, Steps, StaysRunning, GoesOnAcked};
+ghost use Rattle.sql_lists.specs.Going.{Nears, NearsAcked};
+ghost use Rattle.create_statement.specs.Running.{IsRunning, owes_ack, acked};
 ghost use Rattle.create_statement.specs.Going.{to_go};
 
-use crate::asking::{step_asked, step_closed, step_unacked};
-use crate::ending::{step_committed, step_ending, step_failed, step_failing};
+use crate::asking::{step_asked, step_closed};
+use crate::ending::{step_ending, step_failed, step_failing};
 use crate::making::{step_begun, step_made};
 use inno_types::{Level, Schema, Stmt};
 use shared_lists::SharedLists;
@@ -49,6 +50,34 @@ impl CreateStatement {
         CreateStatement::Asked { stmt, level }
     }
 
+    /// Whether the statement's commit is yet to be acknowledged. It makes no step before that.
+    pub fn owes_ack(&self) -> bool
+        ensures { result ≡ owes_ack self.now }
+    {
+        matches!(
+            self,
+            CreateStatement::Unacked { .. } | CreateStatement::Committed { .. }
+        )
+    }
+
+    /// The statement after the acknowledgement of its commit.
+    pub fn acked(self) -> Self
+        ensures { result ≡ acked self }
+    {
+        match self {
+            CreateStatement::Unacked { stmt, level } => CreateStatement::Closed { stmt, level },
+            CreateStatement::Committed { stmt } => CreateStatement::Ending { stmt },
+            other => other,
+        }
+    }
+
+    /// A commit that is owed stands in the past, and its acknowledgement brings the statement nearer to its end.
+    pub fn an_acknowledgement_moves_it_on()
+        ensures owed { (state : State) (s : ℕ) (m : CreateStatement) → owes_ack m ≡ true → IsRunning state s m → OwesAck s state.past }
+        ensures runs { (m : CreateStatement) → owes_ack m ≡ true → GoesOnAcked IsRunning m (acked m) }
+        ensures nears { (m : CreateStatement) → owes_ack m ≡ true → NearsAcked to_go m (acked m) }
+    {}
+
     /// One step of the session's statement.
     pub fn step<L: SharedLists>(
         self,
@@ -58,21 +87,21 @@ impl CreateStatement {
     ) -> (Self, Advance)
         requires joined { session < length lists.old.names }
         requires running { IsRunning lists.old session self }
+        requires acked { owes_ack self ≡ false }
         ensures steps { Steps IsRunning session lists.old lists.new result.0 result.1 }
         ensures nears { Nears to_go session lists.old self lists.new result.0 result.1 }
     {
         match self {
             CreateStatement::Asked { stmt, level } => step_asked(stmt, level, session, lists),
-            CreateStatement::Unacked { stmt, level } => step_unacked(stmt, level, session, lists),
             CreateStatement::Closed { stmt, level } => step_closed(
                 alloc, stmt, level, session, lists,
             ),
             CreateStatement::Begun { stmt, schema } => step_begun(stmt, schema, session, lists),
             CreateStatement::Made { stmt } => step_made(stmt, session, lists),
-            CreateStatement::Committed { stmt } => step_committed(stmt, session, lists),
             CreateStatement::Ending { stmt } => step_ending(stmt, session, lists),
             CreateStatement::Failing => step_failing(session, lists),
             CreateStatement::Failed => step_failed(session, lists),
+            CreateStatement::Unacked { .. } | CreateStatement::Committed { .. } => unreachable!(),
         }
     }
 

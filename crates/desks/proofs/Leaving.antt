@@ -24,7 +24,8 @@ use Rattle.desks.specs.Leaves.{LeavesOthers, KeepsOrCuts}
 some_same : (a b : ℕ) → Some a ≡ Some b → a ≡ b
 some_same a b same = cc
 
-module _ (t s : ℕ) (before after : Chains) (writer later : Option ℕ) (cuts now : ℕ) (old new : WorldState) (leaves : LeavesOthers t before after writer later cuts now old new) (differ : s ≢ t) where
+module _ (t s : ℕ) (before after : Chains) (writer later : Option ℕ) (cuts now : ℕ) (old new : WorldState)
+    (leaves : LeavesOthers t before after writer later cuts now old new) (differ : s ≢ t) where
   -- the reader's own view
   own_view : (view : _) (reader : ℕ) → IsOwnView old s view reader → IsOwnView new s view reader
   own_view view reader is = record {
@@ -45,12 +46,15 @@ module _ (t s : ℕ) (before after : Chains) (writer later : Option ℕ) (cuts n
   same_newest : writer ≡ Some s → after ≡ before
   same_newest mine = elim leaves.changes [ inl same ↦ same | inr other ↦ absurd (differ (some_same s t (sym mine ∙ other))) ]
 
-  pub seen_left : (table : ℕ) (sight : Sight) → SightHolds old writer s sight → (value : Value) → rows_seen sight (in_table table after) value ≡ rows_seen sight (in_table table before) value
+  pub seen_left : (table : ℕ) (sight : Sight) → SightHolds old writer s sight → (value : Value)
+      → rows_seen sight (in_table table after) value ≡ rows_seen sight (in_table table before) value
   seen_left table (View view reader) is value =
       subst (λ v. rows_seen (View v reader) (in_table table after) value ≡ rows_seen (View v reader) (in_table table before) value) (sym is.same)
-      (subst (λ r. rows_seen (View (sight_of is.seen) r) (in_table table after) value ≡ rows_seen (View (sight_of is.seen) r) (in_table table before) value) (sym is.reader_is)
+      (subst (λ r. rows_seen (View (sight_of is.seen) r) (in_table table after) value ≡ rows_seen (View (sight_of is.seen) r) (in_table table before) value)
+      (sym is.reader_is)
       (same_rows before after writer later old new s t table is.session is.session is.work is.work is.seen leaves.agreed leaves.agrees is.has_work
-      (record { session_is = leaves.sessions s differ ∙ is.has_work.session_is; work_is = is.has_work.work_is }) is.view_is is.view_is refl (λ same. differ (sym same)) leaves.adds value))
+      (record { session_is = leaves.sessions s differ ∙ is.has_work.session_is; work_is = is.has_work.work_is }) is.view_is is.view_is refl
+      (λ same. differ (sym same)) leaves.adds value))
   seen_left table Newest is value = ap (λ chains. rows_seen Newest (in_table table chains) value) (same_newest is)
 
   scan_left : (on : TableSearch) → IsSearchHeld before old writer cuts s on → LeavesScan s on.schema on.search.scan old new before after
@@ -61,11 +65,13 @@ module _ (t s : ℕ) (before after : Chains) (writer later : Option ℕ) (cuts n
     seen = seen_left on.search.scan.table on.search.scan.sight is.sight;
   }
 
-  finds_kept : (since : Bool) (on : TableSearch) → KeepsMore old.versions.kept_at new.versions.kept_at → IsSearchHeld before old writer cuts s on → FindsSince since s old before on → FindsSince since s new after on
+  finds_kept : (since : Bool) (on : TableSearch) → KeepsMore old.versions.kept_at new.versions.kept_at → IsSearchHeld before old writer cuts s on
+      → FindsSince since s old before on → FindsSince since s new after on
   finds_kept true on more is finds = keeps_finding s on.schema old new before after on.search (scan_left on is) more finds
   finds_kept false on more is finds = finds_anew s on.schema old new before after on.search (scan_left on is) finds
 
-  finds_cut : (since : Bool) (on : TableSearch) → IsSearchHeld before old writer cuts s on → FindsSince since s old before on → IsFindingAnew s on.schema new after on.search
+  finds_cut : (since : Bool) (on : TableSearch) → IsSearchHeld before old writer cuts s on → FindsSince since s old before on
+      → IsFindingAnew s on.schema new after on.search
   finds_cut true on is finds = finds_anew s on.schema old new before after on.search (scan_left on is) (may_come_anew s on.schema old before on.search finds)
   finds_cut false on is finds = finds_anew s on.schema old new before after on.search (scan_left on is) finds
 
@@ -74,7 +80,8 @@ module _ (t s : ℕ) (before after : Chains) (writer later : Option ℕ) (cuts n
 
   finds_left : (on : TableSearch) → KeepsOrCuts cuts now old new → IsSearchHeld before old writer cuts s on → FindsSince (on.cuts == now) s new after on
   finds_left on (inl same) is = subst (λ n. FindsSince (on.cuts == n) s new after on) (sym same.0) (finds_kept (on.cuts == cuts) on same.1 is is.finds)
-  finds_left on (inr more) is = subst (λ since. FindsSince since s new after on) (sym (later_than on.cuts is.since more)) (finds_cut (on.cuts == cuts) on is is.finds)
+  finds_left on (inr more) is =
+      subst (λ since. FindsSince since s new after on) (sym (later_than on.cuts is.since more)) (finds_cut (on.cuts == cuts) on is is.finds)
 
   still_since : (a : ℕ) → a ≤ cuts → KeepsOrCuts cuts now old new → a ≤ now
   still_since a le (inl same) = omega (arith, le, same.0)

@@ -11,7 +11,8 @@ use Rattle.desks.specs.declared.desk.Doing.TheVariants.{Nothing, Searching, Chan
 use Rattle.desks.specs.Desks.{fresh_desk, doing_at}
 use Rattle.desks.specs.Shown.{shown, lists_of}
 
-pub task_is : (s left : ℕ) (state : WorldState) (writer : Option ℕ) (desks : List Desk) → task_of s (lists_of state writer desks left).state ≡ shown state.schemas left (doing_at s desks)
+pub task_is : (s left : ℕ) (state : WorldState) (writer : Option ℕ) (desks : List Desk)
+    → task_of s (lists_of state writer desks left).state ≡ shown state.schemas left (doing_at s desks)
 task_is s left state writer desks = get_or-map (λ (desk : Desk). shown state.schemas left desk.doing) desks s fresh_desk
 
 pub idle_shown : (left : ℕ) (schemas : List Schema) (doing : Doing) → shown schemas left doing ≡ tasks.Idle → doing ≡ Nothing

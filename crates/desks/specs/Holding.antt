@@ -166,7 +166,8 @@ abbrev pub MakesTables : Option ℕ → Bool → List Event → Type 0
 MakesTables None made past = made ≡ false
 MakesTables (Some w) made past = made ≡ list_any is_creation (own w past)
 
-pub record IsHeld (state : WorldState) (writer : Option ℕ) (has_made_table : Bool) (desks : List Desk) (cuts : ℕ) (undo : UndoRoom) (room : WorkRoom) : Type 0 where
+pub record IsHeld (state : WorldState) (writer : Option ℕ) (has_made_table : Bool) (desks : List Desk) (cuts : ℕ) (undo : UndoRoom) (room : WorkRoom) : Type
+    0 where
   pub chains : Chains
   pub agrees : Agrees chains writer state
   pub fits : FitsThen state.past

@@ -31,7 +31,9 @@ change_in (Keys change) = None
 
 abbrev pub shown : List Schema → ℕ → Doing → Task
 shown schemas left Nothing = tasks.Idle
-shown schemas left (Searching on) = tasks.Searching on.search.scan.table (record { which = on.search.scan.which; range = on.search.scan.range; unique = on.unique }) (reading_of on.search.scan.sight)
+shown schemas left (Searching on) =
+    tasks.Searching on.search.scan.table (record { which = on.search.scan.which; range = on.search.scan.range; unique = on.unique })
+    (reading_of on.search.scan.sight)
 shown schemas left (Changing change) = tasks.Changing (change_in change) (row_steps (keys_if (slice_get schemas (table_of change))) change)
 shown schemas left Lagging = tasks.Lagging
 shown schemas left Undoing = tasks.Undoing left

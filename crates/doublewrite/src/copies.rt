@@ -1,10 +1,10 @@
 //! The copies in the area Double, as bytes that were read.
 //! No call here meets the disk.
 
-ghost use Rattle.std.specs.Prelude.{◌≡◌, ◌+◌, ◌*◌, ◌<◌, ◌≤◌, ℕ, length, MatchBool, MatchOption};
+ghost use Rattle.std.specs.Prelude.{◌≡◌, ◌+◌, ◌*◌, ◌<◌, ◌≤◌, ℕ, List, length, MatchBool, MatchOption, IfSome, IfNone};
 ghost use Rattle.store_api.specs.Areas.{piece};
 ghost use Rattle.page_format.specs.Words.{lsn_of};
-ghost use Rattle.doublewrite.specs.Reading.{IsGoodPage, IsNewestCopy};
+ghost use Rattle.doublewrite.specs.Reading.{IsGoodPage, IsCopyIn, IsNewestCopy};
 
 use crate::batch::{PAGE, SLOTS};
 use crate::numbers::{lsn_in, number_in, passes_sum};
@@ -94,4 +94,28 @@ pub fn newest_slot(double: &[u8], number: u32, first: usize) -> usize
         }
     }
     newest
+}
+
+/// Whether the copy in a slot is a good one of that page.
+fn is_copy_of(double: &[u8], number: u32, slot: usize) -> bool
+    requires { slot < 64 }
+    ensures { MatchBool result (IsGoodPage number (piece 4096 slot double.now)) (IsGoodPage number (piece 4096 slot double.now) → ⊥) }
+{
+    match number_of_copy(double, slot) {
+        Some(other) => other == number,
+        None => false,
+    }
+}
+
+/// The newest good copy of a page among the copies that were read, if there is one.
+pub fn newest_copy(double: &[u8], number: u32) -> Option<&[u8]>
+    ensures some { IfSome result (λ copy. IsNewestCopy double.now number copy.now) }
+    ensures none { IfNone result ((copy : List ℕ) → IsCopyIn double.now number copy → ⊥) }
+{
+    for slot in 0..SLOTS {
+        if is_copy_of(double, number, slot) {
+            return Some(copy_at(double, newest_slot(double, number, slot)));
+        }
+    }
+    None
 }

@@ -9,5 +9,6 @@ mod placing;
 mod restoring;
 
 pub use batch::Batch;
+pub use copies::{good_number, newest_copy};
 pub use placing::{Staged, stage};
 pub use restoring::{RepairBad, repair};

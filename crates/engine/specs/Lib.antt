@@ -1,3 +1,1 @@
-pub mod Seats
-pub mod Calls
-pub mod Going
+pub mod Opened

@@ -1,9 +1,7 @@
-//! The engine: sessions whose statements make their steps in any order over one history.
-//! It is a state machine: nothing here loops over sessions or reads a script.
+//! The engine: sessions over one history, which a world in memory keeps, opened on a database.
 #![tactic(auto)]
 
-mod machine;
-mod seats;
+mod opening;
 
-pub use machine::{Engine, mount, open};
-pub use seats::Seat;
+pub use opening::{Engine, mount, open};
+pub use session_engine::Seat;

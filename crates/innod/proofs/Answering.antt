@@ -41,13 +41,16 @@ counted s [] legal = refl
 counted s (Started t j item ∷ past) legal =
     let before = counted s past legal.1 in
     elim (eqb_tells t s) [
-      | inl same ↦ rw same.0 (length-append (items s past) (item ∷ []) ∙ ap (λ n. n + 1) (before ∙ ap (λ u. length (answers s past) + waiting (under_way u past)) (sym same.1) ∙ ap (λ u. length (answers s past) + waiting u) legal.0.1.idle ∙ omega arith))
+      | inl same ↦ rw same.0 (length-append (items s past) (item ∷ []) ∙ ap (λ n. n + 1)
+          (before ∙ ap (λ u. length (answers s past) + waiting (under_way u past)) (sym same.1) ∙ ap (λ u. length (answers s past) + waiting u)
+          legal.0.1.idle ∙ omega arith))
       | inr other ↦ rw other.0 before
     ]
 counted s (Ended t j reply ∷ past) legal =
     let before = counted s past legal.1 in
     elim (eqb_tells t s) [
-      | inl same ↦ rw same.0 (before ∙ ap (λ u. length (answers s past) + waiting (under_way u past)) (sym same.1) ∙ ap (λ u. length (answers s past) + waiting u) legal.0.1.asked ∙ sym (length-append (answers s past) ((j, reply) ∷ []) ∙ omega arith) ∙ omega arith)
+      | inl same ↦ rw same.0 (before ∙ ap (λ u. length (answers s past) + waiting (under_way u past)) (sym same.1) ∙ ap
+          (λ u. length (answers s past) + waiting u) legal.0.1.asked ∙ sym (length-append (answers s past) ((j, reply) ∷ []) ∙ omega arith) ∙ omega arith)
       | inr other ↦ rw other.0 before
     ]
 counted s (e ∷ past) legal = counted s past legal.1

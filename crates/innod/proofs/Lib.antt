@@ -2,3 +2,4 @@ pub mod Sent
 pub mod Answering
 pub mod Places
 pub mod Following
+mod Stepping

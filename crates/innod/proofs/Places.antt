@@ -29,12 +29,15 @@ items_of_append s (x ∷ xs) ys = rw (items_of_append s xs ys) (chosen (eqb x.s 
 pub one_more : {X : Type 0} (n : ℕ) (script : List X) (d : X) → n < length script → take (n + 1) script ≡ take n script ++ get_or script n d ∷ []
 one_more n script d h = take-add n 1 script ∙ ap (λ rest. take n script ++ take 1 rest) (drop-cons script n d h)
 
-pub other_item : (s n : ℕ) (script : List ScriptItem) (d : ScriptItem) → n < length script → (get_or script n d).s ≢ s → items_of s (take (n + 1) script) ≡ items_of s (take n script)
+pub other_item : (s n : ℕ) (script : List ScriptItem) (d : ScriptItem) → n < length script → (get_or script n d).s ≢ s
+    → items_of s (take (n + 1) script) ≡ items_of s (take n script)
 other_item s n script d h other =
     ap (items_of s) (one_more n script d h) ∙ items_of_append s (take n script) (get_or script n d ∷ [])
-    ∙ ap (λ b. items_of s (take n script) ++ cond b ((get_or script n d).item ∷ []) []) (ne_eqb (get_or script n d).s s other) ∙ append-nil (items_of s (take n script))
+    ∙ ap (λ b. items_of s (take n script) ++ cond b ((get_or script n d).item ∷ []) []) (ne_eqb (get_or script n d).s s other) ∙ append-nil
+    (items_of s (take n script))
 
-own_item : (s n : ℕ) (script : List ScriptItem) (d : ScriptItem) → n < length script → (get_or script n d).s ≡ s → items_of s (take (n + 1) script) ≡ items_of s (take n script) ++ (get_or script n d).item ∷ []
+own_item : (s n : ℕ) (script : List ScriptItem) (d : ScriptItem) → n < length script → (get_or script n d).s ≡ s
+    → items_of s (take (n + 1) script) ≡ items_of s (take n script) ++ (get_or script n d).item ∷ []
 own_item s n script d h own =
     ap (items_of s) (one_more n script d h) ∙ items_of_append s (take n script) (get_or script n d ∷ [])
     ∙ ap (λ b. items_of s (take n script) ++ cond b ((get_or script n d).item ∷ []) []) (eq-eqb (get_or script n d).s s own)
@@ -52,7 +55,8 @@ pub moves_over : (script : List ScriptItem) (places : List ℕ) (past : List Eve
 moves_over script places past s n joined h same started = record {
   within = set_within places s n (length script) h started.within;
   items = λ t. elim (eqb_tells t s) [
-    | inl own ↦ ap (λ u. items u past) own.1 ∙ started.items s ∙ sym same ∙ ap (λ place. items_of s (take place script)) (sym (get_or-set_same places s n 0 joined)) ∙ ap (λ u. items_of u (take (get_or (set places s n) u 0) script)) (sym own.1)
+    | inl own ↦ ap (λ u. items u past) own.1 ∙ started.items s ∙ sym same ∙ ap (λ place. items_of s (take place script))
+        (sym (get_or-set_same places s n 0 joined)) ∙ ap (λ u. items_of u (take (get_or (set places s n) u 0) script)) (sym own.1)
     | inr other ↦ started.items t ∙ ap (λ place. items_of t (take place script)) (sym (set_other places s t n other.1))
   ];
 }
@@ -64,24 +68,28 @@ pub starts_item : (script : List ScriptItem) (places : List ℕ) (old new : List
 starts_item script places old new s n j d joined h over own is started = record {
   within = set_within places s (n + 1) (length script) (omega arith) started.within;
   items = λ t. elim (eqb_tells t s) [
-    | inl same ↦ ap (items t) is ∙ ap (λ u. cond (eqb s u) (items u old ++ (get_or script n d).item ∷ []) (items u old)) same.1 ∙ ap (λ b. cond b (items s old ++ (get_or script n d).item ∷ []) (items s old)) (eq-eqb s s refl)
+    | inl same ↦ ap (items t) is ∙ ap (λ u. cond (eqb s u) (items u old ++ (get_or script n d).item ∷ []) (items u old)) same.1 ∙ ap
+        (λ b. cond b (items s old ++ (get_or script n d).item ∷ []) (items s old)) (eq-eqb s s refl)
         ∙ ap (λ list. list ++ (get_or script n d).item ∷ []) (started.items s ∙ sym over)
         ∙ sym (own_item s n script d h own)
-        ∙ ap (λ place. items_of s (take place script)) (sym (get_or-set_same places s (n + 1) 0 joined)) ∙ ap (λ u. items_of u (take (get_or (set places s (n + 1)) u 0) script)) (sym same.1)
+        ∙ ap (λ place. items_of s (take place script)) (sym (get_or-set_same places s (n + 1) 0 joined)) ∙ ap
+        (λ u. items_of u (take (get_or (set places s (n + 1)) u 0) script)) (sym same.1)
     | inr other ↦ ap (items t) is ∙ ap (λ b. cond b (items t old ++ (get_or script n d).item ∷ []) (items t old)) (ne_eqb s t (λ e. other.1 (sym e)))
         ∙ started.items t ∙ ap (λ place. items_of t (take place script)) (sym (set_other places s t (n + 1) other.1))
   ];
 }
 
 -- nothing is started
-pub stays : (script : List ScriptItem) (places : List ℕ) (old new : List Event) → ((s : ℕ) → items s new ≡ items s old) → HasStarted script places old → HasStarted script places new
+pub stays : (script : List ScriptItem) (places : List ℕ) (old new : List Event) → ((s : ℕ) → items s new ≡ items s old) → HasStarted script places old
+    → HasStarted script places new
 stays script places old new same started = record { within = started.within; items = λ s. same s ∙ started.items s }
 
 pub follows : (script : List ScriptItem) (places : List ℕ) (past : List Event) → HasStarted script places past → FollowsScript script past
 follows script places past started s =
     let place = get_or places s 0 in (
       items_of s (drop place script),
-      ap (items_of s) (sym (take-append-drop place script)) ∙ items_of_append s (take place script) (drop place script) ∙ ap (λ list. list ++ items_of s (drop place script)) (sym (started.items s)),
+      ap (items_of s) (sym (take-append-drop place script)) ∙ items_of_append s (take place script) (drop place script) ∙ ap
+          (λ list. list ++ items_of s (drop place script)) (sym (started.items s)),
     )
 
 pub follows_nothing : (script : List ScriptItem) (past : List Event) → ((s : ℕ) → items s past ≡ []) → FollowsScript script past
@@ -93,13 +101,15 @@ nobodys s n [] h named = refl
 nobodys s n (x ∷ script) h named =
     let first : 0 < length (x ∷ script) = omega arith in
     let apart : x.s ≢ s = omega (arith, named 0 x first) in
-    ap (λ b. cond b (x.item ∷ items_of s script) (items_of s script)) (ne_eqb x.s s apart) ∙ nobodys s n script h (λ k d bound. named (suc k) d (omega (arith, bound)))
+    ap (λ b. cond b (x.item ∷ items_of s script) (items_of s script)) (ne_eqb x.s s apart) ∙ nobodys s n script h
+    (λ k d bound. named (suc k) d (omega (arith, bound)))
 
 below : (s n : ℕ) → (s < n) ⊎ (n ≤ s)
 below s n = search (arith, rules)
 
 -- all places are at the end
-pub to_the_end : (script : Script) (places : List ℕ) (names : List (List ℕ)) (past : List Event) → IsPlayable allowed script → names ≡ script.names → length places ≡ length names → All (λ place. place ≡ length script.items) places
+pub to_the_end : (script : Script) (places : List ℕ) (names : List (List ℕ)) (past : List Event) → IsPlayable allowed script → names ≡ script.names
+    → length places ≡ length names → All (λ place. place ≡ length script.items) places
     → HasStarted script.items places past → HasPlayed script names past
 to_the_end script places names past playable names_are count ends started = record {
   names_are = names_are;
@@ -111,7 +121,8 @@ to_the_end script places names past playable names_are count ends started = reco
 }
 
 -- none of the joined sessions has an item under way, and no other has one at all
-pub to_rest : (script : List ScriptItem) (places : List ℕ) (past : List Event) → HasStarted script places past → ((s : ℕ) → s < length places → under_way s past ≡ None) → AllRest past
+pub to_rest : (script : List ScriptItem) (places : List ℕ) (past : List Event) → HasStarted script places past
+    → ((s : ℕ) → s < length places → under_way s past ≡ None) → AllRest past
 to_rest script places past started rest s = elim (below s (length places)) [
   | inl here ↦ rest s here
   | inr apart ↦ rests s past (started.items s ∙ ap (λ place. items_of s (take place script)) (get_or_past places s 0 apart))

@@ -1,6 +1,6 @@
 -- What play sees of an engine.
-use Rattle.engine.specs.Seats.{State, seat_at, is_working, has_left}
-use Rattle.engine.specs.Going.{to_go}
+use Rattle.session_engine.specs.Seats.{State, seat_at, is_working, has_left}
+use Rattle.session_engine.specs.Going.{to_go}
 use Rattle.innod.specs.Sessions.{Shown}
 
 abbrev pub shown_of : {D : Type 0} → State D → Shown

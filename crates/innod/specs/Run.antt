@@ -1,7 +1,9 @@
 -- What a run answers, and what it has done then.
-use Rattle.std.specs.Prelude.{◌≡◌, ◌⊎◌, ℕ, List, Option, false}
+use Rattle.std.specs.Prelude.{◌≡◌, ◌⊎◌, ℕ, List, Option, Bool, true, false}
 use Rattle.std.specs.Io.KnownBytes.{Appends}
+use Rattle.inno_types.specs.declared.reply.Reply.TheVariants as replies
 use Rattle.inno_model.specs.declared.event.Event.{Event}
+use Rattle.inno_model.specs.declared.event.Event.TheVariants.{Ended}
 use Rattle.script.specs.declared.script.Script.{Script}
 use Rattle.script.specs.declared.script.Directives.{Directives}
 use Rattle.script.specs.declared.script.ScriptBad.TheVariants.{Line, Limit as LimitPassed}
@@ -40,6 +42,11 @@ IsOutputFault Nothing = Unit {0}
 IsOutputFault OutputWrite = Unit {0}
 IsOutputFault NoMemory = Unit {0}
 IsOutputFault other = ⊥
+
+-- a session was answered that memory was lacking
+abbrev pub answers_no_memory : Event → Bool
+answers_no_memory (Ended s j replies.NoMemory) = true
+answers_no_memory other = false
 
 -- the faults that a run can have so far
 abbrev pub IsRunFault : Fault → Type 0

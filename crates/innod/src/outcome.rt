@@ -1,14 +1,16 @@
 //! What a run answers, and the parts of a run that meet no engine.
 
-ghost use Rattle.std.specs.Prelude.{◌≡◌, ◌⊎◌, [], IfOk, IfErr, IfSome, IsTrue};
+ghost use Rattle.std.specs.Prelude.{◌≡◌, ◌⊎◌, [], IfOk, IfErr, IfSome, IsTrue, false};
+ghost use Rattle.std.specs.List.{list_any};
 ghost use Rattle.store_api.specs.Causes.{Rose};
 ghost use Rattle.inno_model.specs.Text.{text};
 ghost use Rattle.script.specs.Script.{Spells, IsPlayable};
-ghost use Rattle.innod.specs.Run.{allowed, status_of, IsInputFault, IsOutputFault, IsPrinted, Judges};
+ghost use Rattle.innod.specs.Run.{allowed, status_of, IsInputFault, IsOutputFault, IsPrinted, Judges, answers_no_memory};
 
 use crate::input::{ReadBad, read_all};
 use crate::output::write_all;
-use inno_model::History;
+use inno_model::{Event, History};
+use inno_types::Reply;
 use script::{Directives, Script, ScriptBad, read_script, transcript};
 use std::alloc::Global;
 use store_api::{Failed, MountBad, NoMemory, Sink, Source};
@@ -108,17 +110,45 @@ pub fn finish<D, K: Sink>(
     ensures history { result.history ≡ history }
     ensures printed { IsPrinted result.fault (K.taken out.old) (K.taken out.new) (text history) }
     ensures sufficed { result.fault ≡ Fault.Nothing → IsTrue sufficed }
+    ensures replied { result.fault ≡ Fault.Nothing → list_any answers_no_memory history.past ≡ false }
     ensures output_write { result.fault ≡ Fault.OutputWrite → Rose (K.faults out.old) (K.faults out.new) }
     ensures causes { IsOutputFault result.fault }
 {
     let printed = print(alloc, &history, out);
-    let fault = told_fault(sufficed, printed);
+    let replied = !has_lacked_memory(&history);
+    let fault = told_fault(sufficed && replied, printed);
     Outcome {
         status: fault.status(),
         fault,
         history,
         disk,
     }
+}
+
+/// Whether a reply of the history says that memory was lacking.
+fn has_lacked_memory(history: &History) -> bool
+    ensures { result ≡ list_any answers_no_memory history.now.past }
+{
+    let events = history.events();
+    any_lacks_memory(events)
+}
+
+fn any_lacks_memory(events: &[Event]) -> bool
+    ensures { result ≡ list_any answers_no_memory events.now }
+{
+    events.iter().any(|event| answers_no_memory(event))
+}
+
+fn answers_no_memory(event: &Event) -> bool
+    ensures { result ≡ answers_no_memory event.now }
+{
+    matches!(
+        event,
+        Event::Ended {
+            reply: Reply::NoMemory,
+            ..
+        }
+    )
 }
 
 /// The fault of printing, or else the want of memory that came before it.

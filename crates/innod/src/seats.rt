@@ -1,14 +1,15 @@
 //! The engine as play drives it.
 
-ghost use Rattle.engine.specs.Seats.{seat_at};
+ghost use Rattle.session_engine.specs.Seats.{seat_at};
 ghost use Rattle.innod.specs.Engines.{shown_of};
 
 use crate::sessions::Sessions;
-use engine::Engine;
 use inno_types::{Bytes, Item};
+use session_engine::SessionEngine;
+use shared_lists::SharedLists;
 use store_api::{Disk, NoMemory, Progress};
 
-impl<D: Disk> Sessions for Engine<D> {
+impl<D: Disk, L: SharedLists> Sessions for SessionEngine<D, L> {
     ghost shown = { λ e. shown_of e };
 
     fn join(&mut self, name: &Bytes) -> Result<u32, NoMemory> {

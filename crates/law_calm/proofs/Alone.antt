@@ -66,18 +66,22 @@ asked_before s item e past goes asks = asks
 
 module _ (says : Language) (one : ReadsOne says) where
   module _ (s : ℕ) (text : List ℕ) (statement : Stmt) (says_it : says text statement) (on_rows : is_on_rows statement ≡ true) where
-    point_spans : (past : List Event) → IsLegal says past → under_way s past ≡ Some (Sql text) → IsUnbroken s past → Spans says one s text statement says_it on_rows (point s past)
+    point_spans : (past : List Event) → IsLegal says past → under_way s past ≡ Some (Sql text) → IsUnbroken s past
+        → Spans says one s text statement says_it on_rows (point s past)
     point_spans [] legal asks unbroken = no_item asks
     point_spans (e ∷ past) legal asks unbroken =
         elim (is_over s (e ∷ past)) as (λ b. is_over s (e ∷ past) ≡ b → Spans says one s text statement says_it on_rows (point s (e ∷ past))) [
-          | false ↦ λ on. subst (Spans says one s text statement says_it on_rows) (sym (point_now s (e ∷ past) on)) (record { legal = legal; asked = asks; unbroken = unbroken; on = on })
+          | false ↦ λ on. subst (Spans says one s text statement says_it on_rows) (sym (point_now s (e ∷ past) on))
+              (record { legal = legal; asked = asks; unbroken = unbroken; on = on })
           | true ↦ λ over.
               let goes = over_starts s e past over in
               let asks' = asked_before s (Sql text) e past goes asks in
               let unbroken' = unbroken_step says one s text statement says_it on_rows e past goes unbroken in
               elim (is_over s past) as (λ b. is_over s past ≡ b → Spans says one s text statement says_it on_rows (point s (e ∷ past))) [
-                | false ↦ λ on. subst (Spans says one s text statement says_it on_rows) (sym (point_closing s e past on over)) (record { legal = legal.1; asked = asks'; unbroken = unbroken'; on = on })
-                | true ↦ λ was. subst (Spans says one s text statement says_it on_rows) (sym (point_stays s e past was over)) (point_spans past legal.1 asks' unbroken')
+                | false ↦ λ on. subst (Spans says one s text statement says_it on_rows) (sym (point_closing s e past on over))
+                    (record { legal = legal.1; asked = asks'; unbroken = unbroken'; on = on })
+                | true ↦ λ was. subst (Spans says one s text statement says_it on_rows) (sym (point_stays s e past was over))
+                    (point_spans past legal.1 asks' unbroken')
               ] refl
         ] refl
 
@@ -109,28 +113,39 @@ module _ (says : Language) (one : ReadsOne says) where
   -- ---- replies
 
   -- an item's reply is that of its outcome over the base at its point
-  module _ (s : ℕ) (text : List ℕ) (past : List Event) (legal : IsLegal says past) (latest : SeesLatest says s past) (calm : IsCalm says s past) (all : AreCalm says past) (asks : under_way s past ≡ Some (Sql text)) where
-    rows_reply : (statement : Stmt) (setting : Setting) (reply : Reply) → says text statement → is_on_rows statement ≡ true → did begins_txn s past ≡ true → IsUnbroken s past → AnswersRows s setting statement reply past → reply ≡ (outcome statement (base s (point s past))).reply
+  module _ (s : ℕ) (text : List ℕ) (past : List Event) (legal : IsLegal says past) (latest : SeesLatest says s past) (calm : IsCalm says s past)
+      (all : AreCalm says past) (asks : under_way s past ≡ Some (Sql text)) where
+    rows_reply : (statement : Stmt) (setting : Setting) (reply : Reply) → says text statement → is_on_rows statement ≡ true → did begins_txn s past ≡ true
+        → IsUnbroken s past → AnswersRows s setting statement reply past → reply ≡ (outcome statement (base s (point s past))).reply
     rows_reply statement setting reply says_it on_rows begun unbroken gave =
         let at = point s past in
         let span = point_spans s text statement says_it on_rows past legal asks unbroken in
         let kept = all_kept says one at span.legal (at_point (AreCalm says) s (λ e h calms. calms.1) past all) in
-        let none : own_before s at ≡ [] = before_settled says s (Sql text) at span.legal span.asked ∙ begun_settled says s (Sql text) at span.asked (point_begun s past begun) in
+        let none : own_before s at ≡ [] =
+        before_settled says s (Sql text) at span.legal span.asked ∙ begun_settled says s (Sql text) at span.asked (point_begun s past begun) in
         let within = subst (λ (cs : List Change). AllIn (opening at) (cs ++ committed (commits at) at)) (sym none) kept.within in
         gave.answers.answer
         ∙ ap (λ (d : Database). (outcome statement d).reply)
-        (calm_point s past latest calm statement gave.l (is_alone s setting past) gave.answers.db (text, span.asked, says_it) on_rows span.on span.unbroken gave.level_is within gave.answers.sees)
+        (calm_point s past latest calm statement gave.l (is_alone s setting past) gave.answers.db (text, span.asked, says_it) on_rows span.on span.unbroken
+        gave.level_is within gave.answers.sees)
 
-    create_reply : (table : List ℕ) (skips : Bool) (definitions : List _) (changes : List Change) → changes ≡ (outcome (stmt.CreateTable table skips definitions) (base s (point s past))).changes → did begins_txn s past ≡ true → EndsCreate s changes past → Done ≡ (outcome (stmt.CreateTable table skips definitions) (base s (point s past))).reply
+    create_reply : (table : List ℕ) (skips : Bool) (definitions : List _) (changes : List Change)
+        → changes ≡ (outcome (stmt.CreateTable table skips definitions) (base s (point s past))).changes → did begins_txn s past ≡ true
+        → EndsCreate s changes past → Done ≡ (outcome (stmt.CreateTable table skips definitions) (base s (point s past))).reply
     create_reply table skips definitions [] is begun ends = true_false begun ends.1
     create_reply table skips definitions (change ∷ changes) is begun ends =
         sym (creation-answer table skips definitions (base s (point s past)) (λ none. let e = is ∙ none in cc))
 
-    taken_reply : (statement : Stmt) (setting : Setting) (reply : Reply) → says text statement → did begins_txn s past ≡ true → IsUnbroken s past → EndsTaken s setting statement reply past → reply ≡ (outcome statement (base s (point s past))).reply
-    taken_reply (stmt.Select selected table condition lock) setting reply says_it begun unbroken ends = rows_reply (stmt.Select selected table condition lock) setting reply says_it refl begun unbroken ends.0
-    taken_reply (stmt.Insert table columns tuples) setting reply says_it begun unbroken ends = rows_reply (stmt.Insert table columns tuples) setting reply says_it refl begun unbroken ends.0
-    taken_reply (stmt.Update table sets condition) setting reply says_it begun unbroken ends = rows_reply (stmt.Update table sets condition) setting reply says_it refl begun unbroken ends.0
-    taken_reply (stmt.Delete table condition) setting reply says_it begun unbroken ends = rows_reply (stmt.Delete table condition) setting reply says_it refl begun unbroken ends.0
+    taken_reply : (statement : Stmt) (setting : Setting) (reply : Reply) → says text statement → did begins_txn s past ≡ true → IsUnbroken s past
+        → EndsTaken s setting statement reply past → reply ≡ (outcome statement (base s (point s past))).reply
+    taken_reply (stmt.Select selected table condition lock) setting reply says_it begun unbroken ends =
+        rows_reply (stmt.Select selected table condition lock) setting reply says_it refl begun unbroken ends.0
+    taken_reply (stmt.Insert table columns tuples) setting reply says_it begun unbroken ends =
+        rows_reply (stmt.Insert table columns tuples) setting reply says_it refl begun unbroken ends.0
+    taken_reply (stmt.Update table sets condition) setting reply says_it begun unbroken ends =
+        rows_reply (stmt.Update table sets condition) setting reply says_it refl begun unbroken ends.0
+    taken_reply (stmt.Delete table condition) setting reply says_it begun unbroken ends =
+        rows_reply (stmt.Delete table condition) setting reply says_it refl begun unbroken ends.0
     taken_reply (stmt.CreateTable table skips definitions) setting reply says_it begun unbroken ends =
         ends.0 ∙ create_reply table skips definitions (outcome (stmt.CreateTable table skips definitions) (base s (point s past))).changes refl begun ends.1
     taken_reply (stmt.Begin snapshot) setting reply says_it begun unbroken ends = ends.0
@@ -141,7 +156,9 @@ module _ (says : Language) (one : ReadsOne says) where
     taken_reply (stmt.SetAutocommit on) setting reply says_it begun unbroken ends = ends.0
     taken_reply (stmt.SetLevel scope l) setting reply says_it begun unbroken ends = ends.0
 
-    asked_reply : (refusal : Option SqlError) (statement : Stmt) (setting : Setting) (reply r : Reply) → compared (Some reply) ≡ Some r → says text statement → did begins_txn s past ≡ true → IsUnbroken s past → EndsAsked refusal s setting statement reply past → reply ≡ (outcome statement (base s (point s past))).reply
+    asked_reply : (refusal : Option SqlError) (statement : Stmt) (setting : Setting) (reply r : Reply) → compared (Some reply) ≡ Some r
+        → says text statement → did begins_txn s past ≡ true → IsUnbroken s past → EndsAsked refusal s setting statement reply past
+        → reply ≡ (outcome statement (base s (point s past))).reply
     asked_reply (Some error) statement setting reply r is says_it begun unbroken ends = some_none (sym (ap (λ x. compared (Some x)) ends.0) ∙ is)
     asked_reply None statement setting reply r is says_it begun unbroken ends = taken_reply statement setting reply says_it begun unbroken ends
 
@@ -151,7 +168,8 @@ module _ (says : Language) (one : ReadsOne says) where
     early_none replies.NoMemory r is early = some_none is
     early_none other r is early = absurd early
 
-    sql_reply : (statement : Stmt) (reply r : Reply) → says text statement → compared (Some reply) ≡ Some r → did begins_txn s past ≡ true → EndsItem says s (Sql text) reply past → reply ≡ (outcome statement (base s (point s past))).reply
+    sql_reply : (statement : Stmt) (reply r : Reply) → says text statement → compared (Some reply) ≡ Some r → did begins_txn s past ≡ true
+        → EndsItem says s (Sql text) reply past → reply ≡ (outcome statement (base s (point s past))).reply
     sql_reply statement reply r says_it is begun (inl ends) =
         let same : ends.asks.0 ≡ text = (let x = sym ends.asks.1 ∙ asks in cc) in
         let says_ends = subst (λ (t : List ℕ). says t ends.statement) same ends.asks.2 in
@@ -166,13 +184,17 @@ module _ (says : Language) (one : ReadsOne says) where
   compared_is (Rows rows) r is = cc
   compared_is other r is = some_none is
 
-  end_reply : (s j : ℕ) (reply r : Reply) (statement : Stmt) (past : List Event) → IsLegal says past → SeesLatest says s past → IsCalm says s past → AreCalm says past → MayEnd says s j reply past → compared (Some reply) ≡ Some r → Asks says s statement past → did begins_txn s past ≡ true → r ≡ (outcome statement (base s (point s past))).reply
+  end_reply : (s j : ℕ) (reply r : Reply) (statement : Stmt) (past : List Event) → IsLegal says past → SeesLatest says s past → IsCalm says s past
+      → AreCalm says past → MayEnd says s j reply past → compared (Some reply) ≡ Some r → Asks says s statement past → did begins_txn s past ≡ true
+      → r ≡ (outcome statement (base s (point s past))).reply
   end_reply s j reply r statement past legal latest calm all may is asks begun =
       let item : may.item ≡ Sql asks.0 = (let x = sym may.asked ∙ asks.1 in cc) in
       compared_is reply r is
-      ∙ elim (has_stopped past) as (λ b. has_stopped past ≡ b → EndsBy b says s may.item reply past → reply ≡ (outcome statement (base s (point s past))).reply) [
+      ∙ elim (has_stopped past) as (λ b. has_stopped past ≡ b → EndsBy b says s may.item reply past → reply ≡
+      (outcome statement (base s (point s past))).reply) [
         | true ↦ λ stopped e. some_none (sym (ap (λ x. compared (Some x)) e.0) ∙ is)
-        | false ↦ λ runs e. sql_reply s asks.0 past legal latest calm all asks.1 statement reply r asks.2 is begun (subst (λ (i : Item). EndsItem says s i reply past) item e.2)
+        | false ↦ λ runs e. sql_reply s asks.0 past legal latest calm all asks.1 statement reply r asks.2 is begun
+            (subst (λ (i : Item). EndsItem says s i reply past) item e.2)
       ] refl may.ends
 
   -- ---- all transactions
@@ -180,23 +202,28 @@ module _ (says : Language) (one : ReadsOne says) where
   -- The replies that come later are those of the outcomes of items that have begun and ended their transaction.
   abbrev AreLater : (ℕ → Option Reply) → List Event → Type 0
   AreLater later past =
-      (s : ℕ) (r : Reply) (a : Stmt) → compared (later s) ≡ Some r → Asks says s a past → did begins_txn s past ≡ true → is_over s past ≡ true → r ≡ (outcome a (base s (point s past))).reply
+      (s : ℕ) (r : Reply) (a : Stmt) → compared (later s) ≡ Some r → Asks says s a past → did begins_txn s past ≡ true → is_over s past ≡ true
+      → r ≡ (outcome a (base s (point s past))).reply
 
   abbrev is_inner : Event → Bool
   is_inner (Started t j item) = false
   is_inner (Ended t j reply) = false
   is_inner other = true
 
-  stays_later : (later : ℕ → Option Reply) (s : ℕ) (r : Reply) (a : Stmt) (e : Event) (past : List Event) → AreLater later (e ∷ past) → starts s e ≡ false → begins_txn e ≡ false → compared (later s) ≡ Some r → Asks says s a (e ∷ past) → did begins_txn s past ≡ true → is_over s past ≡ true → r ≡ (outcome a (base s (point s past))).reply
+  stays_later : (later : ℕ → Option Reply) (s : ℕ) (r : Reply) (a : Stmt) (e : Event) (past : List Event) → AreLater later (e ∷ past) → starts s e ≡ false
+      → begins_txn e ≡ false → compared (later s) ≡ Some r → Asks says s a (e ∷ past) → did begins_txn s past ≡ true → is_over s past ≡ true
+      → r ≡ (outcome a (base s (point s past))).reply
   stays_later later s r a e past fits goes no_begin is asks begun over =
       let over' = over_more s e past goes no_begin over in
       fits s r a is asks (did_same begins_txn s e past goes no_begin ∙ begun) over' ∙ ap (λ h. (outcome a (base s h)).reply) (point_stays s e past over over')
 
-  inner_later : (later : ℕ → Option Reply) (e : Event) (past : List Event) → is_inner e ≡ true → IsLegal says (e ∷ past) → AreLater later (e ∷ past) → AreLater later past
+  inner_later : (later : ℕ → Option Reply) (e : Event) (past : List Event) → is_inner e ≡ true → IsLegal says (e ∷ past) → AreLater later (e ∷ past)
+      → AreLater later past
   inner_later later (Begin t n l) past inner legal fits s r a is asks begun over =
       by_session t s
       (λ mine same. true_false begun (subst (λ u. did begins_txn u past ≡ false) same legal.0.2.first))
-      (λ other. fits s r a is asks (rw other begun) (rw other over) ∙ ap (λ h. (outcome a (base s h)).reply) (point_stays s (Begin t n l) past over (rw other over)))
+      (λ other. fits s r a is asks (rw other begun) (rw other over) ∙ ap (λ h. (outcome a (base s h)).reply)
+      (point_stays s (Begin t n l) past over (rw other over)))
   inner_later later (Started t j item) past inner legal fits s r a is asks begun over = (cc)
   inner_later later (Ended t j reply) past inner legal fits s r a is asks begun over = (cc)
   inner_later later e past inner legal fits s r a is asks begun over = stays_later later s r a e past fits refl refl is asks begun over
@@ -207,15 +234,19 @@ module _ (says : Language) (one : ReadsOne says) where
   asks_other : (s : ℕ) (a : Stmt) (past : List Event) (e : Event) → under_way s (e ∷ past) ≡ under_way s past → Asks says s a past → Asks says s a (e ∷ past)
   asks_other s a past e same asks = (asks.0, same ∙ asks.1, asks.2)
 
-  end_later : (later : ℕ → Option Reply) (t j : ℕ) (reply : Reply) (past : List Event) → IsLegal says (Ended t j reply ∷ past) → AreCalm says (Ended t j reply ∷ past) → AreLater later (Ended t j reply ∷ past) → AreLater (with_later t (Some reply) later) past
+  end_later : (later : ℕ → Option Reply) (t j : ℕ) (reply : Reply) (past : List Event) → IsLegal says (Ended t j reply ∷ past)
+      → AreCalm says (Ended t j reply ∷ past) → AreLater later (Ended t j reply ∷ past) → AreLater (with_later t (Some reply) later) past
   end_later later t j reply past legal calm fits s r a is asks begun over =
       by_session s t
-      (λ mine same. end_reply s j reply r a past legal.1 (subst (λ u. SeesLatest says u past) (sym same) calm.0.0) (subst (λ u. IsCalm says u past) (sym same) calm.0.1) calm.1 (subst (λ u. MayEnd says u j reply past) (sym same) legal.0.1) (rw mine at is) asks begun)
+      (λ mine same. end_reply s j reply r a past legal.1 (subst (λ u. SeesLatest says u past) (sym same) calm.0.0)
+      (subst (λ u. IsCalm says u past) (sym same) calm.0.1) calm.1 (subst (λ u. MayEnd says u j reply past) (sym same) legal.0.1) (rw mine at is) asks
+      begun)
       (λ other.
       let apart = turned t s other in
       stays_later later s r a (Ended t j reply) past fits refl refl (rw other at is) (asks_other s a past (Ended t j reply) (rw apart refl) asks) begun over)
 
-  start_later : (later : ℕ → Option Reply) (t j : ℕ) (item : Item) (past : List Event) → AreLater later (Started t j item ∷ past) → AreLater (with_later t None later) past
+  start_later : (later : ℕ → Option Reply) (t j : ℕ) (item : Item) (past : List Event) → AreLater later (Started t j item ∷ past)
+      → AreLater (with_later t None later) past
   start_later later t j item past fits s r a is asks begun over =
       by_session s t
       (λ mine same. some_none (rw mine at is))
@@ -242,7 +273,8 @@ module _ (says : Language) (one : ReadsOne says) where
         | true ↦ λ was. point_stays s (Committed s) past was (over_committed s past)
       ] refl
 
-  replay_commit : (later : ℕ → Option Reply) (s : ℕ) (past : List Event) → IsLegal says (Committed s ∷ past) → AreCalm says (Committed s ∷ past) → AreLater later (Committed s ∷ past) → IsReplayed later past → IsReplayed later (Committed s ∷ past)
+  replay_commit : (later : ℕ → Option Reply) (s : ℕ) (past : List Event) → IsLegal says (Committed s ∷ past) → AreCalm says (Committed s ∷ past)
+      → AreLater later (Committed s ∷ past) → IsReplayed later past → IsReplayed later (Committed s ∷ past)
   replay_commit later s past legal calm fits before =
       let kept = all_kept says one past legal.1 calm.1 in
       let commit = commit_work says one s (later s) past legal.1 calm.0.0 calm.0.1 legal.0.1 legal.0.2 (kept.works s calm.0.1) kept.within
@@ -252,7 +284,11 @@ module _ (says : Language) (one : ReadsOne says) where
       record {
         works = commit.pieces ∷ before.works;
         are = (commit.pieces, before.works, commit.worked, before.are, refl);
-        answers = (before.answers, subst (λ (d : Database). WorkAnswers d commit.pieces) (sym before.ends) (tracks-answers (committed_db past) commit.pieces commit.saves (own s past) commit.tracks));
+        answers = (
+          before.answers,
+          subst (λ (d : Database). WorkAnswers d commit.pieces) (sym before.ends)
+              (tracks-answers (committed_db past) commit.pieces commit.saves (own s past) commit.tracks),
+        );
         ends =
             ap (λ (d : Database). after_work d commit.pieces) before.ends
             ∙ tracks-work (committed_db past) commit.pieces commit.saves (own s past) commit.tracks

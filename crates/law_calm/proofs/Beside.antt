@@ -51,18 +51,23 @@ pub and_behind : (a b : Bool) → (a && b) ≡ true → b ≡ true
 and_behind true b e = e
 and_behind false b e = cc
 
-pub touches-append : (schemas : List Schema) (later before : List Change) (place : Place) → touches schemas (later ++ before) place ≡ (touches schemas later place || touches schemas before place)
+pub touches-append : (schemas : List Schema) (later before : List Change) (place : Place)
+    → touches schemas (later ++ before) place ≡ (touches schemas later place || touches schemas before place)
 touches-append schemas [] before place = refl
 touches-append schemas (change ∷ later) before place =
     ap (λ b. is_change_at schemas place change || b) (touches-append schemas later before place)
-    ∙ elim (is_change_at schemas place change) as (λ b. (b || (touches schemas later place || touches schemas before place)) ≡ ((b || touches schemas later place) || touches schemas before place)) [ true ↦ refl | false ↦ refl ]
+    ∙ elim (is_change_at schemas place change) as
+    (λ b. (b || (touches schemas later place || touches schemas before place)) ≡ ((b || touches schemas later place) || touches schemas before place))
+    [ true ↦ refl | false ↦ refl ]
 
-touches-turned : (schemas : List Schema) (changes : List Change) (place : Place) → touches schemas changes place ≡ true → touches schemas (reverse changes) place ≡ true
+touches-turned : (schemas : List Schema) (changes : List Change) (place : Place) → touches schemas changes place ≡ true
+    → touches schemas (reverse changes) place ≡ true
 touches-turned schemas [] place is = is
 touches-turned schemas (change ∷ changes) place is =
     ap (λ (cs : List Change). touches schemas cs place) (reverse-append (change ∷ []) changes)
     ∙ touches-append schemas (reverse changes) (change ∷ []) place
-    ∙ elim (is_change_at schemas place change) as (λ b. (b || touches schemas changes place) ≡ true → (touches schemas (reverse changes) place || (b || false)) ≡ true) [
+    ∙ elim (is_change_at schemas place change) as
+    (λ b. (b || touches schemas changes place) ≡ true → (touches schemas (reverse changes) place || (b || false)) ≡ true) [
       | true ↦ λ e. or_right (touches schemas (reverse changes) place) true refl
       | false ↦ λ e. or_left (touches schemas (reverse changes) place) false (touches-turned schemas changes place e)
     ] is
@@ -78,7 +83,8 @@ apart_turned schemas some others apart place is =
 
 module _ (db : Database) (others : List Change) (rows : AreOfRows others) where
   -- what is beside a search over the committed rows is so over those with own changes elsewhere
-  unmet_over : (table : ℕ) (test : List Value → Bool) (before : List Change) → AreOfRows before → AreApart db.schemas others before → IsUnmet table test db others → IsUnmet table test (changed db before) others
+  unmet_over : (table : ℕ) (test : List Value → Bool) (before : List Change) → AreOfRows before → AreApart db.schemas others before
+      → IsUnmet table test db others → IsUnmet table test (changed db before) others
   unmet_over table test before mine apart unmet key is =
       let tables = schemas_stay db before mine in
       let here : touches db.schemas others (table, key) ≡ true = ap (λ (ss : List Schema). touches ss others (table, key)) (sym tables) ∙ is in (
@@ -86,13 +92,17 @@ module _ (db : Database) (others : List Change) (rows : AreOfRows others) where
         ap (passed test) (get_touched (changed db before) db others (table, key) tables rows is) ∙ (unmet key here).1,
       )
 
-  search_over : (name : List ℕ) (condition : Option Filter) (before : List Change) → AreOfRows before → AreApart db.schemas others before → IsBesideSearch name condition db others → IsBesideSearch name condition (changed db before) others
+  search_over : (name : List ℕ) (condition : Option Filter) (before : List Change) → AreOfRows before → AreApart db.schemas others before
+      → IsBesideSearch name condition db others → IsBesideSearch name condition (changed db before) others
   search_over name condition before mine apart beside table schema here is =
       let tables = schemas_stay db before mine in
       unmet_over table _ before mine apart
-      (beside table schema (ap (λ (ss : List Schema). table_place ss name) (sym tables) ∙ here) (ap (λ (ss : List Schema). slice_get ss table) (sym tables) ∙ is))
+      (beside table schema (ap (λ (ss : List Schema). table_place ss name) (sym tables) ∙ here)
+      (ap (λ (ss : List Schema). slice_get ss table) (sym tables) ∙ is))
 
-  counts : (d : Database) (name : List ℕ) (columns : _) (tuples : _) (reply : Option Reply) → is_answered (Piece.ran (Insert name columns tuples) reply) ≡ true → IsReplied reply (outcome (Insert name columns tuples) d) → (n : ℕ) × ((outcome (Insert name columns tuples) d).reply ≡ Count n)
+  counts : (d : Database) (name : List ℕ) (columns : _) (tuples : _) (reply : Option Reply)
+      → is_answered (Piece.ran (Insert name columns tuples) reply) ≡ true → IsReplied reply (outcome (Insert name columns tuples) d)
+      → (n : ℕ) × ((outcome (Insert name columns tuples) d).reply ≡ Count n)
   counts d name columns tuples (Some (Count n)) answered replied = (n, sym replied)
   counts d name columns tuples (Some (Rows answer)) answered replied = absurd (insert_no_rows d name columns tuples answer replied)
   counts d name columns tuples other answered replied = absurd (cc)
@@ -103,7 +113,8 @@ module _ (db : Database) (others : List Change) (rows : AreOfRows others) where
   off_rows a other off is = (cc)
 
   piece_beside : (statement : Stmt) (reply : Option Reply) (before : List Change) → AreOfRows before → AreApart db.schemas others before
-      → AreApart db.schemas (outcome statement (changed db before)).changes others → is_answered (Piece.ran statement reply) ≡ true → IsReplied reply (outcome statement (changed db before)) → IsBeside (Piece.ran statement reply) db others
+      → AreApart db.schemas (outcome statement (changed db before)).changes others → is_answered (Piece.ran statement reply) ≡ true → IsReplied reply
+      (outcome statement (changed db before)) → IsBeside (Piece.ran statement reply) db others
       → outcome statement (changed (changed db before) others) ≡ outcome statement (changed db before)
   piece_beside (Select selected name condition lock) reply before mine apart new answered replied beside =
       select_beside (changed db before) others rows selected name condition lock (search_over name condition before mine apart beside)
@@ -119,7 +130,8 @@ module _ (db : Database) (others : List Change) (rows : AreOfRows others) where
   piece_beside other reply before mine apart new answered replied beside = absurd (off_rows other reply refl answered)
 
   -- The work goes with its changes over the new database, too.
-  pub tracks_beside : (pieces : List Piece) (saves : List Save) (own : List Change) → AreOfRows own → AreApart db.schemas own others → AreAnswered pieces → AreBeside pieces db others → Tracks db pieces saves own → Tracks (changed db others) pieces saves own
+  pub tracks_beside : (pieces : List Piece) (saves : List Save) (own : List Change) → AreOfRows own → AreApart db.schemas own others → AreAnswered pieces
+      → AreBeside pieces db others → Tracks db pieces saves own → Tracks (changed db others) pieces saves own
   tracks_beside [] saves own mine apart answered beside t = t
   tracks_beside (Piece.kept name ∷ pieces) saves own mine apart answered beside t = (t.0, t.1, tracks_beside pieces t.0 own mine apart answered beside.1 t.2)
   tracks_beside (Piece.ran statement reply ∷ pieces) saves own mine apart answered beside t =
@@ -127,14 +139,20 @@ module _ (db : Database) (others : List Change) (rows : AreOfRows others) where
       let changes = (outcome statement (changed db before)).changes in
       let mine_before : AreOfRows before = rows_later (reverse changes) before (subst AreOfRows t.1 mine) in
       let whole : AreApart db.schemas (reverse changes ++ before) others = subst (λ (cs : List Change). AreApart db.schemas cs others) t.1 apart in
-      let apart_before : AreApart db.schemas before others = λ place is. whole place (touches-append db.schemas (reverse changes) before place ∙ or_right (touches db.schemas (reverse changes) place) (touches db.schemas before place) is) in
-      let apart_new : AreApart db.schemas changes others = λ place is. whole place (touches-append db.schemas (reverse changes) before place ∙ or_left (touches db.schemas (reverse changes) place) (touches db.schemas before place) (touches-turned db.schemas changes place is)) in
+      let apart_before : AreApart db.schemas before others =
+      λ place is. whole place (touches-append db.schemas (reverse changes) before place ∙ or_right (touches db.schemas (reverse changes) place)
+      (touches db.schemas before place) is) in
+      let apart_new : AreApart db.schemas changes others =
+      λ place is. whole place (touches-append db.schemas (reverse changes) before place ∙ or_left (touches db.schemas (reverse changes) place)
+      (touches db.schemas before place) (touches-turned db.schemas changes place is)) in
       let turned = apart_turned db.schemas before others apart_before in
       let same : outcome statement (changed (changed db others) before) ≡ outcome statement (changed db before) =
       ap (outcome statement) (beside_commutes db others before rows mine_before turned)
-      ∙ piece_beside statement reply before mine_before turned apart_new (and_front (is_answered (Piece.ran statement reply)) (list_all is_answered pieces) answered) t.2 beside.0 in (
+      ∙ piece_beside statement reply before mine_before turned apart_new
+      (and_front (is_answered (Piece.ran statement reply)) (list_all is_answered pieces) answered) t.2 beside.0 in (
         before,
         t.1 ∙ ap (λ (o : Outcome). reverse o.changes ++ before) (sym same),
         subst (IsReplied reply) (sym same) t.2,
-        tracks_beside pieces saves before mine_before apart_before (and_behind (is_answered (Piece.ran statement reply)) (list_all is_answered pieces) answered) beside.1 t.3,
+        tracks_beside pieces saves before mine_before apart_before
+            (and_behind (is_answered (Piece.ran statement reply)) (list_all is_answered pieces) answered) beside.1 t.3,
       )

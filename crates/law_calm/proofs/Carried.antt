@@ -70,8 +70,10 @@ module _ (says : Language) where
   set_other s e past setting other set = set
 
   -- where nothing of the session's own has changed
-  module _ (s : ℕ) (old new : List Event) (db : Database) (pieces : List Piece) (saves : List Save) (owns : own s new ≡ own s old) (sets : settled s new ≡ settled s old) (item : under_way s new ≡ under_way s old)
-      (victim : did is_victim s old ≡ true → did is_victim s new ≡ true) (leaving : is_leaving s old ≡ true → is_leaving s new ≡ true) (over : is_over s old ≡ true → is_over s new ≡ true) where
+  module _ (s : ℕ) (old new : List Event) (db : Database) (pieces : List Piece) (saves : List Save) (owns : own s new ≡ own s old)
+      (sets : settled s new ≡ settled s old) (item : under_way s new ≡ under_way s old)
+      (victim : did is_victim s old ≡ true → did is_victim s new ≡ true) (leaving : is_leaving s old ≡ true → is_leaving s new ≡ true)
+      (over : is_over s old ≡ true → is_over s new ≡ true) where
     still_dropped : IsDropped says s old → IsDropped says s new
     still_dropped (inl ending) = inl (item ∙ ending.0, leaving ending.1)
     still_dropped (inr (inl asks)) = inr (inl (asks.0, item ∙ asks.1, asks.2))
@@ -101,7 +103,9 @@ module _ (says : Language) where
 
   -- ---- another's entry
 
-  other_carries : (s : ℕ) (e : Event) (past : List Event) (pieces : List Piece) (saves : List Save) → is_of s e ≡ false → IsLegal says (e ∷ past) → IsCalm says s (e ∷ past) → HasDone says s past pieces → IsOpen s past → Carries says s past (committed_db past) pieces saves → Carries says s (e ∷ past) (committed_db (e ∷ past)) pieces saves
+  other_carries : (s : ℕ) (e : Event) (past : List Event) (pieces : List Piece) (saves : List Save) → is_of s e ≡ false → IsLegal says (e ∷ past)
+      → IsCalm says s (e ∷ past) → HasDone says s past pieces → IsOpen s past → Carries says s past (committed_db past) pieces saves
+      → Carries says s (e ∷ past) (committed_db (e ∷ past)) pieces saves
   other_carries s (Opened db) past pieces saves other legal calm done is_open carries = open_not s past is_open (ap (level s) legal.0)
   other_carries s (Committed t) past pieces saves other legal calm done is_open carries =
       let differ : s ≢ t = grind (arith, nat_tests, other) in
@@ -113,7 +117,8 @@ module _ (says : Language) where
       carried s past (e ∷ past) (committed_db past) pieces saves same.own_is (settled_other s e past other) same.item
       (λ was_one. ap (list_any is_victim) same.entries ∙ was_one) (leaving_other s e past other) (over_other s e past other) carries
 
-  pub work_other : (s : ℕ) (e : Event) (past : List Event) → is_of s e ≡ false → IsLegal says (e ∷ past) → IsCalm says s (e ∷ past) → HasWork says s past → HasWork says s (e ∷ past)
+  pub work_other : (s : ℕ) (e : Event) (past : List Event) → is_of s e ≡ false → IsLegal says (e ∷ past) → IsCalm says s (e ∷ past) → HasWork says s past
+      → HasWork says s (e ∷ past)
   work_other s e past other legal calm work =
       record {
         pieces = work.pieces;
@@ -128,14 +133,17 @@ module _ (says : Language) where
   -- ---- an entry of its own
 
   module _ (one : ReadsOne says) where
-    started_carries : (s t j : ℕ) (item : Item) (past : List Event) (db : Database) (pieces : List Piece) (saves : List Save) → under_way s past ≡ None → is_leaving s past ≡ false → Carries says s past db pieces saves → Carries says s (Started t j item ∷ past) db pieces saves
+    started_carries : (s t j : ℕ) (item : Item) (past : List Event) (db : Database) (pieces : List Piece) (saves : List Save) → under_way s past ≡ None
+        → is_leaving s past ≡ false → Carries says s past db pieces saves → Carries says s (Started t j item ∷ past) db pieces saves
     started_carries s t j item past db pieces saves idle stays (inl whole) = inl record { newer = whole.newer; own_is = whole.own_is; tracks = whole.tracks }
     started_carries s t j item past db pieces saves idle stays (inr (inl back)) = no_item (sym idle ∙ back.asks.1)
     started_carries s t j item past db pieces saves idle stays (inr (inr (less, inl ending))) = true_false ending.1 stays
     started_carries s t j item past db pieces saves idle stays (inr (inr (less, inr (inl asks)))) = no_item (sym idle ∙ asks.1)
     started_carries s t j item past db pieces saves idle stays (inr (inr (less, inr (inr was)))) = no_item (sym idle ∙ was.1)
 
-    changed_carries : (s t : ℕ) (change : Change) (past : List Event) (db : Database) (pieces : List Piece) (saves : List Save) → (t == s) ≡ true → (a : Stmt) → Asks says s a past → ChangesBy t a past → is_over s past ≡ false → Carries says s past db pieces saves → Carries says s (Changed t change ∷ past) db pieces saves
+    changed_carries : (s t : ℕ) (change : Change) (past : List Event) (db : Database) (pieces : List Piece) (saves : List Save) → (t == s) ≡ true
+        → (a : Stmt) → Asks says s a past → ChangesBy t a past → is_over s past ≡ false → Carries says s past db pieces saves
+        → Carries says s (Changed t change ∷ past) db pieces saves
     changed_carries s t change past db pieces saves mine a asks by on (inl whole) =
         inl record { newer = change ∷ whole.newer; own_is = rw mine (ap (λ (cs : List Change). change ∷ cs) whole.own_is); tracks = whole.tracks }
     changed_carries s t change past db pieces saves mine a asks by on (inr (inl back)) =
@@ -148,7 +156,9 @@ module _ (says : Language) where
     changed_carries s t change past db pieces saves mine a asks by on (inr (inr (less, inr (inr was)))) = true_false was.3 on
 
     -- an entry that changes nothing of the work
-    plain_carries : (s : ℕ) (e : Event) (past : List Event) (db : Database) (pieces : List Piece) (saves : List Save) → starts s e ≡ false → own s (e ∷ past) ≡ own s past → settled s (e ∷ past) ≡ settled s past → under_way s (e ∷ past) ≡ under_way s past → begins_txn e ≡ false → (is_leaving s past ≡ true → is_leaving s (e ∷ past) ≡ true) → Carries says s past db pieces saves → Carries says s (e ∷ past) db pieces saves
+    plain_carries : (s : ℕ) (e : Event) (past : List Event) (db : Database) (pieces : List Piece) (saves : List Save) → starts s e ≡ false
+        → own s (e ∷ past) ≡ own s past → settled s (e ∷ past) ≡ settled s past → under_way s (e ∷ past) ≡ under_way s past → begins_txn e ≡ false
+        → (is_leaving s past ≡ true → is_leaving s (e ∷ past) ≡ true) → Carries says s past db pieces saves → Carries says s (e ∷ past) db pieces saves
     plain_carries s e past db pieces saves goes owns sets item no_begin leaving carries =
         carried s past (e ∷ past) db pieces saves owns sets item (did_more s e past goes) leaving (over_more s e past goes no_begin) carries
 
@@ -156,7 +166,8 @@ module _ (says : Language) where
     ends_item (Ended t j reply) = true
     ends_item other = false
 
-    pub work_mine : (s : ℕ) (e : Event) (past : List Event) → ends_item e ≡ false → is_of s e ≡ true → IsLegal says (e ∷ past) → HasWork says s past → HasWork says s (e ∷ past)
+    pub work_mine : (s : ℕ) (e : Event) (past : List Event) → ends_item e ≡ false → is_of s e ≡ true → IsLegal says (e ∷ past) → HasWork says s past
+        → HasWork says s (e ∷ past)
     work_mine s (Begin t n l) past inner is legal work =
         record {
           pieces = [];
@@ -204,7 +215,10 @@ module _ (says : Language) where
           setting = work.setting;
           done = work.done;
           is_set = work.is_set;
-          carries = λ runs is_open. changed_carries s t change past (committed_db past) work.pieces work.setting.saves mine may.statement (subst (λ u. Asks says u may.statement past) same may.takes.asks) may.by (subst (λ u. is_over u past ≡ false) same may.not_over) (work.carries runs is_open);
+          carries =
+              λ runs is_open. changed_carries s t change past (committed_db past) work.pieces work.setting.saves mine may.statement
+              (subst (λ u. Asks says u may.statement past) same may.takes.asks) may.by (subst (λ u. is_over u past ≡ false) same may.not_over)
+              (work.carries runs is_open);
         })
         (λ other. true_false is other)
     work_mine s (Undone t keep) past inner is legal work =
@@ -215,7 +229,9 @@ module _ (says : Language) where
           setting = work.setting;
           done = work.done;
           is_set = work.is_set;
-          carries = λ runs is_open. undone_carries says one s t keep past (committed_db past) work.pieces work.setting.saves mine legal.1 (subst (λ u. MayUndo says u keep past) same legal.0.2) work.setting refl work.is_set (work.carries runs is_open);
+          carries =
+              λ runs is_open. undone_carries says one s t keep past (committed_db past) work.pieces work.setting.saves mine legal.1
+              (subst (λ u. MayUndo says u keep past) same legal.0.2) work.setting refl work.is_set (work.carries runs is_open);
         })
         (λ other. true_false is other)
     work_mine s (Opened db) past inner is legal work = (cc)
@@ -227,5 +243,7 @@ module _ (says : Language) where
           setting = work.setting;
           done = work.done;
           is_set = work.is_set;
-          carries = λ runs is_open. plain_carries s e past (committed_db past) work.pieces work.setting.saves refl refl refl refl refl (λ leaving. leaving) (work.carries runs is_open);
+          carries =
+              λ runs is_open. plain_carries s e past (committed_db past) work.pieces work.setting.saves refl refl refl refl refl (λ leaving. leaving)
+              (work.carries runs is_open);
         }

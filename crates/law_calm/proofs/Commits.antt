@@ -36,7 +36,8 @@ use Rattle.law_calm.proofs.RowsOnly.{rows_make_no_table}
 use Rattle.law_calm.proofs.Made.{of_rows, tables-append, tables-turned, tracks_tables, done_answered}
 
 -- what commits a transaction that was open before its item
-by_kind : (s : ℕ) (setting : Setting) (a : Stmt) (past : List Event) → CommitsBy s setting a past → ((is_on_rows a ≡ true) × IsSettled s setting a past) ⊎ (keeps_changes a ≡ true)
+by_kind : (s : ℕ) (setting : Setting) (a : Stmt) (past : List Event) → CommitsBy s setting a past
+    → ((is_on_rows a ≡ true) × IsSettled s setting a past) ⊎ (keeps_changes a ≡ true)
 by_kind s setting stmt.Commit past by = inr refl
 by_kind s setting (stmt.Begin snapshot) past by = inr refl
 by_kind s setting (stmt.SetAutocommit true) past by = inr refl
@@ -52,7 +53,8 @@ abbrev HasMadeAll : ℕ → Stmt → List Event → Type 0
 HasMadeAll s a past = HasMade (length (outcome a (base s past)).changes) s (outcome a (base s past)).changes past
 
 -- and one that its item has begun
-by_its_own : (s : ℕ) (setting : Setting) (a : Stmt) (past : List Event) → did begins_txn s past ≡ true → CommitsBy s setting a past → ((is_on_rows a ≡ true) × IsSettled s setting a past) ⊎ ((IsCreation a × HasMadeAll s a past) ⊎ ((never_begins a ≡ true) × (is_on_rows a ≡ false)))
+by_its_own : (s : ℕ) (setting : Setting) (a : Stmt) (past : List Event) → did begins_txn s past ≡ true → CommitsBy s setting a past
+    → ((is_on_rows a ≡ true) × IsSettled s setting a past) ⊎ ((IsCreation a × HasMadeAll s a past) ⊎ ((never_begins a ≡ true) × (is_on_rows a ≡ false)))
 by_its_own s setting stmt.Commit past begun by = inr (inr (refl, refl))
 by_its_own s setting (stmt.Begin snapshot) past begun by = true_false begun by
 by_its_own s setting (stmt.SetAutocommit true) past begun by = inr (inr (refl, refl))
@@ -76,7 +78,9 @@ module _ (says : Language) (one : ReadsOne says) where
     pub saves : List Save
     pub tracks : Tracks (committed_db past) pieces saves (own s past)
 
-  module _ (s : ℕ) (later : Option Reply) (past : List Event) (legal : IsLegal says past) (latest : SeesLatest says s past) (calm : IsCalm says s past) (runs : has_stopped past ≡ false) (may : MayCommit says s past) (work : HasWork says s past) (within : AllIn (opening past) (committed (commits past) past)) (answered : IsAnswered s later past) where
+  module _ (s : ℕ) (later : Option Reply) (past : List Event) (legal : IsLegal says past) (latest : SeesLatest says s past) (calm : IsCalm says s past)
+      (runs : has_stopped past ≡ false) (may : MayCommit says s past) (work : HasWork says s past)
+      (within : AllIn (opening past) (committed (commits past) past)) (answered : IsAnswered s later past) where
     abbrev pub text : List ℕ
     text = may.takes.asks.0
 
@@ -114,11 +118,16 @@ module _ (says : Language) (one : ReadsOne says) where
           | inl rows ↦
               let settles = rows.1 in
               let here = point_now s past settles.not_over in
-              let db_is = sees_work says one s text past legal latest asked may.statement may.takes.asks.2 rows.0 (inr (closed_before settles)) settles.not_over within
-              (tracks-in (committed_db past) work.pieces work.setting.saves (settled s past) tracked) settles.l (is_alone s may.takes.setting past) settles.answers.db settles.level_is
-              (subst (λ (h : List Event). MaySee (sight_in settles.l s may.takes.setting may.statement past) s may.statement settles.answers.db h) here settles.answers.sees) in
+              let db_is =
+              sees_work says one s text past legal latest asked may.statement may.takes.asks.2 rows.0 (inr (closed_before settles)) settles.not_over within
+              (tracks-in (committed_db past) work.pieces work.setting.saves (settled s past) tracked) settles.l (is_alone s may.takes.setting past)
+              settles.answers.db settles.level_is
+              (subst (λ (h : List Event). MaySee (sight_in settles.l s may.takes.setting may.statement past) s may.statement settles.answers.db h) here
+              settles.answers.sees) in
               let changes = (outcome may.statement settles.answers.db).changes in
-              made_all says one s text past legal latest asked changes (makes_all settles.reply s changes past settles.not_refused (subst (λ (h : List Event). MakesFor settles.reply s changes h) here settles.answers.changes))
+              made_all says one s text past legal latest asked changes
+              (makes_all settles.reply s changes past settles.not_refused
+              (subst (λ (h : List Event). MakesFor settles.reply s changes h) here settles.answers.changes))
               ∙ ap (λ (d : Database). reverse (outcome may.statement d).changes ++ settled s past) db_is
           | inr (inl made) ↦
               made_all says one s text past legal latest asked (outcome may.statement (base s past)).changes made.1
@@ -136,7 +145,8 @@ module _ (says : Language) (one : ReadsOne says) where
         ]
       where
         creates : (a : Stmt) → IsCreation a → says text a → base s (point s past) ≡ before
-        creates (stmt.CreateTable table skips definitions) is says_it = creation_base says s text table skips definitions says_it past legal calm asked begun may.is_open
+        creates (stmt.CreateTable table skips definitions) is says_it =
+            creation_base says s text table skips definitions says_it past legal calm asked begun may.is_open
         creates other is says_it = absurd is
 
     replied : did begins_txn s past ≡ true → IsReplied (compared later) (outcome may.statement before)
@@ -164,9 +174,11 @@ module _ (says : Language) (one : ReadsOne says) where
         ] refl
 
     -- A commit of rows makes no table. (One that makes a table is of its item's own.)
-    pub makes_rows : ((table : List ℕ) (skips : Bool) (definitions : List Definition) → did begins_txn s past ≡ true → Asks says s (stmt.CreateTable table skips definitions) past → ⊥) → AreOfTables (committed_db past).schemas (own s past)
+    pub makes_rows : ((table : List ℕ) (skips : Bool) (definitions : List Definition) → did begins_txn s past ≡ true → Asks says s
+        (stmt.CreateTable table skips definitions) past → ⊥) → AreOfTables (committed_db past).schemas (own s past)
     makes_rows no_table =
-        let earlier = tracks_tables (committed_db past) work.pieces work.setting.saves (settled s past) (done_answered says s past work.pieces work.done) tracked in
+        let earlier =
+        tracks_tables (committed_db past) work.pieces work.setting.saves (settled s past) (done_answered says s past work.pieces work.done) tracked in
         elim (did begins_txn s past) as (λ b. did begins_txn s past ≡ b → AreOfTables (committed_db past).schemas (own s past)) [
           | false ↦ λ not. subst (AreOfTables (committed_db past).schemas) (sym (as_before not)) earlier
           | true ↦ λ begun.
@@ -176,8 +188,13 @@ module _ (says : Language) (one : ReadsOne says) where
                 | inr (inr never) ↦ true_false begun (none_begun says one s text may.statement may.takes.asks.2 never.0 never.1 past legal asked)
               ] in
               let changes = (outcome may.statement before).changes in
-              let here = subst (λ (ss : List Schema). AreOfTables ss changes) (schemas_stay (committed_db past) (settled s past) (of_rows (committed_db past).schemas (settled s past) earlier)) (rows_make_no_table may.statement before rows) in
-              subst (AreOfTables (committed_db past).schemas) (sym (own_made begun)) (tables-append (committed_db past).schemas (reverse changes) (settled s past) (tables-turned (committed_db past).schemas changes here) earlier)
+              let here =
+              subst (λ (ss : List Schema). AreOfTables ss changes)
+              (schemas_stay (committed_db past) (settled s past) (of_rows (committed_db past).schemas (settled s past) earlier))
+              (rows_make_no_table may.statement before rows) in
+              subst (AreOfTables (committed_db past).schemas) (sym (own_made begun))
+              (tables-append (committed_db past).schemas (reverse changes) (settled s past) (tables-turned (committed_db past).schemas changes here)
+              earlier)
         ] refl
       where
         creates : did begins_txn s past ≡ true → (a : Stmt) → IsCreation a → says text a → ⊥

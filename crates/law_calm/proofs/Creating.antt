@@ -15,7 +15,8 @@ use Rattle.law_work.specs.Work.{committed_db, settled}
 use Rattle.law_work.proofs.Entries.{by_session, no_item, now_base, true_false}
 use Rattle.law_calm.specs.Calm.{IsCalm}
 
-module _ (says : Language) (s : ℕ) (text table : List ℕ) (skips : Bool) (definitions : List Definition) (says_it : says text (stmt.CreateTable table skips definitions)) where
+module _ (says : Language) (s : ℕ) (text table : List ℕ) (skips : Bool) (definitions : List Definition)
+    (says_it : says text (stmt.CreateTable table skips definitions)) where
   -- the item has begun a transaction, which is open
   record Makes (past : List Event) : Type 0 where
     legal : IsLegal says past
@@ -34,13 +35,28 @@ module _ (says : Language) (s : ℕ) (text table : List ℕ) (skips : Bool) (def
   over_stays (Opened db) past makes over = no_item (sym (ap (under_way s) makes.legal.0) ∙ makes.asked)
   over_stays (Begin t n l) past makes over =
       by_session t s (λ is same. (let e = rw is at over in cc))
-      (λ is. record { db = refl; changes = rw is refl; makes = record { legal = makes.legal.1; calm = makes.calm.2; asked = makes.asked; begun = rw is at makes.begun; is_open = rw is at makes.is_open } })
+      (λ is. record {
+        db = refl;
+        changes = rw is refl;
+        makes = record
+            { legal = makes.legal.1; calm = makes.calm.2; asked = makes.asked; begun = rw is at makes.begun; is_open = rw is at makes.is_open };
+      })
   over_stays (Started t j other) past makes over =
       by_session t s (λ is same. (let e = rw is at over in cc))
-      (λ is. record { db = refl; changes = refl; makes = record { legal = makes.legal.1; calm = makes.calm.2; asked = rw is at makes.asked; begun = rw is at makes.begun; is_open = makes.is_open } })
+      (λ is. record {
+        db = refl;
+        changes = refl;
+        makes = record
+            { legal = makes.legal.1; calm = makes.calm.2; asked = rw is at makes.asked; begun = rw is at makes.begun; is_open = makes.is_open };
+      })
   over_stays (Ended t j reply) past makes over =
       by_session t s (λ is same. no_item (rw is at makes.asked))
-      (λ is. record { db = refl; changes = rw is refl; makes = record { legal = makes.legal.1; calm = makes.calm.2; asked = rw is at makes.asked; begun = rw is at makes.begun; is_open = makes.is_open } })
+      (λ is. record {
+        db = refl;
+        changes = rw is refl;
+        makes = record
+            { legal = makes.legal.1; calm = makes.calm.2; asked = rw is at makes.asked; begun = rw is at makes.begun; is_open = makes.is_open };
+      })
   over_stays (Committed t) past makes over =
       by_session t s (λ is same. (let e = rw is at makes.is_open in cc))
       (λ is.
@@ -48,10 +64,20 @@ module _ (says : Language) (s : ℕ) (text table : List ℕ) (skips : Bool) (def
       true_false (rw is at makes.begun) ((makes.calm.0 differ (rw is at makes.is_open)).no_table table skips definitions (text, makes.asked, says_it)))
   over_stays (RolledBack t) past makes over =
       by_session t s (λ is same. (let e = rw is at makes.is_open in cc))
-      (λ is. record { db = refl; changes = refl; makes = record { legal = makes.legal.1; calm = makes.calm.2; asked = makes.asked; begun = rw is at makes.begun; is_open = rw is at makes.is_open } })
+      (λ is. record {
+        db = refl;
+        changes = refl;
+        makes = record
+            { legal = makes.legal.1; calm = makes.calm.2; asked = makes.asked; begun = rw is at makes.begun; is_open = rw is at makes.is_open };
+      })
   over_stays e past makes over =
       let begun = makes.begun in
-      record { db = refl; changes = refl; makes = record { legal = makes.legal.1; calm = makes.calm.2; asked = makes.asked; begun = grind (arith, nat_tests, begun); is_open = makes.is_open } }
+      record {
+        db = refl;
+        changes = refl;
+        makes = record
+            { legal = makes.legal.1; calm = makes.calm.2; asked = makes.asked; begun = grind (arith, nat_tests, begun); is_open = makes.is_open };
+      }
 
   makes_base : (past : List Event) → Makes past → base s (point s past) ≡ changed (committed_db past) (settled s past)
   makes_base [] makes = no_item makes.asked
@@ -68,5 +94,6 @@ module _ (says : Language) (s : ℕ) (text table : List ℕ) (skips : Bool) (def
             ] refl
       ] refl
 
-  pub creation_base : (past : List Event) → IsLegal says past → IsCalm says s past → under_way s past ≡ Some (Sql text) → did begins_txn s past ≡ true → IsOpen s past → base s (point s past) ≡ changed (committed_db past) (settled s past)
+  pub creation_base : (past : List Event) → IsLegal says past → IsCalm says s past → under_way s past ≡ Some (Sql text) → did begins_txn s past ≡ true
+      → IsOpen s past → base s (point s past) ≡ changed (committed_db past) (settled s past)
   creation_base past legal calm asked begun is_open = makes_base past (record { legal = legal; calm = calm; asked = asked; begun = begun; is_open = is_open })

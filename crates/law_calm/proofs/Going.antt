@@ -32,11 +32,13 @@ module _ (says : Language) (one : ReadsOne says) (s : ℕ) (name : List ℕ) whe
       by_session t s (λ is same. no_item (rw is at asks.1)) (λ is. rw is (goes_nowhere past legal.1 (asks.0, rw is at asks.1, asks.2)))
   goes_nowhere (Begin t n l ∷ past) legal asks =
       by_session t s
-      (λ is same. let may = legal.0.2 in let by = subst (λ (a : Stmt). BeginsBy t may.takes.setting a past) (mine_reads t past may.statement same asks may.takes.asks) may.by in absurd (cc))
+      (λ is same. let may = legal.0.2 in let by = subst (λ (a : Stmt). BeginsBy t may.takes.setting a past)
+      (mine_reads t past may.statement same asks may.takes.asks) may.by in absurd (cc))
       (λ is. rw is (goes_nowhere past legal.1 asks))
   goes_nowhere (Committed t ∷ past) legal asks =
       by_session t s
-      (λ is same. let may = legal.0.2 in let by = (subst (λ (a : Stmt). CommitsBy t may.takes.setting a past) (mine_reads t past may.statement same asks may.takes.asks) may.by).0 in absurd (cc))
+      (λ is same. let may = legal.0.2 in let by =
+      (subst (λ (a : Stmt). CommitsBy t may.takes.setting a past) (mine_reads t past may.statement same asks may.takes.asks) may.by).0 in absurd (cc))
       (λ is. rw is (goes_nowhere past legal.1 asks))
   goes_nowhere (RolledBack t ∷ past) legal asks =
       by_session t s

@@ -53,15 +53,19 @@ module _ (says : Language) (one : ReadsOne says) where
   await_none s name replies.NoMemory past ends = ends
   await_none s name other past ends = absurd ends
 
-  module _ (s : ℕ) (past : List Event) (legal : IsLegal says past) (latest : SeesLatest says s past) (work : HasWork says s past) (within : AllIn (opening past) (committed (commits past) past)) where
+  module _ (s : ℕ) (past : List Event) (legal : IsLegal says past) (latest : SeesLatest says s past) (work : HasWork says s past)
+      (within : AllIn (opening past) (committed (commits past) past)) where
     item_moves : (item : Item) (reply : Reply) → under_way s past ≡ Some item → EndsBy false says s item reply past → Moves says s item reply past work
     item_moves (items.Sql text) reply asked ends = sql_moves says one s text past legal latest asked work within reply ends.2
     item_moves (items.Signal name) reply asked ends =
-        idle_moves says s (items.Signal name) reply past work refl (λ runs. inr (empty_unmoved says s (items.Signal name) past legal asked (signal_none s name reply past ends.2)))
+        idle_moves says s (items.Signal name) reply past work refl
+        (λ runs. inr (empty_unmoved says s (items.Signal name) past legal asked (signal_none s name reply past ends.2)))
     item_moves (items.Await name) reply asked ends =
-        idle_moves says s (items.Await name) reply past work refl (λ runs. inr (empty_unmoved says s (items.Await name) past legal asked (await_none s name reply past ends.2)))
+        idle_moves says s (items.Await name) reply past work refl
+        (λ runs. inr (empty_unmoved says s (items.Await name) past legal asked (await_none s name reply past ends.2)))
 
-    end_moves : (item : Item) (reply : Reply) → under_way s past ≡ Some item → EndsBy (has_stopped past) says s item reply past → Moves says s item reply past work
+    end_moves : (item : Item) (reply : Reply) → under_way s past ≡ Some item → EndsBy (has_stopped past) says s item reply past
+        → Moves says s item reply past work
     end_moves item reply asked ends =
         elim (has_stopped past) as (λ b. has_stopped past ≡ b → EndsBy b says s item reply past → Moves says s item reply past work) [
           | true ↦ λ stopped e.
@@ -86,23 +90,27 @@ module _ (says : Language) (one : ReadsOne says) where
     pub works : (s : ℕ) → IsCalm says s past → HasWork says s past
     pub within : AllIn (opening past) (committed (commits past) past)
 
-  entry_mine : (s : ℕ) (e : Event) (past : List Event) → is_of s e ≡ true → IsLegal says (e ∷ past) → SeesLatest says s past → HasWork says s past → AllIn (opening past) (committed (commits past) past) → HasWork says s (e ∷ past)
+  entry_mine : (s : ℕ) (e : Event) (past : List Event) → is_of s e ≡ true → IsLegal says (e ∷ past) → SeesLatest says s past → HasWork says s past
+      → AllIn (opening past) (committed (commits past) past) → HasWork says s (e ∷ past)
   entry_mine s (Ended t j reply) past is legal latest work within =
       by_session t s
       (λ mine same. work_end s past legal.1 latest work within t j reply is (subst (λ u. MayEnd says u j reply past) same legal.0.1))
       (λ other. true_false is other)
   entry_mine s e past is legal latest work within = work_mine says one s e past refl is legal work
 
-  pub committed_work : (s : ℕ) (past : List Event) → IsLegal says (Committed s ∷ past) → SeesLatest says s past → IsCalm says s past → IsKept past → CommitsWork says one s None past
+  pub committed_work : (s : ℕ) (past : List Event) → IsLegal says (Committed s ∷ past) → SeesLatest says s past → IsCalm says s past → IsKept past
+      → CommitsWork says one s None past
   committed_work s past legal latest calm kept =
       commit_work says one s None past legal.1 latest calm legal.0.1 legal.0.2 (kept.works s calm) kept.within (λ r a is. some_none is)
 
-  within_more : (e : Event) (past : List Event) → IsLegal says (e ∷ past) → AreCalm says (e ∷ past) → IsKept past → AllIn (opening (e ∷ past)) (committed (commits (e ∷ past)) (e ∷ past))
+  within_more : (e : Event) (past : List Event) → IsLegal says (e ∷ past) → AreCalm says (e ∷ past) → IsKept past
+      → AllIn (opening (e ∷ past)) (committed (commits (e ∷ past)) (e ∷ past))
   within_more (Opened db) past legal calm kept = subst (λ (h : List Event). AllIn db (committed (commits h) h)) (sym legal.0) tt
   within_more (Committed s) past legal calm kept =
       let commit = committed_work s past legal calm.0.0 calm.0.1 kept in
       subst (AllIn (opening past)) (sym (commit_list s past))
-      (AllIn-append (opening past) (own s past) (committed (commits past) past) kept.within (tracks-in (committed_db past) commit.pieces commit.saves (own s past) commit.tracks))
+      (AllIn-append (opening past) (own s past) (committed (commits past) past) kept.within
+      (tracks-in (committed_db past) commit.pieces commit.saves (own s past) commit.tracks))
   within_more e past legal calm kept = kept.within
 
   pub all_kept : (past : List Event) → IsLegal says past → AreCalm says past → IsKept past

@@ -42,7 +42,8 @@ of_rows schemas (Create schema ∷ changes) of = absurd of
 of_rows schemas (Put table row ∷ changes) of = of_rows schemas changes of.1
 of_rows schemas (Remove table key ∷ changes) of = of_rows schemas changes of.1
 
-pub tables-append : (schemas : List Schema) (some others : List Change) → AreOfTables schemas some → AreOfTables schemas others → AreOfTables schemas (some ++ others)
+pub tables-append : (schemas : List Schema) (some others : List Change) → AreOfTables schemas some → AreOfTables schemas others
+    → AreOfTables schemas (some ++ others)
 tables-append schemas [] others of more = more
 tables-append schemas (Create schema ∷ some) others of more = absurd of
 tables-append schemas (Put table row ∷ some) others of more = (of.0, tables-append schemas some others of.1 more)
@@ -52,26 +53,33 @@ pub tables-turned : (schemas : List Schema) (changes : List Change) → AreOfTab
 tables-turned schemas [] of = tt
 tables-turned schemas (Create schema ∷ changes) of = absurd of
 tables-turned schemas (Put table row ∷ changes) of =
-    subst (AreOfTables schemas) (sym (reverse-append (Put table row ∷ []) changes)) (tables-append schemas (reverse changes) (Put table row ∷ []) (tables-turned schemas changes of.1) (of.0, tt))
+    subst (AreOfTables schemas) (sym (reverse-append (Put table row ∷ []) changes))
+    (tables-append schemas (reverse changes) (Put table row ∷ []) (tables-turned schemas changes of.1) (of.0, tt))
 tables-turned schemas (Remove table key ∷ changes) of =
-    subst (AreOfTables schemas) (sym (reverse-append (Remove table key ∷ []) changes)) (tables-append schemas (reverse changes) (Remove table key ∷ []) (tables-turned schemas changes of.1) (of.0, tt))
+    subst (AreOfTables schemas) (sym (reverse-append (Remove table key ∷ []) changes))
+    (tables-append schemas (reverse changes) (Remove table key ∷ []) (tables-turned schemas changes of.1) (of.0, tt))
 
 tied : (o : Ordering) → is_eq o ≡ true → o ≡ Equal
 tied Less e = cc
 tied Equal e = refl
 tied Greater e = cc
 
-pub touched_within : (schemas tables : List Schema) (changes : List Change) (place : Place) → AreOfTables tables changes → touches schemas changes place ≡ true → place.0 < length tables
+pub touched_within : (schemas tables : List Schema) (changes : List Change) (place : Place) → AreOfTables tables changes
+    → touches schemas changes place ≡ true → place.0 < length tables
 touched_within schemas tables [] place of is = cc
 touched_within schemas tables (Create schema ∷ changes) place of is = absurd of
 touched_within schemas tables (Put table row ∷ changes) place of is =
-    elim (is_change_at schemas place (Put table row)) as (λ b. is_change_at schemas place (Put table row) ≡ b → (b || touches schemas changes place) ≡ true → place.0 < length tables) [
-      | true ↦ λ at e. subst (λ (p : Place). p.0 < length tables) (sym (place_cmp-IsAntisymmetric place (table, key_in schemas table row) (tied (place_cmp place (table, key_in schemas table row)) at))) of.0
+    elim (is_change_at schemas place (Put table row)) as
+    (λ b. is_change_at schemas place (Put table row) ≡ b → (b || touches schemas changes place) ≡ true → place.0 < length tables) [
+      | true ↦ λ at e. subst (λ (p : Place). p.0 < length tables)
+          (sym (place_cmp-IsAntisymmetric place (table, key_in schemas table row) (tied (place_cmp place (table, key_in schemas table row)) at))) of.0
       | false ↦ λ at e. touched_within schemas tables changes place of.1 e
     ] refl is
 touched_within schemas tables (Remove table key ∷ changes) place of is =
-    elim (is_change_at schemas place (Remove table key)) as (λ b. is_change_at schemas place (Remove table key) ≡ b → (b || touches schemas changes place) ≡ true → place.0 < length tables) [
-      | true ↦ λ at e. subst (λ (p : Place). p.0 < length tables) (sym (place_cmp-IsAntisymmetric place (table, key) (tied (place_cmp place (table, key)) at))) of.0
+    elim (is_change_at schemas place (Remove table key)) as
+    (λ b. is_change_at schemas place (Remove table key) ≡ b → (b || touches schemas changes place) ≡ true → place.0 < length tables) [
+      | true ↦ λ at e. subst (λ (p : Place). p.0 < length tables)
+          (sym (place_cmp-IsAntisymmetric place (table, key) (tied (place_cmp place (table, key)) at))) of.0
       | false ↦ λ at e. touched_within schemas tables changes place of.1 e
     ] refl is
 
@@ -82,14 +90,17 @@ answered_rows statement (Some (Rows rows)) is = is
 answered_rows statement (Some (Count n)) is = is
 answered_rows statement other is = absurd (cc)
 
-pub tracks_tables : (db : Database) (pieces : List Piece) (saves : List Save) (own : List Change) → AreAnswered pieces → Tracks db pieces saves own → AreOfTables db.schemas own
+pub tracks_tables : (db : Database) (pieces : List Piece) (saves : List Save) (own : List Change) → AreAnswered pieces → Tracks db pieces saves own
+    → AreOfTables db.schemas own
 tracks_tables db [] saves own answered t = subst (AreOfTables db.schemas) (sym t.1) tt
 tracks_tables db (Piece.kept name ∷ pieces) saves own answered t = tracks_tables db pieces t.0 own answered t.2
 tracks_tables db (Piece.ran statement reply ∷ pieces) saves own answered t =
     let rest = tracks_tables db pieces saves t.0 (and_behind (is_answered (Piece.ran statement reply)) (list_all is_answered pieces) answered) t.3 in
     let rows = answered_rows statement reply (and_front (is_answered (Piece.ran statement reply)) (list_all is_answered pieces) answered) in
     let changes = (outcome statement (changed db t.0)).changes in
-    let here = subst (λ (ss : List Schema). AreOfTables ss changes) (schemas_stay db t.0 (of_rows db.schemas t.0 rest)) (rows_make_no_table statement (changed db t.0) rows) in
+    let here =
+    subst (λ (ss : List Schema). AreOfTables ss changes) (schemas_stay db t.0 (of_rows db.schemas t.0 rest))
+    (rows_make_no_table statement (changed db t.0) rows) in
     subst (AreOfTables db.schemas) (sym t.1) (tables-append db.schemas (reverse changes) t.0 (tables-turned db.schemas changes here) rest)
 
 -- ---- what is done was answered
@@ -114,7 +125,8 @@ answered_left name (piece ∷ pieces) answered =
       | false ↦ both_true (is_answered piece) (list_all is_answered left) (and_front (is_answered piece) (list_all is_answered pieces) answered) rest
     ]
 
-answered_more : (statement : Stmt) (reply : Reply) (pieces : List Piece) → is_on_rows statement ≡ true → AreAnswered pieces → AreAnswered (with_answer statement reply pieces)
+answered_more : (statement : Stmt) (reply : Reply) (pieces : List Piece) → is_on_rows statement ≡ true → AreAnswered pieces
+    → AreAnswered (with_answer statement reply pieces)
 answered_more statement (Rows rows) pieces on answered = both_true (is_on_rows statement) (list_all is_answered pieces) on answered
 answered_more statement (Count n) pieces on answered = both_true (is_on_rows statement) (list_all is_answered pieces) on answered
 answered_more statement other pieces on answered = answered
@@ -122,14 +134,16 @@ answered_more statement other pieces on answered = answered
 answered_item : (statement : Stmt) (reply : Reply) (pieces : List Piece) → AreAnswered pieces → AreAnswered (with_item statement reply pieces)
 answered_item (stmt.Savepoint name) Done pieces answered = answered_left name pieces answered
 answered_item (stmt.RollbackTo name) Done pieces answered = answered_to name pieces answered
-answered_item (stmt.Select selected table condition lock) reply pieces answered = answered_more (stmt.Select selected table condition lock) reply pieces refl answered
+answered_item (stmt.Select selected table condition lock) reply pieces answered =
+    answered_more (stmt.Select selected table condition lock) reply pieces refl answered
 answered_item (stmt.Insert table columns tuples) reply pieces answered = answered_more (stmt.Insert table columns tuples) reply pieces refl answered
 answered_item (stmt.Update table sets condition) reply pieces answered = answered_more (stmt.Update table sets condition) reply pieces refl answered
 answered_item (stmt.Delete table condition) reply pieces answered = answered_more (stmt.Delete table condition) reply pieces refl answered
 answered_item other reply pieces answered = answered
 
 module _ (says : Language) where
-  does_answered : (item : Option Item) (reply : Reply) (before after : List Piece) → AreAnswered before → DoesItem says item reply before after → AreAnswered after
+  does_answered : (item : Option Item) (reply : Reply) (before after : List Piece) → AreAnswered before → DoesItem says item reply before after
+      → AreAnswered after
   does_answered (Some (Sql text)) Done before after answered does = subst AreAnswered (sym does.2) (answered_item does.0 Done before answered)
   does_answered (Some (Sql text)) (Count n) before after answered does = subst AreAnswered (sym does.2) (answered_item does.0 (Count n) before answered)
   does_answered (Some (Sql text)) (Rows rows) before after answered does = subst AreAnswered (sym does.2) (answered_item does.0 (Rows rows) before answered)

@@ -28,7 +28,8 @@ alone_closed true None alone = refl
 alone_closed true (Some l) alone = (cc)
 alone_closed false l alone = (cc)
 
-module _ (says : Language) (one : ReadsOne says) (s : ℕ) (text : List ℕ) (statement : Stmt) (says_it : says text statement) (on_rows : is_on_rows statement ≡ true) where
+module _ (says : Language) (one : ReadsOne says) (s : ℕ) (text : List ℕ) (statement : Stmt) (says_it : says text statement)
+    (on_rows : is_on_rows statement ≡ true) where
   -- the item under way asks for the statement, and has not come to the end of its changes
   pub record Spans (past : List Event) : Type 0 where
     pub legal : IsLegal says past
@@ -55,7 +56,8 @@ module _ (says : Language) (one : ReadsOne says) (s : ℕ) (text : List ℕ) (st
   unbroken_step e past goes (inr closed) = inr (grind (arith, nat_tests, goes, closed))
 
   -- Before its transaction has begun it has made no changes, and no other was open.
-  pub unbegun_on : (past : List Event) → IsLegal says past → under_way s past ≡ Some (Sql text) → IsUnbroken s past → did begins_txn s past ≡ false → level s past ≡ None → (is_over s past ≡ false) × (level s (before_item s past) ≡ None)
+  pub unbegun_on : (past : List Event) → IsLegal says past → under_way s past ≡ Some (Sql text) → IsUnbroken s past → did begins_txn s past ≡ false
+      → level s past ≡ None → (is_over s past ≡ false) × (level s (before_item s past) ≡ None)
   unbegun_on [] legal asked unbroken not closed = no_item asked
   unbegun_on (Started t j item ∷ past) legal asked unbroken not closed =
       by_session t s (λ is same. rw is (refl, closed))
@@ -80,7 +82,8 @@ module _ (says : Language) (one : ReadsOne says) (s : ℕ) (text : List ℕ) (st
       (λ is same.
       let may = legal.0.2 in
       let settles = commits_rows t may.takes.setting may.statement past (reads_rows t may.statement past same may.takes.asks asked) may.by in
-      let before = subst (λ u. level u (before_item u past) ≡ None) same (alone_closed may.takes.setting.autocommit (level t (before_item t past)) settles.alone) in
+      let before =
+      subst (λ u. level u (before_item u past) ≡ None) same (alone_closed may.takes.setting.autocommit (level t (before_item t past)) settles.alone) in
       was_open past (rw is at not) before (subst (λ u. is_some (level u past) ≡ true) same may.is_open))
       (λ is. rw is (unbegun_on past legal.1 asked (unbroken_step (Committed t) past refl unbroken) (rw is at not) (rw is at closed)))
   unbegun_on (RolledBack t ∷ past) legal asked unbroken not closed =
@@ -95,19 +98,27 @@ module _ (says : Language) (one : ReadsOne says) (s : ℕ) (text : List ℕ) (st
             | inl none ↦ true_false (subst (λ u. did is_victim u past ≡ true) same victim) none
             | inr before ↦ was_open past (rw is at not) before is_open
           ]
-          | inr alone ↦ was_open past (rw is at not) (subst (λ u. level u (before_item u past) ≡ None) same (alone_closed by.1.setting.autocommit (level t (before_item t past)) alone)) is_open
+          | inr alone ↦ was_open past (rw is at not)
+              (subst (λ u. level u (before_item u past) ≡ None) same (alone_closed by.1.setting.autocommit (level t (before_item t past)) alone)) is_open
         ]
       ])
       (λ is. rw is (unbegun_on past legal.1 asked (unbroken_step (RolledBack t) past refl unbroken) (rw is at not) (rw is at closed)))
   unbegun_on (Waits t lock blockers at ∷ past) legal asked unbroken not closed =
-      let before = unbegun_on past legal.1 asked (unbroken_step (Waits t lock blockers at) past refl unbroken) in by_session t s (λ is same. rw is (before (rw is at not) closed)) (λ is. rw is (before (rw is at not) closed))
+      let before =
+      unbegun_on past legal.1 asked (unbroken_step (Waits t lock blockers at) past refl unbroken) in by_session t s
+      (λ is same. rw is (before (rw is at not) closed)) (λ is. rw is (before (rw is at not) closed))
   unbegun_on (Victim t cycle ∷ past) legal asked unbroken not closed =
-      let before = unbegun_on past legal.1 asked (unbroken_step (Victim t cycle) past refl unbroken) in by_session t s (λ is same. rw is (before (rw is at not) closed)) (λ is. rw is (before (rw is at not) closed))
+      let before =
+      unbegun_on past legal.1 asked (unbroken_step (Victim t cycle) past refl unbroken) in by_session t s
+      (λ is same. rw is (before (rw is at not) closed)) (λ is. rw is (before (rw is at not) closed))
   unbegun_on (Acked t moment ∷ past) legal asked unbroken not closed =
-      let before = unbegun_on past legal.1 asked (unbroken_step (Acked t moment) past refl unbroken) in by_session t s (λ is same. rw is (before (rw is at not) closed)) (λ is. rw is (before (rw is at not) closed))
+      let before =
+      unbegun_on past legal.1 asked (unbroken_step (Acked t moment) past refl unbroken) in by_session t s
+      (λ is same. rw is (before (rw is at not) closed)) (λ is. rw is (before (rw is at not) closed))
   unbegun_on (Opened db ∷ past) legal asked unbroken not closed = unbegun_on past legal.1 asked (unbroken_step (Opened db) past refl unbroken) not closed
   unbegun_on (Signal name ∷ past) legal asked unbroken not closed = unbegun_on past legal.1 asked (unbroken_step (Signal name) past refl unbroken) not closed
-  unbegun_on (Stopped cause ∷ past) legal asked unbroken not closed = unbegun_on past legal.1 asked (unbroken_step (Stopped cause) past refl unbroken) not closed
+  unbegun_on (Stopped cause ∷ past) legal asked unbroken not closed =
+      unbegun_on past legal.1 asked (unbroken_step (Stopped cause) past refl unbroken) not closed
 
   on_before : (e : Event) (past : List Event) → starts s e ≡ false → begins_txn e ≡ false → is_over s (e ∷ past) ≡ false → is_over s past ≡ false
   on_before e past goes no_begin on = grind (arith, nat_tests, goes, no_begin, on)
@@ -125,10 +136,22 @@ module _ (says : Language) (one : ReadsOne says) (s : ℕ) (text : List ℕ) (st
       record { legal = legal.1; asked = span.asked; unbroken = unbroken; on = on.0 })
       (λ is. record { legal = legal.1; asked = span.asked; unbroken = unbroken; on = rw is at span.on })
   span_before (Started t j item) past span goes =
-      record { legal = span.legal.1; asked = rw goes at span.asked; unbroken = unbroken_step (Started t j item) past goes span.unbroken; on = on_before (Started t j item) past goes refl span.on }
+      record {
+        legal = span.legal.1;
+        asked = rw goes at span.asked;
+        unbroken = unbroken_step (Started t j item) past goes span.unbroken;
+        on = on_before
+            (Started t j item) past goes refl span.on;
+      }
   span_before (Ended t j reply) past span goes =
       by_session t s (λ is same. no_item (rw is at span.asked))
-      (λ is. record { legal = span.legal.1; asked = rw is at span.asked; unbroken = unbroken_step (Ended t j reply) past goes span.unbroken; on = on_before (Ended t j reply) past goes refl span.on })
+      (λ is. record {
+        legal = span.legal.1;
+        asked = rw is at span.asked;
+        unbroken = unbroken_step (Ended t j reply) past goes span.unbroken;
+        on = on_before
+            (Ended t j reply) past goes refl span.on;
+      })
   span_before e past span goes =
       record { legal = span.legal.1; asked = span.asked; unbroken = unbroken_step e past goes span.unbroken; on = on_before e past goes refl span.on }
 
@@ -157,10 +180,12 @@ module _ (says : Language) (one : ReadsOne says) (s : ℕ) (text : List ℕ) (st
     nothing_changed (e ∷ past) span = nothing_changed past (span_before e past span refl)
 
     -- its view shows the latest rows, where it was taken at the last commit
-    pub sees_view : (number : ℕ) (past : List Event) → Spans past → AllIn (opening past) (own_before s past ++ committed (commits past) past) → number ≡ commits past → seen_by s number past ≡ base s past
+    pub sees_view : (number : ℕ) (past : List Event) → Spans past → AllIn (opening past) (own_before s past ++ committed (commits past) past)
+        → number ≡ commits past → seen_by s number past ≡ base s past
     sees_view number past span within latest =
         let same : own s past ≡ own_before s past = nothing_changed past span in
-        let rows = rows_over (opening past) (own s past ++ committed (commits past) past) (current s past).schemas [] (sym (append-nil (current s past).schemas))
+        let rows =
+        rows_over (opening past) (own s past ++ committed (commits past) past) (current s past).schemas [] (sym (append-nil (current s past).schemas))
         (subst (λ (cs : List Change). AllIn (opening past) (cs ++ committed (commits past) past)) (sym same) within) in
         ap (λ n. seen_by s n past) latest
         ∙ ap (λ (m : RowMap). record { schemas = (current s past).schemas; rows = m }) rows

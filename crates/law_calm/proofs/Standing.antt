@@ -39,20 +39,25 @@ module _ (says : Language) where
       (apart : (place : Place) → place.0 < length db.schemas → touches db.schemas (own s past) place ≡ true → touches db.schemas (own t past) place ≡ false)
       (beside : (pieces : List Piece) → HasStanding says s past pieces → AreBeside pieces db (own t past)) where
     -- the changes and pieces that stand, over the rows with those that are committed
-    moved : (newer standing : List Change) (pieces : List Piece) (saves : List Save) → own s past ≡ newer ++ standing → AreAnswered pieces → HasStanding says s past pieces → Tracks db pieces saves standing → Tracks (changed db (own t past)) pieces saves standing
+    moved : (newer standing : List Change) (pieces : List Piece) (saves : List Save) → own s past ≡ newer ++ standing → AreAnswered pieces
+        → HasStanding says s past pieces → Tracks db pieces saves standing → Tracks (changed db (own t past)) pieces saves standing
     moved newer standing pieces saves is answered stands tracks =
         let tables = tracks_tables db pieces saves standing answered tracks in
         tracks_beside db (own t past) theirs pieces saves standing (of_rows db.schemas standing tables)
         (λ place at. apart place (touched_within db.schemas db.schemas standing place tables at)
-        (ap (λ (cs : List Change). touches db.schemas cs place) is ∙ touches-append db.schemas newer standing place ∙ or_right (touches db.schemas newer place) (touches db.schemas standing place) at))
+        (ap (λ (cs : List Change). touches db.schemas cs place) is ∙ touches-append db.schemas newer standing place ∙ or_right
+        (touches db.schemas newer place) (touches db.schemas standing place) at))
         answered (beside pieces stands) tracks
 
-    pub committed_carries : (pieces : List Piece) (saves : List Save) → HasDone says s past pieces → Carries says s past db pieces saves → Carries says s (Committed t ∷ past) (changed db (own t past)) pieces saves
+    pub committed_carries : (pieces : List Piece) (saves : List Save) → HasDone says s past pieces → Carries says s past db pieces saves
+        → Carries says s (Committed t ∷ past) (changed db (own t past)) pieces saves
     committed_carries pieces saves done (inl whole) =
         inl record {
           newer = whole.newer;
           own_is = rw other whole.own_is;
-          tracks = moved whole.newer (settled s past) pieces saves whole.own_is (done_answered says s past pieces done) (pieces, done, inl (whole_within s past whole.newer whole.own_is, refl)) whole.tracks;
+          tracks =
+              moved whole.newer (settled s past) pieces saves whole.own_is (done_answered says s past pieces done)
+              (pieces, done, inl (whole_within s past whole.newer whole.own_is, refl)) whole.tracks;
         }
     committed_carries pieces saves done (inr (inl back)) =
         inr (inl record {
@@ -64,7 +69,9 @@ module _ (says : Language) where
           newer = back.newer;
           own_is = rw other back.own_is;
           kept = back.kept;
-          tracks = moved back.newer (oldest back.made (settled s past)) (pieces_to back.name pieces) (back_to back.name saves) back.own_is (answered_to back.name pieces (done_answered says s past pieces done))
+          tracks =
+              moved back.newer (oldest back.made (settled s past)) (pieces_to back.name pieces) (back_to back.name saves) back.own_is
+              (answered_to back.name pieces (done_answered says s past pieces done))
               (pieces, done, inr (back.less, (back.name, back.asks, refl))) back.tracks;
         })
     committed_carries pieces saves done (inr (inr gone)) = inr (inr (rw other gone.0, drops gone.1))
@@ -90,16 +97,19 @@ module _ (says : Language) where
   length_drop (suc n) (change ∷ changes) = length_drop n changes ∙ (let n : length changes - n ≡ suc (length changes) - suc n = omega arith in n)
 
   oldest_less : (made : ℕ) (change : Change) (changes : List Change) → made ≤ length changes → oldest made (change ∷ changes) ≡ oldest made changes
-  oldest_less made change changes within = ap (λ n. drop n (change ∷ changes)) (let n : suc (length changes) - made ≡ suc (length changes - made) = omega (arith, within) in n)
+  oldest_less made change changes within =
+      ap (λ n. drop n (change ∷ changes)) (let n : suc (length changes) - made ≡ suc (length changes - made) = omega (arith, within) in n)
 
   same_made : (a b : ℕ) → ◌≡◌ {A = Option ℕ} (Some a) (Some b) → a ≡ b
   same_made a b e = cc
 
-  module _ (one : ReadsOne says) (s u keep : ℕ) (past : List Event) (db : Database) (pieces : List Piece) (saves : List Save) (mine : (u == s) ≡ true) (legal : IsLegal says past) (may : MayUndo says s keep past) (kept : Setting) (saves_are : kept.saves ≡ saves) (is_set : HasSet says s past kept) where
+  module _ (one : ReadsOne says) (s u keep : ℕ) (past : List Event) (db : Database) (pieces : List Piece) (saves : List Save) (mine : (u == s) ≡ true)
+      (legal : IsLegal says past) (may : MayUndo says s keep past) (kept : Setting) (saves_are : kept.saves ≡ saves) (is_set : HasSet says s past kept) where
     tie : (setting : Setting) → HasSet says s (before_item s past) setting → (name : List ℕ) → Asks says s (stmt.RollbackTo name) past → setting.saves ≡ saves
     tie setting set name asks =
         let quiet = goes_nowhere says one s name past legal asks in
-        ap (λ (st : Setting). st.saves) (set_one says one s past setting kept (set_kept says s (Sql asks.0) setting past asks.1 quiet.0 quiet.1 quiet.2 set) is_set) ∙ saves_are
+        ap (λ (st : Setting). st.saves) (set_one says one s past setting kept (set_kept says s (Sql asks.0) setting past asks.1 quiet.0 quiet.1 quiet.2 set)
+        is_set) ∙ saves_are
 
     drops : IsDropped says s past → IsDropped says s (Undone u keep ∷ past)
     drops (inl ending) = inl (ending.0, rw mine refl)
@@ -107,7 +117,9 @@ module _ (says : Language) where
     drops (inr (inr victim)) = inr (inr (victim.0, victim.1, rw mine victim.2, rw mine refl))
 
     left_number : length (own s (Undone u keep ∷ past)) ≡ keep
-    left_number = rw mine (length_drop (length (own s past) - keep) (own s past) ∙ (let a = may.one in let n : length (own s past) - (length (own s past) - keep) ≡ keep = omega (arith, a) in n))
+    left_number =
+        rw mine (length_drop (length (own s past) - keep) (own s past) ∙
+        (let a = may.one in let n : length (own s past) - (length (own s past) - keep) ≡ keep = omega (arith, a) in n))
 
     lost : length (own s past) ≤ length (settled s past) → IsDropped says s (Undone u keep ∷ past) → IsLost says s (Undone u keep ∷ past)
     lost within dropped = ((let a = left_number in let b = may.one in omega (arith, a, b, within)), dropped)
@@ -116,7 +128,9 @@ module _ (says : Language) where
     next_own change changes is = rw mine (ap (oldest keep) is ∙ oldest_one keep change changes (sym (ap length is) ∙ may.one))
 
     -- the first change that goes of those that stood
-    goes_back : (name : List ℕ) (made : ℕ) → Asks says s (stmt.RollbackTo name) past → made_at name saves ≡ Some made → made ≤ keep → own s past ≡ settled s past → Tracks db pieces saves (settled s past) → (changes : List Change) → own s past ≡ changes → Carries says s (Undone u keep ∷ past) db pieces saves
+    goes_back : (name : List ℕ) (made : ℕ) → Asks says s (stmt.RollbackTo name) past → made_at name saves ≡ Some made → made ≤ keep
+        → own s past ≡ settled s past → Tracks db pieces saves (settled s past) → (changes : List Change) → own s past ≡ changes
+        → Carries says s (Undone u keep ∷ past) db pieces saves
     goes_back name made asks is within same tracks [] none = absurd (let e : 0 ≡ keep + 1 = sym (ap length none) ∙ may.one in omega (arith, e))
     goes_back name made asks is within same tracks (change ∷ changes) here =
         let stood : settled s past ≡ change ∷ changes = sym same ∙ here in
@@ -133,7 +147,9 @@ module _ (says : Language) where
           is = is;
           newer = parts.0;
           own_is = after ∙ parts.1 ∙ ap (λ (cs : List Change). parts.0 ++ cs) (sym old);
-          kept = ap length old ∙ length_drop (length changes - made) changes ∙ (let n : length changes - (length changes - made) ≡ made = omega (arith, inside) in n);
+          kept =
+              ap length old ∙ length_drop (length changes - made) changes ∙
+              (let n : length changes - (length changes - made) ≡ made = omega (arith, inside) in n);
           tracks = tracks-back name made db pieces saves (settled s past) tracks is;
         })
 
@@ -152,11 +168,13 @@ module _ (says : Language) where
         before : (a : Stmt) → Asks says s a past → own_before s past ≡ settled s past
         before a asks = entries.before_settled says s (Sql asks.0) past legal asks.1
 
-        rows : (a : Stmt) → Asks says s a past → (length (own_before s past) ≤ keep) ⊎ (did is_victim s past ≡ true) → Carries says s (Undone u keep ∷ past) db pieces saves
+        rows : (a : Stmt) → Asks says s a past → (length (own_before s past) ≤ keep) ⊎ (did is_victim s past ≡ true)
+            → Carries says s (Undone u keep ∷ past) db pieces saves
         rows a asks (inl within) = absurd (omega (arith, stands, within, ap length (before a asks)))
         rows a asks (inr victim) = inr (inr (lost within (inr (inr (Sql asks.0, asks.1, rw mine victim, rw mine refl)))))
 
-        by_statement : (a : Stmt) → Asks says s a past → (setting : Setting) → HasSet says s (before_item s past) setting → UndoesBy s keep setting a past → Carries says s (Undone u keep ∷ past) db pieces saves
+        by_statement : (a : Stmt) → Asks says s a past → (setting : Setting) → HasSet says s (before_item s past) setting → UndoesBy s keep setting a past
+            → Carries says s (Undone u keep ∷ past) db pieces saves
         by_statement stmt.Rollback asks setting is_set by = inr (inr (lost within (inr (inl asks))))
         by_statement (stmt.RollbackTo name) asks setting is_set by =
             goes_back name by.0 asks (ap (made_at name) (sym (tie setting is_set name asks)) ∙ by.1) by.2 same tracks (own s past) refl
@@ -204,13 +222,15 @@ module _ (says : Language) where
 
   -- ---- where the item's end leaves at least what stood, all of it stands
 
-  pub stands_whole : (s : ℕ) (past : List Event) (db : Database) (pieces : List Piece) (saves : List Save) → length (settled s past) ≤ length (own s past) → Carries says s past db pieces saves → Tracks db pieces saves (settled s past)
+  pub stands_whole : (s : ℕ) (past : List Event) (db : Database) (pieces : List Piece) (saves : List Save) → length (settled s past) ≤ length (own s past)
+      → Carries says s past db pieces saves → Tracks db pieces saves (settled s past)
   stands_whole s past db pieces saves within (inl whole) = whole.tracks
   stands_whole s past db pieces saves within (inr (inl back)) = absurd (let a = back.less in omega (arith, a, within))
   stands_whole s past db pieces saves within (inr (inr lost)) = absurd (let a = lost.0 in omega (arith, a, within))
 
   -- ROLLBACK TO leaves the work up to its savepoint
-  pub back_ends : (one : ReadsOne says) (s made : ℕ) (name : List ℕ) (past : List Event) (db : Database) (pieces : List Piece) (saves : List Save) → Asks says s (stmt.RollbackTo name) past → did is_victim s past ≡ false → made_at name saves ≡ Some made → own s past ≡ oldest made (settled s past)
+  pub back_ends : (one : ReadsOne says) (s made : ℕ) (name : List ℕ) (past : List Event) (db : Database) (pieces : List Piece) (saves : List Save)
+      → Asks says s (stmt.RollbackTo name) past → did is_victim s past ≡ false → made_at name saves ≡ Some made → own s past ≡ oldest made (settled s past)
       → Carries says s past db pieces saves → Tracks db (pieces_to name pieces) (back_to name saves) (own s past)
   back_ends one s made name past db pieces saves asks none is own_is (inl whole) =
       subst (Tracks db (pieces_to name pieces) (back_to name saves)) (sym own_is) (tracks-back name made db pieces saves (settled s past) whole.tracks is)
@@ -220,5 +240,6 @@ module _ (says : Language) where
       subst (Tracks db (pieces_to name pieces) (back_to name saves)) (ap (λ n. oldest n (settled s past)) number ∙ sym own_is)
       (subst (λ (n : List ℕ). Tracks db (pieces_to n pieces) (back_to n saves) (oldest back.made (settled s past))) same back.tracks)
   back_ends one s made name past db pieces saves asks none is own_is (inr (inr (less, inl ending))) = entries.no_item (sym ending.0 ∙ asks.1)
-  back_ends one s made name past db pieces saves asks none is own_is (inr (inr (less, inr (inl all)))) = absurd (let e = reads_back says one s name past stmt.Rollback asks all in cc)
+  back_ends one s made name past db pieces saves asks none is own_is (inr (inr (less, inr (inl all)))) =
+      absurd (let e = reads_back says one s name past stmt.Rollback asks all in cc)
   back_ends one s made name past db pieces saves asks none is own_is (inr (inr (less, inr (inr victim)))) = absurd (entries.true_false victim.2 none)

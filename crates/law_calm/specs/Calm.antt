@@ -27,16 +27,19 @@ IsUnbroken s past = (did is_victim s past ≡ false) ⊎ (level s (before_item s
 -- own.
 abbrev pub SeesLatest : Language → ℕ → List Event → Type 0
 SeesLatest says s past =
-    (statement : Stmt) (l : Level) (alone : Bool) (db : Database) → Asks says s statement past → is_on_rows statement ≡ true → is_over s past ≡ false → IsUnbroken s past → level s past ≡ Some l
+    (statement : Stmt) (l : Level) (alone : Bool) (db : Database) → Asks says s statement past → is_on_rows statement ≡ true → is_over s past ≡ false
+    → IsUnbroken s past → level s past ≡ Some l
     → AllIn (opening past) (own_before s past ++ committed (commits past) past) → MaySee (sight_of l alone statement) s statement db past → db ≡ base s past
 
 -- what t commits now leaves the work of s
 pub record IsSparedBy (says : Language) (s t : ℕ) (past : List Event) : Type 0 where
   -- it makes no table, and s is making none
   pub rows : AreOfRows (own t past)
-  pub no_table : (table : List ℕ) (skips : Bool) (definitions : List Definition) → Asks says s (stmt.CreateTable table skips definitions) past → did begins_txn s past ≡ false
+  pub no_table : (table : List ℕ) (skips : Bool) (definitions : List Definition) → Asks says s (stmt.CreateTable table skips definitions) past
+      → did begins_txn s past ≡ false
   -- it changes no place that s has changed
-  pub apart : (place : Place) → place.0 < length (committed_db past).schemas → touches (committed_db past).schemas (own s past) place ≡ true → touches (committed_db past).schemas (own t past) place ≡ false
+  pub apart : (place : Place) → place.0 < length (committed_db past).schemas → touches (committed_db past).schemas (own s past) place ≡ true
+      → touches (committed_db past).schemas (own t past) place ≡ false
   -- and none that s has searched
   pub beside : (pieces : List Piece) → HasStanding says s past pieces → AreBeside pieces (committed_db past) (own t past)
 

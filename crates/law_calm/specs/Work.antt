@@ -18,7 +18,9 @@ use Rattle.law_work.specs.Work.{committed_db, Tracks, settled}
 module _ (says : Language) where
   -- the transaction is on its way to be rolled back whole
   abbrev pub IsDropped : ℕ → List Event → Type 0
-  IsDropped s past = ((under_way s past ≡ None) × (is_leaving s past ≡ true)) ⊎ (Asks says s stmt.Rollback past ⊎ ((item : Item) × (under_way s past ≡ Some item) × (did is_victim s past ≡ true) × (is_over s past ≡ true)))
+  IsDropped s past =
+      ((under_way s past ≡ None) × (is_leaving s past ≡ true)) ⊎
+      (Asks says s stmt.Rollback past ⊎ ((item : Item) × (under_way s past ≡ Some item) × (did is_victim s past ≡ true) × (is_over s past ≡ true)))
 
   -- and some of what stood is gone
   abbrev pub IsLost : ℕ → List Event → Type 0

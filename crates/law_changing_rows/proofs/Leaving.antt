@@ -39,12 +39,14 @@ told_pairs P old None kept is = record {}
 told_pairs P None (Some new) kept is = absurd kept
 told_pairs P (Some old) (Some new) kept is = subst P (sym kept) is
 
-stage_kept : (stage : RecordStage) (schema : Schema) (edit : RowEdit) (key : List ℕ) (session : Session) (old new : Index) → AreKept old.pairs new.pairs → StageHolds stage schema edit key session old → StageHolds stage schema edit key session new
+stage_kept : (stage : RecordStage) (schema : Schema) (edit : RowEdit) (key : List ℕ) (session : Session) (old new : Index) → AreKept old.pairs new.pairs
+    → StageHolds stage schema edit key session old → StageHolds stage schema edit key session new
 stage_kept Enter schema edit key session old new kept is = is
 stage_kept Room schema edit key session old new kept is = is
 stage_kept Find schema edit key session old new kept is = is
 stage_kept Next schema edit key session old new kept is = (is.0, is.1, told_pairs (λ pairs. is_some (value_of key pairs) ≡ false) old.pairs new.pairs kept is.2)
-stage_kept Insert schema edit key session old new kept is = (is.0, is.1, told_pairs (λ pairs. is_some (value_of key pairs) ≡ false) old.pairs new.pairs kept is.2)
+stage_kept Insert schema edit key session old new kept is =
+    (is.0, is.1, told_pairs (λ pairs. is_some (value_of key pairs) ≡ false) old.pairs new.pairs kept is.2)
 stage_kept (Replace before bytes) schema edit key session old new kept is = (
   is.0,
   is.1,
@@ -65,7 +67,11 @@ some_kept P Q (Some put) each is = each put is
 
 module _ (old new : WorldState) (leaves : LeavesRows old new) where
   pub left_told : IsTold new → IsTold old
-  left_told told = record { pairs = λ i. told_before (λ before after. after ≡ before) (old.indexes i).pairs (new.indexes i).pairs (leaves.pairs i) (told.pairs i); versions = leaves.versions.told told.versions }
+  left_told told =
+      record {
+        pairs = λ i. told_before (λ before after. after ≡ before) (old.indexes i).pairs (new.indexes i).pairs (leaves.pairs i) (told.pairs i);
+        versions = leaves.versions.told told.versions;
+      }
 
   pub rows_left : (chains : Chains) (said : Said) → IsTold new → AreRowsAs chains said old → AreRowsAs chains said new
   rows_left chains said told is =
@@ -75,12 +81,14 @@ module _ (old new : WorldState) (leaves : LeavesRows old new) where
   pub has_rows_left : (chains : Chains) → HasRows chains old → HasRows chains new
   has_rows_left chains rows told = rows_left chains (what_is_there chains) told (rows (left_told told))
 
-  so_far_left : (chains : Chains) (place : Place) (done : ℕ) (next older : List Version) → HasRowsSoFar chains place done next older old → HasRowsSoFar chains place done next older new
+  so_far_left : (chains : Chains) (place : Place) (done : ℕ) (next older : List Version) → HasRowsSoFar chains place done next older old
+      → HasRowsSoFar chains place done next older new
   so_far_left chains place done next older rows told = let was = rows (left_told told) in (was.0, rows_left chains was.0 told was.1, was.2)
 
   -- ---- the change
 
-  record_left : (s : ℕ) (chains : Chains) (writer : Option ℕ) (change : RecordChange) → IsChangingRecord s old change → slice_get new.sessions s ≡ slice_get old.sessions s → Agrees chains writer new → IsChangingRecord s new change
+  record_left : (s : ℕ) (chains : Chains) (writer : Option ℕ) (change : RecordChange) → IsChangingRecord s old change
+      → slice_get new.sessions s ≡ slice_get old.sessions s → Agrees chains writer new → IsChangingRecord s new change
   record_left s chains writer change p session agrees =
       let has : HasWork s p.session p.work new = record { session_is = session ∙ p.has_work.session_is; work_is = p.has_work.work_is } in
       record {
@@ -92,10 +100,13 @@ module _ (old new : WorldState) (leaves : LeavesRows old new) where
         has_work = has;
         listed = listed_of chains writer new s p.session p.work agrees has;
         small = p.small;
-        stage = stage_kept change.stage p.schema change.edit change.key p.session (old.indexes (clustered_index change.table)) (new.indexes (clustered_index change.table)) (leaves.pairs (clustered_index change.table)) p.stage;
+        stage =
+            stage_kept change.stage p.schema change.edit change.key p.session (old.indexes (clustered_index change.table))
+            (new.indexes (clustered_index change.table)) (leaves.pairs (clustered_index change.table)) p.stage;
       }
 
-  entering_left : (schema : Schema) (table which : ℕ) (row : Option (List Value)) (primary : List ℕ) (put : EntryPut) → IsEntering schema table which row primary old put → IsEntering schema table which row primary new put
+  entering_left : (schema : Schema) (table which : ℕ) (row : Option (List Value)) (primary : List ℕ) (put : EntryPut)
+      → IsEntering schema table which row primary old put → IsEntering schema table which row primary new put
   entering_left schema table which row primary put p =
       record {
         index_is = p.index_is;
@@ -111,9 +122,13 @@ module _ (old new : WorldState) (leaves : LeavesRows old new) where
   keys_left : (chains : Chains) (change : KeysChange) → IsChangingKeys chains old change → IsChangingKeys chains new change
   keys_left chains change p =
       changing_next chains old new change change.which change.put p leaves.schemas left_told p.within
-      (some_kept (IsEntering p.schema change.table change.which change.after change.key old) (IsEntering p.schema change.table change.which change.after change.key new) change.put (entering_left p.schema change.table change.which change.after change.key) p.put)
+      (some_kept (IsEntering p.schema change.table change.which change.after change.key old)
+      (IsEntering p.schema change.table change.which change.after change.key new) change.put
+      (entering_left p.schema change.table change.which change.after change.key) p.put)
       (so_far_left chains (record { table = change.table; key = p.value }) change.which (said_next change.put change.before p.older) p.older p.rows)
 
-  pub change_left : (s : ℕ) (chains : Chains) (writer : Option ℕ) (change : RowChange) → IsChangingRow s chains old change → slice_get new.sessions s ≡ slice_get old.sessions s → Agrees chains writer new → IsChangingRow s chains new change
-  change_left s chains writer (Record change key after) p session agrees = (record_left s chains writer change p.0 session agrees, has_rows_left chains p.1, p.2, p.3)
+  pub change_left : (s : ℕ) (chains : Chains) (writer : Option ℕ) (change : RowChange) → IsChangingRow s chains old change
+      → slice_get new.sessions s ≡ slice_get old.sessions s → Agrees chains writer new → IsChangingRow s chains new change
+  change_left s chains writer (Record change key after) p session agrees =
+      (record_left s chains writer change p.0 session agrees, has_rows_left chains p.1, p.2, p.3)
   change_left s chains writer (Keys change) p session agrees = keys_left chains change p

@@ -18,7 +18,8 @@ use Rattle.row_changes.specs.Records.{IsTable, IsListed}
 use Rattle.row_changes.specs.Told.{HasRows}
 use Rattle.row_changes.specs.Rows.{IsChangingRow, row_after}
 
-module _ (chains : Chains) (writer : Option ℕ) (state : WorldState) (s : ℕ) (session : Session) (work : Work) (agrees : Agrees chains writer state) (has : HasWork s session work state) where
+module _ (chains : Chains) (writer : Option ℕ) (state : WorldState) (s : ℕ) (session : Session) (work : Work) (agrees : Agrees chains writer state)
+    (has : HasWork s session work state) where
   pub listed_of : IsListed s work state
   listed_of =
       let mine = work_of chains writer state s session work agrees has in
@@ -37,7 +38,8 @@ module _ (chains : Chains) (writer : Option ℕ) (state : WorldState) (s : ℕ) 
       let mine = work_of chains writer state s session work agrees has in
       omega (arith, mine.id_is, (ids_of state.past agrees.lists.ordered).below s, given_few state.past, agrees.lists.small)
 
-pub begun : (chains : Chains) (writer : Option ℕ) (state : WorldState) (s table : ℕ) (session : Session) (work : Work) (schema : Schema) (edit : RowEdit) (key : List ℕ) → Agrees chains writer state → HasRows chains state → HasWork s session work state → IsTable table schema state → FitsEdit schema edit key
+pub begun : (chains : Chains) (writer : Option ℕ) (state : WorldState) (s table : ℕ) (session : Session) (work : Work) (schema : Schema) (edit : RowEdit)
+    (key : List ℕ) → Agrees chains writer state → HasRows chains state → HasWork s session work state → IsTable table schema state → FitsEdit schema edit key
     → IsChangingRow s chains state (Record (record { table = table; edit = edit; key = key; stage = Enter }) key (row_after edit))
 begun chains writer state s table session work schema edit key agrees rows has there fits = (
   record {

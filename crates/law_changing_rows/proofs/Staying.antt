@@ -33,7 +33,8 @@ module _ (s : ℕ) (old new : WorldState) (aside : StepsAside s old new) where
         txns = ap (λ (state : WorldState). state.txns) aside.rest;
         works = λ u.
             ⊎_elim
-            (λ e. subst (λ n. option_map (λ (x : Session). x.work) (slice_get new.sessions n) ≡ option_map (λ (x : Session). x.work) (slice_get old.sessions n)) (sym e)
+            (λ e. subst (λ n. option_map (λ (x : Session). x.work) (slice_get new.sessions n) ≡ option_map (λ (x : Session). x.work)
+            (slice_get old.sessions n)) (sym e)
             (ap (option_map (λ (x : Session). x.work)) aside.is ∙ ap Some aside.readied.work ∙ sym (ap (option_map (λ (x : Session). x.work)) aside.was)))
             (λ differs. ap (option_map (λ (x : Session). x.work)) (aside.others u differs)) (cases_eq u s);
         count = aside.count;
@@ -68,7 +69,8 @@ module _ (s : ℕ) (old new : WorldState) (aside : StepsAside s old new) where
         own = aside_open;
       }
 
-  pub aside_agreed : (chains : Chains) (next : RowChange) → Agrees chains (Some s) old → IsTold new → IsChangingRow s chains new next → StaysAgreed s chains old new next
+  pub aside_agreed : (chains : Chains) (next : RowChange) → Agrees chains (Some s) old → IsTold new → IsChangingRow s chains new next
+      → StaysAgreed s chains old new next
   aside_agreed chains next agrees told changing =
       record {
         agrees = unentered_agrees chains (Some s) old new agrees aside_entered;

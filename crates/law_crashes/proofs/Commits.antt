@@ -24,7 +24,9 @@ one_longer false gs g n is = omega (arith, is, length-append gs (g ∷ []))
 
 pub length-groups : (first : ℕ) (past : List Event) → length (groups_of first past) ≡ logged past
 length-groups first [] = refl
-length-groups first (Committed s ∷ past) = one_longer (is_none (own s past)) (groups_of first past) (record { lsn = first + logged past; records = records_of (own s past) }) (logged past) (length-groups first past)
+length-groups first (Committed s ∷ past) =
+    one_longer (is_none (own s past)) (groups_of first past) (record { lsn = first + logged past; records = records_of (own s past) }) (logged past)
+    (length-groups first past)
 length-groups first (e ∷ past) = length-groups first past
 
 one_more : (b : Bool) (n : ℕ) → n ≤ (if b then n else n + 1)
@@ -50,14 +52,17 @@ top_committed s past =
     let next : commits past ≤ commits past + 1 = omega arith in
     grind (arith, nat_tests, all_committed (commits past + 1) past next)
 
-one_change : (os : List Change) (gs : List Group) (lsn : ℕ) → changes_in (if is_none os then gs else gs ++ record { lsn = lsn; records = records_of os } ∷ []) ≡ os ++ changes_in gs
+one_change : (os : List Change) (gs : List Group) (lsn : ℕ)
+    → changes_in (if is_none os then gs else gs ++ record { lsn = lsn; records = records_of os } ∷ []) ≡ os ++ changes_in gs
 one_change [] gs lsn = refl
-one_change (o ∷ os) gs lsn = changes_in-append gs (record { lsn = lsn; records = records_of (o ∷ os) } ∷ []) ∙ ap (λ (l : List Change). l ++ changes_in gs) (changes_back (o ∷ os))
+one_change (o ∷ os) gs lsn =
+    changes_in-append gs (record { lsn = lsn; records = records_of (o ∷ os) } ∷ []) ∙ ap (λ (l : List Change). l ++ changes_in gs) (changes_back (o ∷ os))
 
 pub all_changes : (first : ℕ) (past : List Event) → changes_in (groups_of first past) ≡ committed (commits past) past
 all_changes first [] = refl
 all_changes first (Committed s ∷ past) =
-    one_change (own s past) (groups_of first past) (first + logged past) ∙ ap (λ (l : List Change). own s past ++ l) (all_changes first past) ∙ sym (top_committed s past)
+    one_change (own s past) (groups_of first past) (first + logged past) ∙ ap (λ (l : List Change). own s past ++ l) (all_changes first past) ∙ sym
+    (top_committed s past)
 all_changes first (e ∷ past) = all_changes first past
 
 -- ---- the greatest number of commits
@@ -86,7 +91,8 @@ taken_changes k first [] = ap changes_in (take_all k [] (omega arith))
 taken_changes k first (Committed s ∷ past) = elim (cases_lt k (logged (Committed s ∷ past))) [
   | inl lt ↦
       let long = length-groups first (Committed s ∷ past) in
-      ap changes_in (take_less k (is_none (own s past)) (groups_of first past) (record { lsn = first + logged past; records = records_of (own s past) }) (omega (arith, lt, long)))
+      ap changes_in (take_less k (is_none (own s past)) (groups_of first past) (record { lsn = first + logged past; records = records_of (own s past) })
+      (omega (arith, lt, long)))
       ∙ taken_changes k first past
       ∙ sym (within (fitting k past) k s past (fitting_some k past))
       ∙ ap (λ (n : ℕ). committed n (Committed s ∷ past)) (sym (fitting_less k s past lt))
@@ -106,7 +112,8 @@ place_some s (Committed t ∷ past) = grind (arith, nat_tests, place_some s past
 place_some s (e ∷ past) = place_some s past
 
 -- of a commit more
-pub logged_by_each : (a : ℕ → ℕ) (s : ℕ) (past : List Event) → logged (Committed s ∷ past) ≤ a s → ((u : ℕ) → logged_by u past ≤ a u) → (u : ℕ) → logged_by u (Committed s ∷ past) ≤ a u
+pub logged_by_each : (a : ℕ → ℕ) (s : ℕ) (past : List Event) → logged (Committed s ∷ past) ≤ a s → ((u : ℕ) → logged_by u past ≤ a u) → (u : ℕ)
+    → logged_by u (Committed s ∷ past) ≤ a u
 logged_by_each a s past here others u = elim (cases_eq s u) [
   | inl same ↦ subst (λ (v : ℕ). logged_by v (Committed s ∷ past) ≤ a v) same (grind (arith, nat_tests, here))
   | inr differs ↦ let other = others u in grind (arith, nat_tests, differs, other)

@@ -18,68 +18,54 @@ use Rattle.redo_log.specs.Logged.{IsLogged, GoesOnAt, Stands, StandsMeanwhile}
 use Rattle.redo_log.proofs.Crash.{holds_prefix}
 use Rattle.law_crashes.specs.Records.{records_of, changes_in, no_db}
 use Rattle.law_crashes.specs.Commits.{is_none, logged, groups_of, logged_by, acked_logged, leaves_log}
-use Rattle.law_crashes.specs.Files.{run_in, first_in, IsAtRest, Files, HoldsSome}
+use Rattle.law_crashes.specs.Header.{SaysRun}
+use Rattle.law_crashes.specs.RowScan.{HasRowsOnly}
+use Rattle.law_crashes.specs.Files.{Files, HoldsSome}
 use Rattle.law_crashes.specs.Since.{KeepsSince, all_groups, HasHeader, IsDurable, IsBegun, IsFirst}
+use Rattle.law_crashes.proofs.AtRest.{honest_at_rest, header_left}
 use Rattle.law_crashes.proofs.Commits.{logged_by_each}
 use Rattle.law_crashes.proofs.Prefix.{prefix_stands}
-use Rattle.law_crashes.proofs.Keeps.{keeps_entry, keeps_ack, keeps_calls, keeps_first}
-
--- ---- an area where nothing is pending
-
-pub left_at_rest : (c : Contents) (image : List ℕ) → c.writes ≡ [] → MayLeave c image → image ≡ c.synced
-left_at_rest c image rests left =
-    let short : length image ≤ length c.synced = subst (λ (ws : List Write). length image ≤ fold (λ n w. max n (end_of w)) (length c.synced) ws) rests left.no_longer in
-    let front = left_before c image left (length c.synced) (omega arith) (subst (All (λ w. length c.synced ≤ w.at)) (sym rests) (All-nil (λ w. length c.synced ≤ w.at))) in
-    sym (take_all (length c.synced) image short) ∙ front ∙ take_all (length c.synced) c.synced (omega arith)
-
-honest_area : (size : ℕ) (c : Contents) (image : List ℕ) → image ≡ c.synced → IsHonestArea size c image
-honest_area size c image same = λ k inside passes.
-    inl (ap (λ (n : ℕ). take n (drop (size * k) c.synced)) (length-piece size k image inside) ∙ ap (λ (l : List ℕ). take size (drop (size * k) l)) (sym same))
-
--- what is on the disk was written whole
-pub honest_at_rest : (s : State) (image : Image) → IsAtRest s → IsImage s image → IsHonest s image
-honest_at_rest s image rests left = record {
-  log = honest_area 512 s.log image.log (left_at_rest s.log image.log rests.log left.log);
-  double = honest_area 4096 s.double image.double (left_at_rest s.double image.double rests.double left.double);
-  pages = honest_area 4096 s.pages image.pages (left_at_rest s.pages image.pages rests.pages left.pages);
-}
-
-pub header_left : (run first : ℕ) (pages : Contents) (s : State) (image : Image) → HasHeader run first pages → s.pages ≡ pages → IsImage s image → (run_in image.pages ≡ run) × (first_in image.pages ≡ first)
-header_left run first pages s image header is left =
-    let same : image.pages ≡ pages.synced = left_at_rest pages image.pages header.rests (subst (λ (c : Contents). MayLeave c image.pages) is left.pages) in (
-      ap run_in same ∙ header.of_run,
-      ap first_in same ∙ header.begins,
-    )
+use Rattle.law_crashes.proofs.Keeps.{files_before, keeps_entry, keeps_ack, keeps_calls, keeps_first}
 
 -- ---- a running engine
 
+same_header : (first : ℕ) (double pages : Contents) (run new : ℕ) → run ≡ new → HasHeader run first double pages → HasHeader new first double pages
+same_header first double pages run new same header = subst (λ (n : ℕ). HasHeader n first double pages) same header
+
 module _ (root now : Past) (past : List Event) (log : LogView) (due : ℕ → ℕ) (d : IsDurable root now past log due) where
   -- what a crash leaves at a moment of a flush
-  holds_meanwhile : (db : Database) → Files root db → (s : State) (image : Image) → StandsMeanwhile log.run d.first (all_groups d.first d.base past) log.flushed d.double d.pages s
+  holds_meanwhile : (db : Database) → Files root now db → (s : State) (image : Image)
+      → StandsMeanwhile log.run d.first (all_groups d.first d.base past) log.flushed d.double d.pages s
       → IsImage s image → IsHonest s image → (m : ℕ) → HoldsSome m past image
   holds_meanwhile db files s image stands left honest m =
-      let header = header_left log.run d.first d.pages s image (d.header db files) stands.pages_is left in
-      prefix_stands log.run d.first d.base past log.flushed image header.0 header.1 d.opens (stands.log image.log left.log honest.log) d.based d.acked m
+      let header = header_left log.run d.first d.double d.pages s image (d.header db files) stands.double_is stands.pages_is left in
+      prefix_stands log.run d.first d.base past log.flushed image header d.of_rows d.opens (stands.log image.log left.log honest.log) d.based d.acked m
 
   pub durable_flush : (next : Past) (new : LogView) → new.run ≡ log.run → new.next ≡ log.next → log.flushed ≤ new.flushed
-      → ((first : ℕ) (groups : List Group) (double pages : Contents) → Now (Stands first groups log double pages) now → Now (Stands first groups new double pages) next)
-      → ((first : ℕ) (groups : List Group) (double pages : Contents) → Now (Stands first groups log double pages) now → Meanwhile (StandsMeanwhile log.run first groups log.flushed double pages) now next)
+      → ((first : ℕ) (groups : List Group) (double pages : Contents) → Now (Stands first groups log double pages) now → Now
+      (Stands first groups new double pages) next)
+      → ((first : ℕ) (groups : List Group) (double pages : Contents) → Now (Stands first groups log double pages) now → Meanwhile
+      (StandsMeanwhile log.run first groups log.flushed double pages) now next)
       → IsDurable root next past new due
-  durable_flush next new same_run same_next later stands crash = record {
-    first = d.first;
-    base = d.base;
-    double = d.double;
-    pages = d.pages;
-    opens = d.opens;
-    stands = stands d.first (all_groups d.first d.base past) d.double d.pages d.stands;
-    header = λ db files. let h = d.header db files in record { rests = h.rests; of_run = h.of_run ∙ sym same_run; begins = h.begins };
-    next = same_next ∙ d.next;
-    based = omega (arith, d.based, later);
-    acked = omega (arith, d.acked, later);
-    dues = d.dues;
-    keeps = keeps_calls (StandsMeanwhile log.run d.first (all_groups d.first d.base past) log.flushed d.double d.pages) root now next past d.keeps
-        (crash d.first (all_groups d.first d.base past) d.double d.pages d.stands) holds_meanwhile;
-  }
+  durable_flush next new same_run same_next later stands crash =
+      let calls = crash d.first (all_groups d.first d.base past) d.double d.pages d.stands in record {
+        first = d.first;
+        base = d.base;
+        double = d.double;
+        pages = d.pages;
+        of_rows = d.of_rows;
+        opens = d.opens;
+        stands = stands d.first (all_groups d.first d.base past) d.double d.pages d.stands;
+        header =
+            λ db files. same_header d.first d.double d.pages log.run new.run (sym same_run)
+            (d.header db (files_before root now next db calls.later calls.kept files));
+        next = same_next ∙ d.next;
+        based = omega (arith, d.based, later);
+        acked = omega (arith, d.acked, later);
+        dues = d.dues;
+        keeps = keeps_calls (StandsMeanwhile log.run d.first (all_groups d.first d.base past) log.flushed d.double d.pages) root now next past d.keeps
+            calls holds_meanwhile;
+      }
 
   pub durable_ack : (s moment : ℕ) → moment ≡ now.moment → due s ≤ log.flushed → IsDurable root now (Acked s moment ∷ past) log due
   durable_ack s moment is_now reached =
@@ -90,6 +76,7 @@ module _ (root now : Past) (past : List Event) (log : LogView) (due : ℕ → �
         base = d.base;
         double = d.double;
         pages = d.pages;
+        of_rows = d.of_rows;
         opens = d.opens;
         stands = d.stands;
         header = d.header;
@@ -100,8 +87,8 @@ module _ (root now : Past) (past : List Event) (log : LogView) (due : ℕ → �
         keeps = keeps_ack root now s moment past is_now d.keeps
             (λ db files st image ticks is left honest.
             let here = d.stands st ticks is in
-            let header = header_left log.run d.first d.pages st image (d.header db files) here.pages_is left in
-            prefix_stands log.run d.first d.base (Acked s moment ∷ past) log.flushed image header.0 header.1 d.opens
+            let header = header_left log.run d.first d.double d.pages st image (d.header db files) here.double_is here.pages_is left in
+            prefix_stands log.run d.first d.base (Acked s moment ∷ past) log.flushed image header d.of_rows d.opens
             (holds_prefix d.first (all_groups d.first d.base past) log st.log here.logged image.log left.log honest.log) d.based acked now.moment);
       }
 
@@ -110,11 +97,14 @@ module _ (root now : Past) (past : List Event) (log : LogView) (due : ℕ → �
   dues_rise s later here rise u =
       let own_due = d.dues u in
       let rises = rise u in
-      let each = logged_by_each (λ (v : ℕ). later v + 1 - (d.first + length d.base)) s past (omega (arith, here)) (λ v. let due_v = d.dues v in let rise_v = rise v in omega (arith, due_v, rise_v)) u in
+      let each =
+      logged_by_each (λ (v : ℕ). later v + 1 - (d.first + length d.base)) s past (omega (arith, here))
+      (λ v. let due_v = d.dues v in let rise_v = rise v in omega (arith, due_v, rise_v)) u in
       omega (arith, each, own_due, rises)
 
   -- a commit that changed nothing: what it needs is what was logged before it
-  pub durable_nothing : (s : ℕ) (later : ℕ → ℕ) → is_none (own s past) ≡ true → log.next ≤ later s + 1 → ((u : ℕ) → due u ≤ later u) → IsDurable root now (Committed s ∷ past) log later
+  pub durable_nothing : (s : ℕ) (later : ℕ → ℕ) → is_none (own s past) ≡ true → log.next ≤ later s + 1 → ((u : ℕ) → due u ≤ later u)
+      → IsDurable root now (Committed s ∷ past) log later
   durable_nothing s later none reaches rise =
       let f = d.first + length d.base in
       let count : logged (Committed s ∷ past) ≡ logged past = ap (λ b. if b then logged past else logged past + 1) none in
@@ -125,6 +115,7 @@ module _ (root now : Past) (past : List Event) (log : LogView) (due : ℕ → �
         base = d.base;
         double = d.double;
         pages = d.pages;
+        of_rows = d.of_rows;
         opens = d.opens;
         stands = subst (λ (gs : List Group). Now (Stands d.first (d.base ++ gs) log d.double d.pages) now) groups d.stands;
         header = d.header;
@@ -138,7 +129,8 @@ module _ (root now : Past) (past : List Event) (log : LogView) (due : ℕ → �
   -- one whose group was appended
   pub durable_commit : (s : ℕ) (records : List Record) (new : LogView) (later : ℕ → ℕ) → is_none (own s past) ≡ false → records ≡ records_of (own s past)
       → new.run ≡ log.run → new.flushed ≡ log.flushed → new.next ≡ log.next + 1 → log.next ≤ later s → ((u : ℕ) → due u ≤ later u)
-      → ((first : ℕ) (groups : List Group) (c : Contents) → IsLogged first groups log c → IsLogged first (groups ++ record { lsn = log.next; records = records } ∷ []) new c)
+      → ((first : ℕ) (groups : List Group) (c : Contents) → IsLogged first groups log c → IsLogged first
+      (groups ++ record { lsn = log.next; records = records } ∷ []) new c)
       → IsDurable root now (Committed s ∷ past) new later
   durable_commit s records new later some spells same_run same_flushed next reaches rise append =
       let f = d.first + length d.base in
@@ -154,6 +146,7 @@ module _ (root now : Past) (past : List Event) (log : LogView) (due : ℕ → �
         base = d.base;
         double = d.double;
         pages = d.pages;
+        of_rows = d.of_rows;
         opens = d.opens;
         stands = λ st ticks is.
             let here = d.stands st ticks is in
@@ -164,7 +157,7 @@ module _ (root now : Past) (past : List Event) (log : LogView) (due : ℕ → �
               double_is = here.double_is;
               pages_is = here.pages_is;
             };
-        header = λ db files. let h = d.header db files in record { rests = h.rests; of_run = h.of_run ∙ sym same_run; begins = h.begins };
+        header = λ db files. same_header d.first d.double d.pages log.run new.run (sym same_run) (d.header db files);
         next = omega (arith, next, d.next, count);
         based = omega (arith, d.based, same_flushed);
         acked = omega (arith, d.acked, same_flushed);
@@ -173,7 +166,8 @@ module _ (root now : Past) (past : List Event) (log : LogView) (due : ℕ → �
       }
 
 -- an entry that is no commit either
-pub durable_entry : (e : Event) (root now : Past) (past : List Event) (log : LogView) (due : ℕ → ℕ) → leaves_log e ≡ true → IsDurable root now past log due → IsDurable root now (e ∷ past) log due
+pub durable_entry : (e : Event) (root now : Past) (past : List Event) (log : LogView) (due : ℕ → ℕ) → leaves_log e ≡ true → IsDurable root now past log due
+    → IsDurable root now (e ∷ past) log due
 durable_entry (Opened db) root now past log due plain d = absurd cc
 durable_entry (Acked s moment) root now past log due plain d = absurd cc
 durable_entry (Committed s) root now past log due plain d = absurd cc
@@ -182,6 +176,7 @@ durable_entry e root now past log due plain d = record {
   base = d.base;
   double = d.double;
   pages = d.pages;
+  of_rows = d.of_rows;
   opens = d.opens;
   stands = d.stands;
   header = d.header;
@@ -198,8 +193,10 @@ durable_entry e root now past log due plain d = record {
 abbrev pub opened : List Group → List Event
 opened base = Opened (changed no_db (changes_in base)) ∷ []
 
-module _ (run first block : ℕ) (base : List Group) (log : LogView) (same_run : log.run ≡ run) (next : log.next ≡ first + length base) (same_flushed : log.flushed ≡ log.next - 1) (some : 0 < log.next)
-    (stands : (scan_first : ℕ) (groups : List Group) (c : Contents) → log.next ≡ scan_first + length groups → GoesOnAt run scan_first block groups c → IsLogged scan_first groups log c) where
+module _ (run first block : ℕ) (base : List Group) (rows : All HasRowsOnly base) (log : LogView) (same_run : log.run ≡ run)
+    (next : log.next ≡ first + length base) (same_flushed : log.flushed ≡ log.next - 1) (some : 0 < log.next)
+    (stands : (scan_first : ℕ) (groups : List Group) (c : Contents) → log.next ≡ scan_first + length groups → GoesOnAt run scan_first block groups c →
+    IsLogged scan_first groups log c) where
   at_rest : (double pages : Contents) (s : State) → IsBegun run first block base double pages s → Stands first (base ++ []) log double pages s
   at_rest double pages s begun =
       record {
@@ -209,16 +206,18 @@ module _ (run first block : ℕ) (base : List Group) (log : LogView) (same_run :
       }
 
   -- after a mount that began at root
-  pub durable_mount : (root now : Past) (double pages : Contents) (due : ℕ → ℕ) → Now (IsBegun run first block base double pages) now → ((db : Database) → Files root db → HasHeader run first pages)
+  pub durable_mount : (root now : Past) (double pages : Contents) (due : ℕ → ℕ) → Now (IsBegun run first block base double pages) now
+      → ((db : Database) → Files root now db → HasHeader run first double pages)
       → ((s : ℕ) → log.next ≤ due s + 1) → KeepsSince root now (opened base) → IsDurable root now (opened base) log due
   durable_mount root now double pages due begun header dues keeps = record {
     first = first;
     base = base;
     double = double;
     pages = pages;
+    of_rows = rows;
     opens = refl;
     stands = λ s ticks is. at_rest double pages s (begun s ticks is);
-    header = λ db files. let h = header db files in record { rests = h.rests; of_run = h.of_run ∙ sym same_run; begins = h.begins };
+    header = λ db files. same_header first double pages run log.run (sym same_run) (header db files);
     next = omega (arith, next);
     based = omega (arith, same_flushed, some, next);
     acked = omega (arith, same_flushed, some, next);
@@ -230,19 +229,23 @@ module _ (run first block : ℕ) (base : List Group) (log : LogView) (same_run :
   holds_opened : (s : State) (image : Image) (m : ℕ) → IsFirst run first block base s → IsImage s image → HoldsSome m (opened base) image
   holds_opened s image m is left =
       let here = at_rest s.double s.pages s (record { log = is.log; double_is = refl; pages_is = refl }) in
-      let header = header_left run first s.pages s image is.pages refl left in
-      let honest = honest_at_rest s image (record { log = is.log.rests; double = is.double; pages = is.pages.rests }) left in
-      prefix_stands log.run first base (opened base) log.flushed image (header.0 ∙ sym same_run) header.1 refl
-      (holds_prefix first (base ++ []) log s.log here.logged image.log left.log honest.log) (omega (arith, same_flushed, some, next)) (omega (arith, same_flushed, some, next)) m
+      let header = header_left run first s.double s.pages s image is.header refl refl left in
+      let honest = honest_at_rest s image (record { log = is.log.rests; double = is.header.double_rests; pages = is.header.pages_rest }) left in
+      prefix_stands log.run first base (opened base) log.flushed image (subst (λ (n : ℕ). SaysRun n first image.pages image.double) (sym same_run) header)
+      rows refl
+      (holds_prefix first (base ++ []) log s.log here.logged image.log left.log honest.log) (omega (arith, same_flushed, some, next))
+      (omega (arith, same_flushed, some, next)) m
 
   -- Such files stand for the database, so nothing that is said of a root is said in vain.
-  pub files_first : (root : Past) (s : State) → ((m : ℕ) (t : State) → root.state_at m ≡ Some t → IsImage t (seen_image t)) → Ticks root.moment → root.state_at root.moment ≡ Some s → IsFirst run first block base s
-      → Files root (changed no_db (changes_in base))
+  pub files_first : (root : Past) (s : State) → ((m : ℕ) (t : State) → root.state_at m ≡ Some t → IsImage t (seen_image t)) → Ticks root.moment
+      → root.state_at root.moment ≡ Some s → IsFirst run first block base s
+      → Files root root (changed no_db (changes_in base))
   files_first root s law ticks is files = record {
     state = s;
     ticks = ticks;
+    tells = λ m low high. let here : root.moment ≡ m = omega (arith, low, high) in (s, ap root.state_at (sym here) ∙ is);
     told = is;
-    rests = record { log = files.log.rests; double = files.double; pages = files.pages.rests };
+    rests = record { log = files.log.rests; double = files.header.double_rests; pages = files.header.pages_rest };
     stands = (holds_opened s (seen_image s) 0 files (law root.moment s is)).stands;
   }
 
@@ -255,16 +258,26 @@ told (Some s) = s
 told None = record { log = nothing; double = nothing; pages = nothing }
 
 -- a mount that calls the disk for nothing
-pub durable_first : (run first block : ℕ) (base : List Group) (log : LogView) → log.run ≡ run → log.next ≡ first + length base → log.flushed ≡ log.next - 1 → 0 < log.next
-    → ((scan_first : ℕ) (groups : List Group) (c : Contents) → log.next ≡ scan_first + length groups → GoesOnAt run scan_first block groups c → IsLogged scan_first groups log c)
+pub durable_first : (run first block : ℕ) (base : List Group) → All HasRowsOnly base → (log : LogView) → log.run ≡ run → log.next ≡ first + length base
+    → log.flushed ≡ log.next - 1 → 0 < log.next
+    → ((scan_first : ℕ) (groups : List Group) (c : Contents) → log.next ≡ scan_first + length groups → GoesOnAt run scan_first block groups c → IsLogged
+    scan_first groups log c)
     → (root now : Past) → now ≡ root → ((m : ℕ) (s : State) → root.state_at m ≡ Some s → IsImage s (seen_image s)) → Now (IsFirst run first block base) root
     → (due : ℕ → ℕ) → ((s : ℕ) → log.next ≤ due s + 1) → IsDurable root now (opened base) log due
-durable_first run first block base log same_run next same_flushed some stands root now same law files due dues =
+durable_first run first block base rows log same_run next same_flushed some stands root now same law files due dues =
     let at : State = told (root.state_at root.moment) in
     let is_at : (s : State) → root.state_at root.moment ≡ Some s → told (root.state_at root.moment) ≡ s = λ s is. ap told is in
     subst (λ (p : Past). IsDurable root p (opened base) log due) (sym same)
-    (durable_mount run first block base log same_run next same_flushed some stands root root at.double at.pages due
-    (λ s ticks is. record { log = (files s ticks is).log; double_is = ap (λ (t : State). t.double) (sym (is_at s is)); pages_is = ap (λ (t : State). t.pages) (sym (is_at s is)) })
-    (λ db rooted. subst (λ (t : State). HasHeader run first t.pages) (sym (is_at rooted.state rooted.told)) (files rooted.state rooted.ticks rooted.told).pages)
+    (durable_mount run first block base rows log same_run next same_flushed some stands root root at.double at.pages due
+    (λ s ticks is. record {
+      log = (files s ticks is).log;
+      double_is = ap (λ (t : State). t.double) (sym (is_at s is));
+      pages_is = ap (λ (t : State). t.pages)
+          (sym (is_at s is));
+    })
+    (λ db rooted. subst (λ (t : State). HasHeader run first t.double t.pages) (sym (is_at rooted.state rooted.told))
+    (files rooted.state rooted.ticks rooted.told).header)
     dues
-    (keeps_first root (changed no_db (changes_in base)) law (λ db rooted st image ticks is left. (holds_opened run first block base log same_run next same_flushed some stands st image root.moment (files st ticks is) left).stands)))
+    (keeps_first root (changed no_db (changes_in base)) law
+    (λ db rooted st image ticks is left. (holds_opened run first block base rows log same_run next same_flushed some stands st image root.moment
+    (files st ticks is) left).stands)))

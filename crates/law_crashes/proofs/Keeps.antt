@@ -1,5 +1,5 @@
 -- How what is kept of the files goes on: by an entry, by an acknowledgement, and by calls of the disk.
-use Rattle.std.proofs.Common.{◌≡◌, inl, inr, ℕ, ◌<◌, true, Some, List, [], ◌∷◌, refl, sym, ◌∙◌, ap, subst, arith}
+use Rattle.std.proofs.Common.{◌≡◌, inl, inr, ℕ, ◌<◌, ◌≤◌, true, Some, List, [], ◌∷◌, refl, sym, ◌∙◌, ap, subst, arith}
 use Rattle.std.proofs.lemmas.Bool.{cases_lt}
 use Rattle.std.proofs.lemmas.Bool.Decides.{nat_tests}
 use Rattle.store_api.specs.Areas.{State, Image, IsImage, IsHonest, seen_image}
@@ -10,9 +10,24 @@ use Rattle.inno_model.specs.declared.event.Event.TheVariants.{Opened, Acked}
 use Rattle.inno_model.specs.Past.{changed, opening, committed}
 use Rattle.inno_model.proofs.Commits.{commits_rise, committed_stays}
 use Rattle.law_crashes.specs.Commits.{acked_by, last_acked, is_plain}
-use Rattle.law_crashes.specs.Files.{Files, StandsFor, HoldsSome}
+use Rattle.law_crashes.specs.Files.{IsAtRest, Files, StandsFor, LeavesFiles, HoldsSome}
 use Rattle.law_crashes.specs.Since.{KeepsSince}
+use Rattle.law_crashes.proofs.AtRest.{honest_at_rest}
 use Rattle.law_crashes.proofs.Prefix.{one_db}
+
+-- What was told until now was told until earlier.
+pub files_before : (root mid now : Past) (db : Database) → mid.moment ≤ now.moment
+    → ((m : ℕ) → Ticks now.moment → m ≤ mid.moment → now.state_at m ≡ mid.state_at m) → Files root now db → Files root mid db
+files_before root mid now db later kept files = record {
+  state = files.state;
+  ticks = let ticks = files.ticks in omega (arith, ticks, later);
+  tells = λ m low high.
+      let there = files.tells m low (omega (arith, high, later)) in
+      (there.0, sym (kept m files.ticks high) ∙ there.1);
+  told = files.told;
+  rests = files.rests;
+  stands = files.stands;
+}
 
 -- ---- an entry
 
@@ -48,7 +63,7 @@ keeps_entry root now e past plain so_far =
       kept = so_far.kept;
       timed = omega (arith, so_far.timed, last_stays e past plain);
       opens = λ db files. opening_stays e past plain ∙ so_far.opens db files;
-      each = λ db files m s image ticks low high is left honest. holds_entry m e past image plain (so_far.each db files m s image ticks low high is left honest);
+      each = λ db files m s image low high is left honest. holds_entry m e past image plain (so_far.each db files m s image low high is left honest);
     }
 
 -- ---- an acknowledgement
@@ -57,11 +72,13 @@ acked_before : (m s moment : ℕ) (past : List Event) → m < moment → acked_b
 acked_before m s moment past lt = grind (arith, nat_tests, lt)
 
 holds_before : (m s moment : ℕ) (past : List Event) (image : Image) → m < moment → HoldsSome m past image → HoldsSome m (Acked s moment ∷ past) image
-holds_before m s moment past image lt holds = record { n = holds.n; some = holds.some; all_acked = omega (arith, holds.all_acked, acked_before m s moment past lt); stands = holds.stands }
+holds_before m s moment past image lt holds =
+    record { n = holds.n; some = holds.some; all_acked = omega (arith, holds.all_acked, acked_before m s moment past lt); stands = holds.stands }
 
 -- An acknowledgement now adds something for this moment alone.
 pub keeps_ack : (root now : Past) (s moment : ℕ) (past : List Event) → moment ≡ now.moment → KeepsSince root now past
-    → ((db : Database) → Files root db → (st : State) (image : Image) → Ticks now.moment → now.state_at now.moment ≡ Some st → IsImage st image → IsHonest st image → HoldsSome now.moment (Acked s moment ∷ past) image)
+    → ((db : Database) → Files root now db → (st : State) (image : Image) → Ticks now.moment → now.state_at now.moment ≡ Some st → IsImage st image →
+    IsHonest st image → HoldsSome now.moment (Acked s moment ∷ past) image)
     → KeepsSince root now (Acked s moment ∷ past)
 keeps_ack root now s moment past is_now so_far here =
     record {
@@ -69,12 +86,12 @@ keeps_ack root now s moment past is_now so_far here =
       kept = so_far.kept;
       timed = omega (arith, so_far.timed, is_now);
       opens = so_far.opens;
-      each = λ db files m st image ticks low high is left honest.
+      each = λ db files m st image low high is left honest.
           elim (cases_lt m now.moment) [
-            | inl lt ↦ holds_before m s moment past image (omega (arith, lt, is_now)) (so_far.each db files m st image ticks low high is left honest)
+            | inl lt ↦ holds_before m s moment past image (omega (arith, lt, is_now)) (so_far.each db files m st image low high is left honest)
             | inr le ↦
                 let same : now.moment ≡ m = omega (arith, le, high) in
-                subst (λ (n : ℕ). HoldsSome n (Acked s moment ∷ past) image) same (here db files st image ticks (ap now.state_at same ∙ is) left honest)
+                subst (λ (n : ℕ). HoldsSome n (Acked s moment ∷ past) image) same (here db files st image files.ticks (ap now.state_at same ∙ is) left honest)
           ];
     }
 
@@ -82,18 +99,19 @@ keeps_ack root now s moment past is_now so_far here =
 
 -- Calls at each of whose moments what a crash may leave holds enough.
 pub keeps_calls : (P : State → Type 0) (root mid now : Past) (past : List Event) → KeepsSince root mid past → Meanwhile P mid now
-    → ((db : Database) → Files root db → (st : State) (image : Image) → P st → IsImage st image → IsHonest st image → (m : ℕ) → HoldsSome m past image)
+    → ((db : Database) → Files root mid db → (st : State) (image : Image) → P st → IsImage st image → IsHonest st image → (m : ℕ) → HoldsSome m past image)
     → KeepsSince root now past
 keeps_calls P root mid now past so_far calls holds =
     record {
       later = omega (arith, so_far.later, calls.later);
       kept = λ m ticks le. calls.kept m ticks (omega (arith, so_far.later, le)) ∙ so_far.kept m (omega (arith, calls.later, ticks)) le;
       timed = omega (arith, so_far.timed, calls.later);
-      opens = so_far.opens;
-      each = λ db files m st image ticks low high is left honest.
+      opens = λ db files. so_far.opens db (files_before root mid now db calls.later calls.kept files);
+      each = λ db files m st image low high is left honest.
+          let then = files_before root mid now db calls.later calls.kept files in
           elim (cases_lt mid.moment m) [
-            | inl late ↦ holds db files st image (calls.each m st ticks late high is) left honest m
-            | inr early ↦ so_far.each db files m st image (omega (arith, calls.later, ticks)) low early (sym (calls.kept m ticks early) ∙ is) left honest
+            | inl late ↦ holds db then st image (calls.each m st files.ticks late high is) left honest m
+            | inr early ↦ so_far.each db then m st image low early (sym (calls.kept m files.ticks early) ∙ is) left honest
           ];
     }
 
@@ -101,24 +119,65 @@ keeps_calls P root mid now past so_far calls holds =
 
 -- The database that was read from the files: it is the one that they stand for, and a crash before any write leaves it.
 pub keeps_first : (root : Past) (first : Database) → ((m : ℕ) (s : State) → root.state_at m ≡ Some s → IsImage s (seen_image s))
-    → ((db : Database) → Files root db → (st : State) (image : Image) → Ticks root.moment → root.state_at root.moment ≡ Some st → IsImage st image → StandsFor image first)
+    → ((db : Database) → Files root root db → (st : State) (image : Image) → Ticks root.moment → root.state_at root.moment ≡ Some st → IsImage st image →
+    StandsFor image first)
     → KeepsSince root root (Opened first ∷ [])
 keeps_first root first law stands =
     record {
       later = omega arith;
       kept = λ m ticks le. refl;
       timed = omega arith;
-      opens = λ db files. one_db (seen_image files.state) first db (stands db files files.state (seen_image files.state) files.ticks files.told (law root.moment files.state files.told)) files.stands;
-      each = λ db files m st image ticks low high is left honest.
+      opens =
+          λ db files. one_db (seen_image files.state) first db
+          (stands db files files.state (seen_image files.state) files.ticks files.told (law root.moment files.state files.told)) files.stands;
+      each = λ db files m st image low high is left honest.
           let same : m ≡ root.moment = omega (arith, low, high) in
-          record { n = 0; some = omega arith; all_acked = omega arith; stands = stands db files st image ticks (sym (ap root.state_at same) ∙ is) left };
+          record { n = 0; some = omega arith; all_acked = omega arith; stands = stands db files st image files.ticks (sym (ap root.state_at same) ∙ is) left };
     }
+
+-- The same where the calls that read it have left the files as they were.
+pub keeps_read : (root mid : Past) (first : Database) → ((m : ℕ) (s : State) → mid.state_at m ≡ Some s → IsImage s (seen_image s)) → LeavesFiles root mid
+    → ((db : Database) → Files root mid db → (st : State) → mid.state_at mid.moment ≡ Some st → IsAtRest st ×
+    ((image : Image) → IsImage st image → StandsFor image first))
+    → KeepsSince root mid (Opened first ∷ [])
+keeps_read root mid first law leaves stands =
+    let opens : (db : Database) → Files root mid db → first ≡ db = λ db files.
+    let last = files.tells mid.moment leaves.later (omega arith) in
+    let seen = law mid.moment last.0 last.1 in
+    let there = stands db files last.0 last.1 in
+    one_db (seen_image last.0) first db (there.1 (seen_image last.0) seen)
+    (leaves.each db files mid.moment last.0 (seen_image last.0) leaves.later (omega arith) last.1 seen
+    (honest_at_rest last.0 (seen_image last.0) there.0 seen)) in
+    record {
+      later = leaves.later;
+      kept = leaves.kept;
+      timed = omega arith;
+      opens = opens;
+      each = λ db files m st image low high is left honest. record {
+        n = 0;
+        some = omega arith;
+        all_acked = omega arith;
+        stands = subst (StandsFor image) (sym (opens db files)) (leaves.each db files m st image low high is left honest);
+      };
+    }
+
+-- What keeps the database that was read leaves the files as they were.
+pub leaves_opened : (root now : Past) (first : Database) → KeepsSince root now (Opened first ∷ []) → LeavesFiles root now
+leaves_opened root now first keeps = record {
+  later = keeps.later;
+  kept = keeps.kept;
+  each =
+      λ db files m st image low high is left honest. subst (StandsFor image) (keeps.opens db files)
+      (keeps.each db files m st image low high is left honest).stands;
+}
 
 -- The same after calls that leave what the files stand for as it is.
 pub keeps_mount : (root now : Past) (first : Database) → ((m : ℕ) (s : State) → root.state_at m ≡ Some s → IsImage s (seen_image s))
-    → ((db : Database) → Files root db → (st : State) (image : Image) → Ticks root.moment → root.state_at root.moment ≡ Some st → IsImage st image → StandsFor image first)
+    → ((db : Database) → Files root root db → (st : State) (image : Image) → Ticks root.moment → root.state_at root.moment ≡ Some st → IsImage st image →
+    StandsFor image first)
     → Meanwhile (λ st. (image : Image) → IsImage st image → IsHonest st image → StandsFor image first) root now
     → KeepsSince root now (Opened first ∷ [])
 keeps_mount root now first law stands calls =
-    keeps_calls (λ st. (image : Image) → IsImage st image → IsHonest st image → StandsFor image first) root root now (Opened first ∷ []) (keeps_first root first law stands) calls
+    keeps_calls (λ st. (image : Image) → IsImage st image → IsHonest st image → StandsFor image first) root root now (Opened first ∷ [])
+    (keeps_first root first law stands) calls
     (λ db files st image same left honest m. record { n = 0; some = omega arith; all_acked = omega arith; stands = same image left honest })

@@ -12,7 +12,8 @@ use Rattle.law_crashes.specs.Records.{record_of, records_of, change_of, changes_
 
 changes_of-append : (xs ys : List Record) → changes_of (xs ++ ys) ≡ changes_of ys ++ changes_of xs
 changes_of-append [] ys = sym (append-nil (changes_of ys))
-changes_of-append (x ∷ xs) ys = ap (λ (l : List Change). l ++ change_of x) (changes_of-append xs ys) ∙ append_assoc (changes_of ys) (changes_of xs) (change_of x)
+changes_of-append (x ∷ xs) ys =
+    ap (λ (l : List Change). l ++ change_of x) (changes_of-append xs ys) ∙ append_assoc (changes_of ys) (changes_of xs) (change_of x)
 
 change_back : (c : Change) → change_of (record_of c) ≡ c ∷ []
 change_back (Create schema) = refl
@@ -28,7 +29,8 @@ changes_back (c ∷ cs) =
 
 pub changes_in-append : (xs ys : List Group) → changes_in (xs ++ ys) ≡ changes_in ys ++ changes_in xs
 changes_in-append [] ys = sym (append-nil (changes_in ys))
-changes_in-append (x ∷ xs) ys = ap (λ (l : List Change). l ++ changes_of x.records) (changes_in-append xs ys) ∙ append_assoc (changes_in ys) (changes_in xs) (changes_of x.records)
+changes_in-append (x ∷ xs) ys =
+    ap (λ (l : List Change). l ++ changes_of x.records) (changes_in-append xs ys) ∙ append_assoc (changes_in ys) (changes_in xs) (changes_of x.records)
 
 pub changed-append : (db : Database) (xs ys : List Change) → changed db (xs ++ ys) ≡ changed (changed db ys) xs
 changed-append db [] ys = refl

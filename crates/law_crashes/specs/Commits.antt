@@ -20,7 +20,8 @@ logged (other ∷ past) = logged past
 -- their groups, numbered from the first
 abbrev pub groups_of : ℕ → List Event → List Group
 groups_of first [] = []
-groups_of first (Committed s ∷ past) = if is_none (own s past) then groups_of first past else groups_of first past ++ record { lsn = first + logged past; records = records_of (own s past) } ∷ []
+groups_of first (Committed s ∷ past) =
+    if is_none (own s past) then groups_of first past else groups_of first past ++ record { lsn = first + logged past; records = records_of (own s past) } ∷ []
 groups_of first (other ∷ past) = groups_of first past
 
 -- The greatest number of commits among which there are at most k with changes.

@@ -6,7 +6,9 @@
 mod files;
 mod keeping;
 
-pub use files::{files_stand_for_one_database, files_that_were_read_stand};
+pub use files::{
+    an_engine_goes_on_from_a_mount, files_stand_for_one_database, files_that_were_read_stand,
+};
 pub use keeping::{
     a_commit_is_logged, a_commit_without_changes_needs_no_group, a_flush_keeps_every_commit,
     an_acknowledgement_waits_for_the_log, an_entry_leaves_the_log,

@@ -28,11 +28,14 @@ use Rattle.law_found_rows.specs.Plans.{SearchesFor, IsOpenRange}
 use Rattle.law_found_rows.proofs.Passing.{passing_map, rows_of-passing}
 
 -- a test that lets no more through may come before
-filter_twice : (p q : List Value → Bool) (rows : List (List Value)) → AllByRecursion (λ row. p row ≡ true → q row ≡ true) rows → filter p rows ≡ filter p (filter q rows)
+filter_twice : (p q : List Value → Bool) (rows : List (List Value)) → AllByRecursion (λ row. p row ≡ true → q row ≡ true) rows
+    → filter p rows ≡ filter p (filter q rows)
 filter_twice p q [] within = refl
 filter_twice p q (row ∷ rows) within = go (p row) (q row) refl refl (filter_twice p q rows within.1) where
-  go : (b c : Bool) → p row ≡ b → q row ≡ c → filter p rows ≡ filter p (filter q rows) → cond b (row ∷ filter p rows) (filter p rows) ≡ filter p (cond c (row ∷ filter q rows) (filter q rows))
-  go true true pass also rest = ap (λ (later : List (List Value)). row ∷ later) rest ∙ sym (ap (λ b. cond b (row ∷ filter p (filter q rows)) (filter p (filter q rows))) pass)
+  go : (b c : Bool) → p row ≡ b → q row ≡ c → filter p rows ≡ filter p (filter q rows)
+      → cond b (row ∷ filter p rows) (filter p rows) ≡ filter p (cond c (row ∷ filter q rows) (filter q rows))
+  go true true pass also rest =
+      ap (λ (later : List (List Value)). row ∷ later) rest ∙ sym (ap (λ b. cond b (row ∷ filter p (filter q rows)) (filter p (filter q rows))) pass)
   go true false pass also rest = let here : q row ≡ true = within.0 pass in cc
   go false true pass also rest = rest ∙ sym (ap (λ b. cond b (row ∷ filter p (filter q rows)) (filter p (filter q rows))) pass)
   go false false pass also rest = rest
@@ -42,11 +45,13 @@ true_is True is = refl
 true_is False is = cc
 true_is Unknown is = cc
 
-module _ (db : Database) (table : List ℕ) (filter_by : Filter) (n : ℕ) (schema : Schema) (plan : Plan) (at : table_place db.schemas table ≡ Some n) (there : slice_get db.schemas n ≡ Some schema) (fit : All (IsRowOf schema.columns) (rows_of n db)) (covers : CoversMatches schema filter_by plan) where
+module _ (db : Database) (table : List ℕ) (filter_by : Filter) (n : ℕ) (schema : Schema) (plan : Plan) (at : table_place db.schemas table ≡ Some n)
+    (there : slice_get db.schemas n ≡ Some schema) (fit : All (IsRowOf schema.columns) (rows_of n db)) (covers : CoversMatches schema filter_by plan) where
   abbrev in_range : List Value → Bool
   in_range row = is_within plan.range (index_key schema plan.which row)
 
-  within : (rows : List (List Value)) → AllByRecursion (IsRowOf schema.columns) rows → AllByRecursion (λ row. matches schema.columns (Some filter_by) row ≡ true → in_range row ≡ true) rows
+  within : (rows : List (List Value)) → AllByRecursion (IsRowOf schema.columns) rows
+      → AllByRecursion (λ row. matches schema.columns (Some filter_by) row ≡ true → in_range row ≡ true) rows
   within [] all = tt
   within (row ∷ rows) all = (λ met. covers row all.0 (true_is (truth_of schema.columns row filter_by) met), within rows all.1)
 
@@ -57,21 +62,26 @@ module _ (db : Database) (table : List ℕ) (filter_by : Filter) (n : ℕ) (sche
     same_matching : matching schema.columns (Some filter_by) (rows_of n with_rows) ≡ matching schema.columns (Some filter_by) (rows_of n db)
     same_matching =
         ap (matching schema.columns (Some filter_by)) are
-        ∙ sym (filter_twice (matches schema.columns (Some filter_by)) in_range (rows_of n db) (within (rows_of n db) (recursion_from_All (IsRowOf schema.columns) (rows_of n db) fit)))
+        ∙ sym (filter_twice (matches schema.columns (Some filter_by)) in_range (rows_of n db)
+        (within (rows_of n db) (recursion_from_All (IsRowOf schema.columns) (rows_of n db) fit)))
 
     on_rows_is : (answer : ℕ → Schema → List (List Value) → Outcome) → on_rows db table answer ≡ answer n schema (rows_of n db)
     on_rows_is answer = ap (λ found. on_number db found answer) at ∙ ap (λ (found : Option Schema). on_schema n found (rows_of n db) answer) there
 
     on_rows_now : (answer : ℕ → Schema → List (List Value) → Outcome) → on_rows with_rows table answer ≡ answer n schema (rows_of n with_rows)
-    on_rows_now answer = ap (λ found. on_number with_rows found answer) at ∙ ap (λ (found : Option Schema). on_schema n found (rows_of n with_rows) answer) there
+    on_rows_now answer =
+        ap (λ found. on_number with_rows found answer) at ∙ ap (λ (found : Option Schema). on_schema n found (rows_of n with_rows) answer) there
 
-    on_rows_same : (answer : ℕ → Schema → List (List Value) → Outcome) → answer n schema (rows_of n with_rows) ≡ answer n schema (rows_of n db) → on_rows with_rows table answer ≡ on_rows db table answer
+    on_rows_same : (answer : ℕ → Schema → List (List Value) → Outcome) → answer n schema (rows_of n with_rows) ≡ answer n schema (rows_of n db)
+        → on_rows with_rows table answer ≡ on_rows db table answer
     on_rows_same answer same = on_rows_now answer ∙ (same ∙ sym (on_rows_is answer))
 
-    selects : (selected : Selected) (lock : _) → outcome (Select selected table (Some filter_by) lock) with_rows ≡ outcome (Select selected table (Some filter_by) lock) db
+    selects : (selected : Selected) (lock : _)
+        → outcome (Select selected table (Some filter_by) lock) with_rows ≡ outcome (Select selected table (Some filter_by) lock) db
     selects selected lock =
         ap (unless_refused (refusal db.schemas (Select selected table (Some filter_by) lock)))
-        (on_rows_same (select_answer selected (Some filter_by)) (ap (λ (found : List (List Value)). answered (Rows (map (selected_of schema.columns selected) found))) same_matching))
+        (on_rows_same (select_answer selected (Some filter_by))
+        (ap (λ (found : List (List Value)). answered (Rows (map (selected_of schema.columns selected) found))) same_matching))
 
     updates : (sets : List Set) → outcome (Update table sets (Some filter_by)) with_rows ≡ outcome (Update table sets (Some filter_by)) db
     updates sets =
@@ -81,12 +91,14 @@ module _ (db : Database) (table : List ℕ) (filter_by : Filter) (n : ℕ) (sche
     deletes : outcome (Delete table (Some filter_by)) with_rows ≡ outcome (Delete table (Some filter_by)) db
     deletes =
         ap (unless_refused (refusal db.schemas (Delete table (Some filter_by))))
-        (on_rows_same (delete_answer (Some filter_by)) (ap (λ (found : List (List Value)). counted (record { changes = deleted n schema found; refusal = None })) same_matching))
+        (on_rows_same (delete_answer (Some filter_by))
+        (ap (λ (found : List (List Value)). counted (record { changes = deleted n schema found; refusal = None })) same_matching))
 
     same_outcome : (stmt : Stmt) → SearchesFor stmt table filter_by → outcome stmt with_rows ≡ outcome stmt db
     same_outcome (Select selected name condition lock) is =
         subst (λ t. outcome (Select selected t condition lock) with_rows ≡ outcome (Select selected t condition lock) db) (sym is.0)
-        (subst (λ (c : Option Filter). outcome (Select selected table c lock) with_rows ≡ outcome (Select selected table c lock) db) (sym is.1) (selects selected lock))
+        (subst (λ (c : Option Filter). outcome (Select selected table c lock) with_rows ≡ outcome (Select selected table c lock) db) (sym is.1)
+        (selects selected lock))
     same_outcome (Update name sets condition) is =
         subst (λ t. outcome (Update t sets condition) with_rows ≡ outcome (Update t sets condition) db) (sym is.0)
         (subst (λ (c : Option Filter). outcome (Update table sets c) with_rows ≡ outcome (Update table sets c) db) (sym is.1) (updates sets))
@@ -104,7 +116,8 @@ module _ (db : Database) (table : List ℕ) (filter_by : Filter) (n : ℕ) (sche
     same_outcome (SetLevel scope level) is = elim is [ ]
 
   pub reads_enough : (stmt : Stmt) → SearchesFor stmt table filter_by
-      → (rows : RowMap) × (rows_of n (record db { rows = rows }) ≡ filter (λ row. is_within plan.range (index_key schema plan.which row)) (rows_of n db)) × (outcome stmt (record db { rows = rows }) ≡ outcome stmt db)
+      → (rows : RowMap) × (rows_of n (record db { rows = rows }) ≡ filter (λ row. is_within plan.range (index_key schema plan.which row)) (rows_of n db)) ×
+      (outcome stmt (record db { rows = rows }) ≡ outcome stmt db)
   reads_enough stmt is =
       let rows = passing_map in_range db.rows in
       let are = rows_of-passing in_range n db in
@@ -119,7 +132,10 @@ all_within range key is =
 
 pub all_kept : (p : List Value → Bool) (rows : List (List Value)) → ((row : List Value) → p row ≡ true) → filter p rows ≡ rows
 all_kept p [] all = refl
-all_kept p (row ∷ rows) all = ap (λ b. cond b (row ∷ filter p rows) (filter p rows)) (all row) ∙ ap (λ (later : List (List Value)). row ∷ later) (all_kept p rows all)
+all_kept p (row ∷ rows) all =
+    ap (λ b. cond b (row ∷ filter p rows) (filter p rows)) (all row) ∙ ap (λ (later : List (List Value)). row ∷ later) (all_kept p rows all)
 
-pub open_range : (schema : Schema) (plan : Plan) (rows : List (List Value)) → IsOpenRange plan.range → filter (λ (row : List Value). is_within plan.range (index_key schema plan.which row)) rows ≡ rows
-open_range schema plan rows is = all_kept (λ row. is_within plan.range (index_key schema plan.which row)) rows (λ row. all_within plan.range (index_key schema plan.which row) is)
+pub open_range : (schema : Schema) (plan : Plan) (rows : List (List Value)) → IsOpenRange plan.range
+    → filter (λ (row : List Value). is_within plan.range (index_key schema plan.which row)) rows ≡ rows
+open_range schema plan rows is =
+    all_kept (λ row. is_within plan.range (index_key schema plan.which row)) rows (λ row. all_within plan.range (index_key schema plan.which row) is)

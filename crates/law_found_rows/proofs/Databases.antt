@@ -36,13 +36,17 @@ use Rattle.law_found_rows.proofs.Fits.{each_row, row_fits}
 abbrev pub ShowsDatabase : ℕ → (Value → Option (List Value)) → Database → Type 0
 ShowsDatabase table row_at db = (key : Value) → get db.rows (table, key) ≡ row_at key
 
-module _ (schema : Schema) (table : ℕ) (row_at : Value → Option (List Value)) (db : Database) (shows : ShowsDatabase table row_at db) (homes : (value : Value) (row : List Value) → row_at value ≡ Some row → IsHome schema value row) where
-  pub found_are : (which : ℕ) (passes : List Value → Bool) (rows : List FoundRow) → AreFound schema which row_at passes rows → RiseByKey rows → map (λ (found : FoundRow). found.row) rows ≡ filter passes (rows_of table db)
+module _ (schema : Schema) (table : ℕ) (row_at : Value → Option (List Value)) (db : Database) (shows : ShowsDatabase table row_at db)
+    (homes : (value : Value) (row : List Value) → row_at value ≡ Some row → IsHome schema value row) where
+  pub found_are : (which : ℕ) (passes : List Value → Bool) (rows : List FoundRow) → AreFound schema which row_at passes rows → RiseByKey rows
+      → map (λ (found : FoundRow). found.row) rows ≡ filter passes (rows_of table db)
   found_are which passes rows is rise =
       sym (rows_back schema rows)
       ∙ (sym (rows_are table (passing_map passes db.rows) (keyed schema rows) (record {
         rising = sorted_found schema row_at table homes rows is.seen rise;
-        each = λ key. found_in schema row_at table which passes rows key is ∙ (ap (kept_if passes) (sym (shows key)) ∙ sym (get-passing passes db.rows (table, key)));
+        each =
+            λ key. found_in schema row_at table which passes rows key is ∙
+            (ap (kept_if passes) (sym (shows key)) ∙ sym (get-passing passes db.rows (table, key)));
       }))
       ∙ rows_of-passing passes table db)
 
@@ -53,8 +57,10 @@ module _ (schema : Schema) (table : ℕ) (row_at : Value → Option (List Value)
 
 module _ (chains : Chains) (writer : Option ℕ) (state : WorldState) (agrees : Agrees chains writer state) (table : ℕ) where
   -- by the view of an open transaction
-  pub view_shows : (s n : ℕ) (session : Session) (work : Work) (view : Seen) → HasWork s session work state → work.view ≡ Some view → view_of s state.past ≡ Some n
-      → ShowsDatabase table (rows_seen (sights.View (sight_of view) work.id) (in_table table chains)) (changed (with_all_tables state.past) (seen state.past s n))
+  pub view_shows : (s n : ℕ) (session : Session) (work : Work) (view : Seen) → HasWork s session work state → work.view ≡ Some view
+      → view_of s state.past ≡ Some n
+      → ShowsDatabase table (rows_seen (sights.View (sight_of view) work.id) (in_table table chains))
+      (changed (with_all_tables state.past) (seen state.past s n))
   view_shows s n session work view has is at key =
       seen_is state.past s n (at_key table key) agrees.lists.ordered
       ∙ sym (seen_by_view chains writer state agrees s n session work view (at_key table key) has is at)
@@ -67,27 +73,33 @@ module _ (chains : Chains) (writer : Option ℕ) (state : WorldState) (agrees : 
       ∙ (sym (latest state.past w (at_key table key) (newest (in_table table chains key)) alone (seen_newest chains writer state agrees (at_key table key)))
       ∙ sym (newest_seen (in_table table chains key)))
 
-pub homes_of : (schema : Schema) (kept : ℕ → Option Kept) (pairs : List Pair) (chains : Chains) (table : ℕ) (sight : Sight) → IsClustered schema kept pairs (in_table table chains)
+pub homes_of : (schema : Schema) (kept : ℕ → Option Kept) (pairs : List Pair) (chains : Chains) (table : ℕ) (sight : Sight)
+    → IsClustered schema kept pairs (in_table table chains)
     → (value : Value) (row : List Value) → rows_seen sight (in_table table chains) value ≡ Some row → IsHome schema value row
 homes_of schema kept pairs chains table sight is value row seen = home schema kept pairs (in_table table chains) (sees_by sight) value row is seen
 
 -- ---- in a world
 
-module _ (chains : Chains) (writer : Option ℕ) (state : WorldState) (table : ℕ) (schema : Schema) (kept : ℕ → Option Kept) (pairs : List Pair) (agrees : Agrees chains writer state) (clustered : IsClustered schema kept pairs (in_table table chains)) where
-  module _ (s n : ℕ) (session : Session) (work : Work) (view : Seen) (has : HasWork s session work state) (is : work.view ≡ Some view) (at : view_of s state.past ≡ Some n) where
+module _ (chains : Chains) (writer : Option ℕ) (state : WorldState) (table : ℕ) (schema : Schema) (kept : ℕ → Option Kept) (pairs : List Pair)
+    (agrees : Agrees chains writer state) (clustered : IsClustered schema kept pairs (in_table table chains)) where
+  module _ (s n : ℕ) (session : Session) (work : Work) (view : Seen) (has : HasWork s session work state) (is : work.view ≡ Some view)
+      (at : view_of s state.past ≡ Some n) where
     abbrev view_rows : Value → Option (List Value)
     view_rows = rows_seen (sights.View (sight_of view) work.id) (in_table table chains)
 
     abbrev view_database : Database
     view_database = changed (with_all_tables state.past) (seen state.past s n)
 
-    pub found_by_view : (which : ℕ) (passes : List Value → Bool) (rows : List FoundRow) → AreFound schema which view_rows passes rows → RiseByKey rows → map (λ (found : FoundRow). found.row) rows ≡ filter passes (rows_of table view_database)
+    pub found_by_view : (which : ℕ) (passes : List Value → Bool) (rows : List FoundRow) → AreFound schema which view_rows passes rows → RiseByKey rows
+        → map (λ (found : FoundRow). found.row) rows ≡ filter passes (rows_of table view_database)
     found_by_view =
-        found_are schema table view_rows view_database (view_shows chains writer state agrees table s n session work view has is at) (homes_of schema kept pairs chains table (sights.View (sight_of view) work.id) clustered)
+        found_are schema table view_rows view_database (view_shows chains writer state agrees table s n session work view has is at)
+        (homes_of schema kept pairs chains table (sights.View (sight_of view) work.id) clustered)
 
     pub view_rows_fit : All (IsRowOf schema.columns) (rows_of table view_database)
     view_rows_fit =
-        rows_fit schema table view_rows view_database (view_shows chains writer state agrees table s n session work view has is at) (homes_of schema kept pairs chains table (sights.View (sight_of view) work.id) clustered)
+        rows_fit schema table view_rows view_database (view_shows chains writer state agrees table s n session work view has is at)
+        (homes_of schema kept pairs chains table (sights.View (sight_of view) work.id) clustered)
 
   module _ (w : ℕ) (alone : (u : ℕ) → u ≢ w → own u state.past ≡ []) where
     abbrev newest_rows : Value → Option (List Value)
@@ -96,8 +108,13 @@ module _ (chains : Chains) (writer : Option ℕ) (state : WorldState) (table : �
     abbrev newest_database : Database
     newest_database = changed (with_all_tables state.past) (seen state.past w (commits state.past))
 
-    pub found_newest : (which : ℕ) (passes : List Value → Bool) (rows : List FoundRow) → AreFound schema which newest_rows passes rows → RiseByKey rows → map (λ (found : FoundRow). found.row) rows ≡ filter passes (rows_of table newest_database)
-    found_newest = found_are schema table newest_rows newest_database (newest_shows chains writer state agrees table w alone) (homes_of schema kept pairs chains table sights.Newest clustered)
+    pub found_newest : (which : ℕ) (passes : List Value → Bool) (rows : List FoundRow) → AreFound schema which newest_rows passes rows → RiseByKey rows
+        → map (λ (found : FoundRow). found.row) rows ≡ filter passes (rows_of table newest_database)
+    found_newest =
+        found_are schema table newest_rows newest_database (newest_shows chains writer state agrees table w alone)
+        (homes_of schema kept pairs chains table sights.Newest clustered)
 
     pub newest_rows_fit : All (IsRowOf schema.columns) (rows_of table newest_database)
-    newest_rows_fit = rows_fit schema table newest_rows newest_database (newest_shows chains writer state agrees table w alone) (homes_of schema kept pairs chains table sights.Newest clustered)
+    newest_rows_fit =
+        rows_fit schema table newest_rows newest_database (newest_shows chains writer state agrees table w alone)
+        (homes_of schema kept pairs chains table sights.Newest clustered)

@@ -22,20 +22,25 @@ use Rattle.law_found_rows.specs.Finding.{IsFinding, IsFindingAnew, LeavesScan}
 -- ---- others' steps
 
 finds_on : (s : ℕ) (schema : Schema) (old new : WorldState) (before after : Chains) (search : RowSearch) → LeavesScan s schema search.scan old new before after
-    → KeepsWay schema search.scan.sight old.versions.kept_at new.versions.kept_at search.phase → IsFinding s schema old before search → IsFinding s schema new after search
+    → KeepsWay schema search.scan.sight old.versions.kept_at new.versions.kept_at search.phase → IsFinding s schema old before search → IsFinding s schema
+    new after search
 finds_on s schema old new before after search leaves way is =
     record {
       searching = searching_still s schema old new search is.searching leaves.there leaves.place (λ told. leaves.told) (λ told. way);
       finds =
-          found_still schema old.versions.kept_at new.versions.kept_at (place_in s search.scan new) (in_table search.scan.table before) (in_table search.scan.table after) search leaves.seen way
+          found_still schema old.versions.kept_at new.versions.kept_at (place_in s search.scan new) (in_table search.scan.table before)
+          (in_table search.scan.table after) search leaves.seen way
           (subst (λ (place : Option Pair). Finds schema old.versions.kept_at place (in_table search.scan.table before) search) (sym leaves.place) is.finds);
     }
 
-pub keeps_finding : (s : ℕ) (schema : Schema) (old new : WorldState) (before after : Chains) (search : RowSearch) → LeavesScan s schema search.scan old new before after → KeepsMore old.versions.kept_at new.versions.kept_at
+pub keeps_finding : (s : ℕ) (schema : Schema) (old new : WorldState) (before after : Chains) (search : RowSearch)
+    → LeavesScan s schema search.scan old new before after → KeepsMore old.versions.kept_at new.versions.kept_at
     → IsFinding s schema old before search → IsFinding s schema new after search
-keeps_finding s schema old new before after search leaves more is = finds_on s schema old new before after search leaves (way_still schema search.scan.sight old.versions.kept_at new.versions.kept_at search.phase more) is
+keeps_finding s schema old new before after search leaves more is =
+    finds_on s schema old new before after search leaves (way_still schema search.scan.sight old.versions.kept_at new.versions.kept_at search.phase more) is
 
-pub may_come_anew : (s : ℕ) (schema : Schema) (state : WorldState) (chains : Chains) (search : RowSearch) → IsFinding s schema state chains search → IsFindingAnew s schema state chains search
+pub may_come_anew : (s : ℕ) (schema : Schema) (state : WorldState) (chains : Chains) (search : RowSearch) → IsFinding s schema state chains search
+    → IsFindingAnew s schema state chains search
 may_come_anew s schema state chains search is = λ other same found none searching.
     record {
       searching = searching s schema state is.searching;
@@ -44,7 +49,8 @@ may_come_anew s schema state chains search is = λ other same found none searchi
           (found schema state.versions.kept_at (place_in s search.scan state) (in_table search.scan.table chains) is.finds);
     }
 
-pub finds_anew : (s : ℕ) (schema : Schema) (old new : WorldState) (before after : Chains) (search : RowSearch) → LeavesScan s schema search.scan old new before after
+pub finds_anew : (s : ℕ) (schema : Schema) (old new : WorldState) (before after : Chains) (search : RowSearch)
+    → LeavesScan s schema search.scan old new before after
     → IsFindingAnew s schema old before search → IsFindingAnew s schema new after search
 finds_anew s schema old new before after search leaves is = λ other same found none searching.
     finds_on s schema old new before after other (subst (λ (scan : Scan). LeavesScan s schema scan old new before after) (sym same) leaves)
@@ -53,31 +59,41 @@ finds_anew s schema old new before after search leaves is = λ other same found 
 -- ---- its own steps
 
 pub begins : (s : ℕ) (schema : Schema) (state : WorldState) (chains : Chains) (fresh : RowSearch) → BeginsWithNothing fresh → MayBegin fresh
-    → slice_get state.schemas fresh.scan.table ≡ Some schema → fresh.scan.which ≤ length schema.keys → fresh.scan.which < 8 → IsFinding s schema state chains fresh
+    → slice_get state.schemas fresh.scan.table ≡ Some schema → fresh.scan.which ≤ length schema.keys → fresh.scan.which < 8 → IsFinding s schema state chains
+    fresh
 begins s schema state chains fresh nothing may there le few =
-    record { searching = may s schema state there le few; finds = nothing schema state.versions.kept_at (place_in s fresh.scan state) (in_table fresh.scan.table chains) }
+    record {
+      searching = may s schema state there le few;
+      finds = nothing schema state.versions.kept_at (place_in s fresh.scan state)
+          (in_table fresh.scan.table chains);
+    }
 
 -- versions stay, and so does what was found
-recast : (s : ℕ) (schema : Schema) (old new : WorldState) (chains : Chains) (scan : Scan) (next : RowSearch) → next.scan.table ≡ scan.table → Stays old.versions new.versions → IsTold new → IsSearching s schema new next
+recast : (s : ℕ) (schema : Schema) (old new : WorldState) (chains : Chains) (scan : Scan) (next : RowSearch) → next.scan.table ≡ scan.table
+    → Stays old.versions new.versions → IsTold new → IsSearching s schema new next
     → Finds schema old.versions.kept_at (place_in s next.scan new) (in_table scan.table chains) next → IsFinding s schema new chains next
 recast s schema old new chains scan next table stays told searching finds =
     record {
       searching = searching;
       finds =
-          subst (λ (kept : ℕ → Option Kept). Finds schema kept (place_in s next.scan new) (in_table next.scan.table chains) next) (sym (stays.kept told.versions))
+          subst (λ (kept : ℕ → Option Kept). Finds schema kept (place_in s next.scan new) (in_table next.scan.table chains) next)
+          (sym (stays.kept told.versions))
           (subst (λ (n : ℕ). Finds schema old.versions.kept_at (place_in s next.scan new) (in_table n chains) next) (sym table) finds);
     }
 
-pub goes_on : (s : ℕ) (schema : Schema) (old new : WorldState) (chains : Chains) (search next : RowSearch) → IsFinding s schema old chains search → ShowsRows schema search.scan old (in_table search.scan.table chains)
+pub goes_on : (s : ℕ) (schema : Schema) (old new : WorldState) (chains : Chains) (search next : RowSearch) → IsFinding s schema old chains search
+    → ShowsRows schema search.scan old (in_table search.scan.table chains)
     → GoesOn s schema old new search next → IsTold new → IsFinding s schema new chains next × IsSameScan search.scan next.scan
 goes_on s schema old new chains search next is shows goes told = (
-  recast s schema old new chains search.scan next goes.same.table goes.moves.versions told goes.holds (goes.finds (in_table search.scan.table chains) shows is.finds),
+  recast s schema old new chains search.scan next goes.same.table goes.moves.versions told goes.holds
+      (goes.finds (in_table search.scan.table chains) shows is.finds),
   goes.same,
 )
 
 pub waits_on : (s : ℕ) (schema : Schema) (old new : WorldState) (chains : Chains) (search same : RowSearch) (why : Move) → IsFinding s schema old chains search
     → Waits s schema old new search same why → IsTold new → IsFinding s schema new chains same × IsSameScan search.scan same.scan
 waits_on s schema old new chains search same why is waits told = (
-  recast s schema old new chains search.scan same waits.scan_is.table waits.unchanged.versions told waits.holds (waits.finds (in_table search.scan.table chains) is.finds),
+  recast s schema old new chains search.scan same waits.scan_is.table waits.unchanged.versions told waits.holds
+      (waits.finds (in_table search.scan.table chains) is.finds),
   waits.scan_is,
 )

@@ -19,7 +19,8 @@ use Rattle.law_fitting_rows.proofs.Rows.{IsFoundIn, all_found, at_schema}
 
 -- what holds of the row of each key of a table holds of the table's rows
 module _ (P : List Value → Type 0) (db : Database) (n : ℕ) (each : (key : Value) (row : List Value) → get db.rows (n, key) ≡ Some row → P row) where
-  among : (es : List (Place × List Value)) → AllByRecursion (IsFoundIn (entries db.rows)) es → AllByRecursion P (map (λ (e : Place × List Value). e.1) (filter (λ (e : Place × List Value). e.0.0 == n) es))
+  among : (es : List (Place × List Value)) → AllByRecursion (IsFoundIn (entries db.rows)) es
+      → AllByRecursion P (map (λ (e : Place × List Value). e.1) (filter (λ (e : Place × List Value). e.0.0 == n) es))
   among [] found = tt
   among (e ∷ es) found =
       let rest = among es found.1 in
@@ -38,7 +39,8 @@ module _ (P : List Value → Type 0) (db : Database) (n : ℕ) (each : (key : Va
 pub row_fits : (schema : Schema) (row : List Value) → IsCodableRow schema.columns row → All Has64Bits row → IsRowOf schema.columns row
 row_fits schema row fits bits = record { fits = λ place column there. (fits_in schema.columns row place column fits there, bits_in row place bits) }
 
-pub fitting_rows_fit : (db : Database) (n : ℕ) (schema : Schema) → AreFitting db → RowsHave64Bits db → slice_get db.schemas n ≡ Some schema → All (IsRowOf schema.columns) (rows_of n db)
+pub fitting_rows_fit : (db : Database) (n : ℕ) (schema : Schema) → AreFitting db → RowsHave64Bits db → slice_get db.schemas n ≡ Some schema
+    → All (IsRowOf schema.columns) (rows_of n db)
 fitting_rows_fit db n schema fitting bits there =
     All-from_recursion (IsRowOf schema.columns) (rows_of n db)
     (each_row (IsRowOf schema.columns) db n

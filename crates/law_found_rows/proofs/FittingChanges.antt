@@ -38,13 +38,15 @@ tables_storable (e ∷ past) fits = tables_storable past fits
 
 -- what fitted the tables before the entry fits those behind it
 fits_on : (e : Event) (past : List Event) → MayCome past e → (change : Change) → FitsWell (created past) change → FitsWell (created (e ∷ past)) change
-fits_on (events.Opened db) past may change fits = (FitsTables-more [] db.schemas change (subst (λ (h : List Event). FitsTables (created h) change) may fits.0), fits.1)
+fits_on (events.Opened db) past may change fits =
+    (FitsTables-more [] db.schemas change (subst (λ (h : List Event). FitsTables (created h) change) may fits.0), fits.1)
 fits_on (events.Changed s (Create schema)) past may change fits = (FitsTables-more (created past) (schema ∷ []) change fits.0, fits.1)
 fits_on (events.Changed s (Put table row)) past may change fits = fits
 fits_on (events.Changed s (Remove table key)) past may change fits = fits
 fits_on e past may change fits = fits
 
-all_on : (e : Event) (past : List Event) → MayCome past e → (changes : List Change) → All (FitsWell (created past)) changes → All (FitsWell (created (e ∷ past))) changes
+all_on : (e : Event) (past : List Event) → MayCome past e → (changes : List Change) → All (FitsWell (created past)) changes
+    → All (FitsWell (created (e ∷ past))) changes
 all_on e past may changes all = All-weaker (FitsWell (created past)) (FitsWell (created (e ∷ past))) (fits_on e past may) changes all
 
 -- the history before the entry fitted too
@@ -59,17 +61,22 @@ all_if P false xs ys first second = second
 
 -- ---- of a session's open transaction
 
-own_step : (e : Event) (past : List Event) (s : ℕ) → FitsThen (e ∷ past) → All (FitsWell (created past)) (own s past) → All (FitsWell (created past)) (own s (e ∷ past))
+own_step : (e : Event) (past : List Event) (s : ℕ) → FitsThen (e ∷ past) → All (FitsWell (created past)) (own s past)
+    → All (FitsWell (created past)) (own s (e ∷ past))
 own_step (events.Begin t n level) past s fits all = all_if (FitsWell (created past)) _ [] (own s past) (All-nil (FitsWell (created past))) all
-own_step (events.Changed t change) past s fits all = all_if (FitsWell (created past)) _ (change ∷ own s past) (own s past) (All-cons (FitsWell (created past)) change (own s past) fits.0 all) all
-own_step (events.Undone t keep) past s fits all = all_if (FitsWell (created past)) _ (oldest keep (own s past)) (own s past) (All-drop (FitsWell (created past)) (length (own s past) - keep) (own s past) all) all
+own_step (events.Changed t change) past s fits all =
+    all_if (FitsWell (created past)) _ (change ∷ own s past) (own s past) (All-cons (FitsWell (created past)) change (own s past) fits.0 all) all
+own_step (events.Undone t keep) past s fits all =
+    all_if (FitsWell (created past)) _ (oldest keep (own s past)) (own s past)
+    (All-drop (FitsWell (created past)) (length (own s past) - keep) (own s past) all) all
 own_step (events.Committed t) past s fits all = all_if (FitsWell (created past)) _ [] (own s past) (All-nil (FitsWell (created past))) all
 own_step (events.RolledBack t) past s fits all = all_if (FitsWell (created past)) _ [] (own s past) (All-nil (FitsWell (created past))) all
 own_step e past s fits all = all
 
 pub own_fits : (past : List Event) (s : ℕ) → FitsThen past → IsOrdered past → All (FitsWell (created past)) (own s past)
 own_fits [] s fits ordered = All-nil (FitsWell [])
-own_fits (e ∷ past) s fits ordered = all_on e past ordered.0 (own s (e ∷ past)) (own_step e past s fits (own_fits past s (fitted_before e past ordered.0 fits) ordered.1))
+own_fits (e ∷ past) s fits ordered =
+    all_on e past ordered.0 (own s (e ∷ past)) (own_step e past s fits (own_fits past s (fitted_before e past ordered.0 fits) ordered.1))
 
 -- ---- before its item
 
@@ -77,7 +84,9 @@ own_if : (P : Change → Type 0) (b : Bool) (s : ℕ) (here before : List Event)
 own_if P true s here before first second = first
 own_if P false s here before first second = second
 
-turn_step : (e : Event) (past : List Event) (s : ℕ) → All (FitsWell (created (e ∷ past))) (own s (e ∷ past)) → All (FitsWell (created (e ∷ past))) (own s past) → All (FitsWell (created (e ∷ past))) (own s (before_turn s past)) → All (FitsWell (created (e ∷ past))) (own s (before_turn s (e ∷ past)))
+turn_step : (e : Event) (past : List Event) (s : ℕ) → All (FitsWell (created (e ∷ past))) (own s (e ∷ past))
+    → All (FitsWell (created (e ∷ past))) (own s past) → All (FitsWell (created (e ∷ past))) (own s (before_turn s past))
+    → All (FitsWell (created (e ∷ past))) (own s (before_turn s (e ∷ past)))
 turn_step (events.Started t j item) past s now then before = own_if (FitsWell (created past)) _ s past (before_turn s past) then before
 turn_step (events.Begin t n level) past s now then before = own_if (FitsWell (created past)) _ s (events.Begin t n level ∷ past) (before_turn s past) now before
 turn_step e past s now then before = before
@@ -86,13 +95,16 @@ pub own_before_fits : (past : List Event) (s : ℕ) → FitsThen past → IsOrde
 own_before_fits [] s fits ordered = All-nil (FitsWell [])
 own_before_fits (e ∷ past) s fits ordered =
     let before = fitted_before e past ordered.0 fits in
-    turn_step e past s (own_fits (e ∷ past) s fits ordered) (all_on e past ordered.0 (own s past) (own_fits past s before ordered.1)) (all_on e past ordered.0 (own s (before_turn s past)) (own_before_fits past s before ordered.1))
+    turn_step e past s (own_fits (e ∷ past) s fits ordered) (all_on e past ordered.0 (own s past) (own_fits past s before ordered.1))
+    (all_on e past ordered.0 (own s (before_turn s past)) (own_before_fits past s before ordered.1))
 
 -- ---- that were committed
 
-committed_step : (e : Event) (past : List Event) (n : ℕ) → ((s : ℕ) → All (FitsWell (created past)) (own s past)) → All (FitsWell (created past)) (committed n past) → All (FitsWell (created past)) (committed n (e ∷ past))
+committed_step : (e : Event) (past : List Event) (n : ℕ) → ((s : ℕ) → All (FitsWell (created past)) (own s past))
+    → All (FitsWell (created past)) (committed n past) → All (FitsWell (created past)) (committed n (e ∷ past))
 committed_step (events.Committed t) past n owns all =
-    all_if (FitsWell (created past)) _ (own t past ++ committed n past) (committed n past) (All-append (FitsWell (created past)) (own t past) (committed n past) (owns t) all) all
+    all_if (FitsWell (created past)) _ (own t past ++ committed n past) (committed n past)
+    (All-append (FitsWell (created past)) (own t past) (committed n past) (owns t) all) all
 committed_step e past n owns all = all
 
 pub committed_fits : (past : List Event) (n : ℕ) → FitsThen past → IsOrdered past → All (FitsWell (created past)) (committed n past)

@@ -45,7 +45,8 @@ both_fit schemas (change ∷ changes) tables numbers =
     (both_fit schemas changes (All-tail (FitsTables schemas) change changes tables) (All-tail ChangeHas64Bits change changes numbers))
 
 pub statement_fits : (stmt : Stmt) (db : Database) → CanBeCoded db → Stores64Bits stmt → All (FitsWell db.schemas) (outcome stmt db).changes
-statement_fits stmt db coded stores = both_fit db.schemas (outcome stmt db).changes (outcome-FitsTables db coded.fitting stmt) (outcome-Has64Bits db coded.numbers stmt stores)
+statement_fits stmt db coded stores =
+    both_fit db.schemas (outcome stmt db).changes (outcome-FitsTables db coded.fitting stmt) (outcome-Has64Bits db coded.numbers stmt stores)
 
 -- ---- over all tables
 
@@ -54,7 +55,12 @@ created_since : (past : List Event) → (more : List Schema) × (created past �
 created_since [] = ([], refl)
 created_since (events.Opened db ∷ past) = ([], sym (append-nil db.schemas))
 created_since (events.Changed s (Create schema) ∷ past) =
-    let before = created_since past in (before.0 ++ schema ∷ [], ap (λ (l : List Schema). l ++ schema ∷ []) before.1 ∙ append_assoc (opening past).schemas before.0 (schema ∷ []))
+    let before =
+    created_since past in (
+      before.0 ++ schema ∷ [],
+      ap (λ (l : List Schema). l ++ schema ∷ []) before.1 ∙ append_assoc (opening past).schemas before.0
+          (schema ∷ []),
+    )
 created_since (events.Changed s (Put table row) ∷ past) = created_since past
 created_since (events.Changed s (Remove table key) ∷ past) = created_since past
 created_since (e ∷ past) = created_since past
@@ -66,7 +72,8 @@ opening_coded (events.Changed s change ∷ past) fits = opening_coded past fits.
 opening_coded (e ∷ past) fits = opening_coded past fits
 
 -- rows fit with more tables, too
-more_tables_fit : (db : Database) (tables more : List Schema) → tables ≡ db.schemas ++ more → AreStorable tables → AreFitting db → AreFitting (record { schemas = tables; rows = db.rows })
+more_tables_fit : (db : Database) (tables more : List Schema) → tables ≡ db.schemas ++ more → AreStorable tables → AreFitting db
+    → AreFitting (record { schemas = tables; rows = db.rows })
 more_tables_fit db tables more is storable fits =
     AreFitting-mixed tables db.rows storable (λ place row there. record { db = db; fitting = fits; more = more; tables = is; there = there })
 
@@ -76,7 +83,10 @@ seen_coded past s n fits ordered =
     let opened = opening_coded past fits in
     let all = All-append (FitsWell (created past)) (own s past) (committed n past) (own_fits past s fits ordered) (committed_fits past n fits ordered) in
     record {
-      fitting = AreFitting-changed (with_all_tables past) (seen past s n) (more_tables_fit (opening past) (created past) since.0 since.1 (tables_storable past fits) opened.fitting) (tables_fit (created past) (seen past s n) all);
+      fitting =
+          AreFitting-changed (with_all_tables past) (seen past s n)
+          (more_tables_fit (opening past) (created past) since.0 since.1 (tables_storable past fits) opened.fitting)
+          (tables_fit (created past) (seen past s n) all);
       numbers = changed-Has64Bits (with_all_tables past) (seen past s n) opened.numbers (numbers_fit (created past) (seen past s n) all);
     }
 
@@ -85,48 +95,66 @@ seen_coded past s n fits ordered =
 -- the tables of a database after changes
 schemas_after : (db : Database) (changes : List Change) → (changed db changes).schemas ≡ db.schemas ++ made changes
 schemas_after db [] = sym (append-nil db.schemas)
-schemas_after db (Create schema ∷ changes) = ap (λ (schemas : List Schema). schemas ++ schema ∷ []) (schemas_after db changes) ∙ append_assoc db.schemas (made changes) (schema ∷ [])
+schemas_after db (Create schema ∷ changes) =
+    ap (λ (schemas : List Schema). schemas ++ schema ∷ []) (schemas_after db changes) ∙ append_assoc db.schemas (made changes) (schema ∷ [])
 schemas_after db (Put table row ∷ changes) = schemas_after db changes
 schemas_after db (Remove table key ∷ changes) = schemas_after db changes
 
 module _ (db : Database) (fits : AreFitting db) (tables : List Schema) (storable : AreStorable tables) where
-  key_after : (more : List Schema) (earlier : List Change) (table : ℕ) (row : List Value) → tables ≡ (db.schemas ++ made earlier) ++ more → table < length (db.schemas ++ made earlier) → key_in tables table row ≡ key_in (changed db earlier).schemas table row
+  key_after : (more : List Schema) (earlier : List Change) (table : ℕ) (row : List Value) → tables ≡ (db.schemas ++ made earlier) ++ more
+      → table < length (db.schemas ++ made earlier) → key_in tables table row ≡ key_in (changed db earlier).schemas table row
   key_after more earlier table row is lt =
-      ap (λ (l : List Schema). key_in l table row) is ∙ key_stays (db.schemas ++ made earlier) more table row lt ∙ sym (ap (λ (l : List Schema). key_in l table row) (schemas_after db earlier))
+      ap (λ (l : List Schema). key_in l table row) is ∙ key_stays (db.schemas ++ made earlier) more table row lt ∙ sym
+      (ap (λ (l : List Schema). key_in l table row) (schemas_after db earlier))
 
   -- the rows fit all tables, of which some may have been made later
-  rows_fit : (more : List Schema) (changes : List Change) → tables ≡ (db.schemas ++ made changes) ++ more → AreInOrder db.schemas changes → All (FitsTables tables) changes → AreFitting (record { schemas = tables; rows = (changed db changes).rows })
+  rows_fit : (more : List Schema) (changes : List Change) → tables ≡ (db.schemas ++ made changes) ++ more → AreInOrder db.schemas changes
+      → All (FitsTables tables) changes → AreFitting (record { schemas = tables; rows = (changed db changes).rows })
   rows_fit more [] is in_order all = more_tables_fit db tables more (is ∙ ap (λ (l : List Schema). l ++ more) (append-nil db.schemas)) storable fits
   rows_fit more (Create schema ∷ earlier) is in_order all =
-      let later : tables ≡ (db.schemas ++ made earlier) ++ (schema ∷ more) = is ∙ (ap (λ (l : List Schema). l ++ more) (sym (append_assoc db.schemas (made earlier) (schema ∷ []))) ∙ append_assoc (db.schemas ++ made earlier) (schema ∷ []) more) in
+      let later : tables ≡ (db.schemas ++ made earlier) ++ (schema ∷ more) =
+      is ∙ (ap (λ (l : List Schema). l ++ more) (sym (append_assoc db.schemas (made earlier) (schema ∷ []))) ∙ append_assoc (db.schemas ++ made earlier)
+      (schema ∷ []) more) in
       rows_fit (schema ∷ more) earlier later in_order.1 (All-tail (FitsTables tables) (Create schema) earlier all)
   rows_fit more (Put table row ∷ earlier) is in_order all =
       let before = rows_fit more earlier is in_order.1 (All-tail (FitsTables tables) (Put table row) earlier all) in
-      subst (λ (key : Value). AreFitting (record { schemas = tables; rows = insert (changed db earlier).rows (table, key) row })) (key_after more earlier table row is in_order.0)
-      (AreFitting-apply_one (record { schemas = tables; rows = (changed db earlier).rows }) (Put table row) before (All-head (FitsTables tables) (Put table row) earlier all))
+      subst (λ (key : Value). AreFitting (record { schemas = tables; rows = insert (changed db earlier).rows (table, key) row }))
+      (key_after more earlier table row is in_order.0)
+      (AreFitting-apply_one (record { schemas = tables; rows = (changed db earlier).rows }) (Put table row) before
+      (All-head (FitsTables tables) (Put table row) earlier all))
   rows_fit more (Remove table key ∷ earlier) is in_order all =
       let before = rows_fit more earlier is in_order.1 (All-tail (FitsTables tables) (Remove table key) earlier all) in
-      AreFitting-apply_one (record { schemas = tables; rows = (changed db earlier).rows }) (Remove table key) before (All-head (FitsTables tables) (Remove table key) earlier all)
+      AreFitting-apply_one (record { schemas = tables; rows = (changed db earlier).rows }) (Remove table key) before
+      (All-head (FitsTables tables) (Remove table key) earlier all)
 
 order_of_rest : (tables : List Schema) (later changes : List Change) → AreInOrder tables (later ++ changes) → AreInOrder tables changes
 order_of_rest tables [] changes in_order = in_order
 order_of_rest tables (change ∷ later) changes in_order = order_of_rest tables later changes in_order.1
 
-pub latest_coded : (past : List Event) (s : ℕ) (later : List Change) → FitsThen past → IsOrdered past → IsInOrder past → own s past ≡ later ++ own_before s past → created past ≡ (base s past).schemas → CanBeCoded (base s past)
+pub latest_coded : (past : List Event) (s : ℕ) (later : List Change) → FitsThen past → IsOrdered past → IsInOrder past
+    → own s past ≡ later ++ own_before s past → created past ≡ (base s past).schemas → CanBeCoded (base s past)
 latest_coded past s later fits ordered in_order parts tables =
     let opened = opening_coded past fits in
     let changes = own_before s past ++ committed (commits past) past in
-    let all = All-append (FitsWell (created past)) (own_before s past) (committed (commits past) past) (own_before_fits past s fits ordered) (committed_fits past (commits past) fits ordered) in
+    let all =
+    All-append (FitsWell (created past)) (own_before s past) (committed (commits past) past) (own_before_fits past s fits ordered)
+    (committed_fits past (commits past) fits ordered) in
     let mine : AreInOrder (opening past).schemas (later ++ changes) =
-    subst (AreInOrder (opening past).schemas) (append_assoc later (own_before s past) (committed (commits past) past)) (subst (λ (own : List Change). AreInOrder (opening past).schemas (own ++ committed (commits past) past)) parts (in_order s)) in
-    let is : created past ≡ ((opening past).schemas ++ made changes) ++ [] = tables ∙ schemas_after (opening past) changes ∙ sym (append-nil ((opening past).schemas ++ made changes)) in
+    subst (AreInOrder (opening past).schemas) (append_assoc later (own_before s past) (committed (commits past) past))
+    (subst (λ (own : List Change). AreInOrder (opening past).schemas (own ++ committed (commits past) past)) parts (in_order s)) in
+    let is : created past ≡ ((opening past).schemas ++ made changes) ++ [] =
+    tables ∙ schemas_after (opening past) changes ∙ sym (append-nil ((opening past).schemas ++ made changes)) in
     record {
       fitting = subst (λ (schemas : List Schema). AreFitting (record { schemas = schemas; rows = (changed (opening past) changes).rows })) tables
-          (rows_fit (opening past) opened.fitting (created past) (tables_storable past fits) [] changes is (order_of_rest (opening past).schemas later changes mine) (tables_fit (created past) changes all));
+          (rows_fit (opening past) opened.fitting (created past) (tables_storable past fits) [] changes is
+          (order_of_rest (opening past).schemas later changes mine) (tables_fit (created past) changes all));
       numbers = changed-Has64Bits (opening past) changes opened.numbers (numbers_fit (created past) changes all);
     }
 
-pub unchanged_coded : (past : List Event) (s : ℕ) → FitsThen past → IsOrdered past → IsInOrder past → AreStanding past → ((other : ℕ) → other ≢ s → own other past ≡ []) → own s past ≡ own_before s past → CanBeCoded (base s past)
+pub unchanged_coded : (past : List Event) (s : ℕ) → FitsThen past → IsOrdered past → IsInOrder past → AreStanding past
+    → ((other : ℕ) → other ≢ s → own other past ≡ []) → own s past ≡ own_before s past → CanBeCoded (base s past)
 unchanged_coded past s fits ordered in_order stands alone unchanged =
-    let tables : created past ≡ (changed (opening past) (own s past ++ committed (commits past) past)).schemas = stands.tables s (λ other differs. ap (list_any is_creation) (alone other differs)) in
-    latest_coded past s [] fits ordered in_order unchanged (tables ∙ ap (λ changes. (changed (opening past) (changes ++ committed (commits past) past)).schemas) unchanged)
+    let tables : created past ≡ (changed (opening past) (own s past ++ committed (commits past) past)).schemas =
+    stands.tables s (λ other differs. ap (list_any is_creation) (alone other differs)) in
+    latest_coded past s [] fits ordered in_order unchanged
+    (tables ∙ ap (λ changes. (changed (opening past) (changes ++ committed (commits past) past)).schemas) unchanged)

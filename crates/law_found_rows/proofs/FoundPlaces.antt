@@ -56,13 +56,15 @@ found_once passes (Some row) = go (passes row) where
   go false = refl
 
 module _ (schema : Schema) (row_at : Value → Option (List Value)) (table : ℕ) where
-  times-cons : (value : Value) (found : FoundRow) (rows : List FoundRow) → times_found schema value (found ∷ rows) ≡ cond (is_same_value value (key_of schema found.row)) 1 0 + times_found schema value rows
+  times-cons : (value : Value) (found : FoundRow) (rows : List FoundRow)
+      → times_found schema value (found ∷ rows) ≡ cond (is_same_value value (key_of schema found.row)) 1 0 + times_found schema value rows
   times-cons value found rows = sum_by-cons (λ (f : FoundRow). cond (is_same_value value (key_of schema f.row)) 1 0) found rows
 
   abbrev stands_at : Value → List FoundRow → Option (List Value)
   stands_at value rows = find place_cmp (table, value) (at_places table (keyed schema rows))
 
-  find_found : (value : Value) (rows : List FoundRow) → AllByRecursion (IsSeenRow schema row_at) rows → find place_cmp (table, value) (at_places table (keyed schema rows)) ≡ found_if (times_found schema value rows) (row_at value)
+  find_found : (value : Value) (rows : List FoundRow) → AllByRecursion (IsSeenRow schema row_at) rows
+      → find place_cmp (table, value) (at_places table (keyed schema rows)) ≡ found_if (times_found schema value rows) (row_at value)
   find_found value [] seen = refl
   find_found value (found ∷ rows) seen = go (is_same_value value (key_of schema found.row)) refl (find_found value rows seen.1) where
     go : (b : Bool) → is_same_value value (key_of schema found.row) ≡ b → stands_at value rows ≡ found_if (times_found schema value rows) (row_at value)
@@ -71,11 +73,13 @@ module _ (schema : Schema) (row_at : Value → Option (List Value)) (table : ℕ
         let counted : times_found schema value (found ∷ rows) ≡ suc (times_found schema value rows)
         = times-cons value found rows ∙ (ap (λ b. cond b 1 0 + times_found schema value rows) same ∙ one_plus (times_found schema value rows)) in
         let seen_here : row_at value ≡ Some found.row = ap row_at (same_value value (key_of schema found.row) same) ∙ seen.0.seen in
-        ap (λ b. cond b (Some found.row) (stands_at value rows)) (in_one_table table value (key_of schema found.row) ∙ same) ∙ (sym seen_here ∙ ap (λ n. found_if n (row_at value)) (sym counted))
+        ap (λ b. cond b (Some found.row) (stands_at value rows)) (in_one_table table value (key_of schema found.row) ∙ same) ∙
+        (sym seen_here ∙ ap (λ n. found_if n (row_at value)) (sym counted))
     go false apart rest =
         let counted : times_found schema value (found ∷ rows) ≡ times_found schema value rows
         = times-cons value found rows ∙ (ap (λ b. cond b 1 0 + times_found schema value rows) apart ∙ none_plus (times_found schema value rows)) in
-        ap (λ b. cond b (Some found.row) (stands_at value rows)) (in_one_table table value (key_of schema found.row) ∙ apart) ∙ (rest ∙ ap (λ n. found_if n (row_at value)) (sym counted))
+        ap (λ b. cond b (Some found.row) (stands_at value rows)) (in_one_table table value (key_of schema found.row) ∙ apart) ∙
+        (rest ∙ ap (λ n. found_if n (row_at value)) (sym counted))
 
   -- at each place stands what the reader sees there, where it passes
   pub found_in : (which : ℕ) (passes : List Value → Bool) (rows : List FoundRow) (value : Value) → AreFound schema which row_at passes rows
@@ -83,7 +87,8 @@ module _ (schema : Schema) (row_at : Value → Option (List Value)) (table : ℕ
   found_in which passes rows value is = find_found value rows is.seen ∙ (ap (λ n. found_if n (row_at value)) (is.once value) ∙ found_once passes (row_at value))
 
   module _ (homes : (value : Value) (row : List Value) → row_at value ≡ Some row → IsHome schema value row) where
-    below_by_place : (a b : FoundRow) → IsSeenRow schema row_at a → IsSeenRow schema row_at b → key_cmp a.key b.key ≡ Less → is_lt (place_cmp (table, key_of schema a.row) (table, key_of schema b.row)) ≡ true
+    below_by_place : (a b : FoundRow) → IsSeenRow schema row_at a → IsSeenRow schema row_at b → key_cmp a.key b.key ≡ Less
+        → is_lt (place_cmp (table, key_of schema a.row) (table, key_of schema b.row)) ≡ true
     below_by_place a b sa sb less =
         let ha = (homes (key_of schema a.row) a.row sa.seen).has_key in
         let hb = (homes (key_of schema b.row) b.row sb.seen).has_key in
@@ -91,15 +96,19 @@ module _ (schema : Schema) (row_at : Value → Option (List Value)) (table : ℕ
         ∙ ap is_lt (sym (keys_order (kind_at schema.columns schema.primary) (key_of schema a.row) (key_of schema b.row) ha hb)
         ∙ (ap (λ k. key_cmp k (primary_key schema b.row)) (sym sa.key_is) ∙ (ap (key_cmp a.key) (sym sb.key_is) ∙ less)))
 
-    below_rows : (found : FoundRow) (rows : List FoundRow) → IsSeenRow schema row_at found → AllByRecursion (IsSeenRow schema row_at) rows → AllByRecursion (λ (later : FoundRow). key_cmp found.key later.key ≡ Less) rows
+    below_rows : (found : FoundRow) (rows : List FoundRow) → IsSeenRow schema row_at found → AllByRecursion (IsSeenRow schema row_at) rows
+        → AllByRecursion (λ (later : FoundRow). key_cmp found.key later.key ≡ Less) rows
         → below_all place_cmp (table, key_of schema found.row) (at_places table (keyed schema rows)) ≡ true
     below_rows found [] seen all less = refl
     below_rows found (next ∷ rows) seen all less =
-        both (is_lt (place_cmp (table, key_of schema found.row) (table, key_of schema next.row))) (below_all place_cmp (table, key_of schema found.row) (at_places table (keyed schema rows)))
+        both (is_lt (place_cmp (table, key_of schema found.row) (table, key_of schema next.row)))
+        (below_all place_cmp (table, key_of schema found.row) (at_places table (keyed schema rows)))
         (below_by_place found next seen all.0 less.0) (below_rows found rows seen all.1 less.1)
 
-    pub sorted_found : (rows : List FoundRow) → AllByRecursion (IsSeenRow schema row_at) rows → RiseByKey rows → is_sorted place_cmp (at_places table (keyed schema rows)) ≡ true
+    pub sorted_found : (rows : List FoundRow) → AllByRecursion (IsSeenRow schema row_at) rows → RiseByKey rows
+        → is_sorted place_cmp (at_places table (keyed schema rows)) ≡ true
     sorted_found [] seen rise = refl
     sorted_found (found ∷ rows) seen rise =
-        both (below_all place_cmp (table, key_of schema found.row) (at_places table (keyed schema rows))) (is_sorted place_cmp (at_places table (keyed schema rows)))
+        both (below_all place_cmp (table, key_of schema found.row) (at_places table (keyed schema rows)))
+        (is_sorted place_cmp (at_places table (keyed schema rows)))
         (below_rows found rows seen.0 seen.1 rise.0) (sorted_found rows seen.1 rise.1)

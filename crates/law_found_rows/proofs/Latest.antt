@@ -14,11 +14,13 @@ abbrev pub at_key : ℕ → Value → Place
 at_key table key = record { table = table; key = key }
 
 -- changes of other places are passed over
-passed_over : (before : Option (List Value)) (at : Change → Bool) (xs ys : List Change) → list_any at xs ≡ false → row_at before at (xs ++ ys) ≡ row_at before at ys
+passed_over : (before : Option (List Value)) (at : Change → Bool) (xs ys : List Change) → list_any at xs ≡ false
+    → row_at before at (xs ++ ys) ≡ row_at before at ys
 passed_over before at [] ys none = refl
 passed_over before at (change ∷ xs) ys none = grind (arith, nat_tests, passed_over before at xs ys, none)
 
-pub latest : (h : List Event) (s : ℕ) (place : Place) (row : Option (List Value)) → ((u : ℕ) → u ≢ s → own u h ≡ []) → IsNewestSeen h place row → row ≡ row_seen h s (commits h) place
+pub latest : (h : List Event) (s : ℕ) (place : Place) (row : Option (List Value)) → ((u : ℕ) → u ≢ s → own u h ≡ []) → IsNewestSeen h place row
+    → row ≡ row_seen h s (commits h) place
 latest h s place row alone newest =
     let opened = row_opened h place in
     let at = is_at (created h) place in

@@ -36,7 +36,8 @@ less_apart Greater is = absurd is
 none_below : (place : Place) (es : List (Place × List Value)) → T (below_all place_cmp place es) → find place_cmp place es ≡ None
 none_below place [] below = refl
 none_below place (e ∷ es) below =
-    ap (λ b. cond b (Some e.1) (find place_cmp place es)) (less_apart (place_cmp place e.0) (first (is_lt (place_cmp place e.0)) (below_all place_cmp place es) below))
+    ap (λ b. cond b (Some e.1) (find place_cmp place es))
+    (less_apart (place_cmp place e.0) (first (is_lt (place_cmp place e.0)) (below_all place_cmp place es) below))
     ∙ none_below place es (second (is_lt (place_cmp place e.0)) (below_all place_cmp place es) below)
 
 -- the row, if it passes
@@ -58,38 +59,50 @@ module _ (passes : List Value → Bool) where
   below_passing low [] below = tt
   below_passing low (e ∷ es) below = go (passes e.1) (below_passing low es (second (is_lt (place_cmp low e.0)) (below_all place_cmp low es) below)) where
     go : (b : Bool) → T (below_all place_cmp low (passing es)) → T (below_all place_cmp low (cond b (e ∷ passing es) (passing es)))
-    go true rest = both (is_lt (place_cmp low e.0)) (below_all place_cmp low (passing es)) (first (is_lt (place_cmp low e.0)) (below_all place_cmp low es) below) rest
+    go true rest =
+        both (is_lt (place_cmp low e.0)) (below_all place_cmp low (passing es)) (first (is_lt (place_cmp low e.0)) (below_all place_cmp low es) below) rest
     go false rest = rest
 
   sorted_passing : (es : List (Place × List Value)) → T (is_sorted place_cmp es) → T (is_sorted place_cmp (passing es))
   sorted_passing [] sorted = tt
   sorted_passing (e ∷ es) sorted =
-      go (passes e.1) (below_passing e.0 es (first (below_all place_cmp e.0 es) (is_sorted place_cmp es) sorted)) (sorted_passing es (second (below_all place_cmp e.0 es) (is_sorted place_cmp es) sorted)) where
-        go : (b : Bool) → T (below_all place_cmp e.0 (passing es)) → T (is_sorted place_cmp (passing es)) → T (is_sorted place_cmp (cond b (e ∷ passing es) (passing es)))
+      go (passes e.1) (below_passing e.0 es (first (below_all place_cmp e.0 es) (is_sorted place_cmp es) sorted))
+      (sorted_passing es (second (below_all place_cmp e.0 es) (is_sorted place_cmp es) sorted)) where
+        go : (b : Bool) → T (below_all place_cmp e.0 (passing es)) → T (is_sorted place_cmp (passing es))
+            → T (is_sorted place_cmp (cond b (e ∷ passing es) (passing es)))
         go true below rest = both (below_all place_cmp e.0 (passing es)) (is_sorted place_cmp (passing es)) below rest
         go false below rest = rest
 
-  find_passing : (place : Place) (es : List (Place × List Value)) → T (is_sorted place_cmp es) → find place_cmp place (passing es) ≡ kept_if passes (find place_cmp place es)
+  find_passing : (place : Place) (es : List (Place × List Value)) → T (is_sorted place_cmp es)
+      → find place_cmp place (passing es) ≡ kept_if passes (find place_cmp place es)
   find_passing place [] sorted = refl
   find_passing place (e ∷ es) sorted =
-      go (passes e.1) (eq_by_cmp place_cmp place e.0) refl refl (find_passing place es (second (below_all place_cmp e.0 es) (is_sorted place_cmp es) sorted)) where
-        gone : eq_by_cmp place_cmp place e.0 ≡ true → find place_cmp place es ≡ None
-        gone same = none_below place es (subst (λ (p : Place). T (below_all place_cmp p es)) (sym (same_places place e.0 (equal (place_cmp place e.0) same))) (first (below_all place_cmp e.0 es) (is_sorted place_cmp es) sorted))
+      go (passes e.1) (eq_by_cmp place_cmp place e.0) refl refl (find_passing place es (second (below_all place_cmp e.0 es) (is_sorted place_cmp es) sorted))
+    where
+      gone : eq_by_cmp place_cmp place e.0 ≡ true → find place_cmp place es ≡ None
+      gone same =
+          none_below place es (subst (λ (p : Place). T (below_all place_cmp p es)) (sym (same_places place e.0 (equal (place_cmp place e.0) same)))
+          (first (below_all place_cmp e.0 es) (is_sorted place_cmp es) sorted))
 
-        go : (b same : Bool) → passes e.1 ≡ b → eq_by_cmp place_cmp place e.0 ≡ same → find place_cmp place (passing es) ≡ kept_if passes (find place_cmp place es)
-            → find place_cmp place (cond b (e ∷ passing es) (passing es)) ≡ kept_if passes (cond same (Some e.1) (find place_cmp place es))
-        go true true p s rest = ap (λ b. cond b (Some e.1) (find place_cmp place (passing es))) s ∙ sym (ap (λ b. cond b (Some e.1) None) p)
-        go true false p s rest = ap (λ b. cond b (Some e.1) (find place_cmp place (passing es))) s ∙ rest
-        go false true p s rest = rest ∙ (ap (kept_if passes) (gone s) ∙ sym (ap (λ b. cond b (Some e.1) None) p))
-        go false false p s rest = rest
+      go : (b same : Bool) → passes e.1 ≡ b → eq_by_cmp place_cmp place e.0 ≡ same
+          → find place_cmp place (passing es) ≡ kept_if passes (find place_cmp place es)
+          → find place_cmp place (cond b (e ∷ passing es) (passing es)) ≡ kept_if passes (cond same (Some e.1) (find place_cmp place es))
+      go true true p s rest = ap (λ b. cond b (Some e.1) (find place_cmp place (passing es))) s ∙ sym (ap (λ b. cond b (Some e.1) None) p)
+      go true false p s rest = ap (λ b. cond b (Some e.1) (find place_cmp place (passing es))) s ∙ rest
+      go false true p s rest = rest ∙ (ap (kept_if passes) (gone s) ∙ sym (ap (λ b. cond b (Some e.1) None) p))
+      go false false p s rest = rest
 
   rows_passing : (n : ℕ) (es : List (Place × List Value))
-      → map (λ (e : Place × List Value). e.1) (filter (λ (e : Place × List Value). e.0.0 == n) (passing es)) ≡ filter passes (map (λ (e : Place × List Value). e.1) (filter (λ (e : Place × List Value). e.0.0 == n) es))
+      → map (λ (e : Place × List Value). e.1) (filter (λ (e : Place × List Value). e.0.0 == n) (passing es)) ≡ filter passes
+      (map (λ (e : Place × List Value). e.1) (filter (λ (e : Place × List Value). e.0.0 == n) es))
   rows_passing n [] = refl
   rows_passing n (e ∷ es) = go (passes e.1) (eqb e.0.0 n) refl refl (rows_passing n es) where
     go : (b here : Bool) → passes e.1 ≡ b → eqb e.0.0 n ≡ here → rows (of_table n (passing es)) ≡ filter passes (rows (of_table n es))
         → rows (of_table n (cond b (e ∷ passing es) (passing es))) ≡ filter passes (rows (cond here (e ∷ of_table n es) (of_table n es)))
-    go true true p h rest = ap (λ b. rows (cond b (e ∷ of_table n (passing es)) (of_table n (passing es)))) h ∙ (ap (λ (later : List (List Value)). e.1 ∷ later) rest ∙ sym (ap (λ b. cond b (e.1 ∷ filter passes (rows (of_table n es))) (filter passes (rows (of_table n es)))) p))
+    go true true p h rest =
+        ap (λ b. rows (cond b (e ∷ of_table n (passing es)) (of_table n (passing es)))) h ∙
+        (ap (λ (later : List (List Value)). e.1 ∷ later) rest ∙ sym
+        (ap (λ b. cond b (e.1 ∷ filter passes (rows (of_table n es))) (filter passes (rows (of_table n es)))) p))
     go true false p h rest = ap (λ b. rows (cond b (e ∷ of_table n (passing es)) (of_table n (passing es)))) h ∙ rest
     go false true p h rest = rest ∙ sym (ap (λ b. cond b (e.1 ∷ filter passes (rows (of_table n es))) (filter passes (rows (of_table n es)))) p)
     go false false p h rest = rest
@@ -111,5 +124,6 @@ module _ (passes : List Value → Bool) where
 
   pub rows_of-passing : (n : ℕ) (db : Database) → rows_of n (record db { rows = passing_map db.rows }) ≡ filter passes (rows_of n db)
   rows_of-passing n db =
-      ap (λ (es : List (Place × List Value)). map (λ (e : Place × List Value). e.1) (filter (λ (e : Place × List Value). e.0.0 == n) es)) (entries-passing db.rows)
+      ap (λ (es : List (Place × List Value)). map (λ (e : Place × List Value). e.1) (filter (λ (e : Place × List Value). e.0.0 == n) es))
+      (entries-passing db.rows)
       ∙ rows_passing n (entries db.rows)

@@ -51,14 +51,16 @@ opening_stays t e h place mine = refl
 row_at_so : (before : Option (List Value)) (schemas more : List Schema) (place : Place) (cs : List Change) → AllByRecursion (IsTabled (length schemas)) cs
     → row_at before (is_at (schemas ++ more) place) cs ≡ row_at before (is_at schemas place) cs
 row_at_so before schemas more place [] all = refl
-row_at_so before schemas more place (c ∷ cs) all = rw (at_stays schemas more place c all.0) (ap (λ later. cond (is_at schemas place c) (row_of c) later) (row_at_so before schemas more place cs all.1))
+row_at_so before schemas more place (c ∷ cs) all =
+    rw (at_stays schemas more place c all.0) (ap (λ later. cond (is_at schemas place c) (row_of c) later) (row_at_so before schemas more place cs all.1))
 
 all_joined : (P : Change → Type 0) (xs ys : List Change) → AllByRecursion P xs → AllByRecursion P ys → AllByRecursion P (xs ++ ys)
 all_joined P [] ys all other = other
 all_joined P (x ∷ xs) ys all other = (all.0, all_joined P xs ys all.1 other)
 
 -- what a view shows of a place
-entry_leaves : (t s n : ℕ) (e : Event) (h : List Event) (place : Place) → IsOrdered h → is_of t e ≡ true → t ≢ s → n ≤ commits h → row_seen (e ∷ h) s n place ≡ row_seen h s n place
+entry_leaves : (t s n : ℕ) (e : Event) (h : List Event) (place : Place) → IsOrdered h → is_of t e ≡ true → t ≢ s → n ≤ commits h
+    → row_seen (e ∷ h) s n place ≡ row_seen h s n place
 entry_leaves t s n e h place ordered mine differ within =
     let more = grown t e h mine in
     let same_own : own s (e ∷ h) ≡ own s h = (untouched e h s (other_of e t s mine differ)).own_is in
@@ -67,7 +69,8 @@ entry_leaves t s n e h place ordered mine differ within =
     = all_joined (IsTabled (length (created h))) (own s h) (committed n h) (own_tabled h ordered s) (committed_tabled h ordered n) in
     ap (λ before. row_at before (is_at (created (e ∷ h)) place) (seen (e ∷ h) s n)) (opening_stays t e h place mine)
     ∙ (ap (λ cs. row_at (row_opened h place) (is_at (created (e ∷ h)) place) cs) same_seen
-    ∙ (ap (λ (l : List Schema). row_at (row_opened h place) (is_at l place) (seen h s n)) more.1 ∙ row_at_so (row_opened h place) (created h) more.0 place (seen h s n) tabled))
+    ∙ (ap (λ (l : List Schema). row_at (row_opened h place) (is_at l place) (seen h s n)) more.1 ∙ row_at_so (row_opened h place) (created h) more.0 place
+    (seen h s n) tabled))
 
 module _ (t s : ℕ) (old new : List Event) (ordered : IsOrdered old) (differ : t ≢ s) where
   pub view_stays : AddsAtMostOne t old new → view_of s new ≡ view_of s old
@@ -80,12 +83,15 @@ module _ (t s : ℕ) (old new : List Event) (ordered : IsOrdered old) (differ : 
 
 -- ---- in a world
 
-pub same_rows : (before after : Chains) (writer later : Option ℕ) (old new : WorldState) (s t table : ℕ) (session session_now : Session) (work work_now : Work) (view : Seen)
+pub same_rows : (before after : Chains) (writer later : Option ℕ) (old new : WorldState) (s t table : ℕ) (session session_now : Session)
+    (work work_now : Work) (view : Seen)
     → Agrees before writer old → Agrees after later new → HasWork s session work old → HasWork s session_now work_now new
     → work.view ≡ Some view → work_now.view ≡ Some view → work_now.id ≡ work.id → t ≢ s → AddsAtMostOne t old.past new.past
-    → (value : Value) → rows_seen (sights.View (sight_of view) work.id) (in_table table after) value ≡ rows_seen (sights.View (sight_of view) work.id) (in_table table before) value
+    → (value : Value) → rows_seen (sights.View (sight_of view) work.id) (in_table table after) value ≡ rows_seen (sights.View (sight_of view) work.id)
+    (in_table table before) value
 same_rows before after writer later old new s t table session session_now work work_now view was agrees had has is is_now same_id differ adds value =
-    let v : ViewAgrees old.past s (Some (sight_of view)) = subst (λ o. ViewAgrees old.past s (option_map sight_of o)) is (work_of before writer old s session work was had).view_is in
+    let v : ViewAgrees old.past s (Some (sight_of view)) =
+    subst (λ o. ViewAgrees old.past s (option_map sight_of o)) is (work_of before writer old s session work was had).view_is in
     let n = v.0 in
     let at : view_of s old.past ≡ Some n = v.1.is-view in
     let place : Place = at_key table value in

@@ -32,7 +32,8 @@ first_index table = omega arith
 one_more : (n : ℕ) → suc n ≡ 1 + n
 one_more n = omega arith
 
-module _ (state : WorldState) (chains : Chains) (said : Said) (told : IsTold state) (coded : AreCodedAs state.schemas (pairs_of state) state.versions.kept_at chains said) where
+module _ (state : WorldState) (chains : Chains) (said : Said) (told : IsTold state)
+    (coded : AreCodedAs state.schemas (pairs_of state) state.versions.kept_at chains said) where
   pairs_there : (index : ℕ) → (state.indexes index).pairs ≡ Some (pairs_of state index)
   pairs_there index = told_pairs (state.indexes index).pairs (told.pairs index)
 
@@ -40,7 +41,8 @@ module _ (state : WorldState) (chains : Chains) (said : Said) (told : IsTold sta
   first_pairs table = ap (λ index. (state.indexes index).pairs) (first_index table) ∙ pairs_there (clustered_index table)
 
   pub shows_table : (table : ℕ) (schema : Schema) → slice_get state.schemas table ≡ Some schema → ShowsTable schema table state (in_table table chains)
-  shows_table table schema there = record { pairs = pairs_of state (clustered_index table); pairs_are = first_pairs table; clustered = coded.clustered.tables table schema there }
+  shows_table table schema there =
+      record { pairs = pairs_of state (clustered_index table); pairs_are = first_pairs table; clustered = coded.clustered.tables table schema there }
 
   pub holds_table : (table : ℕ) (schema : Schema) → slice_get state.schemas table ≡ Some schema → HoldsTable schema table state
   holds_table table schema there = λ is. (in_table table chains, shows_table table schema there)
@@ -67,7 +69,8 @@ module _ (state : WorldState) (chains : Chains) (said : Said) (told : IsTold sta
         (value : Value) (row : List Value) → rows_seen scan.sight (in_table scan.table chains) value ≡ Some row
         → list_any (λ (version : Version). has_value column (value_in column row) version.row) (said scan.table at value) ≡ true
 
-    shows_keyed : (at : ℕ) (key : Key) → scan.which ≡ 1 + at → slice_get schema.keys at ≡ Some key → TellsOfSeen at key.column → ShowsRows schema scan state (in_table scan.table chains)
+    shows_keyed : (at : ℕ) (key : Key) → scan.which ≡ 1 + at → slice_get schema.keys at ≡ Some key → TellsOfSeen at key.column
+        → ShowsRows schema scan state (in_table scan.table chains)
     shows_keyed at key is key_is tells =
         let clustered = coded.clustered.tables scan.table schema there in
         let entries = coded.keyed.keys scan.table at schema key there key_is in
@@ -80,17 +83,20 @@ module _ (state : WorldState) (chains : Chains) (said : Said) (told : IsTold sta
           rising = entries.rising;
           keys =
               subst (λ which. HaveKeys schema which (pairs_of state (key_index scan.table at)) (rows_seen scan.sight (in_table scan.table chains))) (sym is)
-              (in_keyed schema state.versions.kept_at (pairs_of state (clustered_index scan.table)) (pairs_of state (key_index scan.table at)) (in_table scan.table chains) (said scan.table at) scan.sight at key clustered key_is entries tells);
+              (in_keyed schema state.versions.kept_at (pairs_of state (clustered_index scan.table)) (pairs_of state (key_index scan.table at))
+              (in_table scan.table chains) (said scan.table at) scan.sight at key clustered key_is entries tells);
         }
 
-    shows_all : (which : ℕ) → scan.which ≡ which → which ≤ length schema.keys → ((at column : ℕ) → TellsOfSeen at column) → ShowsRows schema scan state (in_table scan.table chains)
+    shows_all : (which : ℕ) → scan.which ≡ which → which ≤ length schema.keys → ((at column : ℕ) → TellsOfSeen at column)
+        → ShowsRows schema scan state (in_table scan.table chains)
     shows_all zero is le tells = shows_clustered is
     shows_all (suc at) is le tells =
         let key = key_there_at schema at le in
         shows_keyed at key.0 (is ∙ one_more at) key.1 (tells at key.0.column)
 
     -- all but the newest version of one place, which the reader doesn't see
-    module _ (place : Place) (version : Version) (others : List Version) (lag : LagAt place chains said) (tells : TellsOfOlder place chains said) (newest_is : versions_at place chains ≡ version ∷ others) (unseen : sees_by scan.sight version.writer ≡ false) where
+    module _ (place : Place) (version : Version) (others : List Version) (lag : LagAt place chains said) (tells : TellsOfOlder place chains said)
+        (newest_is : versions_at place chains ≡ version ∷ others) (unseen : sees_by scan.sight version.writer ≡ false) where
       tells_of_seen : (at column : ℕ) → TellsOfSeen at column
       tells_of_seen at column value row seen = go (is_same_place place (record { table = scan.table; key = value })) refl where
         go : (b : Bool) → is_same_place place (record { table = scan.table; key = value }) ≡ b
@@ -100,18 +106,28 @@ module _ (state : WorldState) (chains : Chains) (said : Said) (told : IsTold sta
             ∙ seen_among column scan.sight (in_table scan.table chains value) row seen
         go true same =
             let at_place : place ≡ record { table = scan.table; key = value } = same_place place (record { table = scan.table; key = value }) same in
-            let seen_here : first_seen (sees_by scan.sight) (versions_at place chains) ≡ Some row = ap (λ (p : Place). first_seen (sees_by scan.sight) (versions_at p chains)) at_place ∙ seen in
+            let seen_here : first_seen (sees_by scan.sight) (versions_at place chains) ≡ Some row =
+            ap (λ (p : Place). first_seen (sees_by scan.sight) (versions_at p chains)) at_place ∙ seen in
             let seen_older : first_seen (sees_by scan.sight) others ≡ Some row
-            = sym (ap (λ b. cond b version.row (first_seen (sees_by scan.sight) others)) unseen) ∙ (sym (ap (first_seen (sees_by scan.sight)) newest_is) ∙ seen_here) in
+            =
+            sym (ap (λ b. cond b version.row (first_seen (sees_by scan.sight) others)) unseen) ∙
+            (sym (ap (first_seen (sees_by scan.sight)) newest_is) ∙ seen_here) in
             let among : list_any (λ (version : Version). has_value column (value_in column row) version.row) (older (versions_at place chains)) ≡ true
-            = ap (λ (versions : List Version). list_any (λ (version : Version). has_value column (value_in column row) version.row) (older versions)) newest_is ∙ seen_among column scan.sight others row seen_older in
-            subst (λ (p : Place). list_any (λ (version : Version). has_value column (value_in column row) version.row) (said p.table at p.key) ≡ true) at_place (tells at column (value_in column row) among)
+            =
+            ap (λ (versions : List Version). list_any (λ (version : Version). has_value column (value_in column row) version.row) (older versions))
+            newest_is ∙ seen_among column scan.sight others row seen_older in
+            subst (λ (p : Place). list_any (λ (version : Version). has_value column (value_in column row) version.row) (said p.table at p.key) ≡ true)
+            at_place (tells at column (value_in column row) among)
 
-    pub shows_lagging : scan.which ≤ length schema.keys → (place : Place) (version : Version) (others : List Version) → LagAt place chains said → TellsOfOlder place chains said → versions_at place chains ≡ version ∷ others → sees_by scan.sight version.writer ≡ false
+    pub shows_lagging : scan.which ≤ length schema.keys → (place : Place) (version : Version) (others : List Version) → LagAt place chains said
+        → TellsOfOlder place chains said → versions_at place chains ≡ version ∷ others → sees_by scan.sight version.writer ≡ false
         → ShowsRows schema scan state (in_table scan.table chains)
-    shows_lagging le place version others lag tells newest_is unseen = shows_all scan.which refl le (tells_of_seen place version others lag tells newest_is unseen)
+    shows_lagging le place version others lag tells newest_is unseen =
+        shows_all scan.which refl le (tells_of_seen place version others lag tells newest_is unseen)
 
-pub shows_coded : (schema : Schema) (scan : Scan) (state : WorldState) (chains : Chains) → IsTold state → slice_get state.schemas scan.table ≡ Some schema → HasItsColumns schema → scan.which ≤ length schema.keys → AreCoded state.schemas (pairs_of state) state.versions.kept_at chains
+pub shows_coded : (schema : Schema) (scan : Scan) (state : WorldState) (chains : Chains) → IsTold state → slice_get state.schemas scan.table ≡ Some schema
+    → HasItsColumns schema → scan.which ≤ length schema.keys → AreCoded state.schemas (pairs_of state) state.versions.kept_at chains
     → ShowsRows schema scan state (in_table scan.table chains)
 shows_coded schema scan state chains told there columns le coded =
-    shows_all state chains (what_is_there chains) told coded schema scan there columns scan.which refl le (λ at column value row seen. seen_among column scan.sight (in_table scan.table chains value) row seen)
+    shows_all state chains (what_is_there chains) told coded schema scan there columns scan.which refl le
+    (λ at column value row seen. seen_among column scan.sight (in_table scan.table chains value) row seen)

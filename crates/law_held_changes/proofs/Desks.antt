@@ -8,7 +8,8 @@ use Rattle.desks.specs.declared.desk.Doing.{Doing}
 use Rattle.desks.specs.declared.desk.Doing.TheVariants.{Changing}
 use Rattle.desks.specs.Desks.{fresh_desk, desk_at, doing_at, with_doing}
 
-pub desk_here : (s : ℕ) (doing : Doing) (desks : List Desk) → s < length desks → desk_at s (with_doing s doing desks) ≡ record (desk_at s desks) { doing = doing }
+pub desk_here : (s : ℕ) (doing : Doing) (desks : List Desk) → s < length desks
+    → desk_at s (with_doing s doing desks) ≡ record (desk_at s desks) { doing = doing }
 desk_here s doing desks within = get_or-set_same desks s (record (desk_at s desks) { doing = doing }) fresh_desk within
 
 pub doing_here : (s : ℕ) (doing : Doing) (desks : List Desk) → s < length desks → doing_at s (with_doing s doing desks) ≡ doing
@@ -21,10 +22,12 @@ pub doing_elsewhere : (s u : ℕ) (doing : Doing) (desks : List Desk) → u ≢ 
 doing_elsewhere s u doing desks differs = ap (λ (desk : Desk). desk.doing) (desk_elsewhere s u doing desks differs)
 
 -- each has started what it had
-pub started_still : (s u : ℕ) (doing : Doing) (desks : List Desk) → s < length desks → (desk_at u (with_doing s doing desks)).started ≡ (desk_at u desks).started
+pub started_still : (s u : ℕ) (doing : Doing) (desks : List Desk) → s < length desks
+    → (desk_at u (with_doing s doing desks)).started ≡ (desk_at u desks).started
 started_still s u doing desks within =
     ⊎_elim
-    (λ same. subst (λ n. (desk_at n (with_doing s doing desks)).started ≡ (desk_at n desks).started) (sym same) (ap (λ (desk : Desk). desk.started) (desk_here s doing desks within)))
+    (λ same. subst (λ n. (desk_at n (with_doing s doing desks)).started ≡ (desk_at n desks).started) (sym same)
+    (ap (λ (desk : Desk). desk.started) (desk_here s doing desks within)))
     (λ differs. ap (λ (desk : Desk). desk.started) (desk_elsewhere s u doing desks differs)) (cases_eq u s)
 
 -- what was given before is forgotten

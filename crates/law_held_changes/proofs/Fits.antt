@@ -32,8 +32,10 @@ some_there None P fits = absurd fits
 some_there (Some schema) P fits = (schema, refl, fits)
 
 -- its primary column, and the key of the row there
-pub key_for : (schemas : List Schema) (table : ℕ) (edit : RowEdit) → FitsWell schemas (change_of table edit) → (schema : Schema) × (slice_get schemas table ≡ Some schema) × IsKeyFor schema (primary_of schema edit)
-key_for schemas table (Put row) fits = let found = some_there (slice_get schemas table) (λ schema. FitsTable schema row) fits.0 in (found.0, found.1, found.2.key)
+pub key_for : (schemas : List Schema) (table : ℕ) (edit : RowEdit) → FitsWell schemas (change_of table edit)
+    → (schema : Schema) × (slice_get schemas table ≡ Some schema) × IsKeyFor schema (primary_of schema edit)
+key_for schemas table (Put row) fits =
+    let found = some_there (slice_get schemas table) (λ schema. FitsTable schema row) fits.0 in (found.0, found.1, found.2.key)
 key_for schemas table (Remove value) fits = some_there (slice_get schemas table) (λ schema. IsKeyFor schema value) fits.0
 
 pub editable : (state : WorldState) (table : ℕ) (edit : RowEdit) → FitsWell state.schemas (change_of table edit) → IsEditable state table edit
@@ -49,20 +51,33 @@ editable state table edit fits =
     }
 
 -- what fits the tables fits the table, with these bytes as its key
-pub fits_edit : (schemas : List Schema) (table : ℕ) (schema : Schema) (edit : RowEdit) (key : List ℕ) → slice_get schemas table ≡ Some schema → FitsWell schemas (change_of table edit) → IsKeyOfEdit schema edit key → FitsEdit schema edit key
+pub fits_edit : (schemas : List Schema) (table : ℕ) (schema : Schema) (edit : RowEdit) (key : List ℕ) → slice_get schemas table ≡ Some schema
+    → FitsWell schemas (change_of table edit) → IsKeyOfEdit schema edit key → FitsEdit schema edit key
 fits_edit schemas table schema (Put row) key there fits spelled =
     let fits_row = fits_there (slice_get schemas table) schema (λ found. FitsTable found row) there fits.0 in
     record {
       fits = fits_row;
       numbers = fits.1;
-      key_is = record { column = fits_row.key.column; primary = fits_row.key.primary; present = fits_row.key.of_kind; spelled = spelled fits_row.key.column fits_row.key.primary };
+      key_is =
+          record {
+            column = fits_row.key.column;
+            primary = fits_row.key.primary;
+            present = fits_row.key.of_kind;
+            spelled = spelled fits_row.key.column
+                fits_row.key.primary;
+          };
     }
 fits_edit schemas table schema (Remove value) key there fits spelled =
     let for = fits_there (slice_get schemas table) schema (λ found. IsKeyFor found value) there fits.0 in
     record { column = for.column; primary = for.primary; has_key = (for.of_kind, fits.1); spelled = spelled for.column for.primary }
 
 -- and back
-pub edit_fits : (schemas : List Schema) (table : ℕ) (schema : Schema) (edit : RowEdit) (key : List ℕ) → slice_get schemas table ≡ Some schema → FitsEdit schema edit key → FitsWell schemas (change_of table edit)
-edit_fits schemas table schema (Put row) key there fits = (there_fits (slice_get schemas table) schema (λ found. FitsTable found row) there fits.fits, fits.numbers)
-edit_fits schemas table schema (Remove value) key there fits =
-    (there_fits (slice_get schemas table) schema (λ found. IsKeyFor found value) there (record { column = fits.column; primary = fits.primary; of_kind = fits.has_key.0 }), fits.has_key.1)
+pub edit_fits : (schemas : List Schema) (table : ℕ) (schema : Schema) (edit : RowEdit) (key : List ℕ) → slice_get schemas table ≡ Some schema
+    → FitsEdit schema edit key → FitsWell schemas (change_of table edit)
+edit_fits schemas table schema (Put row) key there fits =
+    (there_fits (slice_get schemas table) schema (λ found. FitsTable found row) there fits.fits, fits.numbers)
+edit_fits schemas table schema (Remove value) key there fits = (
+  there_fits (slice_get schemas table) schema (λ found. IsKeyFor found value) there
+      (record { column = fits.column; primary = fits.primary; of_kind = fits.has_key.0 }),
+  fits.has_key.1,
+)

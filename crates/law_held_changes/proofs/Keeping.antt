@@ -34,7 +34,8 @@ use Rattle.law_held_changes.proofs.Left.{no_search}
 use Rattle.law_held_changes.proofs.Pasts.{GoesOnBy}
 use Rattle.law_held_changes.proofs.Sessions.{HasOpen, open_work, same_settings}
 
-module _ (s : ℕ) (made : Bool) (desks : List Desk) (cuts : ℕ) (undo : UndoRoom) (room : WorkRoom) (old new : WorldState) (held : IsHeld old (Some s) made desks cuts undo room) (beside : KeepsBeside s old new) where
+module _ (s : ℕ) (made : Bool) (desks : List Desk) (cuts : ℕ) (undo : UndoRoom) (room : WorkRoom) (old new : WorldState)
+    (held : IsHeld old (Some s) made desks cuts undo room) (beside : KeepsBeside s old new) where
   -- who may write has a transaction, and has it still
   pub was_open : HasOpen s old
   was_open = open_work held.chains (Some s) old held.agrees s held.agrees.lists.writes.0
@@ -62,7 +63,8 @@ module _ (s : ℕ) (made : Bool) (desks : List Desk) (cuts : ℕ) (undo : UndoRo
           (λ same.
           let here : IsSession s x new = subst (λ n. slice_get new.sessions n ≡ Some x) same first in
           let there : IsSession s y old = subst (λ n. slice_get old.sessions n ≡ Some y) same second in
-          sym (ap (λ (z : Session). z.setting) (is_now x here)) ∙ stays_open.setting ∙ ap (λ (z : Session). z.setting) (one_session old s was_open.0 y was_open.2.session_is there))
+          sym (ap (λ (z : Session). z.setting) (is_now x here)) ∙ stays_open.setting ∙ ap (λ (z : Session). z.setting)
+          (one_session old s was_open.0 y was_open.2.session_is there))
           (λ differs. ap (λ (z : Session). z.setting) (one_session old t x y (was_there t x differs first) second)) (cases_eq t s)
 
   -- ---- what its newest change is, while no entry comes
@@ -82,7 +84,8 @@ module _ (s : ℕ) (made : Bool) (desks : List Desk) (cuts : ℕ) (undo : UndoRo
         place_is = subst (λ (schemas : List Schema). place_in schemas is.change ≡ Some place) (sym beside.schemas) is.place_is;
       }
 
-  pub last_of_kept : (change next : KeysChange) → new.past ≡ old.past → next.table ≡ change.table → next.key ≡ change.key → IsLastOf old s change → IsLastOf new s next
+  pub last_of_kept : (change next : KeysChange) → new.past ≡ old.past → next.table ≡ change.table → next.key ≡ change.key → IsLastOf old s change
+      → IsLastOf new s next
   last_of_kept change next same table key is = record {
     logged = is.logged;
     place = is.place;
@@ -115,24 +118,29 @@ module _ (s : ℕ) (made : Bool) (desks : List Desk) (cuts : ℕ) (undo : UndoRo
           ⊎_elim
           (λ same.
           let here : IsSession s session new = subst (λ n. IsSession n session new) same there in
-          sym (ap (λ (z : Session). z.can_reply) (is_now session here)) ∙ stays_open.can_reply ∙ held.has_room.replies s was_open.0 was_open.2.session_is (subst (λ n. is_some (under_way n old.past) ≡ true) same was))
+          sym (ap (λ (z : Session). z.can_reply) (is_now session here)) ∙ stays_open.can_reply ∙ held.has_room.replies s was_open.0 was_open.2.session_is
+          (subst (λ n. is_some (under_way n old.past) ≡ true) same was))
           (λ differs. held.has_room.replies u session (was_there u session differs there) was) (cases_eq u s);
       acks = λ u session there waits.
           let was = goes.awaits u waits in
           ⊎_elim
           (λ same.
           let here : IsSession s session new = subst (λ n. IsSession n session new) same there in
-          sym (ap (λ (z : Session). z.can_ack) (is_now session here)) ∙ stays_open.can_ack ∙ held.has_room.acks s was_open.0 was_open.2.session_is (subst (λ n. awaits_ack (of_item n old.past) ≡ true) same was))
+          sym (ap (λ (z : Session). z.can_ack) (is_now session here)) ∙ stays_open.can_ack ∙ held.has_room.acks s was_open.0 was_open.2.session_is
+          (subst (λ n. awaits_ack (of_item n old.past) ≡ true) same was))
           (λ differs. held.has_room.acks u session (was_there u session differs there) was) (cases_eq u s);
       ends = λ u session work has.
           ⊎_elim
           (λ same.
           let here : HasWork s session work new = subst (λ n. HasWork n session work new) same has in
-          sym (ap (λ (w : Work). w.can_end) (one_work s stays_open.session_now session stays_open.work_now work new stays_open.has here)) ∙ stays_open.can_end ∙ held.has_room.ends s was_open.0 was_open.1 was_open.2)
-          (λ differs. held.has_room.ends u session work (record { session_is = was_there u session differs has.session_is; work_is = has.work_is })) (cases_eq u s);
+          sym (ap (λ (w : Work). w.can_end) (one_work s stays_open.session_now session stays_open.work_now work new stays_open.has here)) ∙
+          stays_open.can_end ∙ held.has_room.ends s was_open.0 was_open.1 was_open.2)
+          (λ differs. held.has_room.ends u session work (record { session_is = was_there u session differs has.session_is; work_is = has.work_is }))
+          (cases_eq u s);
     }
 
-    pub keeps : (doing : Doing) → s < length desks → is_searching doing ≡ false → FitsThen new.past → LogsAgree new → RowsHeld after new s (read_into undo) room doing
+    pub keeps : (doing : Doing) → s < length desks → is_searching doing ≡ false → FitsThen new.past → LogsAgree new
+        → RowsHeld after new s (read_into undo) room doing
         → AreFew after new.past → IsHeld new (Some s) made (with_doing s doing desks) cuts undo room
     keeps doing within searches_not fits logs rows short = record {
       chains = after;

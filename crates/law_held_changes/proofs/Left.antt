@@ -56,14 +56,20 @@ stays_then old mid new first second = record { told = λ told. first.told (secon
 
 pub one_left : (s index : ℕ) (old new : WorldState) → Calls index (λ before after. Leaves s before after) old new → LeavesIndexes s old new
 one_left s index old new c = record {
-  pairs = λ i. ⊎_elim (λ same. subst (λ n. AreKept (old.indexes n).pairs (new.indexes n).pairs) (sym same) (goes_same (old.indexes index).pairs (new.indexes index).pairs c.index_is.here.pairs)) (λ differs. (c.index_is.elsewhere i differs).pairs) (cases_eq i index);
-  others = λ u i differs. ⊎_elim (λ same. subst (λ n. (new.indexes n).place u ≡ (old.indexes n).place u) (sym same) (c.index_is.here.others u differs)) (λ apart. ap (λ (place : ℕ → Option Pair). place u) (c.index_is.elsewhere i apart).place) (cases_eq i index);
+  pairs =
+      λ i. ⊎_elim (λ same. subst (λ n. AreKept (old.indexes n).pairs (new.indexes n).pairs) (sym same)
+      (goes_same (old.indexes index).pairs (new.indexes index).pairs c.index_is.here.pairs)) (λ differs. (c.index_is.elsewhere i differs).pairs)
+      (cases_eq i index);
+  others =
+      λ u i differs. ⊎_elim (λ same. subst (λ n. (new.indexes n).place u ≡ (old.indexes n).place u) (sym same) (c.index_is.here.others u differs))
+      (λ apart. ap (λ (place : ℕ → Option Pair). place u) (c.index_is.elsewhere i apart).place) (cases_eq i index);
   versions = c.beside.versions;
   rest = c.beside.rest;
 }
 
 pub none_left : (s : ℕ) (state : WorldState) → LeavesIndexes s state state
-none_left s state = record { pairs = λ i. same_pairs (state.indexes i).pairs; others = λ u i differs. refl; versions = same_versions state.versions; rest = refl }
+none_left s state =
+    record { pairs = λ i. same_pairs (state.indexes i).pairs; others = λ u i differs. refl; versions = same_versions state.versions; rest = refl }
 
 pub left_then : (s : ℕ) (old mid new : WorldState) → LeavesIndexes s old mid → LeavesIndexes s mid new → LeavesIndexes s old new
 left_then s old mid new first second = record {
@@ -76,7 +82,8 @@ left_then s old mid new first second = record {
 -- ---- what holds
 
 -- a session that searches for nothing
-pub no_search : (chains : Chains) (state : WorldState) (writer : Option ℕ) (cuts s : ℕ) (doing : Doing) → is_searching doing ≡ false → SearchHeld chains state writer cuts s doing
+pub no_search : (chains : Chains) (state : WorldState) (writer : Option ℕ) (cuts s : ℕ) (doing : Doing) → is_searching doing ≡ false
+    → SearchHeld chains state writer cuts s doing
 no_search chains state writer cuts s (Searching on) none = absurd (cc)
 no_search chains state writer cuts s Nothing none = record {}
 no_search chains state writer cuts s (Changing change) none = record {}
@@ -132,12 +139,15 @@ module _ (s : ℕ) (writer : Option ℕ) (old new : WorldState) (leaves : Leaves
 
   told_left : (w : ℕ) (change : RowChange) → IsLastIfTold old w change → IsLastIfTold new w change
   told_left w (Record change key after) is = is
-  told_left w (Keys change) is = record { logged = is.logged; place = is.place; last = last_left w is.logged is.place is.last; table_is = is.table_is; key_is = is.key_is }
+  told_left w (Keys change) is =
+      record { logged = is.logged; place = is.place; last = last_left w is.logged is.place is.last; table_is = is.table_is; key_is = is.key_is }
 
   row_left : (chains : Chains) (w : ℕ) (change : RowChange) → Agrees chains writer old → IsChangingRow w chains old change → IsChangingRow w chains new change
-  row_left chains w change agrees is = change_left old new rows_are_left w chains writer change is (ap (λ (xs : List Session). slice_get xs w) same_sessions) (agrees_left chains agrees)
+  row_left chains w change agrees is =
+      change_left old new rows_are_left w chains writer change is (ap (λ (xs : List Session). slice_get xs w) same_sessions) (agrees_left chains agrees)
 
-  held_rows : (chains : Chains) (w : ℕ) (undo : Undo) (room : WorkRoom) (doing : Doing) → Agrees chains writer old → RowsHeld chains old w undo room doing → RowsHeld chains new w undo room doing
+  held_rows : (chains : Chains) (w : ℕ) (undo : Undo) (room : WorkRoom) (doing : Doing) → Agrees chains writer old → RowsHeld chains old w undo room doing
+      → RowsHeld chains new w undo room doing
   held_rows chains w undo room Nothing agrees is = (has_rows_left old new rows_are_left chains is.0, is.1)
   held_rows chains w undo room (Searching on) agrees is = (has_rows_left old new rows_are_left chains is.0, is.1)
   held_rows chains w undo room (Changing change) agrees is = (row_left chains w change agrees is.0, is.1, told_left w change is.2)
@@ -161,7 +171,8 @@ module _ (s : ℕ) (writer : Option ℕ) (old new : WorldState) (leaves : Leaves
     putting = others_leave chains is.place undo room old new is.putting rows_are_left;
   }
 
-  rows_held_left : (by : Option ℕ) (chains : Chains) (desks : List Desk) (undo : Undo) (room : WorkRoom) → Agrees chains writer old → RowsHeldBy by chains old desks undo room → RowsHeldBy by chains new desks undo room
+  rows_held_left : (by : Option ℕ) (chains : Chains) (desks : List Desk) (undo : Undo) (room : WorkRoom) → Agrees chains writer old
+      → RowsHeldBy by chains old desks undo room → RowsHeldBy by chains new desks undo room
   rows_held_left None chains desks undo room agrees is = (has_rows_left old new rows_are_left chains is.0, is.1)
   rows_held_left (Some w) chains desks undo room agrees is = held_rows chains w undo room (doing_at w desks) agrees is
 
@@ -182,7 +193,8 @@ module _ (s : ℕ) (writer : Option ℕ) (old new : WorldState) (leaves : Leaves
     kept = inl (refl, more_kept told);
   }
 
-  pub held_left : (made : Bool) (desks : List Desk) (cuts : ℕ) (undo : UndoRoom) (room : WorkRoom) → IsHeld old writer made desks cuts undo room → is_searching (doing_at s desks) ≡ false → IsTold new → IsHeld new writer made desks cuts undo room
+  pub held_left : (made : Bool) (desks : List Desk) (cuts : ℕ) (undo : UndoRoom) (room : WorkRoom) → IsHeld old writer made desks cuts undo room
+      → is_searching (doing_at s desks) ≡ false → IsTold new → IsHeld new writer made desks cuts undo room
   held_left made desks cuts undo room held none told = record {
     chains = held.chains;
     agrees = agrees_left held.chains held.agrees;
@@ -191,12 +203,18 @@ module _ (s : ℕ) (writer : Option ℕ) (old new : WorldState) (leaves : Leaves
     quiet = held.quiet;
     searches = λ u.
         ⊎_elim
-        (λ same. subst (λ n. SearchHeld held.chains new writer cuts n (doing_at n desks)) (sym same) (no_search held.chains new writer cuts s (doing_at s desks) none))
-        (λ differs. search_left s u held.chains held.chains writer writer cuts cuts old new (others_are_left held.chains cuts held.agrees told) differs (doing_at u desks) (held.searches u)) (cases_eq u s);
+        (λ same. subst (λ n. SearchHeld held.chains new writer cuts n (doing_at n desks)) (sym same)
+        (no_search held.chains new writer cuts s (doing_at s desks) none))
+        (λ differs. search_left s u held.chains held.chains writer writer cuts cuts old new (others_are_left held.chains cuts held.agrees told) differs
+        (doing_at u desks) (held.searches u)) (cases_eq u s);
     logs = all_left old new (rows_leave old new rows_are_left) (logs_beside old new leaves.rest) held.logs;
     has_room = record {
-      replies = λ u session there busy. held.has_room.replies u session (session_is u session there) (subst (λ past. is_some (under_way u past) ≡ true) same_past busy);
-      acks = λ u session there awaits. held.has_room.acks u session (session_is u session there) (subst (λ past. awaits_ack (of_item u past) ≡ true) same_past awaits);
+      replies =
+          λ u session there busy. held.has_room.replies u session (session_is u session there)
+          (subst (λ past. is_some (under_way u past) ≡ true) same_past busy);
+      acks =
+          λ u session there awaits. held.has_room.acks u session (session_is u session there)
+          (subst (λ past. awaits_ack (of_item u past) ≡ true) same_past awaits);
       ends = λ u session work has. held.has_room.ends u session work (record { session_is = session_is u session has.session_is; work_is = has.work_is });
     };
     started = λ u. ap (λ past. started u past) same_past ∙ held.started u;

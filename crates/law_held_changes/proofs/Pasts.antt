@@ -24,14 +24,16 @@ pub goes_same : (s : ℕ) (old new : List Event) → new ≡ old → GoesOnBy s 
 goes_same s old new same = subst (GoesOnBy s old) (sym same) (same_again s old)
 
 -- its own entry is none that waits
-awaits_then : (s u : ℕ) (change : Change) (past : List Event) (b : Bool) → awaits_ack (cond b (Changed s change ∷ of_item u past) (of_item u past)) ≡ true → awaits_ack (of_item u past) ≡ true
+awaits_then : (s u : ℕ) (change : Change) (past : List Event) (b : Bool) → awaits_ack (cond b (Changed s change ∷ of_item u past) (of_item u past)) ≡ true
+    → awaits_ack (of_item u past) ≡ true
 awaits_then s u change past true is = absurd (cc)
 awaits_then s u change past false is = is
 
 makes_none : (change : Change) (changes : List Change) → is_creation change ≡ false → list_any is_creation (change ∷ changes) ≡ list_any is_creation changes
 makes_none change changes is = cc
 
-makes_then : (change : Change) (changes : List Change) (b : Bool) → is_creation change ≡ false → list_any is_creation (cond b (change ∷ changes) changes) ≡ list_any is_creation changes
+makes_then : (change : Change) (changes : List Change) (b : Bool) → is_creation change ≡ false
+    → list_any is_creation (cond b (change ∷ changes) changes) ≡ list_any is_creation changes
 makes_then change changes true is = makes_none change changes is
 makes_then change changes false is = refl
 

@@ -21,12 +21,15 @@ open_or_not found is none = cc
 
 module _ (chains : Chains) (writer : Option ℕ) (state : WorldState) (agrees : Agrees chains writer state) (s : ℕ) where
   work_there : IsOpen s state.past → (session : Session) → IsSession s session state → (work : Option Work) → session.work ≡ work → HasOpen s state
-  work_there is_open session there None none = let idle = idle_of chains writer state s session agrees there none in absurd (open_or_not (level s state.past) is_open idle.level_is)
+  work_there is_open session there None none =
+      let idle = idle_of chains writer state s session agrees there none in absurd (open_or_not (level s state.past) is_open idle.level_is)
   work_there is_open session there (Some work) is = (session, work, record { session_is = there; work_is = is })
 
   session_there : IsOpen s state.past → (found : Option Session) → slice_get state.sessions s ≡ found → HasOpen s state
   session_there is_open None none =
-      let slot : SlotAgrees state.schemas state.past s fresh = subst (SlotAgrees state.schemas state.past s) (slot_at s state.past state.schemas state.sessions ∙ ap (slot_if state.past state.schemas s) none) (agrees.lists.sessions s) in
+      let slot : SlotAgrees state.schemas state.past s fresh =
+      subst (SlotAgrees state.schemas state.past s) (slot_at s state.past state.schemas state.sessions ∙ ap (slot_if state.past state.schemas s) none)
+      (agrees.lists.sessions s) in
       let idle : IsIdle state.past s = slot.work_is in
       absurd (open_or_not (level s state.past) is_open idle.level_is)
   session_there is_open (Some session) there = work_there is_open session there session.work refl
@@ -38,7 +41,8 @@ module _ (chains : Chains) (writer : Option ℕ) (state : WorldState) (agrees : 
   open_joined is_open = let has = open_work is_open in omega (arith, slice_get_within state.sessions s has.0 has.2.session_is, agrees.count)
 
 -- two lists of sessions with the same settings
-pub same_settings : (xs ys : List Session) → length xs ≡ length ys → ((t : ℕ) (x y : Session) → slice_get xs t ≡ Some x → slice_get ys t ≡ Some y → x.setting ≡ y.setting)
+pub same_settings : (xs ys : List Session) → length xs ≡ length ys
+    → ((t : ℕ) (x y : Session) → slice_get xs t ≡ Some x → slice_get ys t ≡ Some y → x.setting ≡ y.setting)
     → map (λ (session : Session). session.setting) xs ≡ map (λ (session : Session). session.setting) ys
 same_settings [] [] count each = refl
 same_settings [] (y ∷ ys) count each = absurd (omega (arith, count))

@@ -35,7 +35,8 @@ some_same a b same = cc
 
 -- ---- the task of a session is what its desk shows
 
-pub task_at : (schemas : List Schema) (left : ℕ) (desks : List Desk) (u : ℕ) → slice_index_or (tasks_of schemas left desks) u Idle ≡ shown schemas left (doing_at u desks)
+pub task_at : (schemas : List Schema) (left : ℕ) (desks : List Desk) (u : ℕ)
+    → slice_index_or (tasks_of schemas left desks) u Idle ≡ shown schemas left (doing_at u desks)
 task_at schemas left [] u = refl
 task_at schemas left (desk ∷ desks) zero = refl
 task_at schemas left (desk ∷ desks) (suc u) = task_at schemas left desks u
@@ -48,8 +49,10 @@ quiet_shown schemas left later (Changing change) quiet = absurd (cc)
 quiet_shown schemas left later Lagging quiet = absurd (cc)
 quiet_shown schemas left later Undoing quiet = absurd (cc)
 
-module _ (s : ℕ) (made : Bool) (desks : List Desk) (cuts : ℕ) (undo : UndoRoom) (room : WorkRoom) (old new : WorldState) (left later : ℕ) (held : IsHeld old (Some s) made desks cuts undo room) (leaves : LeavesLists old new) where
-  others_shown : (doing : Doing) (u : ℕ) → u ≢ s → task_of u (lists_of new (Some s) (with_doing s doing desks) later).state ≡ task_of u (lists_of old (Some s) desks left).state
+module _ (s : ℕ) (made : Bool) (desks : List Desk) (cuts : ℕ) (undo : UndoRoom) (room : WorkRoom) (old new : WorldState) (left later : ℕ)
+    (held : IsHeld old (Some s) made desks cuts undo room) (leaves : LeavesLists old new) where
+  others_shown : (doing : Doing) (u : ℕ) → u ≢ s
+      → task_of u (lists_of new (Some s) (with_doing s doing desks) later).state ≡ task_of u (lists_of old (Some s) desks left).state
   others_shown doing u differs =
       task_at new.schemas later (with_doing s doing desks) u
       ∙ ap (shown new.schemas later) (doing_elsewhere s u doing desks differs)
@@ -60,7 +63,8 @@ module _ (s : ℕ) (made : Bool) (desks : List Desk) (cuts : ℕ) (undo : UndoRo
   mine_shown : (doing : Doing) → s < length desks → task_of s (lists_of new (Some s) (with_doing s doing desks) later).state ≡ shown new.schemas later doing
   mine_shown doing within = task_at new.schemas later (with_doing s doing desks) s ∙ ap (shown new.schemas later) (doing_here s doing desks within)
 
-  pub now_shown : (doing : Doing) (past : List Event) (task : Task) → s < length desks → new.past ≡ past → shown new.schemas later doing ≡ task → IsNow past s task (Some s) (lists_of old (Some s) desks left).state (lists_of new (Some s) (with_doing s doing desks) later).state
+  pub now_shown : (doing : Doing) (past : List Event) (task : Task) → s < length desks → new.past ≡ past → shown new.schemas later doing ≡ task
+      → IsNow past s task (Some s) (lists_of old (Some s) desks left).state (lists_of new (Some s) (with_doing s doing desks) later).state
   now_shown doing past task within past_is task_is = record {
     names_are = leaves.names;
     past_is = past_is;
@@ -79,7 +83,8 @@ module _ (s : ℕ) (made : Bool) (desks : List Desk) (cuts : ℕ) (undo : UndoRo
     was_asked : asked (task_of s (lists_of old (Some s) desks left).state) ≡ change_in change
     was_asked = ap asked was_shown
 
-    pub went_shown : (next : RowChange) → IsNearer old new change next → Changes s (lists_of old (Some s) desks left).state (lists_of new (Some s) (with_doing s (Changing next) desks) later).state answers.Went
+    pub went_shown : (next : RowChange) → IsNearer old new change next
+        → Changes s (lists_of old (Some s) desks left).state (lists_of new (Some s) (with_doing s (Changing next) desks) later).state answers.Went
     went_shown next nearer =
         let now = mine_shown (Changing next) within in
         record {
@@ -90,7 +95,8 @@ module _ (s : ℕ) (made : Bool) (desks : List Desk) (cuts : ℕ) (undo : UndoRo
               (subst (λ (task : Task). row_steps (keys_if (slice_get new.schemas (table_of next))) next < steps_left task) (sym was_shown) nearer.nears);
         }
 
-    pub entered_shown : (next : RowChange) → IsEntered s old new change next → Changes s (lists_of old (Some s) desks left).state (lists_of new (Some s) (with_doing s (Changing next) desks) later).state answers.Entered
+    pub entered_shown : (next : RowChange) → IsEntered s old new change next
+        → Changes s (lists_of old (Some s) desks left).state (lists_of new (Some s) (with_doing s (Changing next) desks) later).state answers.Entered
     entered_shown next entered =
         let now = mine_shown (Changing next) within in
         record {
@@ -101,20 +107,26 @@ module _ (s : ℕ) (made : Bool) (desks : List Desk) (cuts : ℕ) (undo : UndoRo
           asked_is = ap asked now ∙ entered.is;
         }
 
-    pub done_shown : AddsNothing old new → change_in change ≡ None → Changes s (lists_of old (Some s) desks left).state (lists_of new (Some s) (with_doing s Nothing desks) later).state answers.Done
+    pub done_shown : AddsNothing old new → change_in change ≡ None
+        → Changes s (lists_of old (Some s) desks left).state (lists_of new (Some s) (with_doing s Nothing desks) later).state answers.Done
     done_shown adds told = (was_asked ∙ told, now_shown Nothing old.past Idle within adds.past refl)
 
     left_of : (c : RowChange) → shown new.schemas later (given_up c) ≡ left_by (change_in c)
     left_of (Record c key after) = refl
     left_of (Keys c) = refl
 
-    pub given_up_shown : AddsNothing old new → Changes s (lists_of old (Some s) desks left).state (lists_of new (Some s) (with_doing s (given_up change) desks) later).state answers.NoMemory
-    given_up_shown adds = now_shown (given_up change) old.past (left_by (asked (task_of s (lists_of old (Some s) desks left).state))) within adds.past (left_of change ∙ ap left_by (sym was_asked))
+    pub given_up_shown : AddsNothing old new
+        → Changes s (lists_of old (Some s) desks left).state (lists_of new (Some s) (with_doing s (given_up change) desks) later).state answers.NoMemory
+    given_up_shown adds =
+        now_shown (given_up change) old.past (left_by (asked (task_of s (lists_of old (Some s) desks left).state))) within adds.past
+        (left_of change ∙ ap left_by (sym was_asked))
 
 -- the rows that the history holds more are those of the change that was asked for
-pub rows_shown : (s : ℕ) (desks : List Desk) (old new : WorldState) (change next : RowChange) (left : ℕ) → doing_at s desks ≡ Changing change → IsEntered s old new change next → new.rows ≡ old.rows + rows_entered answers.Entered (task_of s (lists_of old (Some s) desks left).state)
+pub rows_shown : (s : ℕ) (desks : List Desk) (old new : WorldState) (change next : RowChange) (left : ℕ) → doing_at s desks ≡ Changing change
+    → IsEntered s old new change next → new.rows ≡ old.rows + rows_entered answers.Entered (task_of s (lists_of old (Some s) desks left).state)
 rows_shown s desks old new change next left at entered =
-    let asked_was : asked (task_of s (lists_of old (Some s) desks left).state) ≡ Some entered.entry = ap asked (task_at old.schemas left desks s ∙ ap (shown old.schemas left) at) ∙ entered.was in
+    let asked_was : asked (task_of s (lists_of old (Some s) desks left).state) ≡ Some entered.entry =
+    ap asked (task_at old.schemas left desks s ∙ ap (shown old.schemas left) at) ∙ entered.was in
     entered.rows ∙ ap (λ c. old.rows + rows_of_change c) (sym asked_was)
 
 -- ---- a change that begins
@@ -129,24 +141,38 @@ few_steps keys few = omega arith
 same_lists : (state : WorldState) → LeavesLists state state
 same_lists state = record { names = refl; schemas = refl; settings = refl }
 
-module _ (state : WorldState) (s : ℕ) (made : Bool) (desks : List Desk) (cuts : ℕ) (undo : UndoRoom) (room : WorkRoom) (held : IsHeld state (Some s) made desks cuts undo room) (within : s < length desks) where
-  pub begun_turns : (left later table : ℕ) (edit : RowEdit) (key : List ℕ) (now : Lists) → now ≡ lists_of state (Some s) (with_doing s (Changing (begun table edit key)) desks) later → Turns s (task_of s now.state) (lists_of state (Some s) desks left).state now.state
+module _ (state : WorldState) (s : ℕ) (made : Bool) (desks : List Desk) (cuts : ℕ) (undo : UndoRoom) (room : WorkRoom)
+    (held : IsHeld state (Some s) made desks cuts undo room) (within : s < length desks) where
+  pub begun_turns : (left later table : ℕ) (edit : RowEdit) (key : List ℕ) (now : Lists)
+      → now ≡ lists_of state (Some s) (with_doing s (Changing (begun table edit key)) desks) later
+      → Turns s (task_of s now.state) (lists_of state (Some s) desks left).state now.state
   begun_turns left later table edit key now is =
       let doing = Changing (begun table edit key) in
       subst (λ (lists : Lists). Turns s (task_of s lists.state) (lists_of state (Some s) desks left).state lists.state) (sym is)
-      (now_shown s made desks cuts undo room state state left later held (same_lists state) doing state.past _ within refl (sym (mine_shown s made desks cuts undo room state state left later held (same_lists state) doing within)))
+      (now_shown s made desks cuts undo room state state left later held (same_lists state) doing state.past _ within refl
+      (sym (mine_shown s made desks cuts undo room state state left later held (same_lists state) doing within)))
 
   -- each table has few keys
   keys_few : (table : ℕ) → keys_if (slice_get state.schemas table) ≤ 4
-  keys_few table = few_keys (slice_get state.schemas table) (λ schema there. tables_storable state.past held.fits table schema (ap (λ (tables : List Schema). slice_get tables table) (sym held.agrees.lists.tables) ∙ there))
+  keys_few table =
+      few_keys (slice_get state.schemas table) (λ schema there. tables_storable state.past held.fits table schema
+      (ap (λ (tables : List Schema). slice_get tables table) (sym held.agrees.lists.tables) ∙ there))
 
-  pub begun_task : (later table : ℕ) (edit : RowEdit) (key : List ℕ) (now : Lists) → now ≡ lists_of state (Some s) (with_doing s (Changing (begun table edit key)) desks) later
+  pub begun_task : (later table : ℕ) (edit : RowEdit) (key : List ℕ) (now : Lists)
+      → now ≡ lists_of state (Some s) (with_doing s (Changing (begun table edit key)) desks) later
       → (is_changing (task_of s now.state) ≡ true) × (asked (task_of s now.state) ≡ Some (change_of table edit)) × (steps_left (task_of s now.state) < 2 ^ 70)
   begun_task later table edit key now is =
-      let task = ap (λ (lists : Lists). task_of s lists.state) is ∙ mine_shown s made desks cuts undo room state state later later held (same_lists state) (Changing (begun table edit key)) within in
-      (ap is_changing task, ap asked task, subst (λ (t : Task). steps_left t < 2 ^ 70) (sym task) (few_steps (keys_if (slice_get state.schemas table)) (keys_few table)))
+      let task =
+      ap (λ (lists : Lists). task_of s lists.state) is ∙ mine_shown s made desks cuts undo room state state later later held (same_lists state)
+      (Changing (begun table edit key)) within in (
+        ap is_changing task,
+        ap asked task,
+        subst (λ (t : Task). steps_left t < 2 ^ 70) (sym task)
+            (few_steps (keys_if (slice_get state.schemas table)) (keys_few table)),
+      )
 
 -- ---- an index that is left
 
-pub left_shown : (s : ℕ) (writer : Option ℕ) (desks : List Desk) (left : ℕ) (old new : WorldState) → LeavesIndexes s old new → lists_of new writer desks left ≡ lists_of old writer desks left
+pub left_shown : (s : ℕ) (writer : Option ℕ) (desks : List Desk) (left : ℕ) (old new : WorldState) → LeavesIndexes s old new
+    → lists_of new writer desks left ≡ lists_of old writer desks left
 left_shown s writer desks left old new leaves = ap (λ (state : WorldState). lists_of state writer desks left) leaves.rest

@@ -42,7 +42,9 @@ same_pairs (Some pairs) = refl
 pub leaves_rows : (old new : WorldState) → HasSameRows old new → LeavesRows old new
 leaves_rows old new same = record {
   schemas = same.schemas;
-  pairs = λ index. subst (λ (indexes : ℕ → Index). AreKept (old.indexes index).pairs (indexes index).pairs) (sym same.indexes) (same_pairs (old.indexes index).pairs);
+  pairs =
+      λ index. subst (λ (indexes : ℕ → Index). AreKept (old.indexes index).pairs (indexes index).pairs) (sym same.indexes)
+      (same_pairs (old.indexes index).pairs);
   versions = subst (λ versions. Rattle.chain.specs.Versions.Stays old.versions versions) (sym same.versions) (record { told = λ h. h; kept = λ h. refl });
 }
 
@@ -65,7 +67,8 @@ past_grows t old new (inr adds) = subst (λ (h : List Event). length old ≤ len
 -- ---- all that is held
 
 module _ (t : ℕ) (writer later : Option ℕ) (had made : Bool) (cuts : ℕ) (undo : UndoRoom) (room : WorkRoom) (old new : WorldState) (desks now : List Desk)
-    (held : IsHeld old writer had desks cuts undo room) (rests : doing_at t desks ≡ Nothing) (is : IsEntered t held.chains writer later made old new desks now) where
+    (held : IsHeld old writer had desks cuts undo room) (rests : doing_at t desks ≡ Nothing)
+    (is : IsEntered t held.chains writer later made old new desks now) where
   leaves : LeavesRows old new
   leaves = leaves_rows old new is.rows
 
@@ -101,7 +104,8 @@ module _ (t : ℕ) (writer later : Option ℕ) (had made : Bool) (cuts : ℕ) (u
   rows_left : (w : ℕ) (doing : Doing) → w ≢ t → RowsHeld held.chains old w (read_into undo) room doing → RowsHeld held.chains new w (read_into undo) room doing
   rows_left w Nothing differ rows = (coded rows.0, rows.1)
   rows_left w (Searching on) differ rows = (coded rows.0, rows.1)
-  rows_left w (Changing change) differ rows = (change_left old new leaves w held.chains later change rows.0 (is.others.sessions w differ) is.agrees, rows.1, newest_left w change differ rows.2)
+  rows_left w (Changing change) differ rows =
+      (change_left old new leaves w held.chains later change rows.0 (is.others.sessions w differ) is.agrees, rows.1, newest_left w change differ rows.2)
   rows_left w Lagging differ rows = (
     record {
       change = rows.0.change;
@@ -123,7 +127,8 @@ module _ (t : ℕ) (writer later : Option ℕ) (had made : Bool) (cuts : ℕ) (u
   }
 
   -- who acts has nothing under way
-  own_rows : (w : Option ℕ) → ((s : ℕ) → s ≢ t → w ≡ Some s → ⊥) → RowsHeldBy w held.chains old desks (read_into undo) room → HasRows held.chains old × (room.stage ≡ Find)
+  own_rows : (w : Option ℕ) → ((s : ℕ) → s ≢ t → w ≡ Some s → ⊥) → RowsHeldBy w held.chains old desks (read_into undo) room
+      → HasRows held.chains old × (room.stage ≡ Find)
   own_rows None none rows = rows
   own_rows (Some w) none rows = elim (eqb_tells w t) [
     | inl same ↦ subst (λ doing. RowsHeld held.chains old w (read_into undo) room doing) (ap (λ u. doing_at u desks) same.1 ∙ rests) rows
@@ -183,7 +188,8 @@ module _ (t : ℕ) (writer later : Option ℕ) (had made : Bool) (cuts : ℕ) (u
   searches_now : (s : ℕ) → SearchHeld held.chains new later cuts s (doing_at s now)
   searches_now s = elim (eqb_tells s t) [
     | inl same ↦ subst (λ doing. SearchHeld held.chains new later cuts s doing) (sym (ap (λ u. doing_at u now) same.1 ∙ rests_now)) tt
-    | inr differ ↦ subst (λ doing. SearchHeld held.chains new later cuts s doing) (sym (same_doing s)) (search_left t s held.chains held.chains writer later cuts cuts old new others_left differ.1 (doing_at s desks) (held.searches s))
+    | inr differ ↦ subst (λ doing. SearchHeld held.chains new later cuts s doing) (sym (same_doing s))
+        (search_left t s held.chains held.chains writer later cuts cuts old new others_left differ.1 (doing_at s desks) (held.searches s))
   ]
 
   had_work : (s : ℕ) (session : Session) (work : Work) → s ≢ t → HasWork s session work new → HasWork s session work old
@@ -191,8 +197,16 @@ module _ (t : ℕ) (writer later : Option ℕ) (had made : Bool) (cuts : ℕ) (u
 
   log_of : (s : ℕ) (session : Session) (work : Work) → OfAll s → HasWork s session work new → LeavesLog s work old new ⊎ HasNoLog s work new
   log_of s session work any has = elim (eqb_tells s t) [
-    | inl same ↦ subst (λ u. LeavesLog u work old new ⊎ HasNoLog u work new) (sym same.1) (is.own.log session work (subst (λ u. HasWork u session work new) same.1 has))
-    | inr differ ↦ inl (record { session = session; before = work; has_work = had_work s session work differ.1 has; log_is = refl; own_is = (past_of s differ.1).own_is })
+    | inl same ↦ subst (λ u. LeavesLog u work old new ⊎ HasNoLog u work new) (sym same.1)
+        (is.own.log session work (subst (λ u. HasWork u session work new) same.1 has))
+    | inr differ ↦ inl (record {
+      session = session;
+      before = work;
+      has_work = had_work s session work differ.1 has;
+      log_is = refl;
+      own_is =
+          (past_of s differ.1).own_is;
+    })
   ]
 
   logs_now : LogsAgree new

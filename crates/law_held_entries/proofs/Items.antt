@@ -34,7 +34,8 @@ absurd_false is = cc
 abbrev pub with_past : ℕ → Session → List Event → ℕ → WorldState → WorldState
 with_past t after past rows old = record old { sessions = slice_set old.sessions t after; past = past; rows = rows }
 
-module _ (writer : Option ℕ) (made : Bool) (cuts : ℕ) (undo : UndoRoom) (room : WorkRoom) (old : WorldState) (desks : List Desk) (held : IsHeld old writer made desks cuts undo room)
+module _ (writer : Option ℕ) (made : Bool) (cuts : ℕ) (undo : UndoRoom) (room : WorkRoom) (old : WorldState) (desks : List Desk)
+    (held : IsHeld old writer made desks cuts undo room)
     (t : ℕ) (rests : doing_at t desks ≡ Nothing) (told : IsTold old) (session : Session) (there : IsSession t session old) where
   -- ---- what the session's entry leaves of it
 
@@ -53,9 +54,11 @@ module _ (writer : Option ℕ) (made : Bool) (cuts : ℕ) (undo : UndoRoom) (roo
     }
 
     -- all is held, where these facts are
-    on : (now : List Desk) → Agrees held.chains writer (with_past t after past rows old) → AddsAtMostOne t old.past past → own t past ≡ own t old.past → FitsThen past
+    on : (now : List Desk) → Agrees held.chains writer (with_past t after past rows old) → AddsAtMostOne t old.past past → own t past ≡ own t old.past
+        → FitsThen past
         → (is_some (under_way t past) ≡ true → after.can_reply ≡ true) → (awaits_ack (of_item t past) ≡ true → after.can_ack ≡ true)
-        → Rattle.law_held_entries.specs.Entries.LeavesDesks t writer writer old (with_past t after past rows old) desks now → length now ≡ length desks → started t past ≡ (desk_at t now).started
+        → Rattle.law_held_entries.specs.Entries.LeavesDesks t writer writer old (with_past t after past rows old) desks now → length now ≡ length desks →
+        started t past ≡ (desk_at t now).started
         → IsHeld (with_past t after past rows old) writer made now cuts undo room
     on now agrees adds own_is fits replies acks leaves long started_is =
         let new = with_past t after past rows old in
@@ -104,7 +107,8 @@ module _ (writer : Option ℕ) (made : Bool) (cuts : ℕ) (undo : UndoRoom) (roo
       let within : t < length desks = omega (arith, joined, held.count) in
       on after past old.rows refl (with_start t desks)
       (started_agrees held.chains writer old (with_past t after past old.rows old) t j item held.agrees joined idle j_is few (settled after past old.rows refl))
-      (inr (Started t j item, mine_started j item, refl)) refl held.fits (λ busy. refl) (λ waits. absurd (absurd_false (sym (ap awaits_ack (started_item j item)) ∙ waits)))
+      (inr (Started t j item, mine_started j item, refl)) refl held.fits (λ busy. refl)
+      (λ waits. absurd (absurd_false (sym (ap awaits_ack (started_item j item)) ∙ waits)))
       (started_desks t writer old (with_past t after past old.rows old) desks within (others after)) (length-set desks t _)
       (started_count j item ∙ (ap (λ n. n + 1) (held.started t) ∙ ap (λ (desk : Desk). desk.started) (sym (start_here desks t within))))
 
@@ -121,20 +125,22 @@ module _ (writer : Option ℕ) (made : Bool) (cuts : ℕ) (undo : UndoRoom) (roo
       let past : List Event = Ended t j reply ∷ old.past in
       on after past rows refl desks
       (ended_agrees held.chains writer old (with_past t after past rows old) t j reply held.agrees joined may few (settled after past rows refl))
-      (inr (Ended t j reply, mine_ended j reply, refl)) refl held.fits (λ busy. absurd (absurd_false (sym (ended_none j reply) ∙ busy))) (λ waits. absurd (absurd_false (sym (ended_waits j reply) ∙ waits)))
+      (inr (Ended t j reply, mine_ended j reply, refl)) refl held.fits (λ busy. absurd (absurd_false (sym (ended_none j reply) ∙ busy)))
+      (λ waits. absurd (absurd_false (sym (ended_waits j reply) ∙ waits)))
       (same_writer t writer old (with_past t after past rows old) desks (others after)) refl (held.started t)
 
   acked_waits : (moment : ℕ) → awaits_ack (of_item t (Acked t moment ∷ old.past)) ≡ false
   acked_waits moment = grind (arith, nat_tests)
 
-  pub acked_held : t < length old.names → MayCome old.past (Acked t 0) → length old.past + 1 < 2 ^ 63
-      → IsHeld (acknowledged t session old) writer made desks cuts undo room
-  acked_held joined may few =
+  pub acked_held : (moment : ℕ) → t < length old.names → MayCome old.past (Acked t moment) → length old.past + 1 < 2 ^ 63
+      → IsHeld (acknowledged t moment session old) writer made desks cuts undo room
+  acked_held moment joined may few =
       let after : Session = record session { can_ack = false } in
-      let past : List Event = Acked t 0 ∷ old.past in
+      let past : List Event = Acked t moment ∷ old.past in
       on after past old.rows refl desks
-      (acked_agrees held.chains writer old (with_past t after past old.rows old) t 0 held.agrees joined may few (settled after past old.rows refl))
-      (inr (Acked t 0, mine_acked 0, refl)) refl held.fits (λ busy. held.has_room.replies t session there busy) (λ waits. absurd (absurd_false (sym (acked_waits 0) ∙ waits)))
+      (acked_agrees held.chains writer old (with_past t after past old.rows old) t moment held.agrees joined may few (settled after past old.rows refl))
+      (inr (Acked t moment, mine_acked moment, refl)) refl held.fits (λ busy. held.has_room.replies t session there busy)
+      (λ waits. absurd (absurd_false (sym (acked_waits moment) ∙ waits)))
       (same_writer t writer old (with_past t after past old.rows old) desks (others after)) refl (held.started t)
 
   -- a session with other settings or rooms, and no entry

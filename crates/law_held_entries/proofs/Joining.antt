@@ -58,7 +58,8 @@ no_ack None changes false item none is = cc
 none_has : (work : Work) → None ≡ Some work → ⊥
 none_has work same = cc
 
-module _ (writer : Option ℕ) (made : Bool) (cuts : ℕ) (undo : UndoRoom) (room : WorkRoom) (old : WorldState) (desks : List Desk) (held : IsHeld old writer made desks cuts undo room) (told : IsTold old) where
+module _ (writer : Option ℕ) (made : Bool) (cuts : ℕ) (undo : UndoRoom) (room : WorkRoom) (old : WorldState) (desks : List Desk)
+    (held : IsHeld old writer made desks cuts undo room) (told : IsTold old) where
   pub joined_held : (name : List ℕ) → length old.names < 68 → IsHeld (joined name old) writer made (desks ++ fresh_desk ∷ []) cuts undo room
   joined_held name room_left =
       let t = length desks in
@@ -69,7 +70,9 @@ module _ (writer : Option ℕ) (made : Bool) (cuts : ℕ) (undo : UndoRoom) (roo
       let stranger : owed_by old.past t ≡ 0 = held.agrees.lists.strangers t (omega (arith, held.count)) in
       entered t writer writer made made cuts undo room old new desks now held (ap (λ (desk : Desk). desk.doing) (behind desks))
       (record {
-        agrees = joined_agrees held.chains writer old new name held.agrees (record { session = fresh_session; closed = refl; sessions = refl; names = refl; past = refl; schemas = refl; txns = refl });
+        agrees =
+            joined_agrees held.chains writer old new name held.agrees
+            (record { session = fresh_session; closed = refl; sessions = refl; names = refl; past = refl; schemas = refl; txns = refl });
         adds = inl refl;
         told = told;
         rows = record { indexes = refl; versions = refl; schemas = refl };
@@ -84,8 +87,10 @@ module _ (writer : Option ℕ) (made : Bool) (cuts : ℕ) (undo : UndoRoom) (roo
         few = omega (arith, length-append old.names (name ∷ []), room_left);
         own =
             own_session t old new now fresh_session here (λ work is. absurd (none_has work is))
-            (λ busy. absurd (no_item (owed_by_txn (level t old.past) (length (own t old.past)) (awaits_ack (of_item t old.past))) (under_way t old.past) stranger busy))
-            (λ waits. absurd (no_ack (level t old.past) (length (own t old.past)) (awaits_ack (of_item t old.past)) (owed_by_item (under_way t old.past)) stranger waits))
+            (λ busy. absurd (no_item (owed_by_txn (level t old.past) (length (own t old.past)) (awaits_ack (of_item t old.past))) (under_way t old.past)
+            stranger busy))
+            (λ waits. absurd (no_ack (level t old.past) (length (own t old.past)) (awaits_ack (of_item t old.past)) (owed_by_item (under_way t old.past))
+            stranger waits))
             (λ work is. absurd (none_has work is)) (held.started t ∙ ap (λ (desk : Desk). desk.started) (sym (one_more desks t)));
         fits = held.fits;
         makes = held.makes;
@@ -99,7 +104,8 @@ no_session state s session none there = none_some (sym (ap (λ (sessions : List 
     none_some : None ≡ Some session → ⊥
     none_some same = cc
 
-pub first_held : (state : WorldState) (undo : UndoRoom) (room : WorkRoom) → IsFresh state → IsWhole room → room.stage ≡ Find → IsHeld state None false [] 0 undo room
+pub first_held : (state : WorldState) (undo : UndoRoom) (room : WorkRoom) → IsFresh state → IsWhole room → room.stage ≡ Find
+    → IsHeld state None false [] 0 undo room
 first_held state undo room first whole stage = record {
   chains = first.chains;
   agrees = first_agrees first.chains state (record {

@@ -42,22 +42,26 @@ module _ (t : ℕ) (old new : WorldState) (now : List Desk) (after : Session) (h
   }
 
 -- a transaction whose log and changes are as they were
-pub same_log : (t : ℕ) (old new : WorldState) (session : Session) (before work : Work) → HasWork t session before old → work.log ≡ before.log → own t new.past ≡ own t old.past → LeavesLog t work old new ⊎ HasNoLog t work new
+pub same_log : (t : ℕ) (old new : WorldState) (session : Session) (before work : Work) → HasWork t session before old → work.log ≡ before.log
+    → own t new.past ≡ own t old.past → LeavesLog t work old new ⊎ HasNoLog t work new
 same_log t old new session before work has log_is own_is = inl (record { session = session; before = before; has_work = has; log_is = log_is; own_is = own_is })
 
 -- ---- desks and rights
 
-pub same_writer : (t : ℕ) (writer : Option ℕ) (old new : WorldState) (desks : List Desk) → ((s : ℕ) → s ≢ t → slice_get new.sessions s ≡ slice_get old.sessions s) → LeavesDesks t writer writer old new desks desks
+pub same_writer : (t : ℕ) (writer : Option ℕ) (old new : WorldState) (desks : List Desk)
+    → ((s : ℕ) → s ≢ t → slice_get new.sessions s ≡ slice_get old.sessions s) → LeavesDesks t writer writer old new desks desks
 same_writer t writer old new desks others =
     record { sessions = others; same = λ s differ. refl; doing = refl; rights = λ s differ is. is; back = λ s differ is. is }
 
 start_other : (desks : List Desk) (t s : ℕ) → s ≢ t → desk_at s (with_start t desks) ≡ desk_at s desks
 start_other desks t s differ = get_or-set_other desks t s _ fresh_desk differ
 
-pub start_here : (desks : List Desk) (t : ℕ) → t < length desks → desk_at t (with_start t desks) ≡ record (desk_at t desks) { started = (desk_at t desks).started + 1 }
+pub start_here : (desks : List Desk) (t : ℕ) → t < length desks
+    → desk_at t (with_start t desks) ≡ record (desk_at t desks) { started = (desk_at t desks).started + 1 }
 start_here desks t within = get_or-set_same desks t _ fresh_desk within
 
-pub started_desks : (t : ℕ) (writer : Option ℕ) (old new : WorldState) (desks : List Desk) → t < length desks → ((s : ℕ) → s ≢ t → slice_get new.sessions s ≡ slice_get old.sessions s)
+pub started_desks : (t : ℕ) (writer : Option ℕ) (old new : WorldState) (desks : List Desk) → t < length desks
+    → ((s : ℕ) → s ≢ t → slice_get new.sessions s ≡ slice_get old.sessions s)
     → LeavesDesks t writer writer old new desks (with_start t desks)
 started_desks t writer old new desks within others =
     record {
@@ -76,14 +80,23 @@ without_back : (writer : Option ℕ) (t s : ℕ) → writer_without writer t ≡
 without_back None t s is = cc
 without_back (Some w) t s is = grind (arith, nat_tests, is)
 
-pub closed_desks : (t : ℕ) (writer : Option ℕ) (old new : WorldState) (desks : List Desk) → ((s : ℕ) → s ≢ t → slice_get new.sessions s ≡ slice_get old.sessions s)
+pub closed_desks : (t : ℕ) (writer : Option ℕ) (old new : WorldState) (desks : List Desk)
+    → ((s : ℕ) → s ≢ t → slice_get new.sessions s ≡ slice_get old.sessions s)
     → LeavesDesks t writer (writer_without writer t) old new desks desks
 closed_desks t writer old new desks others =
-    record { sessions = others; same = λ s differ. refl; doing = refl; rights = λ s differ is. without_other writer t s differ is; back = λ s differ is. without_back writer t s is }
+    record {
+      sessions = others;
+      same = λ s differ. refl;
+      doing = refl;
+      rights = λ s differ is. without_other writer t s differ is;
+      back = λ s differ is.
+          without_back writer t s is;
+    }
 
 -- ---- tables that were made
 
-makes_on : (writer : Option ℕ) (made : Bool) (old new : List Event) → ((w : ℕ) → own w new ≡ own w old) → MakesTables writer made old → MakesTables writer made new
+makes_on : (writer : Option ℕ) (made : Bool) (old new : List Event) → ((w : ℕ) → own w new ≡ own w old) → MakesTables writer made old
+    → MakesTables writer made new
 makes_on None made old new same is = is
 makes_on (Some w) made old new same is = is ∙ ap (list_any is_creation) (sym (same w))
 
@@ -94,16 +107,19 @@ same_changes t old new adds mine w = elim (eqb_tells w t) [
   | inr differ ↦ (others_past t w old new differ.1 adds).own_is
 ]
 
-pub same_makes : (t : ℕ) (writer : Option ℕ) (made : Bool) (old new : List Event) → AddsAtMostOne t old new → own t new ≡ own t old → MakesTables writer made old → MakesTables writer made new
+pub same_makes : (t : ℕ) (writer : Option ℕ) (made : Bool) (old new : List Event) → AddsAtMostOne t old new → own t new ≡ own t old
+    → MakesTables writer made old → MakesTables writer made new
 same_makes t writer made old new adds mine is = makes_on writer made old new (same_changes t old new adds mine) is
 
 -- ---- works that stay
 
 pub same_works : (sessions : List Session) (t : ℕ) (before after : Session) → slice_get sessions t ≡ Some before → after.work ≡ before.work → (u : ℕ)
-    → option_map (λ (session : Session). session.work) (slice_get (slice_set sessions t after) u) ≡ option_map (λ (session : Session). session.work) (slice_get sessions u)
+    → option_map (λ (session : Session). session.work) (slice_get (slice_set sessions t after) u) ≡ option_map (λ (session : Session). session.work)
+    (slice_get sessions u)
 same_works sessions t before after there same u = elim (eqb_tells u t) [
   | inl is ↦ ap (λ v. option_map (λ (session : Session). session.work) (slice_get (slice_set sessions t after) v)) is.1
-      ∙ (ap (option_map (λ (session : Session). session.work)) (set_here sessions t before after there) ∙ (ap Some same ∙ sym (ap (option_map (λ (session : Session). session.work)) there)))
+      ∙ (ap (option_map (λ (session : Session). session.work)) (set_here sessions t before after there) ∙
+      (ap Some same ∙ sym (ap (option_map (λ (session : Session). session.work)) there)))
       ∙ ap (λ v. option_map (λ (session : Session). session.work) (slice_get sessions v)) (sym is.1)
   | inr differ ↦ ap (option_map (λ (session : Session). session.work)) (set_other sessions t u after differ.1)
 ]

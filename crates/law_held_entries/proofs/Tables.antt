@@ -36,10 +36,13 @@ use Rattle.law_held_entries.proofs.Entering.{others_past, past_grows}
 
 -- ---- columns of a table that can be stored
 
-keyed : (schema : Schema) (storable : IsStorable schema) (which : ℕ) (key : Key) → slice_get schema.keys which ≡ Some key → (column : Column) × (slice_get schema.columns key.column ≡ Some column)
+keyed : (schema : Schema) (storable : IsStorable schema) (which : ℕ) (key : Key) → slice_get schema.keys which ≡ Some key
+    → (column : Column) × (slice_get schema.columns key.column ≡ Some column)
 keyed schema storable which key there =
-    let on : IsKeyOn schema.columns storable.column.kind (get_or schema.keys which key) = storable.keys which key (slice_get_within schema.keys which key there) in
-    let is : IsKeyOn schema.columns storable.column.kind key = subst (λ (k : Key). IsKeyOn schema.columns storable.column.kind k) (get_or_from_slice_get schema.keys which key key there) on in
+    let on : IsKeyOn schema.columns storable.column.kind (get_or schema.keys which key) =
+    storable.keys which key (slice_get_within schema.keys which key there) in
+    let is : IsKeyOn schema.columns storable.column.kind key =
+    subst (λ (k : Key). IsKeyOn schema.columns storable.column.kind k) (get_or_from_slice_get schema.keys which key key there) on in
     (is.column, is.there)
 
 pub its_columns : (schema : Schema) → IsStorable schema → HasItsColumns schema
@@ -52,7 +55,8 @@ there_still [] schema n s there = cc
 there_still (first ∷ schemas) schema zero s there = there
 there_still (first ∷ schemas) schema (suc n) s there = there_still schemas schema n s there
 
-there_before : (schemas : List Schema) (schema : Schema) (n : ℕ) (s : Schema) → slice_get (schemas ++ schema ∷ []) n ≡ Some s → (slice_get schemas n ≡ Some s) ⊎ (n ≡ length schemas)
+there_before : (schemas : List Schema) (schema : Schema) (n : ℕ) (s : Schema) → slice_get (schemas ++ schema ∷ []) n ≡ Some s
+    → (slice_get schemas n ≡ Some s) ⊎ (n ≡ length schemas)
 there_before [] schema zero s there = inr refl
 there_before [] schema (suc n) s there = cc
 there_before (first ∷ schemas) schema zero s there = inl there
@@ -108,8 +112,12 @@ module _ (had : Bool) (cuts : ℕ) (undo : UndoRoom) (room : WorkRoom) (old new 
 
   no_pairs : HasNoPairs (pairs_of old) (length old.schemas)
   no_pairs = record {
-    rows = sym (ap (λ (f : ℕ → List Pair). f (clustered_index (length old.schemas))) same_pairs) ∙ subst (λ n. pairs_of new n ≡ []) (omega arith) (ap (λ (x : Index). pairs_in x.pairs) (empty 0 (omega arith)));
-    entries = λ which within. sym (ap (λ (f : ℕ → List Pair). f (key_index (length old.schemas) which)) same_pairs) ∙ ap (λ (x : Index). pairs_in x.pairs) (empty (1 + which) (omega (arith, within)));
+    rows =
+        sym (ap (λ (f : ℕ → List Pair). f (clustered_index (length old.schemas))) same_pairs) ∙ subst (λ n. pairs_of new n ≡ []) (omega arith)
+        (ap (λ (x : Index). pairs_in x.pairs) (empty 0 (omega arith)));
+    entries =
+        λ which within. sym (ap (λ (f : ℕ → List Pair). f (key_index (length old.schemas) which)) same_pairs) ∙ ap (λ (x : Index). pairs_in x.pairs)
+        (empty (1 + which) (omega (arith, within)));
   }
 
   coded : HasRows held.chains new
@@ -162,20 +170,25 @@ module _ (had : Bool) (cuts : ℕ) (undo : UndoRoom) (room : WorkRoom) (old new 
         let log_is : work.log ≡ [] = ap (λ (w : Work). w.log) (one_now session work has_t) ∙ (rooms.log ∙ no_log t rooms.session rooms.work rooms.had none) in
         subst (λ changes. IsLogOf new work.log changes) (sym (ap (λ u. own u new.past) is.1 ∙ own_now)) log_is
     | inr differ ↦
-        let log_is : work.log ≡ [] = no_log s session work (record { session_is = sym (same_sessions s differ.1) ∙ has.session_is; work_is = has.work_is }) (alone s differ.1) in
+        let log_is : work.log ≡ [] =
+        no_log s session work (record { session_is = sym (same_sessions s differ.1) ∙ has.session_is; work_is = has.work_is }) (alone s differ.1) in
         subst (λ changes. IsLogOf new work.log changes) (sym ((past_of s differ.1).own_is ∙ alone s differ.1)) log_is
   ]
 
   -- the new table needs no version
-  needed_before : (table pointer : ℕ) → IsNeededBy new.schemas (pairs_of new) new.versions.kept_at table pointer → IsNeededBy old.schemas (pairs_of old) old.versions.kept_at table pointer
+  needed_before : (table pointer : ℕ) → IsNeededBy new.schemas (pairs_of new) new.versions.kept_at table pointer
+      → IsNeededBy old.schemas (pairs_of old) old.versions.kept_at table pointer
   needed_before table pointer needed =
-      let there : slice_get (old.schemas ++ schema ∷ []) table ≡ Some needed.schema = ap (λ (schemas : List Schema). slice_get schemas table) (sym by.schemas) ∙ needed.there in
-      let record_is : value_of needed.key (pairs_of old (clustered_index table)) ≡ Some needed.bytes = ap (λ (f : ℕ → List Pair). value_of needed.key (f (clustered_index table))) (sym same_pairs) ∙ needed.record_is in
+      let there : slice_get (old.schemas ++ schema ∷ []) table ≡ Some needed.schema =
+      ap (λ (schemas : List Schema). slice_get schemas table) (sym by.schemas) ∙ needed.there in
+      let record_is : value_of needed.key (pairs_of old (clustered_index table)) ≡ Some needed.bytes =
+      ap (λ (f : ℕ → List Pair). value_of needed.key (f (clustered_index table))) (sym same_pairs) ∙ needed.record_is in
       record {
         schema = needed.schema;
         there = elim (there_before old.schemas schema table needed.schema there) [
           | inl was ↦ was
-          | inr is ↦ absurd (no_value needed.key needed.bytes (ap (value_of needed.key) (sym (ap (λ n. pairs_of old (clustered_index n)) is ∙ no_pairs.rows)) ∙ record_is))
+          | inr is ↦ absurd (no_value needed.key needed.bytes
+              (ap (value_of needed.key) (sym (ap (λ n. pairs_of old (clustered_index n)) is ∙ no_pairs.rows)) ∙ record_is))
         ];
         key = needed.key;
         bytes = needed.bytes;
@@ -183,7 +196,8 @@ module _ (had : Bool) (cuts : ℕ) (undo : UndoRoom) (room : WorkRoom) (old new 
         record_is = record_is;
         code_is = needed.code_is;
         further = needed.further;
-        reaches = subst (λ (v : _). Rattle.law_logged_changes.specs.Pointers.Reaches v.kept_at needed.coded.pointer needed.further pointer) versions needed.reaches;
+        reaches =
+            subst (λ (v : _). Rattle.law_logged_changes.specs.Pointers.Reaches v.kept_at needed.coded.pointer needed.further pointer) versions needed.reaches;
       }
 
   logs_now : LogsAgree new
@@ -203,7 +217,8 @@ module _ (had : Bool) (cuts : ℕ) (undo : UndoRoom) (room : WorkRoom) (old new 
       | inr differ ↦ held.has_room.acks s session (sym (same_sessions s differ.1) ∙ has) (ap awaits_ack (sym (past_of s differ.1).entries) ∙ waits)
     ];
     ends = λ s session work has. elim (eqb_tells s t) [
-      | inl is ↦ ap (λ (w : Work). w.can_end) (one_now session work (subst (λ u. HasWork u session work new) is.1 has)) ∙ rooms.can_end ∙ held.has_room.ends t rooms.session rooms.work rooms.had
+      | inl is ↦ ap (λ (w : Work). w.can_end) (one_now session work (subst (λ u. HasWork u session work new) is.1 has)) ∙ rooms.can_end ∙ held.has_room.ends
+          t rooms.session rooms.work rooms.had
       | inr differ ↦ held.has_room.ends s session work (record { session_is = sym (same_sessions s differ.1) ∙ has.session_is; work_is = has.work_is })
     ];
   }
@@ -224,7 +239,9 @@ module _ (had : Bool) (cuts : ℕ) (undo : UndoRoom) (room : WorkRoom) (old new 
       one_session session has = let is = rooms.has.session_is in cc
 
       own_replies : (session : Session) → IsSession t session new → is_some (under_way t new.past) ≡ true → session.can_reply ≡ true
-      own_replies session has busy = ap (λ (x : Session). x.can_reply) (one_session session has) ∙ rooms.can_reply ∙ held.has_room.replies t rooms.session rooms.had.session_is (ap is_some (sym same_item) ∙ busy)
+      own_replies session has busy =
+          ap (λ (x : Session). x.can_reply) (one_session session has) ∙ rooms.can_reply ∙ held.has_room.replies t rooms.session rooms.had.session_is
+          (ap is_some (sym same_item) ∙ busy)
 
   started_now : (s : ℕ) → started s new.past ≡ (desk_at s desks).started
   started_now s = ap (started s) by.past ∙ held.started s

@@ -30,23 +30,30 @@ use Rattle.law_held_entries.proofs.Sessions.{own_session, same_log, same_writer,
 
 -- ---- the session of a transaction is changed
 
-other_kept : (n : ℕ) (f : Session → Session) (session : Session) (work : Option Work) → session.work ≡ work → ((other : Work) → work ≡ Some other → other.txn ≢ n) → of_txn n f session work ≡ session
+other_kept : (n : ℕ) (f : Session → Session) (session : Session) (work : Option Work) → session.work ≡ work
+    → ((other : Work) → work ≡ Some other → other.txn ≢ n) → of_txn n f session work ≡ session
 other_kept n f session None is differs = refl
-other_kept n f session (Some other) is differs = ap (λ (b : Bool). cond b (f session) session) (⊎_elim (λ t. absurd (differs other refl t.1)) (λ k. k.0) (eqb_tells other.txn n))
+other_kept n f session (Some other) is differs =
+    ap (λ (b : Bool). cond b (f session) session) (⊎_elim (λ t. absurd (differs other refl t.1)) (λ k. k.0) (eqb_tells other.txn n))
 
-mine_changed : (n : ℕ) (f : Session → Session) (session : Session) (work : Work) → session.work ≡ Some work → work.txn ≡ n → of_txn n f session session.work ≡ f session
+mine_changed : (n : ℕ) (f : Session → Session) (session : Session) (work : Work) → session.work ≡ Some work → work.txn ≡ n
+    → of_txn n f session session.work ≡ f session
 mine_changed n f session work is same = ap (λ w. of_txn n f session w) is ∙ ap (λ (b : Bool). cond b (f session) session) (eq-eqb work.txn n same)
 
 found_kept : (g : Session → Session) (found : Option Session) → ((session : Session) → found ≡ Some session → g session ≡ session) → option_map g found ≡ found
 found_kept g None same = refl
 found_kept g (Some session) same = ap Some (same session refl)
 
-pub txn_elsewhere : (n u : ℕ) (f : Session → Session) (sessions : List Session) → ((session : Session) (other : Work) → slice_get sessions u ≡ Some session → session.work ≡ Some other → other.txn ≢ n) → slice_get (change_txn n f sessions) u ≡ slice_get sessions u
+pub txn_elsewhere : (n u : ℕ) (f : Session → Session) (sessions : List Session)
+    → ((session : Session) (other : Work) → slice_get sessions u ≡ Some session → session.work ≡ Some other → other.txn ≢ n)
+    → slice_get (change_txn n f sessions) u ≡ slice_get sessions u
 txn_elsewhere n u f sessions differs =
     slice_get-map (λ session. of_txn n f session session.work) sessions u
-    ∙ found_kept (λ session. of_txn n f session session.work) (slice_get sessions u) (λ session is. other_kept n f session session.work refl (λ other has. differs session other is has))
+    ∙ found_kept (λ session. of_txn n f session session.work) (slice_get sessions u)
+    (λ session is. other_kept n f session session.work refl (λ other has. differs session other is has))
 
-pub txn_here : (s n : ℕ) (session : Session) (work : Work) (f : Session → Session) (sessions : List Session) → slice_get sessions s ≡ Some session → session.work ≡ Some work → work.txn ≡ n → slice_get (change_txn n f sessions) s ≡ Some (f session)
+pub txn_here : (s n : ℕ) (session : Session) (work : Work) (f : Session → Session) (sessions : List Session) → slice_get sessions s ≡ Some session
+    → session.work ≡ Some work → work.txn ≡ n → slice_get (change_txn n f sessions) s ≡ Some (f session)
 txn_here s n session work f sessions there is same =
     slice_get-map (λ x. of_txn n f x x.work) sessions s ∙ ap (option_map (λ x. of_txn n f x x.work)) there ∙ ap Some (mine_changed n f session work is same)
 
@@ -59,7 +66,8 @@ absurd_false is = cc
 some_work : (a b : Work) → Some a ≡ Some b → a ≡ b
 some_work a b same = cc
 
-module _ (writer : Option ℕ) (made : Bool) (cuts : ℕ) (undo : UndoRoom) (room : WorkRoom) (old : WorldState) (desks : List Desk) (held : IsHeld old writer made desks cuts undo room)
+module _ (writer : Option ℕ) (made : Bool) (cuts : ℕ) (undo : UndoRoom) (room : WorkRoom) (old : WorldState) (desks : List Desk)
+    (held : IsHeld old writer made desks cuts undo room)
     (t : ℕ) (rests : doing_at t desks ≡ Nothing) (told : IsTold old) (session : Session) (there : IsSession t session old) where
   -- ---- a transaction opens
 
@@ -72,7 +80,8 @@ module _ (writer : Option ℕ) (made : Bool) (cuts : ℕ) (undo : UndoRoom) (roo
   begin_own : (n : ℕ) (level : Level) → own t old.past ≡ [] → own t (Begin t n level ∷ old.past) ≡ own t old.past
   begin_own n level none = grind (arith, nat_tests, none)
 
-  pub opened_held : (level : Level) → session.work ≡ None → IsClosed t old.past → length old.past + 1 < 2 ^ 63 → IsHeld (opened t level session old) writer made desks cuts undo room
+  pub opened_held : (level : Level) → session.work ≡ None → IsClosed t old.past → length old.past + 1 < 2 ^ 63
+      → IsHeld (opened t level session old) writer made desks cuts undo room
   opened_held level none closed few =
       let n = old.txns.begun + 1 in
       let new = opened t level session old in
@@ -80,7 +89,8 @@ module _ (writer : Option ℕ) (made : Bool) (cuts : ℕ) (undo : UndoRoom) (roo
       let after : Session = record begun_session { can_begin = false; work = Some (record (fresh_work n level) { can_end = true }) } in
       let there1 : slice_get (slice_set old.sessions t begun_session) t ≡ Some begun_session = set_here old.sessions t session begun_session there in
       let here : slice_get new.sessions t ≡ Some after = set_here (slice_set old.sessions t begun_session) t begun_session after there1 in
-      let others : (s : ℕ) → s ≢ t → slice_get new.sessions s ≡ slice_get old.sessions s = λ s differ. set_other (slice_set old.sessions t begun_session) t s after differ ∙ set_other old.sessions t s begun_session differ in
+      let others : (s : ℕ) → s ≢ t → slice_get new.sessions s ≡ slice_get old.sessions s =
+      λ s differ. set_other (slice_set old.sessions t begun_session) t s after differ ∙ set_other old.sessions t s begun_session differ in
       let empty : own t old.past ≡ [] = (ids_of old.past held.agrees.lists.ordered).closed t closed in
       let own_is : own t new.past ≡ own t old.past = begin_own n level empty in
       entered t writer writer made made cuts undo room old new desks desks held rests
@@ -94,7 +104,11 @@ module _ (writer : Option ℕ) (made : Bool) (cuts : ℕ) (undo : UndoRoom) (roo
         few = held.few;
         own =
             own_session t old new desks after here
-            (λ work is. inr (record { log_is = ap (λ (w : Work). w.log) (sym (some_work (record (fresh_work n level) { can_end = true }) work is)); own_is = own_is ∙ empty }))
+            (λ work is. inr (record {
+              log_is = ap (λ (w : Work). w.log) (sym (some_work (record (fresh_work n level) { can_end = true }) work is));
+              own_is =
+                  own_is ∙ empty;
+            }))
             (λ busy. held.has_room.replies t session there busy) (λ waits. absurd (absurd_false (sym (begin_waits n level) ∙ waits)))
             (λ work is. ap (λ (w : Work). w.can_end) (sym (some_work (record (fresh_work n level) { can_end = true }) work is))) (held.started t);
         fits = held.fits;
@@ -109,7 +123,8 @@ module _ (writer : Option ℕ) (made : Bool) (cuts : ℕ) (undo : UndoRoom) (roo
   view_waits : awaits_ack (of_item t (View t ∷ old.past)) ≡ false
   view_waits = grind (arith, nat_tests)
 
-  pub viewed_held : (work : Work) → session.work ≡ Some work → length old.past + 1 < 2 ^ 63 → IsHeld (viewed t session work old) writer made desks cuts undo room
+  pub viewed_held : (work : Work) → session.work ≡ Some work → length old.past + 1 < 2 ^ 63
+      → IsHeld (viewed t session work old) writer made desks cuts undo room
   viewed_held work is few =
       let new = viewed t session work old in
       let seen : Work = record work { view = Some (record { active = listed_ids old.txns.open_txns; next = old.txns.next }) } in
@@ -139,11 +154,14 @@ module _ (writer : Option ℕ) (made : Bool) (cuts : ℕ) (undo : UndoRoom) (roo
 
     -- a session of another transaction
     another : (u : ℕ) (x : Session) (other : Work) → u ≢ t → slice_get old.sessions u ≡ Some x → x.work ≡ Some other → other.txn ≢ work.txn
-    another u x other differ there' has same = differ (one_session_of held.chains writer old t u session x work other held.agrees has_work (record { session_is = there'; work_is = has }) same)
+    another u x other differ there' has same =
+        differ (one_session_of held.chains writer old t u session x work other held.agrees has_work (record { session_is = there'; work_is = has }) same)
 
-    changed_else : (f : Session → Session) (first : Session) (u : ℕ) → u ≢ t → slice_get (change_txn work.txn f (slice_set old.sessions t first)) u ≡ slice_get old.sessions u
+    changed_else : (f : Session → Session) (first : Session) (u : ℕ) → u ≢ t
+        → slice_get (change_txn work.txn f (slice_set old.sessions t first)) u ≡ slice_get old.sessions u
     changed_else f first u differ =
-        txn_elsewhere work.txn u f (slice_set old.sessions t first) (λ x other there' has. another u x other differ (sym (set_other old.sessions t u first differ) ∙ there') has)
+        txn_elsewhere work.txn u f (slice_set old.sessions t first)
+        (λ x other there' has. another u x other differ (sym (set_other old.sessions t u first differ) ∙ there') has)
         ∙ set_other old.sessions t u first differ
 
     -- ---- a savepoint is kept
@@ -152,10 +170,12 @@ module _ (writer : Option ℕ) (made : Bool) (cuts : ℕ) (undo : UndoRoom) (roo
     saved_else f u differ = txn_elsewhere work.txn u f old.sessions (λ x other there' has. another u x other differ there' has)
 
     saved_works : (f : Session → Session) → (f session).work ≡ session.work → (u : ℕ)
-        → option_map (λ (x : Session). x.work) (slice_get (change_txn work.txn f old.sessions) u) ≡ option_map (λ (x : Session). x.work) (slice_get old.sessions u)
+        → option_map (λ (x : Session). x.work) (slice_get (change_txn work.txn f old.sessions) u) ≡ option_map (λ (x : Session). x.work)
+        (slice_get old.sessions u)
     saved_works f same u = elim (eqb_tells u t) [
       | inl here ↦ ap (λ v. option_map (λ (x : Session). x.work) (slice_get (change_txn work.txn f old.sessions) v)) here.1
-          ∙ (ap (option_map (λ (x : Session). x.work)) (txn_here t work.txn session work f old.sessions there is refl) ∙ (ap Some same ∙ sym (ap (option_map (λ (x : Session). x.work)) there)))
+          ∙ (ap (option_map (λ (x : Session). x.work)) (txn_here t work.txn session work f old.sessions there is refl) ∙
+          (ap Some same ∙ sym (ap (option_map (λ (x : Session). x.work)) there)))
           ∙ ap (λ v. option_map (λ (x : Session). x.work) (slice_get old.sessions v)) (sym here.1)
       | inr differ ↦ ap (option_map (λ (x : Session). x.work)) (saved_else f u differ.1)
     ]
@@ -166,7 +186,17 @@ module _ (writer : Option ℕ) (made : Bool) (cuts : ℕ) (undo : UndoRoom) (roo
         let f : Session → Session = λ x. record x { setting = record x.setting { saves = saved name count true x.setting.saves } } in
         entered t writer writer made made cuts undo room old new desks desks held rests
         (record {
-          agrees = unentered_agrees held.chains writer old new held.agrees (record { past_is = refl; names = refl; schemas = refl; txns = refl; works = saved_works f refl; count = length-map old.sessions (λ x. of_txn work.txn f x x.work) });
+          agrees =
+              unentered_agrees held.chains writer old new held.agrees
+              (record {
+                past_is = refl;
+                names = refl;
+                schemas = refl;
+                txns = refl;
+                works = saved_works f refl;
+                count = length-map old.sessions
+                    (λ x. of_txn work.txn f x x.work);
+              });
           adds = inl refl;
           told = told;
           rows = record { indexes = refl; versions = refl; schemas = refl };
@@ -184,7 +214,8 @@ module _ (writer : Option ℕ) (made : Bool) (cuts : ℕ) (undo : UndoRoom) (roo
 
     -- ---- a transaction ends
 
-    ends_makes : (bool : Bool) (past : List Event) → ((u : ℕ) → u ≢ t → own u past ≡ own u old.past) → (writer ≡ Some t → bool ≡ false) → (writer ≢ Some t → bool ≡ made) → MakesTables (writer_without writer t) bool past
+    ends_makes : (bool : Bool) (past : List Event) → ((u : ℕ) → u ≢ t → own u past ≡ own u old.past) → (writer ≡ Some t → bool ≡ false)
+        → (writer ≢ Some t → bool ≡ made) → MakesTables (writer_without writer t) bool past
     ends_makes bool past others mine theirs = ends writer refl
       where
         ends : (w : Option ℕ) → writer ≡ w → MakesTables (writer_without w t) bool past
@@ -220,7 +251,8 @@ module _ (writer : Option ℕ) (made : Bool) (cuts : ℕ) (undo : UndoRoom) (roo
         let first : Session = record session { can_ack = true; work = Some (record work { can_end = false }) } in
         let f : Session → Session = λ x. record x { setting = at_end x.setting; work = None } in
         let there1 : slice_get (slice_set old.sessions t first) t ≡ Some first = set_here old.sessions t session first there in
-        let here : slice_get new.sessions t ≡ Some (f first) = txn_here t work.txn first (record work { can_end = false }) f (slice_set old.sessions t first) there1 refl refl in
+        let here : slice_get new.sessions t ≡ Some (f first) =
+        txn_here t work.txn first (record work { can_end = false }) f (slice_set old.sessions t first) there1 refl refl in
         let adds : Rattle.law_found_rows.specs.Pasts.AddsAtMostOne t old.past new.past = inr (Committed t, mine_commits, refl) in
         entered t writer (writer_without writer t) made now cuts undo room old new desks desks held rests
         (record {
@@ -235,7 +267,8 @@ module _ (writer : Option ℕ) (made : Bool) (cuts : ℕ) (undo : UndoRoom) (roo
               own_session t old new desks (f first) here (λ w is_w. absurd (none_has (f first) w refl is_w))
               (λ busy. held.has_room.replies t session there busy) (λ waits. refl) (λ w is_w. absurd (none_has (f first) w refl is_w)) (held.started t);
           fits = held.fits;
-          makes = ends_makes now new.past (λ u differ. (Rattle.law_held_entries.proofs.Entering.others_past t u old.past new.past differ adds).own_is) mine theirs;
+          makes =
+              ends_makes now new.past (λ u differ. (Rattle.law_held_entries.proofs.Entering.others_past t u old.past new.past differ adds).own_is) mine theirs;
         })
 
     pub rolled_back_held : (now : Bool) → own t old.past ≡ [] → (writer ≡ Some t → now ≡ false) → (writer ≢ Some t → now ≡ made) → length old.past + 1 < 2 ^ 63
@@ -245,7 +278,8 @@ module _ (writer : Option ℕ) (made : Bool) (cuts : ℕ) (undo : UndoRoom) (roo
         let first : Session = record session { work = Some (record work { can_end = false }) } in
         let f : Session → Session = λ x. record x { setting = at_end x.setting; work = None } in
         let there1 : slice_get (slice_set old.sessions t first) t ≡ Some first = set_here old.sessions t session first there in
-        let here : slice_get new.sessions t ≡ Some (f first) = txn_here t work.txn first (record work { can_end = false }) f (slice_set old.sessions t first) there1 refl refl in
+        let here : slice_get new.sessions t ≡ Some (f first) =
+        txn_here t work.txn first (record work { can_end = false }) f (slice_set old.sessions t first) there1 refl refl in
         let adds : Rattle.law_found_rows.specs.Pasts.AddsAtMostOne t old.past new.past = inr (RolledBack t, mine_rolls, refl) in
         entered t writer (writer_without writer t) made now cuts undo room old new desks desks held rests
         (record {
@@ -258,7 +292,9 @@ module _ (writer : Option ℕ) (made : Bool) (cuts : ℕ) (undo : UndoRoom) (roo
           few = held.few;
           own =
               own_session t old new desks (f first) here (λ w is_w. absurd (none_has (f first) w refl is_w))
-              (λ busy. held.has_room.replies t session there busy) (λ waits. absurd (absurd_false (sym rolled_waits ∙ waits))) (λ w is_w. absurd (none_has (f first) w refl is_w)) (held.started t);
+              (λ busy. held.has_room.replies t session there busy) (λ waits. absurd (absurd_false (sym rolled_waits ∙ waits)))
+              (λ w is_w. absurd (none_has (f first) w refl is_w)) (held.started t);
           fits = held.fits;
-          makes = ends_makes now new.past (λ u differ. (Rattle.law_held_entries.proofs.Entering.others_past t u old.past new.past differ adds).own_is) mine theirs;
+          makes =
+              ends_makes now new.past (λ u differ. (Rattle.law_held_entries.proofs.Entering.others_past t u old.past new.past differ adds).own_is) mine theirs;
         })

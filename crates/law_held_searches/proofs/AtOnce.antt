@@ -51,7 +51,8 @@ use Rattle.law_held_searches.proofs.Stepping.{may_step, rows_on, some_schema}
 
 -- ---- the plan
 
-module _ (state : WorldState) (writer : Option ℕ) (made : Bool) (desks : List Desk) (cuts : ℕ) (undo : UndoRoom) (room : WorkRoom) (table : ℕ) (plan : Plan) (schema : Schema) (held : IsHeld state writer made desks cuts undo room) where
+module _ (state : WorldState) (writer : Option ℕ) (made : Bool) (desks : List Desk) (cuts : ℕ) (undo : UndoRoom) (room : WorkRoom) (table : ℕ) (plan : Plan)
+    (schema : Schema) (held : IsHeld state writer made desks cuts undo room) where
   module _ (told : IsTold state) (there : slice_get state.schemas table ≡ Some schema) (le : plan.which ≤ length schema.keys) where
     tells_by : (quiet : Bool) → is_quiet writer desks ≡ quiet → TellsTable held.chains table (plan_read quiet plan) schema state
     tells_by true is = record {
@@ -82,23 +83,29 @@ module _ (state : WorldState) (writer : Option ℕ) (made : Bool) (desks : List 
     abbrev only_rows : List (List Value)
     only_rows = map (λ (found : FoundRow). found.row) rows
 
-    seen_by : (by : Plan) → AreRead held.chains table by schema state rows → (w : ℕ) → ((u : ℕ) → u ≢ w → own u state.past ≡ []) → AreRowsSeen table by state.past w (commits state.past) only_rows
+    seen_by : (by : Plan) → AreRead held.chains table by schema state rows → (w : ℕ) → ((u : ℕ) → u ≢ w → own u state.past ≡ [])
+        → AreRowsSeen table by state.past w (commits state.past) only_rows
     seen_by by are w alone other is =
-        found_newest held.chains writer state table schema state.versions.kept_at (pairs_of state _) held.agrees (are.readable.coded.clustered.tables table schema are.readable.there) w alone by.which (λ row. is_within by.range (index_key schema by.which row)) rows are.found are.rise
+        found_newest held.chains writer state table schema state.versions.kept_at (pairs_of state _) held.agrees
+        (are.readable.coded.clustered.tables table schema are.readable.there) w alone by.which
+        (λ row. is_within by.range (index_key schema by.which row)) rows are.found are.rise
         ∙ ap (λ (t : Schema). rows_in_range by t (rows_of table (changed (with_all_tables state.past) (seen state.past w (commits state.past)))))
         (some_schema schema other (sym are.readable.there ∙ (ap (λ (tables : List Schema). slice_get tables table) held.agrees.lists.tables ∙ is)))
 
-    newest_by : (quiet : Bool) → AreRead held.chains table (plan_read quiet plan) schema state rows → (w : ℕ) → ((u : ℕ) → u ≢ w → own u state.past ≡ []) → AreNewestRows table plan state.past w only_rows
+    newest_by : (quiet : Bool) → AreRead held.chains table (plan_read quiet plan) schema state rows → (w : ℕ) → ((u : ℕ) → u ≢ w → own u state.past ≡ [])
+        → AreNewestRows table plan state.past w only_rows
     newest_by true are w alone = inl (seen_by plan are w alone)
     newest_by false are w alone = inr (seen_by whole_index are w alone)
 
-    pub are_newest : AreRead held.chains table (plan_read (is_quiet writer desks) plan) schema state rows → (w : ℕ) → ((u : ℕ) → u ≢ w → own u state.past ≡ []) → AreNewestRows table plan state.past w only_rows
+    pub are_newest : AreRead held.chains table (plan_read (is_quiet writer desks) plan) schema state rows → (w : ℕ)
+        → ((u : ℕ) → u ≢ w → own u state.past ≡ []) → AreNewestRows table plan state.past w only_rows
     are_newest = newest_by (is_quiet writer desks)
 
 -- ---- the search
 
 module _ (chains : Chains) (s table : ℕ) (plan : Plan) (schema : Schema) where
-  pub reading_begins : (state : WorldState) (search : RowSearch) → TellsTable chains table plan schema state → IsNewSearch table plan Newest search → IsReadingNewest chains s table plan schema state state search
+  pub reading_begins : (state : WorldState) (search : RowSearch) → TellsTable chains table plan schema state → IsNewSearch table plan Newest search
+      → IsReadingNewest chains s table plan schema state state search
   reading_begins state search tells new = record {
     readable = tells;
     moves = none_moves s state;
@@ -115,11 +122,14 @@ module _ (chains : Chains) (s table : ℕ) (plan : Plan) (schema : Schema) where
   }
 
   -- what was found, in the words of the plan
-  in_plan : (scan : Scan) (rows : List FoundRow) → IsScanOf table plan Newest scan → AreFound schema scan.which (rows_seen scan.sight (in_table scan.table chains)) (lies_in schema scan) rows
+  in_plan : (scan : Scan) (rows : List FoundRow) → IsScanOf table plan Newest scan
+      → AreFound schema scan.which (rows_seen scan.sight (in_table scan.table chains)) (lies_in schema scan) rows
       → AreFound schema plan.which (rows_seen Newest (in_table table chains)) (λ row. is_within plan.range (index_key schema plan.which row)) rows
   in_plan scan rows is are =
-      subst (λ (which : ℕ). AreFound schema which (rows_seen Newest (in_table table chains)) (λ row. is_within plan.range (index_key schema which row)) rows) is.which_is
-      (subst (λ (range : Range). AreFound schema scan.which (rows_seen Newest (in_table table chains)) (λ row. is_within range (index_key schema scan.which row)) rows) is.range_is
+      subst (λ (which : ℕ). AreFound schema which (rows_seen Newest (in_table table chains)) (λ row. is_within plan.range (index_key schema which row)) rows)
+      is.which_is
+      (subst (λ (range : Range). AreFound schema scan.which (rows_seen Newest (in_table table chains))
+      (λ row. is_within range (index_key schema scan.which row)) rows) is.range_is
       (subst (λ (sight : Sight). AreFound schema scan.which (rows_seen sight (in_table table chains)) (lies_in schema scan) rows) is.sight_is
       (subst (λ (n : ℕ). AreFound schema scan.which (rows_seen scan.sight (in_table n chains)) (lies_in schema scan) rows) is.table_is are)))
 
@@ -127,10 +137,12 @@ module _ (chains : Chains) (s table : ℕ) (plan : Plan) (schema : Schema) where
     rows_now : (state : WorldState) (search : RowSearch) → IsReadingNewest chains s table plan schema first state search → IsTold state → HasSome chains state
     rows_now state search is told = rows_on s first state chains is.moves told (is.readable.said, is.readable.coded)
 
-    pub reading_steps : (state : WorldState) (search : RowSearch) → IsReadingNewest chains s table plan schema first state search → IsTold state → MayStep s schema state search
+    pub reading_steps : (state : WorldState) (search : RowSearch) → IsReadingNewest chains s table plan schema first state search → IsTold state
+        → MayStep s schema state search
     reading_steps state search is told = may_step s schema state chains search told (rows_now state search is told) is.finds.searching
 
-    shows : (state : WorldState) (search : RowSearch) → IsReadingNewest chains s table plan schema first state search → IsTold state → ShowsRows schema search.scan state (in_table search.scan.table chains)
+    shows : (state : WorldState) (search : RowSearch) → IsReadingNewest chains s table plan schema first state search → IsTold state
+        → ShowsRows schema search.scan state (in_table search.scan.table chains)
     shows state search is told = by is.readable.tells where
       coded : AreRowsAs chains is.readable.said state
       coded = rows_left first state (moves_leave s first state is.moves) chains is.readable.said told is.readable.coded
@@ -140,21 +152,25 @@ module _ (chains : Chains) (s table : ℕ) (plan : Plan) (schema : Schema) where
           shows_coded schema search.scan state chains told is.finds.searching.there is.readable.columns is.finds.searching.key
           (subst (λ (said : Said). AreRowsAs chains said state) there coded)
       by (inr clustered) =
-          shows_clustered state chains is.readable.said told coded schema search.scan is.finds.searching.there is.readable.columns (is.scan.which_is ∙ clustered)
+          shows_clustered state chains is.readable.said told coded schema search.scan is.finds.searching.there is.readable.columns
+          (is.scan.which_is ∙ clustered)
 
-    pub reading_goes_on : (old new : WorldState) (search next : RowSearch) → IsReadingNewest chains s table plan schema first old search → GoesOn s schema old new search next → IsTold new → IsReadingNewest chains s table plan schema first new next
+    pub reading_goes_on : (old new : WorldState) (search next : RowSearch) → IsReadingNewest chains s table plan schema first old search
+        → GoesOn s schema old new search next → IsTold new → IsReadingNewest chains s table plan schema first new next
     reading_goes_on old new search next is goes told =
         let moves : MovesPlaces s old new = moves_in_one s _ old new goes.moves in
         let on = goes_on s schema old new chains search next is.finds (shows old search is (moves_told s old new moves told)) goes told in
         record { readable = is.readable; moves = moves_then s first old new is.moves moves; scan = scan_on search.scan next.scan on.1 is.scan; finds = on.0 }
 
-    pub reading_waits : (old new : WorldState) (search same : RowSearch) (why : Move) → IsReadingNewest chains s table plan schema first old search → Waits s schema old new search same why → IsTold new → IsReadingNewest chains s table plan schema first new same
+    pub reading_waits : (old new : WorldState) (search same : RowSearch) (why : Move) → IsReadingNewest chains s table plan schema first old search
+        → Waits s schema old new search same why → IsTold new → IsReadingNewest chains s table plan schema first new same
     reading_waits old new search same why is waits told =
         let moves : MovesPlaces s old new = moves_nothing s old new waits.unchanged in
         let on = waits_on s schema old new chains search same why is.finds waits told in
         record { readable = is.readable; moves = moves_then s first old new is.moves moves; scan = scan_on search.scan same.scan on.1 is.scan; finds = on.0 }
 
-    pub reading_ends : (old new : WorldState) (search : RowSearch) (rows : List FoundRow) → IsReadingNewest chains s table plan schema first old search → Ends s schema old new search rows
+    pub reading_ends : (old new : WorldState) (search : RowSearch) (rows : List FoundRow) → IsReadingNewest chains s table plan schema first old search
+        → Ends s schema old new search rows
         → AreRead chains table plan schema first rows × MovesPlaces s first new
     reading_ends old new search rows is ends =
         let found = ends.found (in_table search.scan.table chains) is.finds.finds in (
@@ -162,5 +178,6 @@ module _ (chains : Chains) (s table : ℕ) (plan : Plan) (schema : Schema) where
           moves_then s first old new is.moves (leaving_moves s _ old new ends.leaves),
         )
 
-    pub reading_stops : (index : ℕ) (state later : WorldState) (search : RowSearch) → IsReadingNewest chains s table plan schema first state search → Calls index (Leaves s) state later → MovesPlaces s first later
+    pub reading_stops : (index : ℕ) (state later : WorldState) (search : RowSearch) → IsReadingNewest chains s table plan schema first state search
+        → Calls index (Leaves s) state later → MovesPlaces s first later
     reading_stops index state later search is leaves = moves_then s first state later is.moves (leaving_moves s index state later leaves)

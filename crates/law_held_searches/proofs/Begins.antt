@@ -36,13 +36,16 @@ use Rattle.law_held_searches.proofs.Stepping.{same_number}
 
 -- ---- a new search
 
-pub columns_held : (state : WorldState) (writer : Option ℕ) (made : Bool) (desks : List Desk) (cuts : ℕ) (undo : UndoRoom) (room : WorkRoom) (table : ℕ) (schema : Schema) → IsHeld state writer made desks cuts undo room → IsTold state
+pub columns_held : (state : WorldState) (writer : Option ℕ) (made : Bool) (desks : List Desk) (cuts : ℕ) (undo : UndoRoom) (room : WorkRoom) (table : ℕ)
+    (schema : Schema) → IsHeld state writer made desks cuts undo room → IsTold state
     → slice_get state.schemas table ≡ Some schema → HasItsColumns schema
 columns_held state writer made desks cuts undo room table schema held told there =
     let rows : HasSome held.chains state = some_rows_by held.chains state told writer desks (read_into undo) room held.rows in
     columns_of held.chains rows.0 state table schema rows.1 there
 
-pub new_search : (table : ℕ) (plan : Plan) (sight : Sight) (search : RowSearch) → search.scan ≡ record { table = table; which = plan.which; range = plan.range; sight = sight; rows = search.scan.rows } → BeginsWithNothing search → MayBegin search
+pub new_search : (table : ℕ) (plan : Plan) (sight : Sight) (search : RowSearch)
+    → search.scan ≡ record { table = table; which = plan.which; range = plan.range; sight = sight; rows = search.scan.rows } → BeginsWithNothing search
+    → MayBegin search
     → IsNewSearch table plan sight search
 new_search table plan sight search is nothing may = record {
   scan = record {
@@ -56,20 +59,26 @@ new_search table plan sight search is nothing may = record {
 }
 
 -- the index is one of its table's, wherever the search begins
-pub new_finding : (s table : ℕ) (plan : Plan) (sight : Sight) (schema : Schema) (state : WorldState) (chains : Chains) (search : RowSearch) → IsNewSearch table plan sight search
+pub new_finding : (s table : ℕ) (plan : Plan) (sight : Sight) (schema : Schema) (state : WorldState) (chains : Chains) (search : RowSearch)
+    → IsNewSearch table plan sight search
     → slice_get state.schemas table ≡ Some schema → HasItsColumns schema → plan.which ≤ length schema.keys → IsFinding s schema state chains search
 new_finding s table plan sight schema state chains search new there columns le =
     begins s schema state chains search new.nothing new.may (ap (slice_get state.schemas) new.scan.table_is ∙ there)
     (omega (arith, le, new.scan.which_is)) (omega (arith, le, new.scan.which_is, columns.few))
 
-pub begun : (s table : ℕ) (state : WorldState) (writer : Option ℕ) (made : Bool) (desks : List Desk) (cuts : ℕ) (undo : UndoRoom) (room : WorkRoom) (plan : Plan) (sight : Sight) (schema : Schema) (on : TableSearch)
-    → IsHeld state writer made desks cuts undo room → IsTold state → doing_at s desks ≡ Nothing → slice_get state.schemas table ≡ Some schema → plan.which ≤ length schema.keys
+pub begun : (s table : ℕ) (state : WorldState) (writer : Option ℕ) (made : Bool) (desks : List Desk) (cuts : ℕ) (undo : UndoRoom) (room : WorkRoom)
+    (plan : Plan) (sight : Sight) (schema : Schema) (on : TableSearch)
+    → IsHeld state writer made desks cuts undo room → IsTold state → doing_at s desks ≡ Nothing → slice_get state.schemas table ≡ Some schema → plan.which ≤
+    length schema.keys
     → SightHolds state writer s sight → IsBegun table plan sight schema cuts on → IsHeld state writer made (with_doing s (Searching on) desks) cuts undo room
 begun s table state writer made desks cuts undo room plan sight schema on held told idle there le sees is =
     held_stays s state state (none_moves s state) writer made desks cuts undo room held (Searching on) (ap is_quiet_doing idle) refl told mine
   where
     finding : IsFinding s on.schema state held.chains on.search
-    finding = subst (λ (t : Schema). IsFinding s t state held.chains on.search) (sym is.schema_is) (new_finding s table plan sight schema state held.chains on.search is.search there (columns_held state writer made desks cuts undo room table schema held told there) le)
+    finding =
+        subst (λ (t : Schema). IsFinding s t state held.chains on.search) (sym is.schema_is)
+        (new_finding s table plan sight schema state held.chains on.search is.search there
+        (columns_held state writer made desks cuts undo room table schema held told there) le)
 
     mine : IsSearchHeld held.chains state writer cuts s on
     mine = record {
@@ -85,25 +94,31 @@ begun s table state writer made desks cuts undo room plan sight schema on held t
 none_open : (found : Option Level) → found ≡ None → is_some found ≡ true → ⊥
 none_open found none some = cc
 
-module _ (s : ℕ) (chains : Chains) (writer : Option ℕ) (state : WorldState) (agrees : Agrees chains writer state) (open_s : IsOpen s state.past) (viewed : is_some (view_of s state.past) ≡ true) where
+module _ (s : ℕ) (chains : Chains) (writer : Option ℕ) (state : WorldState) (agrees : Agrees chains writer state) (open_s : IsOpen s state.past)
+    (viewed : is_some (view_of s state.past) ≡ true) where
   no_view : view_of s state.past ≡ None → HasView s state
   no_view none = absurd (cc)
 
-  of_seen : (session : Session) (work : Work) (seen : Option Seen) → slice_get state.sessions s ≡ Some session → session.work ≡ Some work → work.view ≡ seen → ViewAgrees state.past s (option_map sight_of seen) → HasView s state
+  of_seen : (session : Session) (work : Work) (seen : Option Seen) → slice_get state.sessions s ≡ Some session → session.work ≡ Some work
+      → work.view ≡ seen → ViewAgrees state.past s (option_map sight_of seen) → HasView s state
   of_seen session work None at is view agreed = no_view agreed
-  of_seen session work (Some seen) at is view agreed = record { session = session; work = work; has_work = record { session_is = at; work_is = is }; seen = seen; view_is = view }
+  of_seen session work (Some seen) at is view agreed =
+      record { session = session; work = work; has_work = record { session_is = at; work_is = is }; seen = seen; view_is = view }
 
   of_work : (session : Session) (found : Option Work) → slice_get state.sessions s ≡ Some session → session.work ≡ found
       → WorkAgrees state.schemas state.past s (option_map (work_at (map (place_in state.schemas) (own s state.past))) found) → HasView s state
   of_work session None at is agreed = absurd (none_open (level s state.past) agreed.level_is open_s)
   of_work session (Some work) at is agreed = of_seen session work work.view at is refl agreed.view_is
 
-  of_session : (found : Option Session) → slice_get state.sessions s ≡ found → SlotAgrees state.schemas state.past s (slot_if state.past state.schemas s found) → HasView s state
+  of_session : (found : Option Session) → slice_get state.sessions s ≡ found
+      → SlotAgrees state.schemas state.past s (slot_if state.past state.schemas s found) → HasView s state
   of_session None at agreed = absurd (none_open (level s state.past) agreed.work_is.level_is open_s)
   of_session (Some session) at agreed = of_work session session.work at refl agreed.work_is
 
   pub has_view : HasView s state
-  has_view = of_session (slice_get state.sessions s) refl (subst (SlotAgrees state.schemas state.past s) (slot_at s state.past state.schemas state.sessions) (agrees.lists.sessions s))
+  has_view =
+      of_session (slice_get state.sessions s) refl
+      (subst (SlotAgrees state.schemas state.past s) (slot_at s state.past state.schemas state.sessions) (agrees.lists.sessions s))
 
 module _ (s : ℕ) (state : WorldState) (active : List ℕ) (next : Option ℕ) (has : HasView s state) (shown : IsShown has.work.view active next) where
   shown_seen : (active ≡ has.seen.active) × (next ≡ Some has.seen.next)
@@ -118,7 +133,8 @@ module _ (s : ℕ) (state : WorldState) (active : List ℕ) (next : Option ℕ) 
   pub next_some : (n : ℕ) → next ≡ Some n → ViewsHaveNext state → 0 < n
   next_some n is views = subst (λ (m : ℕ). 0 < m) (sym (next_is n is)) (views s has.session has.work has.seen has.has_work has.view_is)
 
-  pub own_view : (n reader : ℕ) → next ≡ Some n → reader ≡ (standing_of has.session).id → IsOwnView state s (record { active = active; own = 0; next = n }) reader
+  pub own_view : (n reader : ℕ) → next ≡ Some n → reader ≡ (standing_of has.session).id
+      → IsOwnView state s (record { active = active; own = 0; next = n }) reader
   own_view n reader is reader_is =
       let a = shown_seen.0 in
       let m = next_is n is in

@@ -29,10 +29,12 @@ use Rattle.law_held_searches.specs.TakenUp.{IsSearchOf}
 use Rattle.law_held_searches.proofs.Places.{none_moves}
 use Rattle.law_held_searches.proofs.AtDesks.{doing_here, doing_other}
 
-pub left_stays : (s table : ℕ) (stage : Stage) (old new : WorldState) → MovesPlaces s old new → IsTold new → undo_left_in table stage new ≡ undo_left_in table stage old
+pub left_stays : (s table : ℕ) (stage : Stage) (old new : WorldState) → MovesPlaces s old new → IsTold new
+    → undo_left_in table stage new ≡ undo_left_in table stage old
 left_stays s table stage old new moves told =
     ap (undo_left_in table stage) moves.rest
-    ∙ ap (λ (kept : ℕ → Option Kept). undo_left_in table stage (record old { versions = record old.versions { kept_at = kept } })) (moves.versions.kept told.versions)
+    ∙ ap (λ (kept : ℕ → Option Kept). undo_left_in table stage (record old { versions = record old.versions { kept_at = kept } }))
+    (moves.versions.kept told.versions)
 
 module _ (s left : ℕ) (old new : WorldState) (writer : Option ℕ) (desks : List Desk) (moves : MovesPlaces s old new) where
   pub lists_stay : lists_of new writer desks left ≡ lists_of old writer desks left
@@ -42,12 +44,14 @@ module _ (s left : ℕ) (old new : WorldState) (writer : Option ℕ) (desks : Li
     schemas_stay : new.schemas ≡ old.schemas
     schemas_stay = ap (λ (state : WorldState). state.schemas) moves.rest
 
-    task_now : (u : ℕ) (is : Doing) → doing_at u (with_doing s doing desks) ≡ is → task_of u (lists_of new writer (with_doing s doing desks) left).state ≡ shown old.schemas left is
+    task_now : (u : ℕ) (is : Doing) → doing_at u (with_doing s doing desks) ≡ is
+        → task_of u (lists_of new writer (with_doing s doing desks) left).state ≡ shown old.schemas left is
     task_now u is at =
         task_is u left new writer (with_doing s doing desks)
         ∙ (ap (shown new.schemas left) at ∙ ap (λ (schemas : List Schema). shown schemas left is) schemas_stay)
 
-    pub turns : s < length desks → Turns s (shown old.schemas left doing) (lists_of old writer desks left).state (lists_of new writer (with_doing s doing desks) left).state
+    pub turns : s < length desks
+        → Turns s (shown old.schemas left doing) (lists_of old writer desks left).state (lists_of new writer (with_doing s doing desks) left).state
     turns within = record {
       names_are = ap (λ (state : WorldState). state.names) moves.rest;
       past_is = ap (λ (state : WorldState). state.past) moves.rest;
@@ -56,30 +60,37 @@ module _ (s left : ℕ) (old new : WorldState) (writer : Option ℕ) (desks : Li
       others = λ u differs. task_now u (doing_at u desks) (doing_other s doing desks u differs) ∙ sym (task_is u left old writer desks);
     }
 
-    pub rest_stays : ((lists_of new writer (with_doing s doing desks) left).settings ≡ (lists_of old writer desks left).settings) × ((lists_of new writer (with_doing s doing desks) left).rows ≡ (lists_of old writer desks left).rows)
+    pub rest_stays : ((lists_of new writer (with_doing s doing desks) left).settings ≡ (lists_of old writer desks left).settings) ×
+        ((lists_of new writer (with_doing s doing desks) left).rows ≡ (lists_of old writer desks left).rows)
     rest_stays = (ap (λ (state : WorldState). (lists_of state writer desks left).settings) moves.rest, ap (λ (state : WorldState). state.rows) moves.rest)
 
   -- with what is left of a change that is being taken back
-  pub seen_stay : (table : ℕ) (stage : Stage) → left ≡ undo_left_in table stage old → IsTold new → seen_of table stage new writer desks ≡ seen_of table stage old writer desks
+  pub seen_stay : (table : ℕ) (stage : Stage) → left ≡ undo_left_in table stage old → IsTold new
+      → seen_of table stage new writer desks ≡ seen_of table stage old writer desks
   seen_stay table stage is told =
       ap (lists_of new writer desks) (left_stays s table stage old new moves told ∙ sym is) ∙ (lists_stay ∙ ap (lists_of old writer desks) is)
 
-pub turns_now : (s table : ℕ) (stage : Stage) (old new : WorldState) (writer : Option ℕ) (desks : List Desk) (doing : Doing) → s < length desks → MovesPlaces s old new → IsTold new
-    → Turns s (shown old.schemas (undo_left_in table stage old) doing) (seen_of table stage old writer desks).state (seen_of table stage new writer (with_doing s doing desks)).state
+pub turns_now : (s table : ℕ) (stage : Stage) (old new : WorldState) (writer : Option ℕ) (desks : List Desk) (doing : Doing) → s < length desks
+    → MovesPlaces s old new → IsTold new
+    → Turns s (shown old.schemas (undo_left_in table stage old) doing) (seen_of table stage old writer desks).state
+    (seen_of table stage new writer (with_doing s doing desks)).state
 turns_now s table stage old new writer desks doing within moves told =
-    subst (λ (left : ℕ). Turns s (shown old.schemas (undo_left_in table stage old) doing) (seen_of table stage old writer desks).state (lists_of new writer (with_doing s doing desks) left).state) (sym (left_stays s table stage old new moves told))
+    subst (λ (left : ℕ). Turns s (shown old.schemas (undo_left_in table stage old) doing) (seen_of table stage old writer desks).state
+    (lists_of new writer (with_doing s doing desks) left).state) (sym (left_stays s table stage old new moves told))
     (turns s (undo_left_in table stage old) old new writer desks moves doing within)
 
 -- ---- a search as a task
 
-pub search_shown : (left : ℕ) (schemas : List Schema) (doing : Doing) (table : ℕ) (plan : Plan) (reading : Reading) → shown schemas left doing ≡ tasks.Searching table plan reading → IsSearchOf doing table plan reading
+pub search_shown : (left : ℕ) (schemas : List Schema) (doing : Doing) (table : ℕ) (plan : Plan) (reading : Reading)
+    → shown schemas left doing ≡ tasks.Searching table plan reading → IsSearchOf doing table plan reading
 search_shown left schemas (Searching on) table plan reading is = (on, refl, cc, cc, cc)
 search_shown left schemas Nothing table plan reading is = absurd (cc)
 search_shown left schemas (Changing change) table plan reading is = absurd (cc)
 search_shown left schemas Lagging table plan reading is = absurd (cc)
 search_shown left schemas Undoing table plan reading is = absurd (cc)
 
-begun_shown : (table left : ℕ) (schemas : List Schema) (plan : Plan) (sight : Sight) (schema : Schema) (cuts : ℕ) (on : TableSearch) → IsBegun table plan sight schema cuts on
+begun_shown : (table left : ℕ) (schemas : List Schema) (plan : Plan) (sight : Sight) (schema : Schema) (cuts : ℕ) (on : TableSearch)
+    → IsBegun table plan sight schema cuts on
     → shown schemas left (Searching on) ≡ tasks.Searching table plan (reading_of sight)
 begun_shown table left schemas plan sight schema cuts on is =
     let which = is.search.scan.which_is in
@@ -104,17 +115,23 @@ has_desk s desks on is = elim (cases_lt s (length desks)) [
   nothing same = cc
 
 module _ (s table : ℕ) (stage : Stage) (writer : Option ℕ) (desks : List Desk) where
-  pub turns_to_search : (state : WorldState) (searched cuts : ℕ) (plan : Plan) (sight : Sight) (schema : Schema) (on : TableSearch) → s < length desks → IsBegun searched plan sight schema cuts on
-      → Turns s (tasks.Searching searched plan (reading_of sight)) (seen_of table stage state writer desks).state (seen_of table stage state writer (with_doing s (Searching on) desks)).state
+  pub turns_to_search : (state : WorldState) (searched cuts : ℕ) (plan : Plan) (sight : Sight) (schema : Schema) (on : TableSearch) → s < length desks
+      → IsBegun searched plan sight schema cuts on
+      → Turns s (tasks.Searching searched plan (reading_of sight)) (seen_of table stage state writer desks).state
+      (seen_of table stage state writer (with_doing s (Searching on) desks)).state
   turns_to_search state searched cuts plan sight schema on within is =
-      subst (λ (task : Task). Turns s task (seen_of table stage state writer desks).state (seen_of table stage state writer (with_doing s (Searching on) desks)).state)
+      subst (λ (task : Task). Turns s task (seen_of table stage state writer desks).state
+      (seen_of table stage state writer (with_doing s (Searching on) desks)).state)
       (begun_shown searched (undo_left_in table stage state) state.schemas plan sight schema cuts on is)
       (turns s (undo_left_in table stage state) state state writer desks (none_moves s state) (Searching on) within)
 
-  pub searches_on : (old new : WorldState) (cuts : ℕ) (on : TableSearch) (next : RowSearch) → doing_at s desks ≡ Searching on → MovesPlaces s old new → IsSameScan on.search.scan next.scan → IsTold new
-      → Turns s (task_of s (seen_of table stage old writer desks).state) (seen_of table stage old writer desks).state (seen_of table stage new writer (with_doing s (Searching (record on { search = next; cuts = cuts })) desks)).state
+  pub searches_on : (old new : WorldState) (cuts : ℕ) (on : TableSearch) (next : RowSearch) → doing_at s desks ≡ Searching on → MovesPlaces s old new
+      → IsSameScan on.search.scan next.scan → IsTold new
+      → Turns s (task_of s (seen_of table stage old writer desks).state) (seen_of table stage old writer desks).state
+      (seen_of table stage new writer (with_doing s (Searching (record on { search = next; cuts = cuts })) desks)).state
   searches_on old new cuts on next is moves same told =
-      subst (λ (task : Task). Turns s task (seen_of table stage old writer desks).state (seen_of table stage new writer (with_doing s (Searching (record on { search = next; cuts = cuts })) desks)).state)
+      subst (λ (task : Task). Turns s task (seen_of table stage old writer desks).state
+      (seen_of table stage new writer (with_doing s (Searching (record on { search = next; cuts = cuts })) desks)).state)
       (same_shown (undo_left_in table stage old) cuts old.schemas on next same
       ∙ (ap (shown old.schemas (undo_left_in table stage old)) (sym is) ∙ sym (task_is s (undo_left_in table stage old) old writer desks)))
       (turns_now s table stage old new writer desks (Searching (record on { search = next; cuts = cuts })) (has_desk s desks on is) moves told)

@@ -40,7 +40,8 @@ some_column : (a b : Column) → Some a ≡ Some b → a ≡ b
 some_column a b same = cc
 
 -- the newest record of the log is that of the newest change, which is one of a row
-newest_stands : (told : Type 0) (schemas : List Schema) (records : RecordsAt) (kept : ℕ → Option Kept) (logged : Logged) (log : List Logged) (change : Change) (before : List Change) (place : Place) → place_in schemas change ≡ Some place
+newest_stands : (told : Type 0) (schemas : List Schema) (records : RecordsAt) (kept : ℕ → Option Kept) (logged : Logged) (log : List Logged)
+    (change : Change) (before : List Change) (place : Place) → place_in schemas change ≡ Some place
     → LogStands told schemas records kept (logged ∷ log) (change ∷ before) → Stands told schemas records kept logged log change
 newest_stands told schemas records kept logged log (changes.Create schema) before place is stands = absurd (cc)
 newest_stands told schemas records kept logged log (changes.Put table row) before place is stands = stands.0
@@ -51,19 +52,26 @@ module _ (state : WorldState) (logs : LogsAgree state) (w : ℕ) (logged : Logge
   last_stands =
       newest_stands (IsTold state) state.schemas (records_of state) state.versions.kept_at logged last.log last.change last.before place last.place_is
       (subst (λ log. LogStands (IsTold state) state.schemas (records_of state) state.versions.kept_at log (last.change ∷ last.before)) last.log_is
-      (subst (LogStands (IsTold state) state.schemas (records_of state) state.versions.kept_at last.work.log) last.own_is (logs.each w last.session last.work last.has_work)))
+      (subst (LogStands (IsTold state) state.schemas (records_of state) state.versions.kept_at last.work.log) last.own_is
+      (logs.each w last.session last.work last.has_work)))
 
   last_tells : TellsOf logged.undo last_stands.schema place state.schemas
-  last_tells = subst (λ p. TellsOf logged.undo last_stands.schema p state.schemas) (some_place last_stands.place place (sym last_stands.place_is ∙ last.place_is)) last_stands.tells
+  last_tells =
+      subst (λ p. TellsOf logged.undo last_stands.schema p state.schemas) (some_place last_stands.place place (sym last_stands.place_is ∙ last.place_is))
+      last_stands.tells
 
   -- the place at which keys are changed
-  pub keys_place : (chains : Chains) (change : KeysChange) (p : IsChangingKeys chains state change) → place.table ≡ change.table → logged.undo.key ≡ change.key → place ≡ record { table = change.table; key = p.value }
+  pub keys_place : (chains : Chains) (change : KeysChange) (p : IsChangingKeys chains state change) → place.table ≡ change.table
+      → logged.undo.key ≡ change.key → place ≡ record { table = change.table; key = p.value }
   keys_place chains change p table_is key_is =
       let tells = last_tells in
       let one_table : logged.undo.table ≡ change.table = sym tells.table_is ∙ table_is in
-      let same_schema : last_stands.schema ≡ p.schema = some_schema last_stands.schema p.schema (sym tells.there ∙ (ap (slice_get state.schemas) one_table ∙ p.table.there)) in
+      let same_schema : last_stands.schema ≡ p.schema =
+      some_schema last_stands.schema p.schema (sym tells.there ∙ (ap (slice_get state.schemas) one_table ∙ p.table.there)) in
       let same_column : tells.primary ≡ p.at.column
-      = some_column tells.primary p.at.column (sym tells.primary_is ∙ (ap (λ (schema : Schema). slice_get schema.columns schema.primary) same_schema ∙ p.at.primary)) in
+      =
+      some_column tells.primary p.at.column (sym tells.primary_is ∙
+      (ap (λ (schema : Schema). slice_get schema.columns schema.primary) same_schema ∙ p.at.primary)) in
       let spelled : key_code p.at.column.kind place.key ≡ key_code p.at.column.kind p.value
       = ap (λ (column : Column). key_code column.kind place.key) (sym same_column) ∙ (sym tells.key_is ∙ (key_is ∙ p.at.spelled)) in
       let key : place.key ≡ p.value
@@ -72,7 +80,9 @@ module _ (state : WorldState) (logs : LogsAgree state) (w : ℕ) (logged : Logge
 
 -- ---- what is shown while keys lag
 
-module _ (schema : Schema) (scan : Scan) (state : WorldState) (chains : Chains) (said : Said) (told : IsTold state) (there : slice_get state.schemas scan.table ≡ Some schema) (columns : HasItsColumns schema) (le : scan.which ≤ length schema.keys) (coded : AreCodedAs state.schemas (pairs_of state) state.versions.kept_at chains said) where
+module _ (schema : Schema) (scan : Scan) (state : WorldState) (chains : Chains) (said : Said) (told : IsTold state)
+    (there : slice_get state.schemas scan.table ≡ Some schema) (columns : HasItsColumns schema) (le : scan.which ≤ length schema.keys)
+    (coded : AreCodedAs state.schemas (pairs_of state) state.versions.kept_at chains said) where
   -- at two places at most, and not at the same: then nowhere
   nowhere : (place other : Place) → LagAt place chains said → LagAt other chains said → is_same_place place other ≡ false → said ≡ what_is_there chains
   nowhere place other here elsewhere apart = λ i table which value. each table which value i where
@@ -82,20 +92,25 @@ module _ (schema : Schema) (scan : Scan) (state : WorldState) (chains : Chains) 
       go false differs = elsewhere table which value differs
       go true same = here table which value (ap (is_same_place place) (sym (same_place other (record { table = table; key = value }) same)) ∙ apart)
 
-  shows_at : (place : Place) (version : Version) (others : List Version) → LagAt place chains said → versions_at place chains ≡ version ∷ others → sees_by scan.sight version.writer ≡ false → LagsAt chains said
+  shows_at : (place : Place) (version : Version) (others : List Version) → LagAt place chains said → versions_at place chains ≡ version ∷ others
+      → sees_by scan.sight version.writer ≡ false → LagsAt chains said
       → ShowsRows schema scan state (in_table scan.table chains)
   shows_at place version others lag versions unseen known = go (is_same_place place known.place) refl where
     go : (b : Bool) → is_same_place place known.place ≡ b → ShowsRows schema scan state (in_table scan.table chains)
     go true same =
         let at : place ≡ known.place = same_place place known.place same in
-        shows_lagging state chains said told coded schema scan there columns le known.place version others known.lag known.tells (ap (λ (p : Place). versions_at p chains) (sym at) ∙ versions) unseen
+        shows_lagging state chains said told coded schema scan there columns le known.place version others known.lag known.tells
+        (ap (λ (p : Place). versions_at p chains) (sym at) ∙ versions) unseen
     go false apart =
         shows_coded schema scan state chains told there columns le
         (subst (AreCodedAs state.schemas (pairs_of state) state.versions.kept_at chains) (nowhere place known.place lag known.lag apart) coded)
 
-pub shows_changing : (schema : Schema) (scan : Scan) (state : WorldState) (chains : Chains) (change : KeysChange) (p : IsChangingKeys chains state change) → IsTold state → slice_get state.schemas scan.table ≡ Some schema → HasItsColumns schema → scan.which ≤ length schema.keys
+pub shows_changing : (schema : Schema) (scan : Scan) (state : WorldState) (chains : Chains) (change : KeysChange) (p : IsChangingKeys chains state change)
+    → IsTold state → slice_get state.schemas scan.table ≡ Some schema → HasItsColumns schema → scan.which ≤ length schema.keys
     → sees_by scan.sight p.pushed.version.writer ≡ false → ShowsRows schema scan state (in_table scan.table chains)
 shows_changing schema scan state chains change p told there columns le unseen =
     let rows = p.rows told in
-    shows_at schema scan state chains rows.0 told there columns le rows.1 (record { table = change.table; key = p.value }) p.pushed.version p.older rows.2.lag p.pushed.versions unseen
-    (lags chains (record { table = change.table; key = p.value }) change.which change.put change.before p.older rows.0 p.pushed.version p.pushed.versions rows.2)
+    shows_at schema scan state chains rows.0 told there columns le rows.1 (record { table = change.table; key = p.value }) p.pushed.version p.older
+    rows.2.lag p.pushed.versions unseen
+    (lags chains (record { table = change.table; key = p.value }) change.which change.put change.before p.older rows.0 p.pushed.version p.pushed.versions
+    rows.2)

@@ -30,7 +30,8 @@ stays_same : (versions : Versions) → Stays versions versions
 stays_same versions = record { told = λ told. told; kept = λ told. refl }
 
 stays_then : (old between new : Versions) → Stays old between → Stays between new → Stays old new
-stays_then old between new first second = record { told = λ told. first.told (second.told told); kept = λ told. second.kept told ∙ first.kept (second.told told) }
+stays_then old between new first second =
+    record { told = λ told. first.told (second.told told); kept = λ told. second.kept told ∙ first.kept (second.told told) }
 
 -- ---- which steps are such
 
@@ -69,7 +70,8 @@ pub leaving_moves : (s index : ℕ) (old new : WorldState) → Calls index (Leav
 leaving_moves s index old new calls = record {
   pairs = λ at.
       ⊎_elim
-      (λ here. subst (λ (i : ℕ). AreKept (old.indexes i).pairs (new.indexes i).pairs) (sym here) (kept_same (old.indexes index).pairs (new.indexes index).pairs calls.index_is.here.pairs))
+      (λ here. subst (λ (i : ℕ). AreKept (old.indexes i).pairs (new.indexes i).pairs) (sym here)
+      (kept_same (old.indexes index).pairs (new.indexes index).pairs calls.index_is.here.pairs))
       (λ elsewhere. (calls.index_is.elsewhere at elsewhere).pairs)
       (cases_eq at index);
   places = λ other at differs.

@@ -36,14 +36,16 @@ use Rattle.law_held_searches.proofs.Places.{moves_leave, moves_told}
 use Rattle.law_held_searches.proofs.AtDesks.{started_stays, doing_cases, doing_mine, doing_other, as_many, doing_stays}
 
 -- who changes no row leaves the indexes coded
-quiet_rows : (chains : Chains) (state : WorldState) (w : ℕ) (undo : Undo) (room : WorkRoom) (doing : Doing) → is_quiet_doing doing ≡ true → RowsHeld chains state w undo room doing → HasRows chains state × (room.stage ≡ Find)
+quiet_rows : (chains : Chains) (state : WorldState) (w : ℕ) (undo : Undo) (room : WorkRoom) (doing : Doing) → is_quiet_doing doing ≡ true
+    → RowsHeld chains state w undo room doing → HasRows chains state × (room.stage ≡ Find)
 quiet_rows chains state w undo room Nothing is rows = rows
 quiet_rows chains state w undo room (Searching on) is rows = rows
 quiet_rows chains state w undo room (Changing change) is rows = absurd (cc)
 quiet_rows chains state w undo room Lagging is rows = absurd (cc)
 quiet_rows chains state w undo room Undoing is rows = absurd (cc)
 
-rows_quiet : (chains : Chains) (state : WorldState) (w : ℕ) (undo : Undo) (room : WorkRoom) (doing : Doing) → is_quiet_doing doing ≡ true → HasRows chains state × (room.stage ≡ Find) → RowsHeld chains state w undo room doing
+rows_quiet : (chains : Chains) (state : WorldState) (w : ℕ) (undo : Undo) (room : WorkRoom) (doing : Doing) → is_quiet_doing doing ≡ true
+    → HasRows chains state × (room.stage ≡ Find) → RowsHeld chains state w undo room doing
 rows_quiet chains state w undo room Nothing is rows = rows
 rows_quiet chains state w undo room (Searching on) is rows = rows
 rows_quiet chains state w undo room (Changing change) is rows = absurd (cc)
@@ -51,7 +53,8 @@ rows_quiet chains state w undo room Lagging is rows = absurd (cc)
 rows_quiet chains state w undo room Undoing is rows = absurd (cc)
 
 -- the new world, as one whose other parts are those of the old
-module _ (s : ℕ) (old : WorldState) (indexes : ℕ → Index) (versions : Versions) (paged : Option _) (moves : MovesPlaces s old (record old { indexes = indexes; versions = versions; paged = paged })) where
+module _ (s : ℕ) (old : WorldState) (indexes : ℕ → Index) (versions : Versions) (paged : Option _)
+    (moves : MovesPlaces s old (record old { indexes = indexes; versions = versions; paged = paged })) where
   abbrev new : WorldState
   new = record old { indexes = indexes; versions = versions; paged = paged }
 
@@ -78,7 +81,8 @@ module _ (s : ℕ) (old : WorldState) (indexes : ℕ → Index) (versions : Vers
   }
 
   last_told_on : (w : ℕ) (change : RowChange) → IsLastIfTold old w change → IsLastIfTold new w change
-  last_told_on w (Keys change) own = record { logged = own.logged; place = own.place; last = last_on w own.logged own.place own.last; table_is = own.table_is; key_is = own.key_is }
+  last_told_on w (Keys change) own =
+      record { logged = own.logged; place = own.place; last = last_on w own.logged own.place own.last; table_is = own.table_is; key_is = own.key_is }
   last_told_on w (Record change key after) own = own
 
   views_on : ViewsHaveNext old → ViewsHaveNext new
@@ -86,7 +90,8 @@ module _ (s : ℕ) (old : WorldState) (indexes : ℕ → Index) (versions : Vers
 
   module _ (chains : Chains) (writer : Option ℕ) (agreed : Agrees chains writer old) where
     agrees_on : Agrees chains writer new
-    agrees_on = unentered_agrees chains writer old new agreed (record { past_is = refl; names = refl; schemas = refl; txns = refl; works = λ u. refl; count = refl })
+    agrees_on =
+        unentered_agrees chains writer old new agreed (record { past_is = refl; names = refl; schemas = refl; txns = refl; works = λ u. refl; count = refl })
 
     rows_on : (w : ℕ) (undo : Undo) (room : WorkRoom) (doing : Doing) → RowsHeld chains old w undo room doing → RowsHeld chains new w undo room doing
     rows_on w undo room Nothing rows = (has_rows_left old new leaves chains rows.0, rows.1)
@@ -112,13 +117,15 @@ module _ (s : ℕ) (old : WorldState) (indexes : ℕ → Index) (versions : Vers
       putting = others_leave chains rows.place undo room old new rows.putting leaves;
     }
 
-    rows_all_on : (w : ℕ) (undo : Undo) (room : WorkRoom) (doing : Doing) (desks : List Desk) → is_quiet_doing (doing_at s desks) ≡ true → is_quiet_doing doing ≡ true
+    rows_all_on : (w : ℕ) (undo : Undo) (room : WorkRoom) (doing : Doing) (desks : List Desk) → is_quiet_doing (doing_at s desks) ≡ true
+        → is_quiet_doing doing ≡ true
         → RowsHeld chains old w undo room (doing_at w desks) → RowsHeld chains new w undo room (doing_at w (with_doing s doing desks))
     rows_all_on w undo room doing desks was is rows =
         ⊎_elim
         (λ here. subst (RowsHeld chains new w undo room) (sym here.1)
         (rows_quiet chains new w undo room doing is
-        (let quiet = quiet_rows chains old w undo room (doing_at w desks) (ap (λ (n : ℕ). is_quiet_doing (doing_at n desks)) here.0 ∙ was) rows in (has_rows_left old new leaves chains quiet.0, quiet.1))))
+        (let quiet = quiet_rows chains old w undo room (doing_at w desks) (ap (λ (n : ℕ). is_quiet_doing (doing_at n desks)) here.0 ∙ was) rows in
+        (has_rows_left old new leaves chains quiet.0, quiet.1))))
         (λ other. subst (RowsHeld chains new w undo room) (sym other) (rows_on w undo room (doing_at w desks) rows))
         (doing_cases s doing desks w)
 
@@ -145,14 +152,16 @@ module _ (s : ℕ) (old : WorldState) (indexes : ℕ → Index) (versions : Vers
         kept = inl (refl, more);
       }
 
-      mine_on : (doing : Doing) (desks : List Desk) → SearchHeld chains new writer cuts s doing → SearchHeld chains new writer cuts s (doing_at s (with_doing s doing desks))
+      mine_on : (doing : Doing) (desks : List Desk) → SearchHeld chains new writer cuts s doing
+          → SearchHeld chains new writer cuts s (doing_at s (with_doing s doing desks))
       mine_on doing desks mine =
           ⊎_elim
           (λ here. subst (SearchHeld chains new writer cuts s) (sym here) mine)
           (λ none. subst (SearchHeld chains new writer cuts s) (sym none) (record {}))
           (doing_mine s doing desks)
 
-      searches_on : (doing : Doing) (desks : List Desk) → ((u : ℕ) → SearchHeld chains old writer cuts u (doing_at u desks)) → SearchHeld chains new writer cuts s doing
+      searches_on : (doing : Doing) (desks : List Desk) → ((u : ℕ) → SearchHeld chains old writer cuts u (doing_at u desks))
+          → SearchHeld chains new writer cuts s doing
           → (u : ℕ) → SearchHeld chains new writer cuts u (doing_at u (with_doing s doing desks))
       searches_on doing desks held mine u =
           ⊎_elim
@@ -174,7 +183,9 @@ module _ (s : ℕ) (old : WorldState) (indexes : ℕ → Index) (versions : Vers
     ends = λ u session work is. has.ends u session work (has_back u session work is);
   }
 
-  module _ (writer : Option ℕ) (made : Bool) (desks : List Desk) (cuts : ℕ) (undo : UndoRoom) (room : WorkRoom) (held : IsHeld old writer made desks cuts undo room) (doing : Doing) (was : is_quiet_doing (doing_at s desks) ≡ true) (is : is_quiet_doing doing ≡ true) where
+  module _ (writer : Option ℕ) (made : Bool) (desks : List Desk) (cuts : ℕ) (undo : UndoRoom) (room : WorkRoom)
+      (held : IsHeld old writer made desks cuts undo room) (doing : Doing) (was : is_quiet_doing (doing_at s desks) ≡ true)
+      (is : is_quiet_doing doing ≡ true) where
     quiet_on : (u : ℕ) → writer ≢ Some u → is_quiet_doing (doing_at u (with_doing s doing desks)) ≡ true
     quiet_on u differs =
         ⊎_elim
@@ -209,9 +220,11 @@ module _ (s : ℕ) (old : WorldState) (indexes : ℕ → Index) (versions : Vers
 module _ (s : ℕ) (old new : WorldState) (moves : MovesPlaces s old new) where
   pub agrees_stays : (chains : Chains) (writer : Option ℕ) → Agrees chains writer old → Agrees chains writer new
   agrees_stays chains writer agreed =
-      subst (Agrees chains writer) (sym moves.rest) (agrees_on s old new.indexes new.versions new.paged (subst (MovesPlaces s old) moves.rest moves) chains writer agreed)
+      subst (Agrees chains writer) (sym moves.rest)
+      (agrees_on s old new.indexes new.versions new.paged (subst (MovesPlaces s old) moves.rest moves) chains writer agreed)
 
-  pub held_stays : (writer : Option ℕ) (made : Bool) (desks : List Desk) (cuts : ℕ) (undo : UndoRoom) (room : WorkRoom) (held : IsHeld old writer made desks cuts undo room) (doing : Doing)
+  pub held_stays : (writer : Option ℕ) (made : Bool) (desks : List Desk) (cuts : ℕ) (undo : UndoRoom) (room : WorkRoom)
+      (held : IsHeld old writer made desks cuts undo room) (doing : Doing)
       → is_quiet_doing (doing_at s desks) ≡ true → is_quiet_doing doing ≡ true → IsTold new → SearchHeld held.chains new writer cuts s doing
       → IsHeld new writer made (with_doing s doing desks) cuts undo room
   held_stays writer made desks cuts undo room held doing was is told mine =
@@ -222,7 +235,8 @@ module _ (s : ℕ) (old new : WorldState) (moves : MovesPlaces s old new) where
   pub views_stay : ViewsHaveNext old → ViewsHaveNext new
   views_stay views = subst ViewsHaveNext (sym moves.rest) (views_on s old new.indexes new.versions new.paged (subst (MovesPlaces s old) moves.rest moves) views)
 
-pub held_idle : (s : ℕ) (old new : WorldState) (writer : Option ℕ) (made : Bool) (desks : List Desk) (cuts : ℕ) (undo : UndoRoom) (room : WorkRoom) → IsHeld old writer made desks cuts undo room
+pub held_idle : (s : ℕ) (old new : WorldState) (writer : Option ℕ) (made : Bool) (desks : List Desk) (cuts : ℕ) (undo : UndoRoom) (room : WorkRoom)
+    → IsHeld old writer made desks cuts undo room
     → doing_at s desks ≡ Nothing → MovesPlaces s old new → IsTold new → IsHeld new writer made desks cuts undo room
 held_idle s old new writer made desks cuts undo room held idle moves told =
     subst (λ (at : List Desk). IsHeld new writer made at cuts undo room) (doing_stays s desks idle)

@@ -55,7 +55,8 @@ use Rattle.law_held_searches.proofs.Shows.{HasSome, some_rows_by, shows_held}
 pub same_number : (a b : ℕ) → a ≡ b → (a == b) ≡ true
 same_number a b same = grind (arith, nat_tests, same)
 
-comes_anew : (b : Bool) (s : ℕ) (state : WorldState) (chains : Chains) (on : TableSearch) → FindsSince b s state chains on → IsFindingAnew s on.schema state chains on.search
+comes_anew : (b : Bool) (s : ℕ) (state : WorldState) (chains : Chains) (on : TableSearch) → FindsSince b s state chains on
+    → IsFindingAnew s on.schema state chains on.search
 comes_anew true s state chains on finds = may_come_anew s on.schema state chains on.search finds
 comes_anew false s state chains on finds = finds
 
@@ -63,14 +64,17 @@ comes_anew false s state chains on finds = finds
 abbrev IsTaken : ℕ → WorldState → Chains → TableSearch → RowSearch → Type 0
 IsTaken s state chains on search = IsFinding s on.schema state chains search × (search.scan ≡ on.search.scan)
 
-takes_up : (chains : Chains) (state : WorldState) (writer : Option ℕ) (cuts s : ℕ) (on : TableSearch) (search : RowSearch) → IsSearchHeld chains state writer cuts s on → IsTakenUp cuts on search → IsTaken s state chains on search
+takes_up : (chains : Chains) (state : WorldState) (writer : Option ℕ) (cuts s : ℕ) (on : TableSearch) (search : RowSearch)
+    → IsSearchHeld chains state writer cuts s on → IsTakenUp cuts on search → IsTaken s state chains on search
 takes_up chains state writer cuts s on search held (inl same) =
-    let finds : IsFinding s on.schema state chains on.search = subst (λ (b : Bool). FindsSince b s state chains on) (same_number on.cuts cuts same.0) held.finds in
+    let finds : IsFinding s on.schema state chains on.search =
+    subst (λ (b : Bool). FindsSince b s state chains on) (same_number on.cuts cuts same.0) held.finds in
     (subst (IsFinding s on.schema state chains) (sym same.1) finds, ap (λ (r : RowSearch). r.scan) same.1)
 takes_up chains state writer cuts s on search held (inr anew) =
     (comes_anew (on.cuts == cuts) s state chains on held.finds search anew.scan anew.finds anew.way anew.holds, anew.scan)
 
-pub may_step : (s : ℕ) (schema : Schema) (state : WorldState) (chains : Chains) (search : RowSearch) → IsTold state → HasSome chains state → IsSearching s schema state search → MayStep s schema state search
+pub may_step : (s : ℕ) (schema : Schema) (state : WorldState) (chains : Chains) (search : RowSearch) → IsTold state → HasSome chains state
+    → IsSearching s schema state search → MayStep s schema state search
 may_step s schema state chains search told rows is = record {
   searching = is;
   table = holds_table state chains rows.0 told rows.1 search.scan.table schema is.there;
@@ -81,7 +85,8 @@ pub rows_on : (s : ℕ) (old new : WorldState) (chains : Chains) → MovesPlaces
 rows_on s old new chains moves told rows = (rows.0, rows_left old new (moves_leave s old new moves) chains rows.0 told rows.1)
 
 -- the reader's transaction is another session's no more than it was
-sight_on : (s : ℕ) (old new : WorldState) (writer : Option ℕ) (sight : Sight) → MovesPlaces s old new → SightHolds old writer s sight → SightHolds new writer s sight
+sight_on : (s : ℕ) (old new : WorldState) (writer : Option ℕ) (sight : Sight) → MovesPlaces s old new → SightHolds old writer s sight
+    → SightHolds new writer s sight
 sight_on s old new writer (View view reader) moves is = record {
   session = is.session;
   work = is.work;
@@ -98,7 +103,8 @@ sight_on s old new writer Newest moves is = is
 pub some_schema : (a b : Schema) → Some a ≡ Some b → a ≡ b
 some_schema a b same = cc
 
-module _ (chains : Chains) (writer : Option ℕ) (state : WorldState) (agrees : Agrees chains writer state) (rows : HasSome chains state) (s : ℕ) (on : TableSearch) (found : List FoundRow) (there : slice_get state.schemas on.search.scan.table ≡ Some on.schema) where
+module _ (chains : Chains) (writer : Option ℕ) (state : WorldState) (agrees : Agrees chains writer state) (rows : HasSome chains state) (s : ℕ)
+    (on : TableSearch) (found : List FoundRow) (there : slice_get state.schemas on.search.scan.table ≡ Some on.schema) where
   abbrev scan : Scan
   scan = on.search.scan
 
@@ -108,28 +114,38 @@ module _ (chains : Chains) (writer : Option ℕ) (state : WorldState) (agrees : 
   one_schema : (schema : Schema) → slice_get (created state.past) scan.table ≡ Some schema → on.schema ≡ schema
   one_schema schema is = some_schema on.schema schema (sym there ∙ (ap (λ (tables : List Schema). slice_get tables scan.table) agrees.lists.tables ∙ is))
 
-  seen_then : (n : ℕ) → map (λ (f : FoundRow). f.row) found ≡ filter (lies_in on.schema scan) (rows_of scan.table (changed (with_all_tables state.past) (seen state.past s n))) → AreRowsSeen scan.table (plan_of on) state.past s n (map (λ (f : FoundRow). f.row) found)
-  seen_then n are schema is = are ∙ ap (λ (t : Schema). rows_in_range (plan_of on) t (rows_of scan.table (changed (with_all_tables state.past) (seen state.past s n)))) (one_schema schema is)
+  seen_then : (n : ℕ)
+      → map (λ (f : FoundRow). f.row) found ≡ filter (lies_in on.schema scan)
+      (rows_of scan.table (changed (with_all_tables state.past) (seen state.past s n))) → AreRowsSeen scan.table (plan_of on) state.past s n
+      (map (λ (f : FoundRow). f.row) found)
+  seen_then n are schema is =
+      are ∙ ap (λ (t : Schema). rows_in_range (plan_of on) t (rows_of scan.table (changed (with_all_tables state.past) (seen state.past s n))))
+      (one_schema schema is)
 
-  found_in : (sight : Sight) → SightHolds state writer s sight → FoundBy sight → RiseByKey found → AreFoundBy (reading_of sight) scan.table (plan_of on) state.past s (map (λ (f : FoundRow). f.row) found)
+  found_in : (sight : Sight) → SightHolds state writer s sight → FoundBy sight → RiseByKey found
+      → AreFoundBy (reading_of sight) scan.table (plan_of on) state.past s (map (λ (f : FoundRow). f.row) found)
   found_in (View view reader) is are rise = λ n at.
       seen_then n
-      (found_by_view chains writer state scan.table on.schema state.versions.kept_at (pairs_of state _) agrees (rows.1.clustered.tables scan.table on.schema there) s n is.session is.work is.seen is.has_work is.view_is at
+      (found_by_view chains writer state scan.table on.schema state.versions.kept_at (pairs_of state _) agrees
+      (rows.1.clustered.tables scan.table on.schema there) s n is.session is.work is.seen is.has_work is.view_is at
       scan.which (lies_in on.schema scan) found
       (subst (λ (v : ReadSight). FoundBy (View v is.work.id)) is.same (subst (λ (r : ℕ). FoundBy (View view r)) is.reader_is are)) rise)
   found_in Newest is are rise =
       seen_then (commits state.past)
-      (found_newest chains writer state scan.table on.schema state.versions.kept_at (pairs_of state _) agrees (rows.1.clustered.tables scan.table on.schema there) s (alone writer is agrees.lists.writes) scan.which (lies_in on.schema scan) found are rise)
+      (found_newest chains writer state scan.table on.schema state.versions.kept_at (pairs_of state _) agrees
+      (rows.1.clustered.tables scan.table on.schema there) s (alone writer is agrees.lists.writes) scan.which (lies_in on.schema scan) found are rise)
     where
       alone : (by : Option ℕ) → by ≡ Some s → WriterAgrees state.past by → (u : ℕ) → u ≢ s → own u state.past ≡ []
       alone by mine writes = (subst (WriterAgrees state.past) mine writes).1
 
-  pub found_then : SightHolds state writer s scan.sight → FoundBy scan.sight → RiseByKey found → AreFoundBy (reading_of scan.sight) scan.table (plan_of on) state.past s (map (λ (f : FoundRow). f.row) found)
+  pub found_then : SightHolds state writer s scan.sight → FoundBy scan.sight → RiseByKey found
+      → AreFoundBy (reading_of scan.sight) scan.table (plan_of on) state.past s (map (λ (f : FoundRow). f.row) found)
   found_then = found_in scan.sight
 
 -- ---- in a held world
 
-module _ (s : ℕ) (old : WorldState) (writer : Option ℕ) (made : Bool) (desks : List Desk) (cuts : ℕ) (undo : UndoRoom) (room : WorkRoom) (on : TableSearch) (held : IsHeld old writer made desks cuts undo room) (is : doing_at s desks ≡ Searching on) where
+module _ (s : ℕ) (old : WorldState) (writer : Option ℕ) (made : Bool) (desks : List Desk) (cuts : ℕ) (undo : UndoRoom) (room : WorkRoom) (on : TableSearch)
+    (held : IsHeld old writer made desks cuts undo room) (is : doing_at s desks ≡ Searching on) where
   is_searching : is_quiet_doing (doing_at s desks) ≡ true
   is_searching = ap is_quiet_doing is
 
@@ -155,22 +171,26 @@ module _ (s : ℕ) (old : WorldState) (writer : Option ℕ) (made : Bool) (desks
 
     shows : IsTold old → ShowsRows on.schema search.scan old (in_table search.scan.table held.chains)
     shows told =
-        shows_held held.chains old held.logs told s desks is_searching on.schema search.scan taken_up.0.searching.there taken_up.0.searching.key writer (read_into undo) room held.agrees sight_taken held.rows
+        shows_held held.chains old held.logs told s desks is_searching on.schema search.scan taken_up.0.searching.there taken_up.0.searching.key writer
+        (read_into undo) room held.agrees sight_taken held.rows
 
     module _ (new : WorldState) (told : IsTold new) where
       pub went : (next : RowSearch) → GoesOn s on.schema old new search next
-          → IsHeld new writer made (with_doing s (Searching (record on { search = next; cuts = cuts })) desks) cuts undo room × MovesPlaces s old new × IsSameScan on.search.scan next.scan
+          → IsHeld new writer made (with_doing s (Searching (record on { search = next; cuts = cuts })) desks) cuts undo room × MovesPlaces s old new ×
+          IsSameScan on.search.scan next.scan
       went next goes =
           let moves : MovesPlaces s old new = moves_in_one s _ old new goes.moves in
           let on_now : IsFinding s on.schema new held.chains next × IsSameScan search.scan next.scan
           = goes_on s on.schema old new held.chains search next taken_up.0 (shows (moves_told s old new moves told)) goes told in (
-            held_stays s old new moves writer made desks cuts undo room held (Searching (record on { search = next; cuts = cuts })) is_searching refl told (record {
-              there = on_now.0.searching.there;
-              which = on_now.0.searching.key;
-              since = omega arith;
-              finds = subst (λ (b : Bool). FindsSince b s new held.chains (record on { search = next; cuts = cuts })) (sym (same_number cuts cuts refl)) on_now.0;
-              sight = subst (SightHolds new writer s) (sym on_now.1.sight) (sight_on s old new writer search.scan.sight moves sight_taken);
-            }),
+            held_stays s old new moves writer made desks cuts undo room held (Searching (record on { search = next; cuts = cuts })) is_searching refl told
+                (record {
+                  there = on_now.0.searching.there;
+                  which = on_now.0.searching.key;
+                  since = omega arith;
+                  finds =
+                      subst (λ (b : Bool). FindsSince b s new held.chains (record on { search = next; cuts = cuts })) (sym (same_number cuts cuts refl)) on_now.0;
+                  sight = subst (SightHolds new writer s) (sym on_now.1.sight) (sight_on s old new writer search.scan.sight moves sight_taken);
+                }),
             moves,
             subst (λ (scan : Scan). IsSameScan scan next.scan) taken_up.1 on_now.1,
           )
@@ -181,18 +201,25 @@ module _ (s : ℕ) (old : WorldState) (writer : Option ℕ) (made : Bool) (desks
       ended found ends =
           let moves : MovesPlaces s old new = leaving_moves s _ old new ends.leaves in
           let are
-          = subst (λ (scan : Scan). AreFound on.schema scan.which (rows_seen scan.sight (in_table scan.table held.chains)) (lies_in on.schema scan) found × RiseByKey found) taken_up.1 (ends.found (in_table search.scan.table held.chains) taken_up.0.finds) in (
+          =
+          subst (λ (scan : Scan). AreFound on.schema scan.which (rows_seen scan.sight (in_table scan.table held.chains)) (lies_in on.schema scan) found ×
+          RiseByKey found) taken_up.1 (ends.found (in_table search.scan.table held.chains) taken_up.0.finds) in (
             over new moves told,
             moves,
-            found_then held.chains writer old held.agrees (some_rows (moves_told s old new moves told)) s on found search_held.there search_held.sight are.0 are.1,
+            found_then held.chains writer old held.agrees (some_rows (moves_told s old new moves told)) s on found search_held.there search_held.sight are.0
+                are.1,
           )
 
       pub waited : (same : RowSearch) (why : Move) → Waits s on.schema old new search same why → MayStep s on.schema new same × MovesPlaces s old new
       waited same why waits =
-          let moves : MovesPlaces s old new = moves_nothing s old new waits.unchanged in
-          (may_step s on.schema new held.chains same told (rows_on s old new held.chains moves told (some_rows (moves_told s old new moves told))) waits.holds, moves)
+          let moves : MovesPlaces s old new = moves_nothing s old new waits.unchanged in (
+            may_step s on.schema new held.chains same told (rows_on s old new held.chains moves told (some_rows (moves_told s old new moves told)))
+                waits.holds,
+            moves,
+          )
 
-  pub given_up : (index : ℕ) (new later : WorldState) → MovesPlaces s old new → Calls index (Leaves s) new later → IsTold later → IsHeld later writer made (with_doing s Nothing desks) cuts undo room × MovesPlaces s old later
+  pub given_up : (index : ℕ) (new later : WorldState) → MovesPlaces s old new → Calls index (Leaves s) new later → IsTold later
+      → IsHeld later writer made (with_doing s Nothing desks) cuts undo room × MovesPlaces s old later
   given_up index new later first leaves told =
       let moves : MovesPlaces s old later = moves_then s old new later first (leaving_moves s index new later leaves) in
       (over later moves told, moves)

@@ -27,7 +27,8 @@ pub record IsWrittenBy (chains : Chains) (place : Place) (id : ℕ) : Type 0 whe
   pub versions : versions_at place chains ≡ version ∷ others
   pub writer_is : version.writer ≡ id
 
-module _ (chains : Chains) (writer : Option ℕ) (state : WorldState) (agrees : Agrees chains writer state) (w : ℕ) (logged : Logged) (place : Place) (last : IsLast state w logged place) where
+module _ (chains : Chains) (writer : Option ℕ) (state : WorldState) (agrees : Agrees chains writer state) (w : ℕ) (logged : Logged) (place : Place)
+    (last : IsLast state w logged place) where
   abbrev at : Change → Bool
   at = is_at state.schemas place
 
@@ -37,7 +38,8 @@ module _ (chains : Chains) (writer : Option ℕ) (state : WorldState) (agrees : 
   any_at : list_any at (own w state.past) ≡ true
   any_at = ap (list_any at) last.own_is ∙ ap (λ b. b || list_any at last.before) change_at
 
-  own_parts : (v : ℕ) (versions : List Version) → AreVersionsBy state.past v (row_opened state.past place) at versions → (behind : List Version) × (versions ≡ versions_of (id_of state.past w) at (own w state.past) ++ behind)
+  own_parts : (v : ℕ) (versions : List Version) → AreVersionsBy state.past v (row_opened state.past place) at versions
+      → (behind : List Version) × (versions ≡ versions_of (id_of state.past w) at (own w state.past) ++ behind)
   own_parts v versions by = elim (eqb_tells v w) [
     | inl same ↦ (by.behind, by.parts ∙ ap (λ (n : ℕ). versions_of (id_of state.past n) at (own n state.past) ++ by.behind) same.1)
     | inr differs ↦ absurd (false≢true (sym (by.alone w (λ same. differs.1 (sym same))) ∙ any_at))
@@ -52,7 +54,8 @@ module _ (chains : Chains) (writer : Option ℕ) (state : WorldState) (agrees : 
         versions =
             parts.1
             ∙ (ap (λ changes. versions_of (id_of state.past w) at changes ++ parts.0) last.own_is
-            ∙ ap (λ b. cond b (record { writer = id_of state.past w; row = row_of last.change } ∷ versions_of (id_of state.past w) at last.before) (versions_of (id_of state.past w) at last.before) ++ parts.0) change_at);
+            ∙ ap (λ b. cond b (record { writer = id_of state.past w; row = row_of last.change } ∷ versions_of (id_of state.past w) at last.before)
+            (versions_of (id_of state.past w) at last.before) ++ parts.0) change_at);
         writer_is = refl;
       }
 
@@ -81,5 +84,6 @@ module _ (chains : Chains) (writer : Option ℕ) (state : WorldState) (agrees : 
       ∙ (agreed.1.alike (id_of state.past w) (inr (w, is_open, refl, has_id)) apart ∙ ids.open_not_among w agreed.0 is_open) in
       tells reader_is apart unseen
     where
-      tells : id_of state.past s ≡ reader → id_of state.past w ≢ id_of state.past s → is_seen view (id_of state.past w) ≡ false → sees reader view (id_of state.past w) ≡ false
+      tells : id_of state.past s ≡ reader → id_of state.past w ≢ id_of state.past s → is_seen view (id_of state.past w) ≡ false
+          → sees reader view (id_of state.past w) ≡ false
       tells reader_is apart unseen = grind (arith, nat_tests, reader_is, apart, unseen)

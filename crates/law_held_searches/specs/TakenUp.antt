@@ -36,4 +36,5 @@ plan_of on = record { which = on.search.scan.which; range = on.search.scan.range
 
 -- the session is at a search of this table, by this plan
 abbrev pub IsSearchOf : Doing → ℕ → Plan → Reading → Type 0
-IsSearchOf doing table plan reading = (on : TableSearch) × (doing ≡ Searching on) × (table ≡ on.search.scan.table) × (plan ≡ plan_of on) × (reading ≡ reading_of on.search.scan.sight)
+IsSearchOf doing table plan reading =
+    (on : TableSearch) × (doing ≡ Searching on) × (table ≡ on.search.scan.table) × (plan ≡ plan_of on) × (reading ≡ reading_of on.search.scan.sight)

@@ -39,10 +39,12 @@ some_same a b same = cc
 abbrev pub beside : WorldState → (ℕ → Index) → Versions → Option index.Paged → WorldState
 beside state indexes versions paged = record state { indexes = indexes; versions = versions; paged = paged }
 
-work_there : (s : ℕ) (session : Session) (work : Work) (state : WorldState) (indexes : ℕ → Index) (versions : Versions) (paged : Option index.Paged) → HasWork s session work state → HasWork s session work (beside state indexes versions paged)
+work_there : (s : ℕ) (session : Session) (work : Work) (state : WorldState) (indexes : ℕ → Index) (versions : Versions) (paged : Option index.Paged)
+    → HasWork s session work state → HasWork s session work (beside state indexes versions paged)
 work_there s session work state indexes versions paged has = record { session_is = has.session_is; work_is = has.work_is }
 
-work_here : (s : ℕ) (session : Session) (work : Work) (state : WorldState) (indexes : ℕ → Index) (versions : Versions) (paged : Option index.Paged) → HasWork s session work (beside state indexes versions paged) → HasWork s session work state
+work_here : (s : ℕ) (session : Session) (work : Work) (state : WorldState) (indexes : ℕ → Index) (versions : Versions) (paged : Option index.Paged)
+    → HasWork s session work (beside state indexes versions paged) → HasWork s session work state
 work_here s session work state indexes versions paged has = record { session_is = has.session_is; work_is = has.work_is }
 
 module _ (old new : WorldState) (rest : ChangesPairsAlone old new) where
@@ -72,11 +74,13 @@ module _ (old new : WorldState) (rest : ChangesPairsAlone old new) where
 
   pub agrees_beside : (chains : Chains) (writer : Option ℕ) → Agrees chains writer old → Agrees chains writer new
   agrees_beside chains writer agrees =
-      agrees_alike chains writer old new agrees (ap (λ (x : WorldState). x.names) rest) (ap (λ (x : WorldState). x.past) rest) (ap (λ (x : WorldState). x.schemas) rest) (ap (λ (x : WorldState). x.txns) rest) (ap (λ (x : WorldState). x.sessions) rest)
+      agrees_alike chains writer old new agrees (ap (λ (x : WorldState). x.names) rest) (ap (λ (x : WorldState). x.past) rest)
+      (ap (λ (x : WorldState). x.schemas) rest) (ap (λ (x : WorldState). x.txns) rest) (ap (λ (x : WorldState). x.sessions) rest)
 
 -- ---- who may write
 
-pub nothing_under_way : (s : ℕ) (writer : Option ℕ) (desks : List Desk) (doing : Doing) → ((t : ℕ) → writer ≢ Some t → is_quiet_doing (doing_at t desks) ≡ true) → doing_at s desks ≡ doing → is_quiet_doing doing ≡ false → writer ≡ Some s
+pub nothing_under_way : (s : ℕ) (writer : Option ℕ) (desks : List Desk) (doing : Doing)
+    → ((t : ℕ) → writer ≢ Some t → is_quiet_doing (doing_at t desks) ≡ true) → doing_at s desks ≡ doing → is_quiet_doing doing ≡ false → writer ≡ Some s
 nothing_under_way s writer desks doing quiet is busy = go writer refl where
   no : writer ≢ Some s → ⊥
   no other = let still = sym (ap is_quiet_doing is) ∙ quiet s other in let e : true ≡ false = sym still ∙ busy in cc
@@ -86,18 +90,21 @@ nothing_under_way s writer desks doing quiet is busy = go writer refl where
   go (Some w) is_some = ⊎_elim (λ same. is_some ∙ ap Some same) (λ differs. absurd (no (λ mine. differs (some_same w s (sym is_some ∙ mine))))) (cases_eq w s)
 
 -- rows as who may write holds them
-pub rows_of_writer : (s : ℕ) (writer : Option ℕ) (chains : Chains) (state : WorldState) (desks : List Desk) (undo : Undo) (room : WorkRoom) (doing : Doing) → writer ≡ Some s → doing_at s desks ≡ doing → RowsHeldBy writer chains state desks undo room → RowsHeld chains state s undo room doing
+pub rows_of_writer : (s : ℕ) (writer : Option ℕ) (chains : Chains) (state : WorldState) (desks : List Desk) (undo : Undo) (room : WorkRoom) (doing : Doing)
+    → writer ≡ Some s → doing_at s desks ≡ doing → RowsHeldBy writer chains state desks undo room → RowsHeld chains state s undo room doing
 rows_of_writer s writer chains state desks undo room doing mine is rows =
     subst (λ (d : Doing). RowsHeld chains state s undo room d) is (subst (λ (w : Option ℕ). RowsHeldBy w chains state desks undo room) mine rows)
 
-pub rows_by_writer : (s : ℕ) (writer : Option ℕ) (chains : Chains) (state : WorldState) (desks : List Desk) (undo : Undo) (room : WorkRoom) (doing : Doing) → writer ≡ Some s → doing_at s desks ≡ doing → RowsHeld chains state s undo room doing → RowsHeldBy writer chains state desks undo room
+pub rows_by_writer : (s : ℕ) (writer : Option ℕ) (chains : Chains) (state : WorldState) (desks : List Desk) (undo : Undo) (room : WorkRoom) (doing : Doing)
+    → writer ≡ Some s → doing_at s desks ≡ doing → RowsHeld chains state s undo room doing → RowsHeldBy writer chains state desks undo room
 rows_by_writer s writer chains state desks undo room doing mine is rows =
     subst (λ (w : Option ℕ). RowsHeldBy w chains state desks undo room) (sym mine) (subst (λ (d : Doing). RowsHeld chains state s undo room d) (sym is) rows)
 
 -- ---- the desks
 
 -- a session that is taking back, or has nothing under way, searches nothing
-pub no_search : (s : ℕ) (chains : Chains) (state : WorldState) (writer : Option ℕ) (cuts : ℕ) (desks : List Desk) (doing : Doing) → doing_at s desks ≡ doing → SearchHeld chains state writer cuts s doing → SearchHeld chains state writer cuts s (doing_at s desks)
+pub no_search : (s : ℕ) (chains : Chains) (state : WorldState) (writer : Option ℕ) (cuts : ℕ) (desks : List Desk) (doing : Doing)
+    → doing_at s desks ≡ doing → SearchHeld chains state writer cuts s doing → SearchHeld chains state writer cuts s (doing_at s desks)
 no_search s chains state writer cuts desks doing is none = subst (SearchHeld chains state writer cuts s) (sym is) none
 
 module _ (s : ℕ) (doing : Doing) (writer : Option ℕ) (desks now : List Desk) (mine : writer ≡ Some s) (gives : GivesDoing s doing desks now) where
@@ -106,18 +113,22 @@ module _ (s : ℕ) (doing : Doing) (writer : Option ℕ) (desks now : List Desk)
       let differs : t ≢ s = λ same. other (mine ∙ ap Some (sym same)) in
       ap is_quiet_doing (gives.others t differs) ∙ quiet t other
 
-  pub searches_still : (before after : Chains) (cuts later : ℕ) (old new : WorldState) → LeavesOthers s before after writer writer cuts later old new → SearchHeld after new writer later s doing
+  pub searches_still : (before after : Chains) (cuts later : ℕ) (old new : WorldState) → LeavesOthers s before after writer writer cuts later old new
+      → SearchHeld after new writer later s doing
       → ((t : ℕ) → SearchHeld before old writer cuts t (doing_at t desks)) → (t : ℕ) → SearchHeld after new writer later t (doing_at t now)
   searches_still before after cuts later old new leaves own searches t =
       ⊎_elim
       (λ same. subst (λ (n : ℕ). SearchHeld after new writer later n (doing_at n now)) (sym same) (no_search s after new writer later now doing gives.here own))
-      (λ differs. subst (SearchHeld after new writer later t) (sym (gives.others t differs)) (search_left s t before after writer writer cuts later old new leaves differs (doing_at t desks) (searches t)))
+      (λ differs. subst (SearchHeld after new writer later t) (sym (gives.others t differs))
+      (search_left s t before after writer writer cuts later old new leaves differs (doing_at t desks) (searches t)))
       (cases_eq t s)
 
 -- ---- the whole
 
-module _ (s : ℕ) (old new : WorldState) (writer : Option ℕ) (made : Bool) (desks now : List Desk) (cuts : ℕ) (undo other : UndoRoom) (room next : WorkRoom) (doing : Doing)
-    (held : IsHeld old writer made desks cuts undo room) (mine : writer ≡ Some s) (leaves : LeavesAll old new) (told : IsTold old) (tells : IsTold new) (gives : GivesDoing s doing desks now) where
+module _ (s : ℕ) (old new : WorldState) (writer : Option ℕ) (made : Bool) (desks now : List Desk) (cuts : ℕ) (undo other : UndoRoom) (room next : WorkRoom)
+    (doing : Doing)
+    (held : IsHeld old writer made desks cuts undo room) (mine : writer ≡ Some s) (leaves : LeavesAll old new) (told : IsTold old) (tells : IsTold new)
+    (gives : GivesDoing s doing desks now) where
   past : new.past ≡ old.past
   past = ap (λ (x : WorldState). x.past) leaves.rest
 
@@ -144,7 +155,8 @@ module _ (s : ℕ) (old new : WorldState) (writer : Option ℕ) (made : Bool) (d
     kept = inl (refl, kept);
   }
 
-  pub held_beside : RowsHeld held.chains new s (read_into other) next doing → LogsAgree new → SearchHeld held.chains new writer cuts s doing → IsWhole next → IsHeld new writer made now cuts other next
+  pub held_beside : RowsHeld held.chains new s (read_into other) next doing → LogsAgree new → SearchHeld held.chains new writer cuts s doing → IsWhole next
+      → IsHeld new writer made now cuts other next
   held_beside rows logs search whole = record {
     chains = held.chains;
     agrees = agrees_now;

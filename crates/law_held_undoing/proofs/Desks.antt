@@ -21,7 +21,8 @@ given s doing desks joined =
       here = ap (λ (d : Desk). d.doing) here;
       others = λ t differs. ap (λ (d : Desk). d.doing) (get_or-set_other desks s t desk fresh_desk differs);
       started = λ t. ⊎_elim
-          (λ same. ap (λ (n : ℕ). (desk_at n (with_doing s doing desks)).started) same ∙ ap (λ (d : Desk). d.started) here ∙ ap (λ (n : ℕ). (desk_at n desks).started) (sym same))
+          (λ same. ap (λ (n : ℕ). (desk_at n (with_doing s doing desks)).started) same ∙ ap (λ (d : Desk). d.started) here ∙ ap
+          (λ (n : ℕ). (desk_at n desks).started) (sym same))
           (λ differs. ap (λ (d : Desk). d.started) (get_or-set_other desks s t desk fresh_desk differs))
           (cases_eq t s);
       count = length-set desks s desk;

@@ -34,10 +34,12 @@ pub alone_if : (s : ℕ) (chains : Chains) (writer : Option ℕ) (state : WorldS
 alone_if s chains writer state mine agrees = (subst (WriterAgrees state.past) mine agrees.lists.writes).1
 
 -- without its newest change, one of a row, the transaction has made the tables that it had made
-pub makes_still : (s keep : ℕ) (writer : Option ℕ) (made : Bool) (past : List Event) (change : Change) (before : List Change) → writer ≡ Some s → own s past ≡ change ∷ before → IsOfRow change → own s (Undone s keep ∷ past) ≡ before
+pub makes_still : (s keep : ℕ) (writer : Option ℕ) (made : Bool) (past : List Event) (change : Change) (before : List Change) → writer ≡ Some s
+    → own s past ≡ change ∷ before → IsOfRow change → own s (Undone s keep ∷ past) ≡ before
     → MakesTables writer made past → MakesTables writer made (Undone s keep ∷ past)
 makes_still s keep writer made past change before mine own_is of_row left makes =
     let was : made ≡ list_any is_creation (own s past) = subst (λ (w : Option ℕ). MakesTables w made past) mine makes in
-    let same : list_any is_creation (change ∷ before) ≡ list_any is_creation before = ap (λ (b : Bool). b || list_any is_creation before) (no_creation change of_row) in
+    let same : list_any is_creation (change ∷ before) ≡ list_any is_creation before =
+    ap (λ (b : Bool). b || list_any is_creation before) (no_creation change of_row) in
     subst (λ (w : Option ℕ). MakesTables w made (Undone s keep ∷ past)) (sym mine)
     (was ∙ ap (list_any is_creation) own_is ∙ same ∙ ap (list_any is_creation) (sym left))

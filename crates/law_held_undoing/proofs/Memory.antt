@@ -31,7 +31,8 @@ not_delayed s old new TooDeep memory off = off
 not_delayed s old new NoMemory memory off = off
 
 -- the newest record of a log is read at once
-pub read_at_once : (actor slot : ℕ) (read : Undo) (there : Bool) (old new : WorldState) (answer : Move) → IsInMemory old → ReadsLast actor slot read there old new answer → answer ≡ Done
+pub read_at_once : (actor slot : ℕ) (read : Undo) (there : Bool) (old new : WorldState) (answer : Move) → IsInMemory old
+    → ReadsLast actor slot read there old new answer → answer ≡ Done
 read_at_once actor slot read there old new Done memory reads = refl
 read_at_once actor slot read there old new Step memory reads = absurd (not_delayed actor old new Step memory reads)
 read_at_once actor slot read there old new (Latch by) memory reads = absurd (not_delayed actor old new (Latch by) memory reads)

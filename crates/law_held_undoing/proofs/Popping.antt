@@ -11,21 +11,26 @@ abbrev pub without_newest : Place → Chains → Chains
 without_newest place chains = (place, older (versions_at place chains)) ∷ chains
 
 at_itself : (place : Place) (chains : Chains) → versions_at place (without_newest place chains) ≡ older (versions_at place chains)
-at_itself place chains = ap (λ (b : Bool). unwrap_or (cond b (Some (older (versions_at place chains))) (lookup (is_same_place place) chains)) []) (place_itself place)
+at_itself place chains =
+    ap (λ (b : Bool). unwrap_or (cond b (Some (older (versions_at place chains))) (lookup (is_same_place place) chains)) []) (place_itself place)
 
 apart_back : (place other : Place) → is_same_place place other ≡ false → is_same_place other place ≡ false
 apart_back place other apart = go (is_same_place other place) refl
   where
     go : (b : Bool) → is_same_place other place ≡ b → is_same_place other place ≡ false
     go false is = is
-    go true is = let e = same_place other place is in let itself = subst (λ (p : Place). is_same_place place p ≡ true) (sym e) (place_itself place) in absurd (cc)
+    go true is =
+        let e = same_place other place is in let itself = subst (λ (p : Place). is_same_place place p ≡ true) (sym e) (place_itself place) in absurd (cc)
 
 pub popped_newest : (place : Place) (chains : Chains) → Pops chains (without_newest place chains) place
 popped_newest place chains other = go (is_same_place place other) refl
   where
-    go : (b : Bool) → is_same_place place other ≡ b → versions_at other (without_newest place chains) ≡ cond b (older (versions_at other chains)) (versions_at other chains)
-    go true is = subst (λ (p : Place). versions_at p (without_newest place chains) ≡ older (versions_at p chains)) (same_place place other is) (at_itself place chains)
-    go false is = ap (λ (b : Bool). unwrap_or (cond b (Some (older (versions_at place chains))) (lookup (is_same_place other) chains)) []) (apart_back place other is)
+    go : (b : Bool) → is_same_place place other ≡ b
+        → versions_at other (without_newest place chains) ≡ cond b (older (versions_at other chains)) (versions_at other chains)
+    go true is =
+        subst (λ (p : Place). versions_at p (without_newest place chains) ≡ older (versions_at p chains)) (same_place place other is) (at_itself place chains)
+    go false is =
+        ap (λ (b : Bool). unwrap_or (cond b (Some (older (versions_at place chains))) (lookup (is_same_place other) chains)) []) (apart_back place other is)
 
 -- ---- no place has more versions
 
@@ -37,5 +42,8 @@ fewer_if : (b : Bool) (versions : List Version) → length (cond b (older versio
 fewer_if true versions = older_fewer versions
 fewer_if false versions = omega arith
 
-pub popped_fewer : (place other : Place) (chains after : Chains) → Pops chains after place → length (versions_at other after) ≤ length (versions_at other chains)
-popped_fewer place other chains after pops = subst (λ (versions : List Version). length versions ≤ length (versions_at other chains)) (sym (pops other)) (fewer_if (is_same_place place other) (versions_at other chains))
+pub popped_fewer : (place other : Place) (chains after : Chains) → Pops chains after place
+    → length (versions_at other after) ≤ length (versions_at other chains)
+popped_fewer place other chains after pops =
+    subst (λ (versions : List Version). length versions ≤ length (versions_at other chains)) (sym (pops other))
+    (fewer_if (is_same_place place other) (versions_at other chains))

@@ -60,7 +60,8 @@ module _ (chains : Chains) (writer : Option ℕ) (state : WorldState) (s : ℕ) 
   not_idle : level s state.past ≡ None → ⊥
   not_idle none = let e : false ≡ true = sym (ap is_some none) ∙ open_is in cc
 
-  work_if : (session : Session) (work : Option Work) → slice_get state.sessions s ≡ Some session → session.work ≡ work → (x : Session) × (w : Work) × HasWork s x w state
+  work_if : (session : Session) (work : Option Work) → slice_get state.sessions s ≡ Some session → session.work ≡ work
+      → (x : Session) × (w : Work) × HasWork s x w state
   work_if session None there is = absurd (not_idle (idle_of chains writer state s session agrees there is).level_is)
   work_if session (Some work) there is = (session, work, record { session_is = there; work_is = is })
 
@@ -68,7 +69,9 @@ module _ (chains : Chains) (writer : Option ℕ) (state : WorldState) (s : ℕ) 
   open_work = go (slice_get state.sessions s) refl where
     go : (found : Option Session) → slice_get state.sessions s ≡ found → (session : Session) × (work : Work) × HasWork s session work state
     go (Some session) there = work_if session session.work there refl
-    go None none = absurd (not_idle (subst (SlotAgrees state.schemas state.past s) (slot_at s state.past state.schemas state.sessions ∙ ap (slot_if state.past state.schemas s) none) (agrees.lists.sessions s)).work_is.level_is)
+    go None none =
+        absurd (not_idle (subst (SlotAgrees state.schemas state.past s)
+        (slot_at s state.past state.schemas state.sessions ∙ ap (slot_if state.past state.schemas s) none) (agrees.lists.sessions s)).work_is.level_is)
 
 -- ---- its newest undo record
 
@@ -79,14 +82,18 @@ pub record OnTop (schemas : List Schema) (log : List Logged) (change : Change) :
   pub place : Place
   pub place_is : place_in schemas change ≡ Some place
 
-on_top : (told : Type 0) (schemas : List Schema) (records : RecordsAt) (kept : ℕ → Option Kept) (log : List Logged) (change : Change) (before : List Change) → IsOfRow change → LogStands told schemas records kept log (change ∷ before) → OnTop schemas log change
+on_top : (told : Type 0) (schemas : List Schema) (records : RecordsAt) (kept : ℕ → Option Kept) (log : List Logged) (change : Change) (before : List Change)
+    → IsOfRow change → LogStands told schemas records kept log (change ∷ before) → OnTop schemas log change
 on_top told schemas records kept log (Create schema) before of_row stands = absurd of_row
 on_top told schemas records kept [] (Put table row) before of_row stands = absurd stands
-on_top told schemas records kept (logged ∷ log) (Put table row) before of_row stands = record { logged = logged; older = log; log_is = refl; place = stands.0.place; place_is = stands.0.place_is }
+on_top told schemas records kept (logged ∷ log) (Put table row) before of_row stands =
+    record { logged = logged; older = log; log_is = refl; place = stands.0.place; place_is = stands.0.place_is }
 on_top told schemas records kept [] (Remove table key) before of_row stands = absurd stands
-on_top told schemas records kept (logged ∷ log) (Remove table key) before of_row stands = record { logged = logged; older = log; log_is = refl; place = stands.0.place; place_is = stands.0.place_is }
+on_top told schemas records kept (logged ∷ log) (Remove table key) before of_row stands =
+    record { logged = logged; older = log; log_is = refl; place = stands.0.place; place_is = stands.0.place_is }
 
-last_if : (s keep : ℕ) (state : WorldState) (session : Session) (work : Work) (changes : List Change) → HasWork s session work state → own s state.past ≡ changes → IsUndoable keep changes → IsLogOf state work.log changes → HasLast s state
+last_if : (s keep : ℕ) (state : WorldState) (session : Session) (work : Work) (changes : List Change) → HasWork s session work state
+    → own s state.past ≡ changes → IsUndoable keep changes → IsLogOf state work.log changes → HasLast s state
 last_if s keep state session work [] has own_is may stands = absurd may
 last_if s keep state session work (change ∷ before) has own_is may stands =
     let top = on_top (IsTold state) state.schemas _ state.versions.kept_at work.log change before may.0 stands in (
@@ -105,7 +112,8 @@ last_if s keep state session work (change ∷ before) has own_is may stands =
       },
     )
 
-module _ (s keep : ℕ) (state : WorldState) (writer : Option ℕ) (made : Bool) (desks : List Desk) (cuts : ℕ) (undo : UndoRoom) (room : WorkRoom) (held : IsHeld state writer made desks cuts undo room) where
+module _ (s keep : ℕ) (state : WorldState) (writer : Option ℕ) (made : Bool) (desks : List Desk) (cuts : ℕ) (undo : UndoRoom) (room : WorkRoom)
+    (held : IsHeld state writer made desks cuts undo room) where
   pub may_write : MayCome state.past (Undone s keep) → writer ≡ Some s
   may_write may = writes_if s keep state.past writer held.agrees.lists.writes may.1
 
@@ -144,7 +152,9 @@ module _ (chains : Chains) (state : WorldState) (s : ℕ) (room : WorkRoom) (agr
         logged = lag.logged;
         place = lag.place;
         last = lag.last;
-        putting = begins_lagging chains state lag.logged lag.last.log lag.last.change lag.last.before lag.place room log lag.last.place_is lag.change lag.changing (sym lag.table_is ∙ tells.table_is) (sym lag.key_is) whole anew;
+        putting =
+            begins_lagging chains state lag.logged lag.last.log lag.last.change lag.last.before lag.place room log lag.last.place_is lag.change lag.changing
+            (sym lag.table_is ∙ tells.table_is) (sym lag.key_is) whole anew;
         anew = anew;
       }
 
@@ -163,7 +173,8 @@ module _ (chains : Chains) (state : WorldState) (s : ℕ) (room : WorkRoom) (agr
 
 -- ---- the record is read
 
-read_there : (log : List Logged) (logged : Logged) (older : List Logged) (read : Undo) (there : Bool) → log ≡ logged ∷ older → IsRead (newest log) read there → (there ≡ true) × (read ≡ logged.undo)
+read_there : (log : List Logged) (logged : Logged) (older : List Logged) (read : Undo) (there : Bool) → log ≡ logged ∷ older
+    → IsRead (newest log) read there → (there ≡ true) × (read ≡ logged.undo)
 read_there log logged older read there is reads =
     let found : newest log ≡ Some logged.undo = ap newest is in
     let some : there ≡ true = reads.0 ∙ ap is_some found in
@@ -174,25 +185,35 @@ unchanged_leaves : (old new : WorldState) → IsUnchanged old new → LeavesAll 
 unchanged_leaves old new same = record { places = λ index. (same.indexes index).place; versions = same.versions; rest = same.rest }
 
 unchanged_rows : (old new : WorldState) → IsUnchanged old new → LeavesRows old new
-unchanged_rows old new same = record { schemas = ap (λ (state : WorldState). state.schemas) same.rest; pairs = λ index. (same.indexes index).pairs; versions = same.versions }
+unchanged_rows old new same =
+    record { schemas = ap (λ (state : WorldState). state.schemas) same.rest; pairs = λ index. (same.indexes index).pairs; versions = same.versions }
 
 -- all of it is left, which is no more than this where there are four keys at most
 few_left : (keys most : ℕ) (kept : ℕ → Option Kept) (stage : Stage) → keys ≤ 4 → stage ≡ Find → left_at keys most kept stage < 2 ^ 70
 few_left keys most kept stage few anew = subst (λ (at : Stage). left_at keys most kept at < 2 ^ 70) (sym anew) (omega (arith, few))
 
-module _ (s keep : ℕ) (old new : WorldState) (writer : Option ℕ) (made : Bool) (desks : List Desk) (cuts : ℕ) (undo read : UndoRoom) (room : WorkRoom) (there : Bool) (held : IsHeld old writer made desks cuts undo room) (may : MayCome old.past (Undone s keep)) (reads : ReadsLast s s (read_into read) there old new Done) where
+module _ (s keep : ℕ) (old new : WorldState) (writer : Option ℕ) (made : Bool) (desks : List Desk) (cuts : ℕ) (undo read : UndoRoom) (room : WorkRoom)
+    (there : Bool) (held : IsHeld old writer made desks cuts undo room) (may : MayCome old.past (Undone s keep))
+    (reads : ReadsLast s s (read_into read) there old new Done) where
   pub is_there : there ≡ true
-  is_there = let last = (has_last s keep old writer made desks cuts undo room held may).2 in (read_there last.work.log _ last.log (read_into read) there last.log_is (reads.0 last.session last.work last.has_work)).0
+  is_there =
+      let last = (has_last s keep old writer made desks cuts undo room held may).2 in
+      (read_there last.work.log _ last.log (read_into read) there last.log_is (reads.0 last.session last.work last.has_work)).0
 
   module _ (joined : s < length desks) (ready : IsReady (doing_at s desks)) (memory : IsInMemory new) where
     mine : writer ≡ Some s
     mine = may_write s keep old writer made desks cuts undo room held may
 
     begin : MayBegin held.chains old s room
-    begin = begin_from held.chains old s room held.logs held.whole (read_into undo) (doing_at s desks) ready (rows_of_writer s writer held.chains old desks (read_into undo) room (doing_at s desks) mine refl held.rows) (has_last s keep old writer made desks cuts undo room held may)
+    begin =
+        begin_from held.chains old s room held.logs held.whole (read_into undo) (doing_at s desks) ready
+        (rows_of_writer s writer held.chains old desks (read_into undo) room (doing_at s desks) mine refl held.rows)
+        (has_last s keep old writer made desks cuts undo room held may)
 
     read_is : read_into read ≡ begin.logged.undo
-    read_is = (read_there begin.last.work.log begin.logged begin.last.log (read_into read) there begin.last.log_is (reads.0 begin.last.session begin.last.work begin.last.has_work)).1
+    read_is =
+        (read_there begin.last.work.log begin.logged begin.last.log (read_into read) there begin.last.log_is
+        (reads.0 begin.last.session begin.last.work begin.last.has_work)).1
 
     left_all : LeavesAll old new
     left_all = unchanged_leaves old new reads.1
@@ -206,16 +227,20 @@ module _ (s keep : ℕ) (old new : WorldState) (writer : Option ℕ) (made : Boo
       place = begin.place;
       last = last_beside old new left_all.rest s begin.logged begin.place begin.last;
       undo_is = read_is;
-      putting = subst (λ (u : Undo). IsPuttingBack held.chains begin.place u room new) (sym read_is) (others_leave held.chains begin.place begin.logged.undo room old new begin.putting left_rows);
+      putting =
+          subst (λ (u : Undo). IsPuttingBack held.chains begin.place u room new) (sym read_is)
+          (others_leave held.chains begin.place begin.logged.undo room old new begin.putting left_rows);
     }
 
     pub held_begun : IsHeld new writer made (with_doing s Undoing desks) cuts read room
     held_begun =
-        held_beside s old new writer made desks (with_doing s Undoing desks) cuts undo read room room Undoing held mine left_all (leaves_told left_rows memory.told) memory.told (given s Undoing desks joined)
+        held_beside s old new writer made desks (with_doing s Undoing desks) cuts undo read room room Undoing held mine left_all
+        (leaves_told left_rows memory.told) memory.told (given s Undoing desks joined)
         going_back (all_left old new (rows_leave old new left_rows) (logs_beside old new left_all.rest) held.logs) (record {}) held.whole
 
     pub few_begun : undo_left_in read.table room.stage new < 2 ^ 70
     few_begun =
         let tells = going_back.putting.tells in
-        let keys : keys_if (slice_get new.schemas read.table) ≤ 4 = subst (λ (n : ℕ). n ≤ 4) (sym (ap keys_if tells.there)) (few_keys going_back.putting.schema tells.storable) in
+        let keys : keys_if (slice_get new.schemas read.table) ≤ 4 =
+        subst (λ (n : ℕ). n ≤ 4) (sym (ap keys_if tells.there)) (few_keys going_back.putting.schema tells.storable) in
         few_left (keys_if (slice_get new.schemas read.table)) most_versions new.versions.kept_at room.stage keys begin.anew

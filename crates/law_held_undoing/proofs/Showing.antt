@@ -46,8 +46,10 @@ some_same : (a b : ℕ) → Some a ≡ Some b → a ≡ b
 some_same a b same = cc
 
 -- the names and tables are the same, the past is this, and one session has something else to do
-pub shows_now : (s : ℕ) (doing : Doing) (past : List Event) (old new : WorldState) (writer : Option ℕ) (desks later : List Desk) (left now : ℕ) → writer ≡ Some s → ((t : ℕ) → writer ≢ Some t → is_quiet_doing (doing_at t desks) ≡ true) → GivesDoing s doing desks later
-    → new.names ≡ old.names → new.schemas ≡ old.schemas → new.past ≡ past → (task : Task) → shown new.schemas now doing ≡ task → IsNow past s task writer (lists_of old writer desks left).state (lists_of new writer later now).state
+pub shows_now : (s : ℕ) (doing : Doing) (past : List Event) (old new : WorldState) (writer : Option ℕ) (desks later : List Desk) (left now : ℕ)
+    → writer ≡ Some s → ((t : ℕ) → writer ≢ Some t → is_quiet_doing (doing_at t desks) ≡ true) → GivesDoing s doing desks later
+    → new.names ≡ old.names → new.schemas ≡ old.schemas → new.past ≡ past → (task : Task) → shown new.schemas now doing ≡ task → IsNow past s task writer
+    (lists_of old writer desks left).state (lists_of new writer later now).state
 shows_now s doing past old new writer desks later left now mine quiet gives names schemas is task shows = record {
   names_are = names;
   past_is = is;
@@ -61,7 +63,8 @@ shows_now s doing past old new writer desks later left now mine quiet gives name
       ∙ sym (task_is t left old writer desks);
 }
 
-pub ready_if : (state : WorldState) (writer : Option ℕ) (desks : List Desk) (left s : ℕ) → MayTakeBack (task_of s (lists_of state writer desks left).state) → IsReady (doing_at s desks) ⊎ (doing_at s desks ≡ Undoing)
+pub ready_if : (state : WorldState) (writer : Option ℕ) (desks : List Desk) (left s : ℕ) → MayTakeBack (task_of s (lists_of state writer desks left).state)
+    → IsReady (doing_at s desks) ⊎ (doing_at s desks ≡ Undoing)
 ready_if state writer desks left s may = go (doing_at s desks) refl where
   go : (doing : Doing) → doing_at s desks ≡ doing → IsReady (doing_at s desks) ⊎ (doing_at s desks ≡ Undoing)
   go Nothing is = inl (subst IsReady (sym is) (record {}))
@@ -80,7 +83,9 @@ ready_to_go schemas left Undoing is = absurd is
 
 -- ---- steps that add no entry
 
-module _ (s keep : ℕ) (old new : WorldState) (writer : Option ℕ) (desks later : List Desk) (left now : ℕ) (mine : writer ≡ Some s) (quiet : (t : ℕ) → writer ≢ Some t → is_quiet_doing (doing_at t desks) ≡ true) (gives : GivesDoing s Undoing desks later) (rest : ChangesPairsAlone old new) where
+module _ (s keep : ℕ) (old new : WorldState) (writer : Option ℕ) (desks later : List Desk) (left now : ℕ) (mine : writer ≡ Some s)
+    (quiet : (t : ℕ) → writer ≢ Some t → is_quiet_doing (doing_at t desks) ≡ true) (gives : GivesDoing s Undoing desks later)
+    (rest : ChangesPairsAlone old new) where
   settings_same : (lists_of new writer later now).settings ≡ (lists_of old writer desks left).settings
   settings_same = ap (λ (state : WorldState). map (λ (session : Session). session.setting) state.sessions) rest
 
@@ -89,15 +94,18 @@ module _ (s keep : ℕ) (old new : WorldState) (writer : Option ℕ) (desks late
 
   turned : (task : Task) → shown new.schemas now Undoing ≡ task → Turns s task (lists_of old writer desks left).state (lists_of new writer later now).state
   turned task shows =
-      shows_now s Undoing old.past old new writer desks later left now mine quiet gives (ap (λ (state : WorldState). state.names) rest) (ap (λ (state : WorldState). state.schemas) rest) (ap (λ (state : WorldState). state.past) rest) task shows
+      shows_now s Undoing old.past old new writer desks later left now mine quiet gives (ap (λ (state : WorldState). state.names) rest)
+      (ap (λ (state : WorldState). state.schemas) rest) (ap (λ (state : WorldState). state.past) rest) task shows
 
   task_now : task_of s (lists_of new writer later now).state ≡ tasks.Undoing now
   task_now = task_is s now new writer later ∙ ap (shown new.schemas now) gives.here
 
-  pub seen_went : now < undo_to_go (task_of s (lists_of old writer desks left).state) → TakesBackIn s keep (lists_of old writer desks left) (lists_of new writer later now) undone.Went
+  pub seen_went : now < undo_to_go (task_of s (lists_of old writer desks left).state)
+      → TakesBackIn s keep (lists_of old writer desks left) (lists_of new writer later now) undone.Went
   seen_went nearer = record {
     takes = (
-      subst (λ (task : Task). Turns s task (lists_of old writer desks left).state (lists_of new writer later now).state) (sym task_now) (turned (tasks.Undoing now) refl),
+      subst (λ (task : Task). Turns s task (lists_of old writer desks left).state (lists_of new writer later now).state) (sym task_now)
+          (turned (tasks.Undoing now) refl),
       (now, task_now),
       subst (λ (n : ℕ). n < undo_to_go (task_of s (lists_of old writer desks left).state)) (sym (ap undo_to_go task_now)) nearer,
     );
@@ -105,25 +113,34 @@ module _ (s keep : ℕ) (old new : WorldState) (writer : Option ℕ) (desks late
     rows = count_same;
   }
 
-  pub seen_hindered : doing_at s desks ≡ Undoing → now ≡ left → TakesBackIn s keep (lists_of old writer desks left) (lists_of new writer later now) undone.NoMemory
+  pub seen_hindered : doing_at s desks ≡ Undoing → now ≡ left
+      → TakesBackIn s keep (lists_of old writer desks left) (lists_of new writer later now) undone.NoMemory
   seen_hindered busy same = record {
-    takes = turned (task_of s (lists_of old writer desks left).state) (ap tasks.Undoing same ∙ sym (task_is s left old writer desks ∙ ap (shown old.schemas left) busy));
+    takes =
+        turned (task_of s (lists_of old writer desks left).state)
+        (ap tasks.Undoing same ∙ sym (task_is s left old writer desks ∙ ap (shown old.schemas left) busy));
     settings = settings_same;
     rows = count_same;
   }
 
 -- ---- the steps
 
-pub shows_begun : (s keep : ℕ) (old new : WorldState) (writer : Option ℕ) (made : Bool) (desks : List Desk) (cuts : ℕ) (undo read : UndoRoom) (room : WorkRoom) (there : Bool) → IsHeld old writer made desks cuts undo room → s < length desks → IsReady (doing_at s desks) → MayCome old.past (Undone s keep) → IsInMemory new
-    → ReadsLast s s (read_into read) there old new Done → TakesBackIn s keep (lists_held old writer desks undo room) (lists_held new writer (with_doing s Undoing desks) read room) undone.Went
+pub shows_begun : (s keep : ℕ) (old new : WorldState) (writer : Option ℕ) (made : Bool) (desks : List Desk) (cuts : ℕ) (undo read : UndoRoom)
+    (room : WorkRoom) (there : Bool) → IsHeld old writer made desks cuts undo room → s < length desks → IsReady (doing_at s desks) → MayCome old.past
+    (Undone s keep) → IsInMemory new
+    → ReadsLast s s (read_into read) there old new Done → TakesBackIn s keep (lists_held old writer desks undo room)
+    (lists_held new writer (with_doing s Undoing desks) read room) undone.Went
 shows_begun s keep old new writer made desks cuts undo read room there held joined ready may memory reads =
     let left = undo_left_in undo.table room.stage old in
     let few = few_begun s keep old new writer made desks cuts undo read room there held may reads joined ready memory in
-    let all : undo_to_go (task_of s (lists_of old writer desks left).state) ≡ 2 ^ 70 = ap undo_to_go (task_is s left old writer desks) ∙ ready_to_go old.schemas left (doing_at s desks) ready in
-    seen_went s keep old new writer desks (with_doing s Undoing desks) left (undo_left_in read.table room.stage new) (may_write s keep old writer made desks cuts undo room held may) held.quiet (given s Undoing desks joined) reads.1.rest
+    let all : undo_to_go (task_of s (lists_of old writer desks left).state) ≡ 2 ^ 70 =
+    ap undo_to_go (task_is s left old writer desks) ∙ ready_to_go old.schemas left (doing_at s desks) ready in
+    seen_went s keep old new writer desks (with_doing s Undoing desks) left (undo_left_in read.table room.stage new)
+    (may_write s keep old writer made desks cuts undo room held may) held.quiet (given s Undoing desks joined) reads.1.rest
     (subst (λ (n : ℕ). undo_left_in read.table room.stage new < n) (sym all) few)
 
-module _ (s keep : ℕ) (old new : WorldState) (writer : Option ℕ) (made : Bool) (desks : List Desk) (cuts : ℕ) (undo : UndoRoom) (room next : WorkRoom) (held : IsHeld old writer made desks cuts undo room) (busy : doing_at s desks ≡ Undoing) where
+module _ (s keep : ℕ) (old new : WorldState) (writer : Option ℕ) (made : Bool) (desks : List Desk) (cuts : ℕ) (undo : UndoRoom) (room next : WorkRoom)
+    (held : IsHeld old writer made desks cuts undo room) (busy : doing_at s desks ≡ Undoing) where
   abbrev was : ℕ
   was = undo_left_in undo.table room.stage old
 
@@ -136,24 +153,34 @@ module _ (s keep : ℕ) (old new : WorldState) (writer : Option ℕ) (made : Boo
   to_go : undo_to_go (task_of s (lists_of old writer desks was).state) ≡ was
   to_go = ap undo_to_go (task_is s was old writer desks ∙ ap (shown old.schemas was) busy)
 
-  pub shows_went : IsInMemory old → IsInMemory new → HasPutBack s (read_into undo) room next old new Step → TakesBackIn s keep (lists_held old writer desks undo room) (lists_held new writer desks undo next) undone.Went
+  pub shows_went : IsInMemory old → IsInMemory new → HasPutBack s (read_into undo) room next old new Step
+      → TakesBackIn s keep (lists_held old writer desks undo room) (lists_held new writer desks undo next) undone.Went
   shows_went memory later put =
-      seen_went s keep old new writer desks desks was is by_me held.quiet (kept_on s Undoing desks busy) (rest_beside s old new writer made desks cuts undo room next held busy Step put)
+      seen_went s keep old new writer desks desks was is by_me held.quiet (kept_on s Undoing desks busy)
+      (rest_beside s old new writer made desks cuts undo room next held busy Step put)
       (subst (λ (n : ℕ). is < n) (sym to_go) (nearer s old new writer made desks cuts undo room next held busy memory later put))
 
-  pub shows_hindered : (answer : Move) → IsInMemory new → HasPutBack s (read_into undo) room next old new answer → answer ≢ Done → answer ≢ Step → TakesBackIn s keep (lists_held old writer desks undo room) (lists_held new writer desks undo next) undone.NoMemory
+  pub shows_hindered : (answer : Move) → IsInMemory new → HasPutBack s (read_into undo) room next old new answer → answer ≢ Done → answer ≢ Step
+      → TakesBackIn s keep (lists_held old writer desks undo room) (lists_held new writer desks undo next) undone.NoMemory
   shows_hindered answer later put not_done not_step =
-      seen_hindered s keep old new writer desks desks was is by_me held.quiet (kept_on s Undoing desks busy) (rest_beside s old new writer made desks cuts undo room next held busy answer put) busy
+      seen_hindered s keep old new writer desks desks was is by_me held.quiet (kept_on s Undoing desks busy)
+      (rest_beside s old new writer made desks cuts undo room next held busy answer put) busy
       (same_left s old new writer made desks cuts undo room next held busy answer later put not_done not_step)
 
 -- ---- the entry of the history
 
-pub shows_undone : (s keep : ℕ) (old mid cut new : WorldState) (writer : Option ℕ) (made : Bool) (desks : List Desk) (cuts : ℕ) (undo other : UndoRoom) (room next : WorkRoom) (held : IsHeld old writer made desks cuts undo room) → s < length desks → (busy : doing_at s desks ≡ Undoing)
-    → (put : HasPutBack s (read_into undo) room next old mid Done) → (back : IsCutBack s mid cut) → (added : (session : Session) (work : Work) → HasWork s session work cut → new ≡ undone_added s keep session work cut)
+pub shows_undone : (s keep : ℕ) (old mid cut new : WorldState) (writer : Option ℕ) (made : Bool) (desks : List Desk) (cuts : ℕ) (undo other : UndoRoom)
+    (room next : WorkRoom) (held : IsHeld old writer made desks cuts undo room) → s < length desks → (busy : doing_at s desks ≡ Undoing)
+    → (put : HasPutBack s (read_into undo) room next old mid Done) → (back : IsCutBack s mid cut) →
+    (added : (session : Session) (work : Work) → HasWork s session work cut → new ≡ undone_added s keep session work cut)
     → TakesBackIn s keep (lists_held old writer desks undo room) (lists_held new writer (with_doing s Nothing desks) other next) undone.Undone
 shows_undone s keep old mid cut new writer made desks cuts undo other room next held joined busy put back added = record {
-  takes = shows_now s Nothing (Undone s keep ∷ old.past) old new writer desks (with_doing s Nothing desks) (undo_left_in undo.table room.stage old) (undo_left_in other.table next.stage new) (mine s old mid writer made desks cuts undo room next held busy) held.quiet (given s Nothing desks joined)
-      (names_now s old mid writer made desks cuts undo room next held busy put cut back keep new added) (schemas_now s old mid writer made desks cuts undo room next held busy put cut back keep new added) (past_now s old mid writer made desks cuts undo room next held busy put cut back keep new added) tasks.Idle refl;
+  takes =
+      shows_now s Nothing (Undone s keep ∷ old.past) old new writer desks (with_doing s Nothing desks) (undo_left_in undo.table room.stage old)
+      (undo_left_in other.table next.stage new) (mine s old mid writer made desks cuts undo room next held busy) held.quiet (given s Nothing desks joined)
+      (names_now s old mid writer made desks cuts undo room next held busy put cut back keep new added)
+      (schemas_now s old mid writer made desks cuts undo room next held busy put cut back keep new added)
+      (past_now s old mid writer made desks cuts undo room next held busy put cut back keep new added) tasks.Idle refl;
   settings = settings_now s old mid writer made desks cuts undo room next held busy put cut back keep new added;
   rows = count_rows_now s old mid writer made desks cuts undo room next held busy put cut back keep new added;
 }

@@ -36,7 +36,8 @@ module _ (chains : Chains) (place : Place) (actor : ℕ) (undo : Undo) (room nex
       done.changes
 
   -- a step that was hindered leaves its stage
-  pub hindered_by : (answer : Move) → answer ≢ Done → answer ≢ Step → PutsBack chains place actor undo room next old new answer → IsHindered chains place actor undo room next old new answer
+  pub hindered_by : (answer : Move) → answer ≢ Done → answer ≢ Step → PutsBack chains place actor undo room next old new answer
+      → IsHindered chains place actor undo room next old new answer
   hindered_by Done not_done not_step is = absurd (not_done refl)
   hindered_by Step not_done not_step is = absurd (not_step refl)
   hindered_by (Latch by) not_done not_step is = is

@@ -58,7 +58,8 @@ same_pairs index = go index.pairs where
   go None = record {}
   go (Some pairs) = refl
 
-module _ (s : ℕ) (old mid : WorldState) (writer : Option ℕ) (made : Bool) (desks : List Desk) (cuts : ℕ) (undo : UndoRoom) (room next : WorkRoom) (held : IsHeld old writer made desks cuts undo room) (busy : doing_at s desks ≡ Undoing) (put : HasPutBack s (read_into undo) room next old mid Done) where
+module _ (s : ℕ) (old mid : WorldState) (writer : Option ℕ) (made : Bool) (desks : List Desk) (cuts : ℕ) (undo : UndoRoom) (room next : WorkRoom)
+    (held : IsHeld old writer made desks cuts undo room) (busy : doing_at s desks ≡ Undoing) (put : HasPutBack s (read_into undo) room next old mid Done) where
   abbrev back_to : IsGoingBack held.chains old s (read_into undo) room
   back_to = going s old mid writer made desks cuts undo room next held busy
 
@@ -75,7 +76,13 @@ module _ (s : ℕ) (old mid : WorldState) (writer : Option ℕ) (made : Bool) (d
   work_mid = work_again s back_to.last.session back_to.last.work old mid left_all.rest back_to.last.has_work
 
   pub has_logged : (session : Session) × (work : Work) × HasWork s session work mid × (work.log ≢ [])
-  has_logged = (back_to.last.session, back_to.last.work, work_mid, λ none. let e = back_to.last.log_is in let p : back_to.logged ∷ back_to.last.log ≡ [] = sym e ∙ none in cc)
+  has_logged = (
+    back_to.last.session,
+    back_to.last.work,
+    work_mid,
+    λ none. let e = back_to.last.log_is in let p : back_to.logged ∷ back_to.last.log ≡ [] = sym e ∙
+        none in cc,
+  )
 
   -- how many changes the session has
   own_count : (session : Session) (work : Work) → HasWork s session work mid → work.own ≡ length (own s old.past)
@@ -84,12 +91,14 @@ module _ (s : ℕ) (old mid : WorldState) (writer : Option ℕ) (made : Bool) (d
   some_own : 0 < length (own s old.past)
   some_own = let is = ap length back_to.last.own_is in omega (arith, is)
 
-  pub own_number : (session : Session) → IsSession s session mid → (0 < (standing_of session).own) × ((standing_of session).own - 1 ≡ length (own s old.past) - 1)
+  pub own_number : (session : Session) → IsSession s session mid
+      → (0 < (standing_of session).own) × ((standing_of session).own - 1 ≡ length (own s old.past) - 1)
   own_number session is =
       let one : back_to.last.session ≡ session = one_session s back_to.last.session session mid work_mid.session_is is in
       let work_is : session.work ≡ Some back_to.last.work = ap (λ (x : Session). x.work) (sym one) ∙ work_mid.work_is in
       let count = own_count back_to.last.session back_to.last.work work_mid in
-      subst (λ (work : Option Work). (0 < (standing_of (record session { work = work })).own) × ((standing_of (record session { work = work })).own - 1 ≡ length (own s old.past) - 1)) (sym work_is)
+      subst (λ (work : Option Work). (0 < (standing_of (record session { work = work })).own) ×
+      ((standing_of (record session { work = work })).own - 1 ≡ length (own s old.past) - 1)) (sym work_is)
       (omega (arith, count, some_own), omega (arith, count))
 
   module _ (cut : WorldState) (back : IsCutBack s mid cut) where
@@ -104,14 +113,16 @@ module _ (s : ℕ) (old mid : WorldState) (writer : Option ℕ) (made : Bool) (d
 
     has_work_cut : HasWork s session_cut work_cut cut
     has_work_cut = record {
-      session_is = ap (λ (sessions : List Session). slice_get sessions s) sessions_cut ∙ set_here mid.sessions s back.session session_cut back.has_work.session_is;
+      session_is =
+          ap (λ (sessions : List Session). slice_get sessions s) sessions_cut ∙ set_here mid.sessions s back.session session_cut back.has_work.session_is;
       work_is = refl;
     }
 
     pub may_add : (session : Session) × (work : Work) × HasWork s session work cut × (0 < work.own)
     may_add = (session_cut, work_cut, has_work_cut, let count = own_count back.session back.work back.has_work in omega (arith, count, some_own))
 
-    module _ (keep : ℕ) (new : WorldState) (added : (session : Session) (work : Work) → HasWork s session work cut → new ≡ undone_added s keep session work cut) where
+    module _ (keep : ℕ) (new : WorldState) (added : (session : Session) (work : Work) → HasWork s session work cut → new ≡ undone_added s keep session work
+        cut) where
       abbrev session_now : Session
       session_now = record session_cut { work = Some (record work_cut { own = work_cut.own - 1 }) }
 
@@ -125,7 +136,9 @@ module _ (s : ℕ) (old mid : WorldState) (writer : Option ℕ) (made : Bool) (d
       sessions_now = ap (λ (state : WorldState). state.sessions) new_is ∙ ap (λ (sessions : List Session). slice_set sessions s session_now) sessions_cut
 
       session_there : slice_get new.sessions s ≡ Some session_now
-      session_there = ap (λ (sessions : List Session). slice_get sessions s) sessions_now ∙ set_here (slice_set mid.sessions s session_cut) s session_cut session_now (set_here mid.sessions s back.session session_cut back.has_work.session_is)
+      session_there =
+          ap (λ (sessions : List Session). slice_get sessions s) sessions_now ∙ set_here (slice_set mid.sessions s session_cut) s session_cut session_now
+          (set_here mid.sessions s back.session session_cut back.has_work.session_is)
 
       has_work_now : HasWork s session_now work_now new
       has_work_now = record { session_is = session_there; work_is = refl }
@@ -145,28 +158,42 @@ module _ (s : ℕ) (old mid : WorldState) (writer : Option ℕ) (made : Bool) (d
           ∙ ap (λ (state : WorldState). length state.sessions) left_all.rest
 
       pub past_now : new.past ≡ Undone s keep ∷ old.past
-      past_now = ap (λ (state : WorldState). state.past) new_is ∙ ap (λ (state : WorldState). Undone s keep ∷ state.past) back.rest ∙ ap (λ (state : WorldState). Undone s keep ∷ state.past) left_all.rest
+      past_now =
+          ap (λ (state : WorldState). state.past) new_is ∙ ap (λ (state : WorldState). Undone s keep ∷ state.past) back.rest ∙ ap
+          (λ (state : WorldState). Undone s keep ∷ state.past) left_all.rest
 
       pub names_now : new.names ≡ old.names
-      names_now = ap (λ (state : WorldState). state.names) new_is ∙ ap (λ (state : WorldState). state.names) back.rest ∙ ap (λ (state : WorldState). state.names) left_all.rest
+      names_now =
+          ap (λ (state : WorldState). state.names) new_is ∙ ap (λ (state : WorldState). state.names) back.rest ∙ ap (λ (state : WorldState). state.names)
+          left_all.rest
 
       pub schemas_now : new.schemas ≡ old.schemas
-      schemas_now = ap (λ (state : WorldState). state.schemas) new_is ∙ ap (λ (state : WorldState). state.schemas) back.rest ∙ ap (λ (state : WorldState). state.schemas) left_all.rest
+      schemas_now =
+          ap (λ (state : WorldState). state.schemas) new_is ∙ ap (λ (state : WorldState). state.schemas) back.rest ∙ ap
+          (λ (state : WorldState). state.schemas) left_all.rest
 
       pub count_rows_now : new.rows ≡ old.rows
-      count_rows_now = ap (λ (state : WorldState). state.rows) new_is ∙ ap (λ (state : WorldState). state.rows) back.rest ∙ ap (λ (state : WorldState). state.rows) left_all.rest
+      count_rows_now =
+          ap (λ (state : WorldState). state.rows) new_is ∙ ap (λ (state : WorldState). state.rows) back.rest ∙ ap (λ (state : WorldState). state.rows)
+          left_all.rest
 
       txns_now : new.txns ≡ old.txns
-      txns_now = ap (λ (state : WorldState). state.txns) new_is ∙ ap (λ (state : WorldState). state.txns) back.rest ∙ ap (λ (state : WorldState). state.txns) left_all.rest
+      txns_now =
+          ap (λ (state : WorldState). state.txns) new_is ∙ ap (λ (state : WorldState). state.txns) back.rest ∙ ap (λ (state : WorldState). state.txns)
+          left_all.rest
 
       -- what a session has set stays
-      settings_set : (sessions : List Session) (before now : Session) → slice_get sessions s ≡ Some before → now.setting ≡ before.setting → map (λ (x : Session). x.setting) (slice_set sessions s now) ≡ map (λ (x : Session). x.setting) sessions
-      settings_set sessions before now there same = map-set_same (λ (x : Session). x.setting) sessions s now before (same ∙ ap (λ (x : Session). x.setting) (sym (get_or_from_slice_get sessions s before before there)))
+      settings_set : (sessions : List Session) (before now : Session) → slice_get sessions s ≡ Some before → now.setting ≡ before.setting
+          → map (λ (x : Session). x.setting) (slice_set sessions s now) ≡ map (λ (x : Session). x.setting) sessions
+      settings_set sessions before now there same =
+          map-set_same (λ (x : Session). x.setting) sessions s now before
+          (same ∙ ap (λ (x : Session). x.setting) (sym (get_or_from_slice_get sessions s before before there)))
 
       pub settings_now : map (λ (x : Session). x.setting) new.sessions ≡ map (λ (x : Session). x.setting) old.sessions
       settings_now =
           ap (map (λ (x : Session). x.setting)) sessions_now
-          ∙ settings_set (slice_set mid.sessions s session_cut) session_cut session_now (set_here mid.sessions s back.session session_cut back.has_work.session_is) refl
+          ∙ settings_set (slice_set mid.sessions s session_cut) session_cut session_now
+          (set_here mid.sessions s back.session session_cut back.has_work.session_is) refl
           ∙ settings_set mid.sessions back.session session_cut back.has_work.session_is refl
           ∙ ap (λ (state : WorldState). map (λ (x : Session). x.setting) state.sessions) left_all.rest
 
@@ -218,7 +245,8 @@ module _ (s : ℕ) (old mid : WorldState) (writer : Option ℕ) (made : Bool) (d
         agrees_now : length new.past < 2 ^ 63 → Agrees after writer new
         agrees_now few =
             let long = ap length past_now in
-            taken_back_agrees held.chains after writer old new s keep back_to.last.change back_to.last.before back_to.place held.agrees back_to.last.own_is (omega (arith, keep_is, own_length)) of_row back_to.last.place_is taken_by pops (omega (arith, long, few))
+            taken_back_agrees held.chains after writer old new s keep back_to.last.change back_to.last.before back_to.place held.agrees back_to.last.own_is
+            (omega (arith, keep_is, own_length)) of_row back_to.last.place_is taken_by pops (omega (arith, long, few))
 
         -- ---- logs and rows
 
@@ -236,20 +264,26 @@ module _ (s : ℕ) (old mid : WorldState) (writer : Option ℕ) (made : Bool) (d
 
         to_cut : IsToCut s back_to.logged back_to.last.log back_to.last.before mid
         to_cut =
-            to_cut_by_history s held.chains after old mid back_to.last.session back_to.last.work back_to.logged back_to.last.log back_to.last.change back_to.last.before back_to.place room next held.logs alone back_to.last.has_work
+            to_cut_by_history s held.chains after old mid back_to.last.session back_to.last.work back_to.logged back_to.last.log back_to.last.change
+            back_to.last.before back_to.place room next held.logs alone back_to.last.has_work
             back_to.last.log_is back_to.last.own_is back_to.last.place_is putting done_by pops
 
         log_old : IsLogOf old (back_to.logged ∷ back_to.last.log) (back_to.last.change ∷ back_to.last.before)
         log_old =
             subst (λ (log : List Logged). IsLogOf old log (back_to.last.change ∷ back_to.last.before)) back_to.last.log_is
-            (subst (λ (changes : List Change). IsLogOf old back_to.last.work.log changes) back_to.last.own_is (held.logs.each s back_to.last.session back_to.last.work back_to.last.has_work))
+            (subst (λ (changes : List Change). IsLogOf old back_to.last.work.log changes) back_to.last.own_is
+            (held.logs.each s back_to.last.session back_to.last.work back_to.last.has_work))
 
         rows_mid : HasRows after mid
-        rows_mid = rows_then held.chains after old mid back_to.logged back_to.last.log back_to.last.change back_to.last.before back_to.place room next log_old back_to.last.place_is putting done_by pops
+        rows_mid =
+            rows_then held.chains after old mid back_to.logged back_to.last.log back_to.last.change back_to.last.before back_to.place room next log_old
+            back_to.last.place_is putting done_by pops
 
         -- the entry of the history leaves pairs and kept versions
         left_rows : LeavesRows cut new
-        left_rows = subst (LeavesRows cut) (sym new_is) (record { schemas = refl; pairs = λ index. same_pairs (cut.indexes index); versions = record { told = λ told. told; kept = λ told. refl } })
+        left_rows =
+            subst (LeavesRows cut) (sym new_is) (record
+            { schemas = refl; pairs = λ index. same_pairs (cut.indexes index); versions = record { told = λ told. told; kept = λ told. refl } })
 
         rows_now : HasRows after new
         rows_now = has_rows_left cut new left_rows after (rows_cut s mid cut back_to.logged back_to.last.log back_to.last.before to_cut back after rows_mid)
@@ -267,14 +301,20 @@ module _ (s : ℕ) (old mid : WorldState) (writer : Option ℕ) (made : Bool) (d
         left_logs t session work differs has = inl (record {
           session = session;
           before = work;
-          has_work = record { session_is = sym (ap (λ (state : WorldState). slice_get state.sessions t) new_is ∙ set_other cut.sessions s t session_now differs) ∙ has.session_is; work_is = has.work_is };
+          has_work =
+              record {
+                session_is = sym (ap (λ (state : WorldState). slice_get state.sessions t) new_is ∙ set_other cut.sessions s t session_now differs) ∙
+                    has.session_is;
+                work_is = has.work_is;
+              };
           log_is = refl;
           own_is = ap (own t) past_from_cut ∙ (untouched (Undone s keep) cut.past t (not_of t differs)).own_is;
         })
 
         logs_now : LogsAgree new
         logs_now =
-            let log_is : work_now.log ≡ back_to.last.log = ap (λ (w : Work). w.log) (one_work s session_cut cut_now.session work_cut cut_now.work cut has_work_cut cut_now.has_work) ∙ cut_now.log_is in
+            let log_is : work_now.log ≡ back_to.last.log =
+            ap (λ (w : Work). w.log) (one_work s session_cut cut_now.session work_cut cut_now.work cut has_work_cut cut_now.has_work) ∙ cut_now.log_is in
             cut_again s back_to.last.log back_to.last.before new
             (cut_left s cut new back_to.last.log back_to.last.before session_now work_now (rows_leave cut new left_rows) left_logs cut_now has_work_now log_is)
             (ap (own s) past_now ∙ own_now)
@@ -284,7 +324,8 @@ module _ (s : ℕ) (old mid : WorldState) (writer : Option ℕ) (made : Bool) (d
         under_way_now : (t : ℕ) → under_way t new.past ≡ under_way t old.past
         under_way_now t = ap (under_way t) past_now
 
-        session_case : (t : ℕ) (session : Session) (P : Session → Type 0) → IsSession t session new → (t ≡ s → P session_now) → (t ≢ s → IsSession t session old → P session) → P session
+        session_case : (t : ℕ) (session : Session) (P : Session → Type 0) → IsSession t session new → (t ≡ s → P session_now)
+            → (t ≢ s → IsSession t session old → P session) → P session
         session_case t session P is here there =
             ⊎_elim
             (λ same. subst P (one_session s session_now session new session_there (ap (slice_get new.sessions) (sym same) ∙ is)) (here same))
@@ -298,15 +339,20 @@ module _ (s : ℕ) (old mid : WorldState) (writer : Option ℕ) (made : Bool) (d
         room_now = record {
           replies = λ t session is waits.
               session_case t session (λ x. x.can_reply ≡ true) is
-              (λ same. held.has_room.replies s back.session had.session_is (subst (λ (n : ℕ). is_some (under_way n old.past) ≡ true) same (sym (ap is_some (under_way_now t)) ∙ waits)))
+              (λ same. held.has_room.replies s back.session had.session_is
+              (subst (λ (n : ℕ). is_some (under_way n old.past) ≡ true) same (sym (ap is_some (under_way_now t)) ∙ waits)))
               (λ differs was. held.has_room.replies t session was (sym (ap is_some (under_way_now t)) ∙ waits));
           acks = λ t session is waits.
               session_case t session (λ x. x.can_ack ≡ true) is
-              (λ same. absurd (let e : true ≡ false = sym (subst (λ (n : ℕ). awaits_ack (of_item n new.past) ≡ true) same waits) ∙ ap (λ (h : List Event). awaits_ack (of_item s h)) past_now ∙ not_acked in cc))
-              (λ differs was. held.has_room.acks t session was (sym (ap (λ (h : List Event). awaits_ack (of_item t h)) past_now ∙ ap awaits_ack (untouched (Undone s keep) old.past t (not_of t differs)).entries) ∙ waits));
+              (λ same. absurd (let e : true ≡ false = sym (subst (λ (n : ℕ). awaits_ack (of_item n new.past) ≡ true) same waits) ∙ ap
+              (λ (h : List Event). awaits_ack (of_item s h)) past_now ∙ not_acked in cc))
+              (λ differs was. held.has_room.acks t session was
+              (sym (ap (λ (h : List Event). awaits_ack (of_item t h)) past_now ∙ ap awaits_ack
+              (untouched (Undone s keep) old.past t (not_of t differs)).entries) ∙ waits));
           ends = λ t session work has.
               ⊎_elim
-              (λ same. ap (λ (w : Work). w.can_end) (one_work s session session_now work work_now new (subst (λ (n : ℕ). HasWork n session work new) same has) has_work_now) ∙ held.has_room.ends s back.session back.work had)
+              (λ same. ap (λ (w : Work). w.can_end) (one_work s session session_now work work_now new
+              (subst (λ (n : ℕ). HasWork n session work new) same has) has_work_now) ∙ held.has_room.ends s back.session back.work had)
               (λ differs. held.has_room.ends t session work (record { session_is = sym (others_now t differs) ∙ has.session_is; work_is = has.work_is }))
               (cases_eq t s);
         }
@@ -321,13 +367,15 @@ module _ (s : ℕ) (old mid : WorldState) (writer : Option ℕ) (made : Bool) (d
           told = memory.told;
           tables = λ n schema there. ap (λ (x : List _). slice_get x n) schemas_now ∙ there;
           sessions = others_now;
-          places = λ t index differs. ap (λ (indexes : ℕ → Index). (indexes index).place t) indexes_now ∙ ap (λ (place : ℕ → _). place t) (left_all.places index);
+          places =
+              λ t index differs. ap (λ (indexes : ℕ → Index). (indexes index).place t) indexes_now ∙ ap (λ (place : ℕ → _). place t) (left_all.places index);
           rights = λ t differs is. is;
           changes = inr by_me;
           kept = inr refl;
         }
 
-        pub held_then : (other : UndoRoom) → s < length desks → IsInMemory old → length new.past < 2 ^ 63 → IsHeld new writer made (with_doing s Nothing desks) (cuts + 1) other next
+        pub held_then : (other : UndoRoom) → s < length desks → IsInMemory old → length new.past < 2 ^ 63
+            → IsHeld new writer made (with_doing s Nothing desks) (cuts + 1) other next
         held_then other joined memory few =
             let gives = given s Nothing desks joined in
             let long = ap length past_now in
@@ -337,14 +385,19 @@ module _ (s : ℕ) (old mid : WorldState) (writer : Option ℕ) (made : Bool) (d
               fits = subst FitsThen (sym past_now) held.fits;
               rows = rows_by_writer s writer after new (with_doing s Nothing desks) (read_into other) next Nothing by_me gives.here (rows_now, done.anew);
               quiet = quiet_still s Nothing writer desks (with_doing s Nothing desks) by_me gives held.quiet;
-              searches = searches_still s Nothing writer desks (with_doing s Nothing desks) by_me gives held.chains after cuts (cuts + 1) old new (others_left memory few) (record {}) held.searches;
+              searches =
+                  searches_still s Nothing writer desks (with_doing s Nothing desks) by_me gives held.chains after cuts (cuts + 1) old new
+                  (others_left memory few) (record {}) held.searches;
               logs = logs_now;
               has_room = room_now;
               started = λ t. ap (started t) past_now ∙ held.started t ∙ sym (gives.started t);
               count = gives.count ∙ held.count ∙ ap length (sym names_now);
               few = subst (λ (n : List (List ℕ)). length n ≤ 68) (sym names_now) held.few;
-              makes = subst (MakesTables writer made) (sym past_now) (makes_still s keep writer made old.past back_to.last.change back_to.last.before by_me back_to.last.own_is of_row own_now held.makes);
+              makes =
+                  subst (MakesTables writer made) (sym past_now)
+                  (makes_still s keep writer made old.past back_to.last.change back_to.last.before by_me back_to.last.own_is of_row own_now held.makes);
               cut = let was = held.cut in omega (arith, was, long);
-              short = λ place. let was = held.short place in let fewer = popped_fewer back_to.place place held.chains after pops in omega (arith, was, fewer, long);
+              short =
+                  λ place. let was = held.short place in let fewer = popped_fewer back_to.place place held.chains after pops in omega (arith, was, fewer, long);
               whole = done.whole;
             }

@@ -45,22 +45,27 @@ at table value = record { table = table; key = value }
 module _ (schemas : List Schema) (pairs : ℕ → List Pair) (kept : ℕ → Option Kept) (chains : Chains) (place : Place) (said : Said) where
   but_alike : LagAt place chains said → (table which column : ℕ) (value : Value) (t : Bool) → is_same_place place (at table value) ≡ t
       → TellAlike column (said table which value) (cond t (said place.table which place.key) (in_table table chains value))
-  but_alike lag table which column value true same = λ other. ap (λ (p : Place). entry_of column other (said p.table which p.key)) (sym (same_place place (at table value) same))
+  but_alike lag table which column value true same =
+      λ other. ap (λ (p : Place). entry_of column other (said p.table which p.key)) (sym (same_place place (at table value) same))
   but_alike lag table which column value false apart = λ other. ap (entry_of column other) (lag table which value apart)
 
-  as_but : AreCodedAs schemas pairs kept chains said → LagAt place chains said → AreCodedBut schemas pairs kept chains place (λ which. said place.table which place.key)
+  as_but : AreCodedAs schemas pairs kept chains said → LagAt place chains said
+      → AreCodedBut schemas pairs kept chains place (λ which. said place.table which place.key)
   as_but are lag =
       said_alike schemas pairs kept chains said (said_but chains place (λ which. said place.table which place.key)) are
       (λ table which schema key there also value. but_alike lag table which key.column value (is_same_place place (at table value)) refl)
 
 -- ---- the newest record
 
-module _ (chains : Chains) (state : WorldState) (logged : Logged) (place : Place) (schema : Schema) (tells : TellsOf logged.undo schema place state.schemas) (has : HasRecord schema (records_of state) state.versions.kept_at logged) where
+module _ (chains : Chains) (state : WorldState) (logged : Logged) (place : Place) (schema : Schema) (tells : TellsOf logged.undo schema place state.schemas)
+    (has : HasRecord schema (records_of state) state.versions.kept_at logged) where
   pub newest_is : IsNewest logged.undo schema (pairs_of state) state.versions.kept_at has.bytes has.coded
   newest_is = record { there = has.there; code_is = has.code_is; before = has.before }
 
-  versions_are : (said : Said) → AreCodedAs state.schemas (pairs_of state) state.versions.kept_at chains said → versions_at place chains ≡ shown has.coded ∷ versions_before chains place
-  versions_are said are = (newest_read logged.undo schema place state.schemas tells (pairs_of state) state.versions.kept_at chains has.bytes has.coded are.clustered newest_is).0
+  versions_are : (said : Said) → AreCodedAs state.schemas (pairs_of state) state.versions.kept_at chains said
+      → versions_at place chains ≡ shown has.coded ∷ versions_before chains place
+  versions_are said are =
+      (newest_read logged.undo schema place state.schemas tells (pairs_of state) state.versions.kept_at chains has.bytes has.coded are.clustered newest_is).0
 
   pub way_from : (said : Said) → AreCodedAs state.schemas (pairs_of state) state.versions.kept_at chains said → LagAt place chains said
       → ((which : ℕ) → IsLagging (shown has.coded) (versions_before chains place) (said place.table which place.key))
@@ -72,18 +77,22 @@ module _ (chains : Chains) (state : WorldState) (logged : Logged) (place : Place
     says = record { first = λ which less. absurd (omega (arith, less)); here = lags 0; others = λ which more. lags which };
   }
 
-  pub way_settled : HasRows chains state → IsTold state → IsUnderWay chains place logged.undo schema (rows_of state) has.bytes has.coded 0 (IsLagging (shown has.coded) (versions_before chains place))
+  pub way_settled : HasRows chains state → IsTold state
+      → IsUnderWay chains place logged.undo schema (rows_of state) has.bytes has.coded 0 (IsLagging (shown has.coded) (versions_before chains place))
   way_settled rows told =
       way_from (what_is_there chains) (rows told) (λ table which value apart. refl) (λ which. inr (versions_are (what_is_there chains) (rows told)))
 
-  next_lags : (newest : Version) (put : Option EntryPut) (row : Option (List Value)) (before : List Version) → IsLagging newest before (said_next put row before)
+  next_lags : (newest : Version) (put : Option EntryPut) (row : Option (List Value)) (before : List Version)
+      → IsLagging newest before (said_next put row before)
   next_lags newest None row before = inl (inl refl)
   next_lags newest (Some put) None before = inl (inl refl)
   next_lags newest (Some put) (Some row) before = inl (inr (gone, refl, refl))
 
   -- where a change of the place hasn't come to its end, its keys lag too
-  so_far : (said : Said) (done : ℕ) (put : Option EntryPut) (row : Option (List Value)) (before : List Version) → versions_before chains place ≡ before → SaySoFar chains place done (said_next put row before) before said
-      → versions_at place chains ≡ shown has.coded ∷ versions_before chains place → (which : ℕ) → IsLagging (shown has.coded) (versions_before chains place) (said place.table which place.key)
+  so_far : (said : Said) (done : ℕ) (put : Option EntryPut) (row : Option (List Value)) (before : List Version) → versions_before chains place ≡ before
+      → SaySoFar chains place done (said_next put row before) before said
+      → versions_at place chains ≡ shown has.coded ∷ versions_before chains place → (which : ℕ) → IsLagging (shown has.coded) (versions_before chains place)
+      (said place.table which place.key)
   so_far said done put row before same says is which =
       let Lags : List Version → Type 0 = λ versions. IsLagging (shown has.coded) (versions_before chains place) versions in
       ⊎_elim
@@ -103,7 +112,9 @@ module _ (chains : Chains) (state : WorldState) (logged : Logged) (place : Place
       (so_far rows.0 keys.which keys.put keys.before is.older (ap older pushed.versions) rows.2 (versions_are rows.0 rows.1))
     where
       one_schema : is.schema ≡ schema
-      one_schema = let there : slice_get state.schemas logged.undo.table ≡ Some is.schema = ap (slice_get state.schemas) (sym table_is) ∙ is.table.there in let also = tells.there in cc
+      one_schema =
+          let there : slice_get state.schemas logged.undo.table ≡ Some is.schema = ap (slice_get state.schemas) (sym table_is) ∙ is.table.there in let also =
+          tells.there in cc
 
       key_at : IsKeyAt schema is.value logged.undo.key
       key_at = subst (λ (k : List ℕ). IsKeyAt schema is.value k) key_is (subst (λ (x : Schema). IsKeyAt x is.value keys.key) one_schema is.at)
@@ -123,7 +134,8 @@ module _ (chains : Chains) (state : WorldState) (logged : Logged) (place : Place
 some_place : (found : Option Place) (a b : Place) → found ≡ Some a → found ≡ Some b → a ≡ b
 some_place found a b first second = cc
 
-begins : (chains : Chains) (place : Place) (room : WorkRoom) (state : WorldState) (logged : Logged) (schema : Schema) → TellsOf logged.undo schema place state.schemas → IsWhole room → room.stage ≡ Find
+begins : (chains : Chains) (place : Place) (room : WorkRoom) (state : WorldState) (logged : Logged) (schema : Schema)
+    → TellsOf logged.undo schema place state.schemas → IsWhole room → room.stage ≡ Find
     → (IsTold state → StageHolds chains place logged.undo schema (rows_of state) room.newest.items Find) → IsPuttingBack chains place logged.undo room state
 begins chains place room state logged schema tells whole stage holds = record {
   schema = schema;
@@ -133,19 +145,24 @@ begins chains place room state logged schema tells whole stage holds = record {
   holds = λ told. subst (λ (s : Stage). StageHolds chains place logged.undo schema (rows_of state) room.newest.items s) (sym stage) (holds told);
 }
 
-module _ (chains : Chains) (state : WorldState) (logged : Logged) (log : List Logged) (change : Change) (own : List Change) (place : Place) (room : WorkRoom) (log_is : IsLogOf state (logged ∷ log) (change ∷ own)) (place_is : place_in state.schemas change ≡ Some place) where
+module _ (chains : Chains) (state : WorldState) (logged : Logged) (log : List Logged) (change : Change) (own : List Change) (place : Place) (room : WorkRoom)
+    (log_is : IsLogOf state (logged ∷ log) (change ∷ own)) (place_is : place_in state.schemas change ≡ Some place) where
   pub top : Stands (IsTold state) state.schemas (records_of state) state.versions.kept_at logged log change
   top = (newest_stands (IsTold state) state.schemas (records_of state) state.versions.kept_at logged log change own place place_is log_is).0
 
   pub tells_of_it : TellsOf logged.undo top.schema place state.schemas
-  tells_of_it = subst (λ (p : Place). TellsOf logged.undo top.schema p state.schemas) (some_place (place_in state.schemas change) top.place place top.place_is place_is) top.tells
+  tells_of_it =
+      subst (λ (p : Place). TellsOf logged.undo top.schema p state.schemas)
+      (some_place (place_in state.schemas change) top.place place top.place_is place_is) top.tells
 
   pub begins_settled : HasRows chains state → IsWhole room → room.stage ≡ Find → IsPuttingBack chains place logged.undo room state
   begins_settled rows whole stage =
       begins chains place room state logged top.schema tells_of_it whole stage
       (λ told. let has = top.record_is told in inl (has.bytes, has.coded, way_settled chains state logged place top.schema tells_of_it has rows told))
 
-  pub begins_lagging : (keys : KeysChange) → IsChangingKeys chains state keys → keys.table ≡ logged.undo.table → keys.key ≡ logged.undo.key → IsWhole room → room.stage ≡ Find → IsPuttingBack chains place logged.undo room state
+  pub begins_lagging : (keys : KeysChange) → IsChangingKeys chains state keys → keys.table ≡ logged.undo.table → keys.key ≡ logged.undo.key → IsWhole room
+      → room.stage ≡ Find → IsPuttingBack chains place logged.undo room state
   begins_lagging keys is table_is key_is whole stage =
       begins chains place room state logged top.schema tells_of_it whole stage
-      (λ told. let has = top.record_is told in inl (has.bytes, has.coded, way_lagging chains state logged place top.schema tells_of_it has keys is table_is key_is told))
+      (λ told. let has = top.record_is told in inl
+      (has.bytes, has.coded, way_lagging chains state logged place top.schema tells_of_it has keys is table_is key_is told))

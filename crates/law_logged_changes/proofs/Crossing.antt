@@ -19,14 +19,17 @@ use Rattle.law_logged_changes.proofs.Logging.{change_all}
 -- ---- keys
 
 pub beside_leaves : (old new : WorldState) → StaysBesideKeys old new → LeavesRecords old new
-beside_leaves old new stays = record { schemas = ap (λ (state : WorldState). state.schemas) stays.rest; told = stays.told; pairs = stays.records; versions = stays.versions }
+beside_leaves old new stays =
+    record { schemas = ap (λ (state : WorldState). state.schemas) stays.rest; told = stays.told; pairs = stays.records; versions = stays.versions }
 
-keys_beside : (s : ℕ) (chains : Chains) (old new : WorldState) (change : KeysChange) (reached : Reached KeysChange) → ChangesKeys s chains old new change reached → StaysBesideKeys old new
+keys_beside : (s : ℕ) (chains : Chains) (old new : WorldState) (change : KeysChange) (reached : Reached KeysChange)
+    → ChangesKeys s chains old new change reached → StaysBesideKeys old new
 keys_beside s chains old new change (Went next) c = c.stays
 keys_beside s chains old new change Done c = beside_stay old new c.0
 keys_beside s chains old new change (Hindered same why) c = beside_stay old new c.1
 
-pub keys_leave : (s : ℕ) (chains : Chains) (old new : WorldState) (change : KeysChange) (reached : Reached KeysChange) → ChangesKeys s chains old new change reached → LeavesRecords old new × ChangesPairsAlone old new
+pub keys_leave : (s : ℕ) (chains : Chains) (old new : WorldState) (change : KeysChange) (reached : Reached KeysChange)
+    → ChangesKeys s chains old new change reached → LeavesRecords old new × ChangesPairsAlone old new
 keys_leave s chains old new change reached c = let stays = keys_beside s chains old new change reached c in (beside_leaves old new stays, stays.rest)
 
 beside_all : (old new : WorldState) → StaysBesideKeys old new → LogsAgree old → LogsAgree new
@@ -34,9 +37,11 @@ beside_all old new stays agree = all_left old new (beside_leaves old new stays) 
 
 -- ---- the whole change
 
-pub row_all : (s : ℕ) (chains : Chains) (old new : WorldState) (change : RowChange) (reached : Reached RowChange) → IsChangingRow s chains old change → ChangesRow s chains old new change reached → IsAlone s old → LogsAgree old → LogsAgree new
+pub row_all : (s : ℕ) (chains : Chains) (old new : WorldState) (change : RowChange) (reached : Reached RowChange) → IsChangingRow s chains old change
+    → ChangesRow s chains old new change reached → IsAlone s old → LogsAgree old → LogsAgree new
 row_all s chains old new (Record change key after) (Went (Record next key' after')) p c alone agree = aside_left s old new c.0.0.aside agree
-row_all s chains old new (Record change key after) (Went (Keys next)) p c alone agree = change_all s chains old new change key next.before after p c.0.0 alone agree
+row_all s chains old new (Record change key after) (Went (Keys next)) p c alone agree =
+    change_all s chains old new change key next.before after p c.0.0 alone agree
 row_all s chains old new (Record change key after) Done p c alone agree = absurd c
 row_all s chains old new (Record change key after) (Hindered same why) p c alone agree = aside_left s old new c.2.0 agree
 row_all s chains old new (Keys change) (Went (Record next key after)) p c alone agree = absurd c.0

@@ -30,8 +30,10 @@ use Rattle.law_logged_changes.proofs.GoingOn.{none_yet}
 
 -- ---- rows without what none needs
 
-module _ (schemas : List Schema) (pairs : ℕ → List Pair) (kept now : ℕ → Option Kept) (gone : ℕ) (same : (pointer : ℕ) → pointer ≢ gone → now pointer ≡ kept pointer) (unneeded : IsUnneeded schemas pairs kept gone) where
-  record_without : (table : ℕ) (schema : Schema) (key : List ℕ) (found : Option (List ℕ)) (versions : List Version) → slice_get schemas table ≡ Some schema → value_of key (pairs (clustered_index table)) ≡ found
+module _ (schemas : List Schema) (pairs : ℕ → List Pair) (kept now : ℕ → Option Kept) (gone : ℕ)
+    (same : (pointer : ℕ) → pointer ≢ gone → now pointer ≡ kept pointer) (unneeded : IsUnneeded schemas pairs kept gone) where
+  record_without : (table : ℕ) (schema : Schema) (key : List ℕ) (found : Option (List ℕ)) (versions : List Version) → slice_get schemas table ≡ Some schema
+      → value_of key (pairs (clustered_index table)) ≡ found
       → IsRecordWith schema key kept found versions → IsRecordWith schema key now found versions
   record_without table schema key None [] there is record_is = record_is
   record_without table schema key None (version ∷ older) there is record_is = record_is
@@ -41,7 +43,8 @@ module _ (schemas : List Schema) (pairs : ℕ → List Pair) (kept now : ℕ →
     code,
     shown_is,
     leads_without schema key kept now gone coded.pointer older same
-        (λ further reaches. unneeded table (record { schema = schema; there = there; key = key; bytes = bytes; coded = coded; record_is = is; code_is = code; further = further; reaches = reaches }))
+        (λ further reaches. unneeded table (record
+        { schema = schema; there = there; key = key; bytes = bytes; coded = coded; record_is = is; code_is = code; further = further; reaches = reaches }))
         leads,
   )
 
@@ -52,7 +55,9 @@ module _ (schemas : List Schema) (pairs : ℕ → List Pair) (kept now : ℕ →
       primary_is = is.primary_is;
       rising = is.rising;
       keys = is.keys;
-      records = λ value has. record_without table schema (key_code is.primary.kind value) (value_of (key_code is.primary.kind value) (pairs (clustered_index table))) (in_table table chains value) there refl (is.records value has);
+      records =
+          λ value has. record_without table schema (key_code is.primary.kind value)
+          (value_of (key_code is.primary.kind value) (pairs (clustered_index table))) (in_table table chains value) there refl (is.records value has);
       nowhere_else = is.nowhere_else;
     };
     nowhere_else = are.nowhere_else;
@@ -72,7 +77,17 @@ module _ (schemas : List Schema) (pairs : ℕ → List Pair) (kept now : ℕ →
     code_is = needed.code_is;
     further = needed.further;
     reaches = reached_with kept now gone needed.coded.pointer needed.further pointer same
-        (λ further reaches. unneeded table (record { schema = needed.schema; there = needed.there; key = needed.key; bytes = needed.bytes; coded = needed.coded; record_is = needed.record_is; code_is = needed.code_is; further = further; reaches = reaches }))
+        (λ further reaches. unneeded table (record {
+          schema = needed.schema;
+          there = needed.there;
+          key = needed.key;
+          bytes = needed.bytes;
+          coded = needed.coded;
+          record_is = needed.record_is;
+          code_is = needed.code_is;
+          further = further;
+          reaches = reaches;
+        }))
         needed.reaches;
   }
 
@@ -85,10 +100,12 @@ all_under : {X : Type 0} (P : X → Type 0) (told : Type 0) (xs : List X) → (t
 all_under P told [] each = record {}
 all_under P told (x ∷ xs) each = (λ at. (each at).0, all_under P told xs (λ at. (each at).1))
 
-same_front : (log : List Logged) (first second : Logged) (rest others : List Logged) → log ≡ first ∷ rest → log ≡ second ∷ others → (first ≡ second) × (rest ≡ others)
+same_front : (log : List Logged) (first second : Logged) (rest others : List Logged) → log ≡ first ∷ rest → log ≡ second ∷ others
+    → (first ≡ second) × (rest ≡ others)
 same_front log first second rest others is also = (cc, cc)
 
-module _ (s : ℕ) (old new : WorldState) (logged : Logged) (older : List Logged) (before : List Change) (cut : IsToCut s logged older before old) (back : IsCutBack s old new) where
+module _ (s : ℕ) (old new : WorldState) (logged : Logged) (older : List Logged) (before : List Change) (cut : IsToCut s logged older before old)
+    (back : IsCutBack s old new) where
   front : (back.gone ≡ logged) × (back.log ≡ older)
   front =
       let one = ap (λ (w : Work). w.log) (one_work s back.session cut.session back.work cut.work old back.has_work cut.has_work) in
@@ -125,11 +142,14 @@ module _ (s : ℕ) (old new : WorldState) (logged : Logged) (older : List Logged
   all_kept : logged.undo.kind ≡ 1 → IsTold new → new.versions.kept_at ≡ old.versions.kept_at
   all_kept kind told =
       let each : (pointer : ℕ) → new.versions.kept_at pointer ≡ old.versions.kept_at pointer
-      = λ pointer. ⊎_elim (λ same. subst (λ (p : ℕ). new.versions.kept_at p ≡ old.versions.kept_at p) (sym same) (behind_new kind told.versions)) (λ differs. kept_elsewhere told pointer differs) (cases_eq pointer logged.pointer) in
+      =
+      λ pointer. ⊎_elim (λ same. subst (λ (p : ℕ). new.versions.kept_at p ≡ old.versions.kept_at p) (sym same) (behind_new kind told.versions))
+      (λ differs. kept_elsewhere told pointer differs) (cases_eq pointer logged.pointer) in
       λ i pointer. each pointer i
 
   -- what holds of the rows and of what was kept holds of what is kept now
-  still : (P : List Schema → (ℕ → List Pair) → (ℕ → Option Kept) → Type 0) → IsTold new → P old.schemas (pairs_of old) new.versions.kept_at → P new.schemas (pairs_of new) new.versions.kept_at
+  still : (P : List Schema → (ℕ → List Pair) → (ℕ → Option Kept) → Type 0) → IsTold new → P old.schemas (pairs_of old) new.versions.kept_at
+      → P new.schemas (pairs_of new) new.versions.kept_at
   still P told holds =
       subst (λ (schemas : List Schema). P schemas (pairs_of new) new.versions.kept_at) (sym same_schemas)
       (subst (λ (pairs : ℕ → List Pair). P old.schemas pairs new.versions.kept_at) (sym same_pairs) holds)
@@ -139,7 +159,8 @@ module _ (s : ℕ) (old new : WorldState) (logged : Logged) (older : List Logged
       still (λ schemas pairs kept. AreCoded schemas pairs kept chains) told
       (⊎_elim
       (λ first. subst (λ (kept : ℕ → Option Kept). AreCoded old.schemas (pairs_of old) kept chains) (sym (all_kept first told)) (rows (told_before told)))
-      (λ second. coded_without old.schemas (pairs_of old) old.versions.kept_at new.versions.kept_at logged.pointer (kept_elsewhere told) (cut.may.unneeded (told_before told) second) chains (rows (told_before told)))
+      (λ second. coded_without old.schemas (pairs_of old) old.versions.kept_at new.versions.kept_at logged.pointer (kept_elsewhere told)
+      (cut.may.unneeded (told_before told) second) chains (rows (told_before told)))
       cut.may.kind_is)
 
   pub apart_cut : PointersApart new
@@ -147,11 +168,14 @@ module _ (s : ℕ) (old new : WorldState) (logged : Logged) (older : List Logged
       still AreApart told
       (⊎_elim
       (λ first. subst (λ (kept : ℕ → Option Kept). AreApart old.schemas (pairs_of old) kept) (sym (all_kept first told)) (cut.logs.apart (told_before told)))
-      (λ second. apart_without old.schemas (pairs_of old) old.versions.kept_at new.versions.kept_at logged.pointer (kept_elsewhere told) (cut.may.unneeded (told_before told) second) (cut.logs.apart (told_before told)))
+      (λ second. apart_without old.schemas (pairs_of old) old.versions.kept_at new.versions.kept_at logged.pointer (kept_elsewhere told)
+      (cut.may.unneeded (told_before told) second) (cut.logs.apart (told_before told)))
       cut.may.kind_is)
 
   abbrev KeepsOn : Logged → Type 0
-  KeepsOn = Keeps (IsTold old) (IsTold new) old.schemas new.schemas old.versions.kept_at new.versions.kept_at told_before (same_schemas_grow old.schemas new.schemas same_schemas)
+  KeepsOn =
+      Keeps (IsTold old) (IsTold new) old.schemas new.schemas old.versions.kept_at new.versions.kept_at told_before
+      (same_schemas_grow old.schemas new.schemas same_schemas)
 
   keeps_on : AllByRecursion KeepsOn older
   keeps_on =
@@ -164,7 +188,8 @@ module _ (s : ℕ) (old new : WorldState) (logged : Logged) (older : List Logged
 
   pub log_cut : IsLogOf new older before
   log_cut =
-      log_on (IsTold old) (IsTold new) old.schemas new.schemas old.versions.kept_at new.versions.kept_at told_before (same_schemas_grow old.schemas new.schemas same_schemas)
+      log_on (IsTold old) (IsTold new) old.schemas new.schemas old.versions.kept_at new.versions.kept_at told_before
+      (same_schemas_grow old.schemas new.schemas same_schemas)
       (records_of old) (records_of new) older before
       (λ told table schema key there. ap (λ (pairs : ℕ → List Pair). value_of key (pairs (clustered_index table))) same_pairs)
       keeps_on cut.logs.mine
@@ -177,14 +202,20 @@ module _ (s : ℕ) (old new : WorldState) (logged : Logged) (older : List Logged
     session = session_now;
     work = record back.work { log = back.log };
     has_work = record {
-      session_is = ap (λ (state : WorldState). slice_get state.sessions s) back.rest ∙ set_here old.sessions s back.session session_now back.has_work.session_is;
+      session_is =
+          ap (λ (state : WorldState). slice_get state.sessions s) back.rest ∙ set_here old.sessions s back.session session_now back.has_work.session_is;
       work_is = refl;
     };
     log_is = front.1;
     logs = record {
       mine = log_cut;
       others = λ u session work differs has.
-          let had : HasWork u session work old = record { session_is = sym (ap (λ (state : WorldState). slice_get state.sessions u) back.rest ∙ set_other old.sessions s u session_now differs) ∙ has.session_is; work_is = has.work_is } in
+          let had : HasWork u session work old =
+          record {
+            session_is = sym (ap (λ (state : WorldState). slice_get state.sessions u) back.rest ∙ set_other old.sessions s u session_now differs)
+                ∙ has.session_is;
+            work_is = has.work_is;
+          } in
           none_yet u work old new (alone u differs) (ap (own u) same_past ∙ alone u differs) (cut.logs.others u session work differs had);
       apart = apart_cut;
     };

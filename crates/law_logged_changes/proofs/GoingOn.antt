@@ -19,11 +19,15 @@ use Rattle.law_logged_changes.proofs.Leaving.{stay_leaves, entry_leaves, log_lef
 
 -- ---- sessions and the history stay
 
-pub work_beside : (u : ℕ) (session : Session) (work : Work) (old new : WorldState) → ChangesPairsAlone old new → HasWork u session work new → HasWork u session work old
-work_beside u session work old new rest has = record { session_is = sym (ap (λ (state : WorldState). slice_get state.sessions u) rest) ∙ has.session_is; work_is = has.work_is }
+pub work_beside : (u : ℕ) (session : Session) (work : Work) (old new : WorldState) → ChangesPairsAlone old new → HasWork u session work new
+    → HasWork u session work old
+work_beside u session work old new rest has =
+    record { session_is = sym (ap (λ (state : WorldState). slice_get state.sessions u) rest) ∙ has.session_is; work_is = has.work_is }
 
-pub work_again : (u : ℕ) (session : Session) (work : Work) (old new : WorldState) → ChangesPairsAlone old new → HasWork u session work old → HasWork u session work new
-work_again u session work old new rest has = record { session_is = ap (λ (state : WorldState). slice_get state.sessions u) rest ∙ has.session_is; work_is = has.work_is }
+pub work_again : (u : ℕ) (session : Session) (work : Work) (old new : WorldState) → ChangesPairsAlone old new → HasWork u session work old
+    → HasWork u session work new
+work_again u session work old new rest has =
+    record { session_is = ap (λ (state : WorldState). slice_get state.sessions u) rest ∙ has.session_is; work_is = has.work_is }
 
 pub own_beside : (u : ℕ) (old new : WorldState) → ChangesPairsAlone old new → own u new.past ≡ own u old.past
 own_beside u old new rest = ap (λ (state : WorldState). own u state.past) rest
@@ -38,7 +42,8 @@ logs_beside old new rest u session work of has = inl (record {
 })
 
 -- a session without changes has an empty log, whatever becomes of rows
-pub none_yet : (u : ℕ) (work : Work) (old new : WorldState) → own u old.past ≡ [] → own u new.past ≡ [] → IsLogOf old work.log (own u old.past) → IsLogOf new work.log (own u new.past)
+pub none_yet : (u : ℕ) (work : Work) (old new : WorldState) → own u old.past ≡ [] → own u new.past ≡ [] → IsLogOf old work.log (own u old.past)
+    → IsLogOf new work.log (own u new.past)
 none_yet u work old new none now log =
     let empty = empty_log _ old.schemas _ old.versions.kept_at work.log (own u old.past) none log in
     subst (λ (changes : List Change). IsLogOf new work.log changes) (sym now) empty
@@ -87,7 +92,8 @@ module _ (chains : Chains) (place : Place) (actor : ℕ) (undo : Undo) (room nex
   beside_by TooDeep is = is.stays.rest
   beside_by NoMemory is = is.stays.rest
 
-  pub step_logs : (answer : Move) (log : List Logged) (changes : List Change) → PutsBack chains place actor undo room next old new answer → answer ≢ Done → IsLogOf old log changes → IsLogOf new log changes
+  pub step_logs : (answer : Move) (log : List Logged) (changes : List Change) → PutsBack chains place actor undo room next old new answer → answer ≢ Done
+      → IsLogOf old log changes → IsLogOf new log changes
   step_logs answer log changes is not_done stands = log_left old new log changes (step_leaves answer is not_done).0 stands
 
   pub step_all : (answer : Move) → PutsBack chains place actor undo room next old new answer → answer ≢ Done → LogsAgree old → LogsAgree new

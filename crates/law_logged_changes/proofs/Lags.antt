@@ -34,10 +34,13 @@ pub record IsLagged (chains : Chains) (place : Place) (undo : Undo) (schema : Sc
   pub way : IsUnderWay chains place undo schema rows bytes coded done (IsLagging (shown coded) (versions_before chains place))
 
 module _ (chains : Chains) (place : Place) (undo : Undo) (schema : Schema) (rows : Rows) where
-  lagged : (bytes : List ℕ) (coded : Coded) (done : ℕ) → IsUnderWay chains place undo schema rows bytes coded done (IsLagging (shown coded) (versions_before chains place)) → IsLagged chains place undo schema rows ⊎ IsTakenBack chains undo rows
+  lagged : (bytes : List ℕ) (coded : Coded) (done : ℕ)
+      → IsUnderWay chains place undo schema rows bytes coded done (IsLagging (shown coded) (versions_before chains place))
+      → IsLagged chains place undo schema rows ⊎ IsTakenBack chains undo rows
   lagged bytes coded done way = inl (record { bytes = bytes; coded = coded; done = done; way = way })
 
-  pub at_stage : (bytes : List ℕ) (stage : Stage) → StageHolds chains place undo schema rows bytes stage → IsLagged chains place undo schema rows ⊎ IsTakenBack chains undo rows
+  pub at_stage : (bytes : List ℕ) (stage : Stage) → StageHolds chains place undo schema rows bytes stage
+      → IsLagged chains place undo schema rows ⊎ IsTakenBack chains undo rows
   at_stage bytes Find (inl (read, coded, way)) = lagged read coded 0 way
   at_stage bytes Find (inr back) = inr back
   at_stage bytes (Key which) (coded, way) = lagged bytes coded which way
@@ -55,10 +58,12 @@ module _ (chains : Chains) (place : Place) (undo : Undo) (schema : Schema) (rows
   at_stage bytes Record (coded, way) = lagged bytes coded (length schema.keys) way
 
   -- clustered indexes hold the rows all the time
-  pub clustered_at : (bytes : List ℕ) (stage : Stage) → StageHolds chains place undo schema rows bytes stage → AreClustered rows.schemas rows.pairs rows.kept chains
+  pub clustered_at : (bytes : List ℕ) (stage : Stage) → StageHolds chains place undo schema rows bytes stage
+      → AreClustered rows.schemas rows.pairs rows.kept chains
   clustered_at bytes stage holds = ⊎_elim (λ lag. lag.way.coded_but.clustered) (λ back. back.all.clustered) (at_stage bytes stage holds)
 
-pub clustered_while : (chains : Chains) (place : Place) (undo : Undo) (room : WorkRoom) (state : WorldState) → IsPuttingBack chains place undo room state → IsTold state → AreClustered state.schemas (pairs_of state) state.versions.kept_at chains
+pub clustered_while : (chains : Chains) (place : Place) (undo : Undo) (room : WorkRoom) (state : WorldState) → IsPuttingBack chains place undo room state
+    → IsTold state → AreClustered state.schemas (pairs_of state) state.versions.kept_at chains
 clustered_while chains place undo room state is told = clustered_at chains place undo is.schema (rows_of state) room.newest.items room.stage (is.holds told)
 
 -- ---- what readers meet
@@ -66,14 +71,16 @@ clustered_while chains place undo room state is told = clustered_at chains place
 abbrev any_of : ℕ → Value → List Version → Bool
 any_of column value versions = list_any (λ (version : Version). has_value column value version.row) versions
 
-said_any : (newest : Version) (before : List Version) (said : ℕ → List Version) (done : ℕ) → SayBefore done (IsLagging newest before) newest before said → (which column : ℕ) (value : Value) → any_of column value before ≡ true → any_of column value (said which) ≡ true
+said_any : (newest : Version) (before : List Version) (said : ℕ → List Version) (done : ℕ) → SayBefore done (IsLagging newest before) newest before said
+    → (which column : ℕ) (value : Value) → any_of column value before ≡ true → any_of column value (said which) ≡ true
 said_any newest before said done says which column value some =
     ⊎_elim (λ same. subst (λ (w : ℕ). any_of column value (said w) ≡ true) (sym same) (lagging_any column value newest before (said done) some says.here))
     (λ rest. ⊎_elim (λ less. ap (any_of column value) (says.first which less) ∙ some)
     (λ more. lagging_any column value newest before (said which) some (says.others which more)) rest)
     (cases_order which done)
 
-pub lags_while : (chains : Chains) (place : Place) (undo : Undo) (room : WorkRoom) (state : WorldState) → IsPuttingBack chains place undo room state → IsTold state → LagsAt place chains state ⊎ AreCoded state.schemas (pairs_of state) state.versions.kept_at chains
+pub lags_while : (chains : Chains) (place : Place) (undo : Undo) (room : WorkRoom) (state : WorldState) → IsPuttingBack chains place undo room state
+    → IsTold state → LagsAt place chains state ⊎ AreCoded state.schemas (pairs_of state) state.versions.kept_at chains
 lags_while chains place undo room state is told =
     ⊎_elim
     (λ lag. inl (record {

@@ -26,12 +26,14 @@ use Rattle.law_logged_changes.proofs.Logs.{all_of, Grows, Keeps, log_on}
 -- ---- which steps are such
 
 pub rows_leave : (old new : WorldState) → LeavesRows old new → LeavesRecords old new
-rows_leave old new leaves = record { schemas = leaves.schemas; told = leaves_told leaves; pairs = λ table. leaves.pairs (clustered_index table); versions = leaves.versions }
+rows_leave old new leaves =
+    record { schemas = leaves.schemas; told = leaves_told leaves; pairs = λ table. leaves.pairs (clustered_index table); versions = leaves.versions }
 
 pub stay_leaves : (old new : WorldState) → RowsStay old new → LeavesRecords old new
 stay_leaves old new stays = rows_leave old new (rows_left stays)
 
-pub entry_leaves : (table which : ℕ) (entry : List ℕ) (value : Option (List ℕ)) (old new : WorldState) → which < 4 → PutsPair (key_index table which) entry value old new → LeavesRecords old new
+pub entry_leaves : (table which : ℕ) (entry : List ℕ) (value : Option (List ℕ)) (old new : WorldState) → which < 4
+    → PutsPair (key_index table which) entry value old new → LeavesRecords old new
 entry_leaves table which entry value old new few puts = record {
   schemas = ap (λ (s : WorldState). s.schemas) puts.rest;
   told = put_told (key_index table which) entry value old new puts;
@@ -40,27 +42,33 @@ entry_leaves table which entry value old new few puts = record {
 }
 
 pub aside_leaves : (s : ℕ) (old new : WorldState) → StepsAside s old new → LeavesRecords old new
-aside_leaves s old new aside = rows_leave old new (record { schemas = ap (λ (state : WorldState). state.schemas) aside.rest; pairs = aside.pairs; versions = aside.versions })
+aside_leaves s old new aside =
+    rows_leave old new (record { schemas = ap (λ (state : WorldState). state.schemas) aside.rest; pairs = aside.pairs; versions = aside.versions })
 
 -- ---- what they leave
 
-pub same_clustered : (old new : WorldState) → LeavesRecords old new → IsTold new → (table : ℕ) → pairs_of new (clustered_index table) ≡ pairs_of old (clustered_index table)
+pub same_clustered : (old new : WorldState) → LeavesRecords old new → IsTold new → (table : ℕ)
+    → pairs_of new (clustered_index table) ≡ pairs_of old (clustered_index table)
 same_clustered old new leaves told table =
-    went (λ pairs. pairs) (old.indexes (clustered_index table)).pairs (new.indexes (clustered_index table)).pairs (leaves.pairs table) (told.pairs (clustered_index table))
+    went (λ pairs. pairs) (old.indexes (clustered_index table)).pairs (new.indexes (clustered_index table)).pairs (leaves.pairs table)
+    (told.pairs (clustered_index table))
 
 pub same_schemas_grow : (schemas others : List Schema) → others ≡ schemas → Grows schemas others
 same_schemas_grow schemas others same table schema there = ap (λ (s : List Schema). slice_get s table) same ∙ there
 
 pub log_left : (old new : WorldState) (log : List Logged) (changes : List Change) → LeavesRecords old new → IsLogOf old log changes → IsLogOf new log changes
 log_left old new log changes leaves stands =
-    log_on (IsTold old) (IsTold new) old.schemas new.schemas old.versions.kept_at new.versions.kept_at leaves.told (same_schemas_grow old.schemas new.schemas leaves.schemas)
+    log_on (IsTold old) (IsTold new) old.schemas new.schemas old.versions.kept_at new.versions.kept_at leaves.told
+    (same_schemas_grow old.schemas new.schemas leaves.schemas)
     (records_of old) (records_of new) log changes
     (λ told table schema key there. ap (value_of key) (same_clustered old new leaves told table))
-    (all_of (Keeps (IsTold old) (IsTold new) old.schemas new.schemas old.versions.kept_at new.versions.kept_at leaves.told (same_schemas_grow old.schemas new.schemas leaves.schemas)) log
+    (all_of (Keeps (IsTold old) (IsTold new) old.schemas new.schemas old.versions.kept_at new.versions.kept_at leaves.told
+    (same_schemas_grow old.schemas new.schemas leaves.schemas)) log
     (λ logged told kind former there. ap (λ (kept : ℕ → Option Kept). kept logged.pointer) (leaves.versions.kept told.versions) ∙ there))
     stands
 
-pub needed_left : (old new : WorldState) (table pointer : ℕ) → LeavesRecords old new → IsTold new → IsNeededBy new.schemas (pairs_of new) new.versions.kept_at table pointer → IsNeededBy old.schemas (pairs_of old) old.versions.kept_at table pointer
+pub needed_left : (old new : WorldState) (table pointer : ℕ) → LeavesRecords old new → IsTold new
+    → IsNeededBy new.schemas (pairs_of new) new.versions.kept_at table pointer → IsNeededBy old.schemas (pairs_of old) old.versions.kept_at table pointer
 needed_left old new table pointer leaves told needed = record {
   schema = needed.schema;
   there = ap (λ (s : List Schema). slice_get s table) (sym leaves.schemas) ∙ needed.there;
@@ -79,7 +87,8 @@ apart_left old new leaves apart told table other pointer first second =
 
 -- ---- all logs
 
-log_kept : (u : ℕ) (session : Session) (work : Work) (old new : WorldState) → LeavesRecords old new → ((session : Session) (work : Work) → HasWork u session work old → IsLogOf old work.log (own u old.past))
+log_kept : (u : ℕ) (session : Session) (work : Work) (old new : WorldState) → LeavesRecords old new
+    → ((session : Session) (work : Work) → HasWork u session work old → IsLogOf old work.log (own u old.past))
     → LeavesLog u work old new ⊎ HasNoLog u work new → IsLogOf new work.log (own u new.past)
 log_kept u session work old new leaves each (inl left) =
     subst (λ (log : List Logged). IsLogOf new log (own u new.past)) (sym left.log_is)
@@ -94,7 +103,8 @@ all_left old new leaves logs agree = record {
   apart = apart_left old new leaves agree.apart;
 }
 
-pub but_left : (s : ℕ) (old new : WorldState) (log : List Logged) (changes : List Change) → LeavesRecords old new → LeavesLogs (λ u. u ≢ s) old new → LogsAgreeBut s log changes old → LogsAgreeBut s log changes new
+pub but_left : (s : ℕ) (old new : WorldState) (log : List Logged) (changes : List Change) → LeavesRecords old new → LeavesLogs (λ u. u ≢ s) old new
+    → LogsAgreeBut s log changes old → LogsAgreeBut s log changes new
 but_left s old new log changes leaves logs agree = record {
   mine = log_left old new log changes leaves agree.mine;
   others = λ u session work differs has. log_kept u session work old new leaves (λ x w had. agree.others u x w differs had) (logs u session work differs has);
@@ -114,7 +124,9 @@ aside_left s old new aside agree = all_left old new (aside_leaves s old new asid
           before = work;
           has_work = record {
             session_is = ap (slice_get old.sessions) same ∙ aside.was;
-            work_is = sym aside.readied.work ∙ ap (λ (x : Session). x.work) (one_session new s aside.after session aside.is (ap (slice_get new.sessions) (sym same) ∙ has.session_is)) ∙ has.work_is;
+            work_is =
+                sym aside.readied.work ∙ ap (λ (x : Session). x.work)
+                (one_session new s aside.after session aside.is (ap (slice_get new.sessions) (sym same) ∙ has.session_is)) ∙ has.work_is;
           };
           log_is = refl;
           own_is = ap (own u) past;
@@ -137,7 +149,8 @@ may_left old new logged log leaves may = record {
   elsewhere = λ told. may.elsewhere (leaves.told told);
 }
 
-pub to_cut_left : (s : ℕ) (old new : WorldState) (logged : Logged) (log : List Logged) (before : List Change) (session : Session) (work : Work) → LeavesRecords old new → LeavesLogs (λ u. u ≢ s) old new → IsToCut s logged log before old
+pub to_cut_left : (s : ℕ) (old new : WorldState) (logged : Logged) (log : List Logged) (before : List Change) (session : Session) (work : Work)
+    → LeavesRecords old new → LeavesLogs (λ u. u ≢ s) old new → IsToCut s logged log before old
     → HasWork s session work new → work.log ≡ logged ∷ log → IsToCut s logged log before new
 to_cut_left s old new logged log before session work leaves logs cut has is = record {
   session = session;
@@ -148,7 +161,8 @@ to_cut_left s old new logged log before session work leaves logs cut has is = re
   logs = but_left s old new log before leaves logs cut.logs;
 }
 
-pub cut_left : (s : ℕ) (old new : WorldState) (log : List Logged) (before : List Change) (session : Session) (work : Work) → LeavesRecords old new → LeavesLogs (λ u. u ≢ s) old new → HasCut s log before old
+pub cut_left : (s : ℕ) (old new : WorldState) (log : List Logged) (before : List Change) (session : Session) (work : Work) → LeavesRecords old new
+    → LeavesLogs (λ u. u ≢ s) old new → HasCut s log before old
     → HasWork s session work new → work.log ≡ log → HasCut s log before new
 cut_left s old new log before session work leaves logs cut has is = record {
   session = session;
@@ -160,10 +174,12 @@ cut_left s old new log before session work leaves logs cut has is = record {
 
 -- ---- one session apart
 
-pub but_of : (s : ℕ) (state : WorldState) (session : Session) (work : Work) → LogsAgree state → HasWork s session work state → LogsAgreeBut s work.log (own s state.past) state
+pub but_of : (s : ℕ) (state : WorldState) (session : Session) (work : Work) → LogsAgree state → HasWork s session work state
+    → LogsAgreeBut s work.log (own s state.past) state
 but_of s state session work agree has = record { mine = agree.each s session work has; others = λ u x w differs h. agree.each u x w h; apart = agree.apart }
 
-pub all_again : (s : ℕ) (state : WorldState) (log : List Logged) (changes : List Change) → LogsAgreeBut s log changes state → own s state.past ≡ changes → ((session : Session) (work : Work) → HasWork s session work state → work.log ≡ log) → LogsAgree state
+pub all_again : (s : ℕ) (state : WorldState) (log : List Logged) (changes : List Change) → LogsAgreeBut s log changes state → own s state.past ≡ changes
+    → ((session : Session) (work : Work) → HasWork s session work state → work.log ≡ log) → LogsAgree state
 all_again s state log changes agree own_is log_is = record {
   each = λ u session work has. ⊎_elim
       (λ same. subst (λ (t : ℕ). IsLogOf state work.log (own t state.past)) (sym same)
@@ -173,9 +189,11 @@ all_again s state log changes agree own_is log_is = record {
   apart = agree.apart;
 }
 
-pub cut_again : (s : ℕ) (log : List Logged) (before : List Change) (state : WorldState) → HasCut s log before state → own s state.past ≡ before → LogsAgree state
+pub cut_again : (s : ℕ) (log : List Logged) (before : List Change) (state : WorldState) → HasCut s log before state → own s state.past ≡ before
+    → LogsAgree state
 cut_again s log before state cut own_is =
-    all_again s state log before cut.logs own_is (λ session work has. ap (λ (w : Work). w.log) (one_work s session cut.session work cut.work state has cut.has_work) ∙ cut.log_is)
+    all_again s state log before cut.logs own_is
+    (λ session work has. ap (λ (w : Work). w.log) (one_work s session cut.session work cut.work state has cut.has_work) ∙ cut.log_is)
 
 -- ---- a table more
 
@@ -184,13 +202,15 @@ more_grow [] schema table found there = absurd (cc)
 more_grow (first ∷ schemas) schema zero found there = there
 more_grow (first ∷ schemas) schema (suc table) found there = more_grow schemas schema table found there
 
-pub table_made : (old new : WorldState) (schema : Schema) (log : List Logged) (changes : List Change) → MakesTable schema old new → IsLogOf old log changes → IsLogOf new log (Create schema ∷ changes)
+pub table_made : (old new : WorldState) (schema : Schema) (log : List Logged) (changes : List Change) → MakesTable schema old new → IsLogOf old log changes
+    → IsLogOf new log (Create schema ∷ changes)
 table_made old new schema log changes made stands =
     let grows : Grows old.schemas new.schemas = subst (Grows old.schemas) (sym made.schemas) (more_grow old.schemas schema) in
     log_on (IsTold old) (IsTold new) old.schemas new.schemas old.versions.kept_at new.versions.kept_at made.told grows
     (records_of old) (records_of new) log changes
     (λ told table found key there. ap (value_of key)
-    (went (λ pairs. pairs) (old.indexes (clustered_index table)).pairs (new.indexes (clustered_index table)).pairs (made.pairs table (slice_get_within old.schemas table found there)) (told.pairs (clustered_index table))))
+    (went (λ pairs. pairs) (old.indexes (clustered_index table)).pairs (new.indexes (clustered_index table)).pairs
+    (made.pairs table (slice_get_within old.schemas table found there)) (told.pairs (clustered_index table))))
     (all_of (Keeps (IsTold old) (IsTold new) old.schemas new.schemas old.versions.kept_at new.versions.kept_at made.told grows) log
     (λ logged told kind former there. ap (λ (kept : ℕ → Option Kept). kept logged.pointer) (made.versions.kept told.versions) ∙ there))
     stands

@@ -59,25 +59,35 @@ some_kept undo kept pointer kind (inr (k, some, former, there, bytes)) = ap is_s
 abbrev IsKeptYet : (ℕ → Option Kept) → Logged → Type 0
 IsKeptYet kept logged = logged.undo.kind ≡ 2 → is_some (kept logged.pointer) ≡ true
 
-stands_keeps : (told : Type 0) (schemas : List Schema) (records : RecordsAt) (kept : ℕ → Option Kept) (logged : Logged) (log : List Logged) (change : Change) → told → Stands told schemas records kept logged log change → IsKeptYet kept logged
+stands_keeps : (told : Type 0) (schemas : List Schema) (records : RecordsAt) (kept : ℕ → Option Kept) (logged : Logged) (log : List Logged) (change : Change)
+    → told → Stands told schemas records kept logged log change → IsKeptYet kept logged
 stands_keeps told schemas records kept logged log change at stands kind =
     let has = stands.record_is at in
     subst (λ (pointer : ℕ). is_some (kept pointer) ≡ true) (has.pointer_is kind) (some_kept logged.undo kept has.coded.pointer kind has.before)
 
-log_keeps : (told : Type 0) (schemas : List Schema) (records : RecordsAt) (kept : ℕ → Option Kept) (log : List Logged) (changes : List Change) → told → LogStands told schemas records kept log changes → AllByRecursion (IsKeptYet kept) log
+log_keeps : (told : Type 0) (schemas : List Schema) (records : RecordsAt) (kept : ℕ → Option Kept) (log : List Logged) (changes : List Change) → told
+    → LogStands told schemas records kept log changes → AllByRecursion (IsKeptYet kept) log
 log_keeps told schemas records kept log [] at stands = subst (AllByRecursion (IsKeptYet kept)) (sym stands) (record {})
 log_keeps told schemas records kept log (Create schema ∷ changes) at stands = log_keeps told schemas records kept log changes at stands
 log_keeps told schemas records kept [] (Put table row ∷ changes) at stands = record {}
 log_keeps told schemas records kept [] (Remove table key ∷ changes) at stands = record {}
-log_keeps told schemas records kept (logged ∷ log) (Put table row ∷ changes) at stands =
-    (stands_keeps told schemas records kept logged log (Put table row) at stands.0, log_keeps told schemas (taken_back logged.undo records) kept log changes at stands.1)
-log_keeps told schemas records kept (logged ∷ log) (Remove table key ∷ changes) at stands =
-    (stands_keeps told schemas records kept logged log (Remove table key) at stands.0, log_keeps told schemas (taken_back logged.undo records) kept log changes at stands.1)
+log_keeps told schemas records kept (logged ∷ log) (Put table row ∷ changes) at stands = (
+  stands_keeps told schemas records kept logged log (Put table row) at stands.0,
+  log_keeps told schemas (taken_back logged.undo records) kept log changes
+      at stands.1,
+)
+log_keeps told schemas records kept (logged ∷ log) (Remove table key ∷ changes) at stands = (
+  stands_keeps told schemas records kept logged log (Remove table key) at stands.0,
+  log_keeps told schemas (taken_back logged.undo records) kept log
+      changes at stands.1,
+)
 
 -- ---- the step
 
-place_of_edit : (schemas : List Schema) (table : ℕ) (schema : Schema) (edit : RowEdit) → slice_get schemas table ≡ Some schema → place_in schemas (change_of table edit) ≡ Some (record { table = table; key = primary_of schema edit })
-place_of_edit schemas table schema (edits.Put row) there = ap (λ (k : Value). Some (record { table = table; key = k })) (key_in-at schemas table schema row there)
+place_of_edit : (schemas : List Schema) (table : ℕ) (schema : Schema) (edit : RowEdit) → slice_get schemas table ≡ Some schema
+    → place_in schemas (change_of table edit) ≡ Some (record { table = table; key = primary_of schema edit })
+place_of_edit schemas table schema (edits.Put row) there =
+    ap (λ (k : Value). Some (record { table = table; key = k })) (key_in-at schemas table schema row there)
 place_of_edit schemas table schema (edits.Remove value) there = refl
 
 abbrev undo_at : RecordChange → ℕ → List ℕ → Undo
@@ -94,10 +104,12 @@ pub record IsLogging (s : ℕ) (old new : WorldState) (change : RecordChange) (s
   pub pointer_is : kind ≡ 2 → coded.pointer ≡ rows.work.session.next_pointer
   pub more : IsTold new → KeepsMore old.versions.kept_at new.versions.kept_at
   pub fresh : IsTold new → kind ≡ 2 → old.versions.kept_at rows.work.session.next_pointer ≡ None
-  pub former_code : IsTold new → kind ≡ 2 → (former : Kept) → new.versions.kept_at coded.pointer ≡ Some former → IsCodeOf schema change.key former.bytes former.version
+  pub former_code : IsTold new → kind ≡ 2 → (former : Kept) → new.versions.kept_at coded.pointer ≡ Some former
+      → IsCodeOf schema change.key former.bytes former.version
   pub told : IsTold new → IsTold old
 
-module _ (s : ℕ) (chains : Chains) (old new : WorldState) (change : RecordChange) (p : IsChangingRecord s old change) (rows : HasRows chains old) (kind : ℕ) (value bytes : List ℕ) (coded : Coded) (is : IsLogging s old new change p.schema kind value bytes coded) where
+module _ (s : ℕ) (chains : Chains) (old new : WorldState) (change : RecordChange) (p : IsChangingRecord s old change) (rows : HasRows chains old) (kind : ℕ)
+    (value bytes : List ℕ) (coded : Coded) (is : IsLogging s old new change p.schema kind value bytes coded) where
   abbrev undo : Undo
   undo = undo_at change kind value
 
@@ -141,16 +153,21 @@ module _ (s : ℕ) (chains : Chains) (old new : WorldState) (change : RecordChan
   records_before : IsTold new → (table : ℕ) (key : List ℕ) → records_of old table key ≡ taken_back undo (records_of new) table key
   records_before told table key =
       ⊎_elim
-      (λ here. ap (λ (t : ℕ). records_of old t key) here.0 ∙ ap (records_of old change.table) here.1 ∙ is.was (is.told told) ∙ sym (taken_here undo (records_of new) table key here.0 here.1))
-      (λ apart. sym (put_elsewhere undo (Some bytes) (pairs_of old) (pairs_of new) table key (puts_now told) apart) ∙ sym (taken_elsewhere undo (records_of new) table key apart))
+      (λ here. ap (λ (t : ℕ). records_of old t key) here.0 ∙ ap (records_of old change.table) here.1 ∙ is.was (is.told told) ∙ sym
+      (taken_here undo (records_of new) table key here.0 here.1))
+      (λ apart. sym (put_elsewhere undo (Some bytes) (pairs_of old) (pairs_of new) table key (puts_now told) apart) ∙ sym
+      (taken_elsewhere undo (records_of new) table key apart))
       (here_or_not undo table key)
 
   -- ---- the log
 
-  stands_now : (log : List Logged) (changes : List Change) → IsLogOf old log changes → Stands (IsTold new) new.schemas (records_of new) new.versions.kept_at logged log (change_of change.table change.edit)
+  stands_now : (log : List Logged) (changes : List Change) → IsLogOf old log changes
+      → Stands (IsTold new) new.schemas (records_of new) new.versions.kept_at logged log (change_of change.table change.edit)
   stands_now log changes stands = record {
     place = place;
-    place_is = place_of_edit new.schemas change.table p.schema change.edit (ap (λ (schemas : List Schema). slice_get schemas change.table) same_schemas ∙ p.table.there);
+    place_is =
+        place_of_edit new.schemas change.table p.schema change.edit
+        (ap (λ (schemas : List Schema). slice_get schemas change.table) same_schemas ∙ p.table.there);
     schema = p.schema;
     tells = subst (λ (schemas : List Schema). TellsOf undo p.schema place schemas) (sym same_schemas) tells_old;
     record_is = λ told. record {
@@ -162,17 +179,21 @@ module _ (s : ℕ) (chains : Chains) (old new : WorldState) (change : RecordChan
       pointer_is = is.pointer_is;
     };
     elsewhere = λ told two. all_mapped (IsKeptYet old.versions.kept_at) (λ (l : Logged). l.undo.kind ≡ 2 → l.pointer ≢ logged.pointer) log
-        (λ l some kind_too same. let none : is_some (old.versions.kept_at l.pointer) ≡ false = ap (λ (pointer : ℕ). is_some (old.versions.kept_at pointer)) same ∙ ap is_some (is.fresh told two) in let there = some kind_too in cc)
+        (λ l some kind_too same. let none : is_some (old.versions.kept_at l.pointer) ≡ false = ap (λ (pointer : ℕ). is_some (old.versions.kept_at pointer))
+        same ∙ ap is_some (is.fresh told two) in let there = some kind_too in cc)
         (log_keeps (IsTold old) old.schemas (records_of old) old.versions.kept_at log changes (is.told told) stands);
   }
 
   log_now : (log : List Logged) (changes : List Change) → IsLogOf old log changes → IsLogOf new (logged ∷ log) (change_of change.table change.edit ∷ changes)
   log_now log changes stands =
-      one_more (IsTold new) new.schemas (records_of new) new.versions.kept_at logged log (change_of change.table change.edit) changes (stands_now log changes stands)
-      (log_on (IsTold old) (IsTold new) old.schemas new.schemas old.versions.kept_at new.versions.kept_at is.told (same_schemas_grow old.schemas new.schemas same_schemas)
+      one_more (IsTold new) new.schemas (records_of new) new.versions.kept_at logged log (change_of change.table change.edit) changes
+      (stands_now log changes stands)
+      (log_on (IsTold old) (IsTold new) old.schemas new.schemas old.versions.kept_at new.versions.kept_at is.told
+      (same_schemas_grow old.schemas new.schemas same_schemas)
       (records_of old) (taken_back undo (records_of new)) log changes
       (λ told table schema key there. sym (records_before told table key))
-      (all_of (Keeps (IsTold old) (IsTold new) old.schemas new.schemas old.versions.kept_at new.versions.kept_at is.told (same_schemas_grow old.schemas new.schemas same_schemas)) log
+      (all_of (Keeps (IsTold old) (IsTold new) old.schemas new.schemas old.versions.kept_at new.versions.kept_at is.told
+      (same_schemas_grow old.schemas new.schemas same_schemas)) log
       (λ l told two former there. is.more told l.pointer former there))
       stands)
 
@@ -193,7 +214,8 @@ module _ (s : ℕ) (chains : Chains) (old new : WorldState) (change : RecordChan
         (subst (λ (changes : List Change). IsLogOf new (logged ∷ work.log) changes) (sym own_now) (log_now work.log (own s old.past) stands));
   } where
     log_is : is.rows.work.work_now.log ≡ logged ∷ work.log
-    log_is = is.rows.work.changed.log ∙ ap (λ (w : Work). logged ∷ w.log) (one_work s is.rows.work.session session is.rows.work.work work old is.rows.work.had has)
+    log_is =
+        is.rows.work.changed.log ∙ ap (λ (w : Work). logged ∷ w.log) (one_work s is.rows.work.session session is.rows.work.work work old is.rows.work.had has)
 
   -- ---- what rows need
 
@@ -201,7 +223,15 @@ module _ (s : ℕ) (chains : Chains) (old new : WorldState) (change : RecordChan
   apart_logged apart told =
       subst (λ (schemas : List Schema). AreApart schemas (pairs_of new) new.versions.kept_at) (sym same_schemas)
       (apart_now undo old.schemas p.schema new.versions.kept_at (pairs_of new) (pairs_of old) coded
-      (record { there = p.table.there; bytes = bytes; record_is = record_now told; code_is = is.code_is; before = is.leads told; without = records_before told })
+      (record {
+        there = p.table.there;
+        bytes = bytes;
+        record_is = record_now told;
+        code_is = is.code_is;
+        before = is.leads told;
+        without = records_before
+            told;
+      })
       chains old.versions.kept_at (clustered told) (is.more told) (is.former_code told)
       (λ two. ap old.versions.kept_at (is.pointer_is two) ∙ is.fresh told two) (apart (is.told told)))
 
@@ -222,7 +252,9 @@ module _ (s : ℕ) (chains : Chains) (old new : WorldState) (change : RecordChan
     apart = apart_logged agree.apart;
   } where
     others_own : (u : ℕ) → u ≢ s → own u new.past ≡ []
-    others_own u differs = ap (own u) same_past ∙ cond-false (s == u) (change_of change.table change.edit ∷ own u old.past) (own u old.past) (ne_eqb s u (λ same. differs (sym same))) ∙ alone u differs
+    others_own u differs =
+        ap (own u) same_past ∙ cond-false (s == u) (change_of change.table change.edit ∷ own u old.past) (own u old.past)
+        (ne_eqb s u (λ same. differs (sym same))) ∙ alone u differs
 
 -- ---- whether there was a record
 
@@ -247,35 +279,55 @@ module _ (s : ℕ) (old new : WorldState) (change : RecordChange) (p : IsChangin
   small : writer < 2 ^ 64
   small = small_id p.work.id old.txns.next p.small p.listed.few
 
-  pub logging_first : (f : PutsFirst s old new change p.schema) → IsLogging s old new change p.schema 1 [] (version_code p.schema (version_by change.edit [] writer 0)) (version_by change.edit [] writer 0)
+  pub logging_first : (f : PutsFirst s old new change p.schema)
+      → IsLogging s old new change p.schema 1 [] (version_code p.schema (version_by change.edit [] writer 0)) (version_by change.edit [] writer 0)
   logging_first f = record {
     table = p.table;
     rows = all;
     sound = record { kept = inl (refl, refl); key = key_short s old change p; value = omega arith };
     code_is = code_first p.schema change.edit change.key writer p.fits f.is_put small;
-    was = λ told. none_of (records_of old change.table change.key) (tells (λ pairs. is_some (value_of change.key pairs) ≡ false) (old.indexes (clustered_index change.table)).pairs f.absent (told.pairs (clustered_index change.table)))
+    was =
+        λ told. none_of (records_of old change.table change.key)
+        (tells (λ pairs. is_some (value_of change.key pairs) ≡ false) (old.indexes (clustered_index change.table)).pairs f.absent
+        (told.pairs (clustered_index change.table)))
         ∙ sym (before_new (undo_at change 1 []) refl);
     leads = λ told. inl (refl, pointer_by change.edit [] writer 0);
     pointer_is = λ two. absurd (omega (arith, two));
     more = λ told pointer found is. ap (λ (kept : ℕ → Option Kept). kept pointer) (kept.kept told.versions) ∙ is;
     fresh = λ told two. absurd (omega (arith, two));
     former_code = λ told two. absurd (omega (arith, two));
-    told = λ told. record { pairs = pairs_told (clustered_index change.table) change.key (Some (version_code p.schema (version_by change.edit [] writer 0))) old new (all.here, all.elsewhere) told; versions = kept.told told.versions };
+    told =
+        λ told. record {
+          pairs = pairs_told (clustered_index change.table) change.key (Some (version_code p.schema (version_by change.edit [] writer 0))) old
+              new (all.here, all.elsewhere) told;
+          versions = kept.told told.versions;
+        };
   } where
     all : RecordsEdit s change p.schema [] writer 0 (undo_of_new change.table change.key) old new
-    all = subst (λ (w : Work). RecordsEdit s change p.schema [] (id_for w.id old.txns.next) 0 (undo_of_new change.table change.key) old new) (one_work s f.session p.session f.work p.work old f.had p.has_work) f.records
+    all =
+        subst (λ (w : Work). RecordsEdit s change p.schema [] (id_for w.id old.txns.next) 0 (undo_of_new change.table change.key) old new)
+        (one_work s f.session p.session f.work p.work old f.had p.has_work) f.records
 
     kept : Stays old.versions new.versions
     kept = all.work.versions
 
   pub logging_over : (former : Coded) (o : PutsOver s old new change p.schema former)
-      → IsLogging s old new change p.schema 2 o.bytes (version_code p.schema (version_by change.edit former.row writer o.session.next_pointer)) (version_by change.edit former.row writer o.session.next_pointer)
+      → IsLogging s old new change p.schema 2 o.bytes (version_code p.schema (version_by change.edit former.row writer o.session.next_pointer))
+      (version_by change.edit former.row writer o.session.next_pointer)
   logging_over former o = record {
     table = p.table;
     rows = all;
-    sound = record { kept = inr (refl, kept.version, kept.kept); key = key_short s old change p; value = value_short p.schema former change.key o.bytes p.table.storable (o.was.code_is.record_is.fits, o.was.code_is.record_is.key_is) o.was.code_is.record_is.value_is };
+    sound =
+        record {
+          kept = inr (refl, kept.version, kept.kept);
+          key = key_short s old change p;
+          value = value_short p.schema former change.key o.bytes
+              p.table.storable (o.was.code_is.record_is.fits, o.was.code_is.record_is.key_is) o.was.code_is.record_is.value_is;
+        };
     code_is = code_next p.schema change.edit change.key o.bytes former writer o.session.next_pointer p.fits o.was.code_is small o.small;
-    was = λ told. tells (λ pairs. value_of change.key pairs ≡ Some o.bytes) (old.indexes (clustered_index change.table)).pairs o.was.there (told.pairs (clustered_index change.table)) ∙ sym (before_kept (undo_at change 2 o.bytes) refl);
+    was =
+        λ told. tells (λ pairs. value_of change.key pairs ≡ Some o.bytes) (old.indexes (clustered_index change.table)).pairs o.was.there
+        (told.pairs (clustered_index change.table)) ∙ sym (before_kept (undo_at change 2 o.bytes) refl);
     leads = λ told. inr (
       refl,
       subst (λ (pointer : ℕ). pointer ≢ 0) (sym pointer) o.leads,
@@ -285,26 +337,36 @@ module _ (s : ℕ) (old new : WorldState) (change : RecordChange) (p : IsChangin
     );
     pointer_is = λ two. pointer ∙ ap (λ (x : Session). x.next_pointer) (sym one);
     more = λ told other found is. ⊎_elim
-        (λ same. let none : old.versions.kept_at o.session.next_pointer ≡ None = kept.fresh told.versions in let some : old.versions.kept_at o.session.next_pointer ≡ Some found = ap old.versions.kept_at (sym same) ∙ is in absurd (cc))
+        (λ same. let none : old.versions.kept_at o.session.next_pointer ≡ None = kept.fresh told.versions in let some : old.versions.kept_at
+        o.session.next_pointer ≡ Some found = ap old.versions.kept_at (sym same) ∙ is in absurd (cc))
         (λ differs. kept.elsewhere other differs told.versions ∙ is) (cases_eq other o.session.next_pointer);
     fresh = λ told two. ap (λ (x : Session). old.versions.kept_at x.next_pointer) one ∙ kept.fresh told.versions;
     former_code = λ told two found is.
-        let here : new.versions.kept_at (version_by change.edit former.row writer o.session.next_pointer).pointer ≡ Some (record { version = kept.version; bytes = o.bytes }) = ap new.versions.kept_at pointer ∙ kept.here told.versions in
-        let same : record { version = kept.version; bytes = o.bytes } ≡ found = one_kept (new.versions.kept_at (version_by change.edit former.row writer o.session.next_pointer).pointer) (record { version = kept.version; bytes = o.bytes }) found here is in
+        let here : new.versions.kept_at (version_by change.edit former.row writer o.session.next_pointer).pointer ≡ Some
+        (record { version = kept.version; bytes = o.bytes }) = ap new.versions.kept_at pointer ∙ kept.here told.versions in
+        let same : record { version = kept.version; bytes = o.bytes } ≡ found = one_kept
+        (new.versions.kept_at (version_by change.edit former.row writer o.session.next_pointer).pointer)
+        (record { version = kept.version; bytes = o.bytes }) found here is in
         subst (λ (k : Kept). IsCodeOf p.schema change.key k.bytes k.version) same found_code;
     told = λ told. record {
-      pairs = pairs_told (clustered_index change.table) change.key (Some (version_code p.schema (version_by change.edit former.row writer o.session.next_pointer))) old new (all.here, all.elsewhere) told;
+      pairs =
+          pairs_told (clustered_index change.table) change.key
+          (Some (version_code p.schema (version_by change.edit former.row writer o.session.next_pointer))) old new (all.here, all.elsewhere) told;
       versions = kept.told told.versions;
     };
   } where
     all : RecordsEdit s change p.schema former.row writer o.session.next_pointer (undo_of_former change.table change.key o.bytes) old new
-    all = subst (λ (w : Work). RecordsEdit s change p.schema former.row (id_for w.id old.txns.next) o.session.next_pointer (undo_of_former change.table change.key o.bytes) old new) (one_work s o.session p.session o.work p.work old o.had p.has_work) o.records
+    all =
+        subst (λ (w : Work). RecordsEdit s change p.schema former.row (id_for w.id old.txns.next) o.session.next_pointer
+        (undo_of_former change.table change.key o.bytes) old new) (one_work s o.session p.session o.work p.work old o.had p.has_work) o.records
 
     one : all.work.session ≡ o.session
     one = one_session old s all.work.session o.session all.work.had.session_is o.had.session_is
 
     kept : KeepsVersion old.schemas o.session.next_pointer (undo_of_former change.table change.key o.bytes) old.versions new.versions
-    kept = subst (λ (x : Session). KeepsVersion old.schemas x.next_pointer (undo_of_former change.table change.key o.bytes) old.versions new.versions) one all.work.versions
+    kept =
+        subst (λ (x : Session). KeepsVersion old.schemas x.next_pointer (undo_of_former change.table change.key o.bytes) old.versions new.versions) one
+        all.work.versions
 
     pointer : (version_by change.edit former.row writer o.session.next_pointer).pointer ≡ o.session.next_pointer
     pointer = pointer_by change.edit former.row writer o.session.next_pointer
@@ -315,28 +377,36 @@ module _ (s : ℕ) (old new : WorldState) (change : RecordChange) (p : IsChangin
         subst (λ (x : Schema). IsCodeOf x change.key o.bytes kept.version) same (record { record_is = kept.kept.record_is; numbers = kept.kept.small })
 
   -- whichever it is, it is logged
-  pub logging : (P : Type 0) → ((kind : ℕ) (value bytes : List ℕ) (coded : Coded) → IsLogging s old new change p.schema kind value bytes coded → P) → (before : Option (List Value)) → ChangesRecord s old new change (records.Recorded before) → P
+  pub logging : (P : Type 0) → ((kind : ℕ) (value bytes : List ℕ) (coded : Coded) → IsLogging s old new change p.schema kind value bytes coded → P)
+      → (before : Option (List Value)) → ChangesRecord s old new change (records.Recorded before) → P
   logging P goal before h =
       let one = one_schema (slice_get old.schemas change.table) h.0 p.schema h.1.there p.table.there in
       let puts : PutsVersion s old new change p.schema before = subst (λ (x : Schema). PutsVersion s old new change x before) one h.2 in
       ⊎_elim
       (λ f. goal 1 [] (version_code p.schema (version_by change.edit [] writer 0)) (version_by change.edit [] writer 0) (logging_first f.0))
-      (λ o. goal 2 o.1.bytes (version_code p.schema (version_by change.edit o.0.row writer o.1.session.next_pointer)) (version_by change.edit o.0.row writer o.1.session.next_pointer) (logging_over o.0 o.1))
+      (λ o. goal 2 o.1.bytes (version_code p.schema (version_by change.edit o.0.row writer o.1.session.next_pointer))
+      (version_by change.edit o.0.row writer o.1.session.next_pointer) (logging_over o.0 o.1))
       puts
 
 -- ---- the laws
 
-pub change_logged : (s : ℕ) (chains : Chains) (old new : WorldState) (change : RecordChange) (key : List ℕ) (before after : Option (List Value)) (session : Session) (work : Work) → IsChangingRow s chains old (Record change key after) → ChangesRecord s old new change (records.Recorded before)
+pub change_logged : (s : ℕ) (chains : Chains) (old new : WorldState) (change : RecordChange) (key : List ℕ) (before after : Option (List Value))
+    (session : Session) (work : Work) → IsChangingRow s chains old (Record change key after) → ChangesRecord s old new change (records.Recorded before)
     → HasWork s session work old → IsLogOf old work.log (own s old.past) → HasLogged s change work.log old new
 change_logged s chains old new change key before after session work p h has stands =
-    logging s old new change p.0 (HasLogged s change work.log old new) (λ kind value bytes coded is. has_logged s chains old new change p.0 p.1 kind value bytes coded is session work has stands) before h
+    logging s old new change p.0 (HasLogged s change work.log old new)
+    (λ kind value bytes coded is. has_logged s chains old new change p.0 p.1 kind value bytes coded is session work has stands) before h
 
-pub change_apart : (s : ℕ) (chains : Chains) (old new : WorldState) (change : RecordChange) (key : List ℕ) (before after : Option (List Value)) → IsChangingRow s chains old (Record change key after) → ChangesRecord s old new change (records.Recorded before)
+pub change_apart : (s : ℕ) (chains : Chains) (old new : WorldState) (change : RecordChange) (key : List ℕ) (before after : Option (List Value))
+    → IsChangingRow s chains old (Record change key after) → ChangesRecord s old new change (records.Recorded before)
     → PointersApart old → PointersApart new
 change_apart s chains old new change key before after p h apart =
-    logging s old new change p.0 (PointersApart new) (λ kind value bytes coded is. apart_logged s chains old new change p.0 p.1 kind value bytes coded is apart) before h
+    logging s old new change p.0 (PointersApart new)
+    (λ kind value bytes coded is. apart_logged s chains old new change p.0 p.1 kind value bytes coded is apart) before h
 
-pub change_all : (s : ℕ) (chains : Chains) (old new : WorldState) (change : RecordChange) (key : List ℕ) (before after : Option (List Value)) → IsChangingRow s chains old (Record change key after) → ChangesRecord s old new change (records.Recorded before)
+pub change_all : (s : ℕ) (chains : Chains) (old new : WorldState) (change : RecordChange) (key : List ℕ) (before after : Option (List Value))
+    → IsChangingRow s chains old (Record change key after) → ChangesRecord s old new change (records.Recorded before)
     → IsAlone s old → LogsAgree old → LogsAgree new
 change_all s chains old new change key before after p h alone agree =
-    logging s old new change p.0 (LogsAgree new) (λ kind value bytes coded is. all_logged s chains old new change p.0 p.1 kind value bytes coded is alone agree) before h
+    logging s old new change p.0 (LogsAgree new)
+    (λ kind value bytes coded is. all_logged s chains old new change p.0 p.1 kind value bytes coded is alone agree) before h

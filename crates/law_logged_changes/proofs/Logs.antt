@@ -38,7 +38,8 @@ kept_as_said schemas others undo grows (inl new) = inl new
 kept_as_said schemas others undo grows (inr (kind, version, kept)) =
     inr (kind, version, record { schema = kept.schema; there = grows undo.table kept.schema kept.there; record_is = kept.record_is; small = kept.small })
 
-pub tells_on : (schemas others : List Schema) (undo : Undo) (schema : Schema) (place : Place) → Grows schemas others → TellsOf undo schema place schemas → TellsOf undo schema place others
+pub tells_on : (schemas others : List Schema) (undo : Undo) (schema : Schema) (place : Place) → Grows schemas others → TellsOf undo schema place schemas
+    → TellsOf undo schema place others
 tells_on schemas others undo schema place grows tells = record {
   there = grows undo.table schema tells.there;
   storable = tells.storable;
@@ -50,12 +51,14 @@ tells_on schemas others undo schema place grows tells = record {
   key_is = tells.key_is;
 }
 
-place_on : (schemas others : List Schema) (change : Change) (place : Place) (schema : Schema) → Grows schemas others → slice_get schemas place.table ≡ Some schema → place_in schemas change ≡ Some place → place_in others change ≡ Some place
+place_on : (schemas others : List Schema) (change : Change) (place : Place) (schema : Schema) → Grows schemas others
+    → slice_get schemas place.table ≡ Some schema → place_in schemas change ≡ Some place → place_in others change ≡ Some place
 place_on schemas others (Create made) place schema grows there is = absurd (cc)
 place_on schemas others (Put table row) place schema grows there is =
     let one : table ≡ place.table = cc in
     let here : slice_get schemas table ≡ Some schema = subst (λ (t : ℕ). slice_get schemas t ≡ Some schema) (sym one) there in
-    let key : key_in others table row ≡ key_in schemas table row = key_in-at others table schema row (grows table schema here) ∙ sym (key_in-at schemas table schema row here) in
+    let key : key_in others table row ≡ key_in schemas table row =
+    key_in-at others table schema row (grows table schema here) ∙ sym (key_in-at schemas table schema row here) in
     ap (λ (k : Value). Some (record { table = table; key = k })) key ∙ is
 place_on schemas others (Remove table key) place schema grows there is = is
 
@@ -70,16 +73,19 @@ module _ (told now : Type 0) (schemas others : List Schema) (kept found : ℕ �
   abbrev pub SameRecords : RecordsAt → RecordsAt → Type 0
   SameRecords was is = now → (table : ℕ) (schema : Schema) (key : List ℕ) → slice_get schemas table ≡ Some schema → is table key ≡ was table key
 
-  leads_on : (logged : Logged) (pointer : ℕ) → now → Keeps logged → (logged.undo.kind ≡ 2 → pointer ≡ logged.pointer) → LeadsBack logged.undo kept pointer → LeadsBack logged.undo found pointer
+  leads_on : (logged : Logged) (pointer : ℕ) → now → Keeps logged → (logged.undo.kind ≡ 2 → pointer ≡ logged.pointer) → LeadsBack logged.undo kept pointer
+      → LeadsBack logged.undo found pointer
   leads_on logged pointer at keeps pointer_is (inl new) = inl new
   leads_on logged pointer at keeps pointer_is (inr (kind, leads, former, there, bytes)) =
       let same = pointer_is kind in
       inr (kind, leads, former, ap found same ∙ keeps at kind former (ap kept (sym same) ∙ there), bytes)
 
-  stands_on : (was is : RecordsAt) (logged : Logged) (log : List Logged) (change : Change) → SameRecords was is → Keeps logged → Stands told schemas was kept logged log change → Stands now others is found logged log change
+  stands_on : (was is : RecordsAt) (logged : Logged) (log : List Logged) (change : Change) → SameRecords was is → Keeps logged
+      → Stands told schemas was kept logged log change → Stands now others is found logged log change
   stands_on was is logged log change same keeps stands = record {
     place = stands.place;
-    place_is = place_on schemas others change stands.place stands.schema grows (ap (slice_get schemas) stands.tells.table_is ∙ stands.tells.there) stands.place_is;
+    place_is =
+        place_on schemas others change stands.place stands.schema grows (ap (slice_get schemas) stands.tells.table_is ∙ stands.tells.there) stands.place_is;
     schema = stands.schema;
     tells = tells_on schemas others logged.undo stands.schema stands.place grows stands.tells;
     record_is = λ at. let has = stands.record_is (was_told at) in record {
@@ -94,9 +100,11 @@ module _ (told now : Type 0) (schemas others : List Schema) (kept found : ℕ �
   }
 
   same_behind : (was is : RecordsAt) (undo : Undo) → SameRecords was is → SameRecords (taken_back undo was) (taken_back undo is)
-  same_behind was is undo same at table schema key there = ap (cond (table == undo.table && is_at (key_cmp undo.key) key) (was_before undo)) (same at table schema key there)
+  same_behind was is undo same at table schema key there =
+      ap (cond (table == undo.table && is_at (key_cmp undo.key) key) (was_before undo)) (same at table schema key there)
 
-  pub log_on : (was is : RecordsAt) (log : List Logged) (own : List Change) → SameRecords was is → AllByRecursion Keeps log → LogStands told schemas was kept log own → LogStands now others is found log own
+  pub log_on : (was is : RecordsAt) (log : List Logged) (own : List Change) → SameRecords was is → AllByRecursion Keeps log
+      → LogStands told schemas was kept log own → LogStands now others is found log own
   log_on was is log [] same keeps stands = stands
   log_on was is log (Create schema ∷ own) same keeps stands = log_on was is log own same keeps stands
   log_on was is [] (Put table row ∷ own) same keeps stands = stands
@@ -113,19 +121,24 @@ module _ (told now : Type 0) (schemas others : List Schema) (kept found : ℕ �
 -- ---- the newest record
 
 -- a change of a row has its record on top
-pub newest_stands : (told : Type 0) (schemas : List Schema) (records : RecordsAt) (kept : ℕ → Option Kept) (logged : Logged) (log : List Logged) (change : Change) (own : List Change) (place : Place) → place_in schemas change ≡ Some place
-    → LogStands told schemas records kept (logged ∷ log) (change ∷ own) → Stands told schemas records kept logged log change × LogStands told schemas (taken_back logged.undo records) kept log own
+pub newest_stands : (told : Type 0) (schemas : List Schema) (records : RecordsAt) (kept : ℕ → Option Kept) (logged : Logged) (log : List Logged)
+    (change : Change) (own : List Change) (place : Place) → place_in schemas change ≡ Some place
+    → LogStands told schemas records kept (logged ∷ log) (change ∷ own) → Stands told schemas records kept logged log change × LogStands told schemas
+    (taken_back logged.undo records) kept log own
 newest_stands told schemas records kept logged log (Create schema) own place is stands = absurd (cc)
 newest_stands told schemas records kept logged log (Put table row) own place is stands = stands
 newest_stands told schemas records kept logged log (Remove table key) own place is stands = stands
 
-pub one_more : (told : Type 0) (schemas : List Schema) (records : RecordsAt) (kept : ℕ → Option Kept) (logged : Logged) (log : List Logged) (change : Change) (own : List Change)
-    → Stands told schemas records kept logged log change → LogStands told schemas (taken_back logged.undo records) kept log own → LogStands told schemas records kept (logged ∷ log) (change ∷ own)
+pub one_more : (told : Type 0) (schemas : List Schema) (records : RecordsAt) (kept : ℕ → Option Kept) (logged : Logged) (log : List Logged) (change : Change)
+    (own : List Change)
+    → Stands told schemas records kept logged log change → LogStands told schemas (taken_back logged.undo records) kept log own → LogStands told schemas
+    records kept (logged ∷ log) (change ∷ own)
 one_more told schemas records kept logged log (Create schema) own stands rest = absurd (let is = stands.place_is in cc)
 one_more told schemas records kept logged log (Put table row) own stands rest = (stands, rest)
 one_more told schemas records kept logged log (Remove table key) own stands rest = (stands, rest)
 
 -- where nothing is told otherwise, a log without changes is empty
-pub empty_log : (told : Type 0) (schemas : List Schema) (records : RecordsAt) (kept : ℕ → Option Kept) (log : List Logged) (own : List Change) → own ≡ [] → LogStands told schemas records kept log own → log ≡ []
+pub empty_log : (told : Type 0) (schemas : List Schema) (records : RecordsAt) (kept : ℕ → Option Kept) (log : List Logged) (own : List Change) → own ≡ []
+    → LogStands told schemas records kept log own → log ≡ []
 empty_log told schemas records kept log [] none stands = stands
 empty_log told schemas records kept log (change ∷ own) none stands = absurd (cc)

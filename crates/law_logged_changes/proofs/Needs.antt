@@ -47,36 +47,45 @@ second_false : (a b : Bool) → b ≡ false → a && b ≡ false
 second_false true b is = is
 second_false false b is = refl
 
-pub taken_here : (undo : Undo) (records : RecordsAt) (table : ℕ) (key : List ℕ) → table ≡ undo.table → key ≡ undo.key → taken_back undo records table key ≡ was_before undo
+pub taken_here : (undo : Undo) (records : RecordsAt) (table : ℕ) (key : List ℕ) → table ≡ undo.table → key ≡ undo.key
+    → taken_back undo records table key ≡ was_before undo
 taken_here undo records table key same also =
     cond-true (table == undo.table && is_at (key_cmp undo.key) key) (was_before undo) (records table key)
     (both_true (table == undo.table) (is_at (key_cmp undo.key) key) (eq-eqb table undo.table same) (at_itself undo.key key also))
 
-pub taken_elsewhere : (undo : Undo) (records : RecordsAt) (table : ℕ) (key : List ℕ) → (table ≢ undo.table) ⊎ (key ≢ undo.key) → taken_back undo records table key ≡ records table key
+pub taken_elsewhere : (undo : Undo) (records : RecordsAt) (table : ℕ) (key : List ℕ) → (table ≢ undo.table) ⊎ (key ≢ undo.key)
+    → taken_back undo records table key ≡ records table key
 taken_elsewhere undo records table key (inl differs) =
-    cond-false (table == undo.table && is_at (key_cmp undo.key) key) (was_before undo) (records table key) (ap (λ (t : Bool). t && is_at (key_cmp undo.key) key) (ne_eqb table undo.table differs))
+    cond-false (table == undo.table && is_at (key_cmp undo.key) key) (was_before undo) (records table key)
+    (ap (λ (t : Bool). t && is_at (key_cmp undo.key) key) (ne_eqb table undo.table differs))
 taken_elsewhere undo records table key (inr differs) =
-    cond-false (table == undo.table && is_at (key_cmp undo.key) key) (was_before undo) (records table key) (second_false (table == undo.table) (is_at (key_cmp undo.key) key) (not_at undo.key key differs))
+    cond-false (table == undo.table && is_at (key_cmp undo.key) key) (was_before undo) (records table key)
+    (second_false (table == undo.table) (is_at (key_cmp undo.key) key) (not_at undo.key key differs))
 
 -- the change's own record, or another
 pub here_or_not : (undo : Undo) (table : ℕ) (key : List ℕ) → ((table ≡ undo.table) × (key ≡ undo.key)) ⊎ ((table ≢ undo.table) ⊎ (key ≢ undo.key))
 here_or_not undo table key =
-    ⊎_elim (λ same. ⊎_elim (λ also. inl (same, also)) (λ differs. inr (inr differs)) (same_or_not key undo.key)) (λ differs. inr (inl differs)) (cases_eq table undo.table)
+    ⊎_elim (λ same. ⊎_elim (λ also. inl (same, also)) (λ differs. inr (inr differs)) (same_or_not key undo.key)) (λ differs. inr (inl differs))
+    (cases_eq table undo.table)
 
 abbrev records_in : (ℕ → List Pair) → RecordsAt
 records_in pairs table key = value_of key (pairs (clustered_index table))
 
 -- a record that is put leaves all others
-put_in_table : (undo : Undo) (value : Option (List ℕ)) (old new : ℕ → List Pair) (table : ℕ) (key : List ℕ) → Puts old new (clustered_index undo.table) undo.key value → table ≢ undo.table → records_in new table key ≡ records_in old table key
-put_in_table undo value old new table key puts differs = ap (value_of key) (at_others old new (clustered_index undo.table) undo.key value (clustered_index table) puts (other_rows undo.table table differs))
+put_in_table : (undo : Undo) (value : Option (List ℕ)) (old new : ℕ → List Pair) (table : ℕ) (key : List ℕ)
+    → Puts old new (clustered_index undo.table) undo.key value → table ≢ undo.table → records_in new table key ≡ records_in old table key
+put_in_table undo value old new table key puts differs =
+    ap (value_of key) (at_others old new (clustered_index undo.table) undo.key value (clustered_index table) puts (other_rows undo.table table differs))
 
-pub put_elsewhere : (undo : Undo) (value : Option (List ℕ)) (old new : ℕ → List Pair) (table : ℕ) (key : List ℕ) → Puts old new (clustered_index undo.table) undo.key value → (table ≢ undo.table) ⊎ (key ≢ undo.key)
+pub put_elsewhere : (undo : Undo) (value : Option (List ℕ)) (old new : ℕ → List Pair) (table : ℕ) (key : List ℕ)
+    → Puts old new (clustered_index undo.table) undo.key value → (table ≢ undo.table) ⊎ (key ≢ undo.key)
     → records_in new table key ≡ records_in old table key
 put_elsewhere undo value old new table key puts (inl differs) = put_in_table undo value old new table key puts differs
 put_elsewhere undo value old new table key puts (inr differs) =
     ⊎_elim
     (λ same. subst (λ (t : ℕ). records_in new t key ≡ records_in old t key) (sym same)
-    (ap (value_of key) (at_index old new (clustered_index undo.table) undo.key value puts) ∙ others_now undo.key value key (old (clustered_index undo.table)) differs))
+    (ap (value_of key) (at_index old new (clustered_index undo.table) undo.key value puts) ∙ others_now undo.key value key (old (clustered_index undo.table))
+    differs))
     (λ apart. put_in_table undo value old new table key puts apart)
     (cases_eq table undo.table)
 
@@ -97,24 +106,33 @@ one_schema found a b first second = cc
 some_bytes : (found : Option (List ℕ)) (a b : List ℕ) → found ≡ Some a → found ≡ Some b → a ≡ b
 some_bytes found a b first second = cc
 
-module _ (undo : Undo) (schemas : List Schema) (schema : Schema) (kept : ℕ → Option Kept) (high low : ℕ → List Pair) (coded : Coded) (stands : StandsIn undo schemas schema kept high low coded) where
+module _ (undo : Undo) (schemas : List Schema) (schema : Schema) (kept : ℕ → Option Kept) (high low : ℕ → List Pair) (coded : Coded)
+    (stands : StandsIn undo schemas schema kept high low coded) where
   -- the version before the change, where there was one
-  former_is : (table : ℕ) (key bytes : List ℕ) (other : Schema) (version : Coded) (further pointer : ℕ) (versions : List Version) → LeadTo schema undo.key kept coded.pointer versions → slice_get schemas table ≡ Some other → table ≡ undo.table → key ≡ undo.key
-      → records_in low table key ≡ Some bytes → IsCodeOf other key bytes version → Reaches kept version.pointer further pointer → LeadsBack undo kept coded.pointer → Reaches kept coded.pointer (suc further) pointer
+  former_is : (table : ℕ) (key bytes : List ℕ) (other : Schema) (version : Coded) (further pointer : ℕ) (versions : List Version)
+      → LeadTo schema undo.key kept coded.pointer versions → slice_get schemas table ≡ Some other → table ≡ undo.table → key ≡ undo.key
+      → records_in low table key ≡ Some bytes → IsCodeOf other key bytes version → Reaches kept version.pointer further pointer → LeadsBack undo kept
+      coded.pointer → Reaches kept coded.pointer (suc further) pointer
   former_is table key bytes other version further pointer versions leads there same also found code reaches (inl new) =
-      let none : Some bytes ≡ None = sym found ∙ stands.without table key ∙ taken_here undo (records_in high) table key same also ∙ before_new undo new.0 in absurd (cc)
+      let none : Some bytes ≡ None =
+      sym found ∙ stands.without table key ∙ taken_here undo (records_in high) table key same also ∙ before_new undo new.0 in absurd (cc)
   former_is table key bytes other version further pointer versions leads there same also found code reaches (inr (kind, some, former, keeps, kept_is)) =
-      let value : Some bytes ≡ Some undo.value = sym found ∙ stands.without table key ∙ taken_here undo (records_in high) table key same also ∙ before_kept undo kind in
+      let value : Some bytes ≡ Some undo.value =
+      sym found ∙ stands.without table key ∙ taken_here undo (records_in high) table key same also ∙ before_kept undo kind in
       let bytes_are : bytes ≡ former.bytes = cc (value, kept_is) in
       let schema_is : other ≡ schema = one_schema (slice_get schemas undo.table) other schema (ap (slice_get schemas) (sym same) ∙ there) stands.there in
       let read = pointer_followed schema undo.key kept coded.pointer versions former leads some keeps in
       let code_too : IsCodeOf schema undo.key former.bytes version
-      = subst (λ (b : List ℕ). IsCodeOf schema undo.key b version) bytes_are (subst (λ (k : List ℕ). IsCodeOf schema k bytes version) also (subst (λ (x : Schema). IsCodeOf x key bytes version) schema_is code)) in
-      let one : version ≡ former.version = same_version schema version former.version undo.key former.bytes code_too.numbers read.0.numbers code_too.record_is read.0.record_is in
+      =
+      subst (λ (b : List ℕ). IsCodeOf schema undo.key b version) bytes_are
+      (subst (λ (k : List ℕ). IsCodeOf schema k bytes version) also (subst (λ (x : Schema). IsCodeOf x key bytes version) schema_is code)) in
+      let one : version ≡ former.version =
+      same_version schema version former.version undo.key former.bytes code_too.numbers read.0.numbers code_too.record_is read.0.record_is in
       (some, former, keeps, subst (λ (v : Coded). Reaches kept v.pointer further pointer) one reaches)
 
   -- Without the change no row needs what none needed with it.
-  pub needed_with : (versions : List Version) → LeadTo schema undo.key kept coded.pointer versions → (table pointer : ℕ) → IsNeededBy schemas low kept table pointer → IsNeededBy schemas high kept table pointer
+  pub needed_with : (versions : List Version) → LeadTo schema undo.key kept coded.pointer versions → (table pointer : ℕ)
+      → IsNeededBy schemas low kept table pointer → IsNeededBy schemas high kept table pointer
   needed_with versions leads table pointer needed =
       ⊎_elim
       (λ here. record {
@@ -126,7 +144,9 @@ module _ (undo : Undo) (schemas : List Schema) (schema : Schema) (kept : ℕ →
         record_is = ap (λ (t : ℕ). records_in high t undo.key) here.0 ∙ stands.record_is;
         code_is = stands.code_is;
         further = suc needed.further;
-        reaches = former_is table needed.key needed.bytes needed.schema needed.coded needed.further pointer versions leads needed.there here.0 here.1 needed.record_is needed.code_is needed.reaches stands.before;
+        reaches =
+            former_is table needed.key needed.bytes needed.schema needed.coded needed.further pointer versions leads needed.there here.0 here.1
+            needed.record_is needed.code_is needed.reaches stands.before;
       })
       (λ apart. record {
         schema = needed.schema;
@@ -142,7 +162,8 @@ module _ (undo : Undo) (schemas : List Schema) (schema : Schema) (kept : ℕ →
       (here_or_not undo table needed.key)
 
   pub apart_without : (versions : List Version) → LeadTo schema undo.key kept coded.pointer versions → AreApart schemas high kept → AreApart schemas low kept
-  apart_without versions leads apart table other pointer first second = apart table other pointer (needed_with versions leads table pointer first) (needed_with versions leads other pointer second)
+  apart_without versions leads apart table other pointer first second =
+      apart table other pointer (needed_with versions leads table pointer first) (needed_with versions leads other pointer second)
 
   -- the change's record needs its pointer
   needs_its_own : coded.pointer ≢ 0 → IsNeededBy schemas high kept undo.table coded.pointer
@@ -162,23 +183,31 @@ module _ (undo : Undo) (schemas : List Schema) (schema : Schema) (kept : ℕ →
   longer first rest further n sum same = absurd (omega arith)
 
   -- Without the change its pointer is needed no longer.
-  pub unneeded_without : (chains : Chains) (versions : List Version) → AreClustered schemas high kept chains → LeadTo schema undo.key kept coded.pointer versions → coded.pointer ≢ 0 → AreApart schemas high kept → IsUnneeded schemas low kept coded.pointer
+  pub unneeded_without : (chains : Chains) (versions : List Version) → AreClustered schemas high kept chains
+      → LeadTo schema undo.key kept coded.pointer versions → coded.pointer ≢ 0 → AreApart schemas high kept → IsUnneeded schemas low kept coded.pointer
   unneeded_without chains versions are leads some apart table needed =
       let same : table ≡ undo.table = apart table undo.table coded.pointer (needed_with versions leads table coded.pointer needed) (needs_its_own some) in
       ⊎_elim
       (λ here.
-      let again = former_is table needed.key needed.bytes needed.schema needed.coded needed.further coded.pointer versions leads needed.there here.0 here.1 needed.record_is needed.code_is needed.reaches stands.before in
+      let again =
+      former_is table needed.key needed.bytes needed.schema needed.coded needed.further coded.pointer versions leads needed.there here.0 here.1
+      needed.record_is needed.code_is needed.reaches stands.before in
       let way = on_way schema undo.key kept coded.pointer (suc needed.further) coded.pointer versions leads again in
       let one = one_lead schema undo.key kept coded.pointer way.rest versions way.leads leads in
       absurd (omega (arith, way.count, ap length one)))
       (λ differs. ⊎_elim (λ table_differs. absurd (table_differs same))
       (λ key_differs.
-      let schema_is : needed.schema ≡ schema = one_schema (slice_get schemas undo.table) needed.schema schema (ap (slice_get schemas) (sym same) ∙ needed.there) stands.there in
+      let schema_is : needed.schema ≡ schema =
+      one_schema (slice_get schemas undo.table) needed.schema schema (ap (slice_get schemas) (sym same) ∙ needed.there) stands.there in
       let code = subst (λ (x : Schema). IsCodeOf x needed.key needed.bytes needed.coded) schema_is needed.code_is in
       let found : records_in high undo.table needed.key ≡ Some needed.bytes
-      = ap (λ (t : ℕ). records_in high t needed.key) (sym same) ∙ sym (stands.without table needed.key ∙ taken_elsewhere undo (records_in high) table needed.key differs) ∙ needed.record_is in
+      =
+      ap (λ (t : ℕ). records_in high t needed.key) (sym same) ∙ sym
+      (stands.without table needed.key ∙ taken_elsewhere undo (records_in high) table needed.key differs) ∙ needed.record_is in
       let read = decoded schemas high kept chains undo.table schema needed.key needed.bytes needed.coded are stands.there found code in
-      let way = on_way schema needed.key kept needed.coded.pointer needed.further coded.pointer (older (in_table undo.table chains (key_of schema needed.coded.row))) read.1 needed.reaches in
+      let way =
+      on_way schema needed.key kept needed.coded.pointer needed.further coded.pointer
+      (older (in_table undo.table chains (key_of schema needed.coded.row))) read.1 needed.reaches in
       absurd (key_differs (one_row schema needed.key undo.key kept coded.pointer way.rest versions some way.leads leads)))
       differs)
       (here_or_not undo table needed.key)
@@ -196,7 +225,8 @@ module _ (undo : Undo) (schemas : List Schema) (schema : Schema) (kept : ℕ →
     Was table pointer = IsNeededBy schemas low was table pointer ⊎ ((table ≡ undo.table) × (undo.kind ≡ 2) × (pointer ≡ coded.pointer))
 
     -- a record that was there reaches what it did
-    reached_by : (table further pointer : ℕ) (key bytes : List ℕ) (other : Schema) (version : Coded) → slice_get schemas table ≡ Some other → records_in low table key ≡ Some bytes → IsCodeOf other key bytes version → Reaches kept version.pointer further pointer
+    reached_by : (table further pointer : ℕ) (key bytes : List ℕ) (other : Schema) (version : Coded) → slice_get schemas table ≡ Some other
+        → records_in low table key ≡ Some bytes → IsCodeOf other key bytes version → Reaches kept version.pointer further pointer
         → IsNeededBy schemas low was table pointer
     reached_by table further pointer key bytes other version there found code reaches =
         let read = decoded schemas low was chains table other key bytes version are there found code in record {
@@ -208,29 +238,41 @@ module _ (undo : Undo) (schemas : List Schema) (schema : Schema) (kept : ℕ →
           record_is = found;
           code_is = code;
           further = further;
-          reaches = reached_before other key was kept version.pointer further pointer (older (in_table table chains (key_of other version.row))) more read.1 reaches;
+          reaches =
+              reached_before other key was kept version.pointer further pointer (older (in_table table chains (key_of other version.row))) more read.1 reaches;
         }
 
-    own_reaches : (further pointer table : ℕ) → table ≡ undo.table → Reaches kept coded.pointer further pointer → LeadsBack undo kept coded.pointer → Was table pointer
+    own_reaches : (further pointer table : ℕ) → table ≡ undo.table → Reaches kept coded.pointer further pointer → LeadsBack undo kept coded.pointer
+        → Was table pointer
     own_reaches further pointer table same reaches (inl new) = absurd (reaches_some coded.pointer further pointer reaches new.1)
     own_reaches zero pointer table same reaches (inr (kind, some, former, keeps, kept_is)) = inr (same, kind, sym reaches.1)
     own_reaches (suc further) pointer table same reaches (inr (kind, some, former, keeps, kept_is)) =
         let one : reaches.1 ≡ former = cc (reaches.2, keeps) in
         let value : records_in low undo.table undo.key ≡ Some former.bytes
-        = stands.without undo.table undo.key ∙ taken_here undo (records_in high) undo.table undo.key refl refl ∙ before_kept undo kind ∙ ap Some (sym kept_is) in
-        let needed = reached_by undo.table further pointer undo.key former.bytes schema former.version stands.there value (former_code kind former keeps) (subst (λ (k : Kept). Reaches kept k.version.pointer further pointer) one reaches.3) in
+        =
+        stands.without undo.table undo.key ∙ taken_here undo (records_in high) undo.table undo.key refl refl ∙ before_kept undo kind ∙ ap Some
+        (sym kept_is) in
+        let needed =
+        reached_by undo.table further pointer undo.key former.bytes schema former.version stands.there value (former_code kind former keeps)
+        (subst (λ (k : Kept). Reaches kept k.version.pointer further pointer) one reaches.3) in
         inl (subst (λ (t : ℕ). IsNeededBy schemas low was t pointer) (sym same) needed)
 
     needed_now : (table pointer : ℕ) → IsNeededBy schemas high kept table pointer → Was table pointer
     needed_now table pointer needed =
         ⊎_elim
         (λ here.
-        let schema_is : needed.schema ≡ schema = one_schema (slice_get schemas undo.table) needed.schema schema (ap (slice_get schemas) (sym here.0) ∙ needed.there) stands.there in
-        let found : records_in high undo.table undo.key ≡ Some needed.bytes = ap (λ (k : List ℕ). records_in high undo.table k) (sym here.1) ∙ ap (λ (t : ℕ). records_in high t needed.key) (sym here.0) ∙ needed.record_is in
+        let schema_is : needed.schema ≡ schema =
+        one_schema (slice_get schemas undo.table) needed.schema schema (ap (slice_get schemas) (sym here.0) ∙ needed.there) stands.there in
+        let found : records_in high undo.table undo.key ≡ Some needed.bytes =
+        ap (λ (k : List ℕ). records_in high undo.table k) (sym here.1) ∙ ap (λ (t : ℕ). records_in high t needed.key) (sym here.0) ∙ needed.record_is in
         let bytes_are = some_bytes (records_in high undo.table undo.key) needed.bytes stands.bytes found stands.record_is in
         let code : IsCodeOf schema undo.key stands.bytes needed.coded
-        = subst (λ (b : List ℕ). IsCodeOf schema undo.key b needed.coded) bytes_are (subst (λ (k : List ℕ). IsCodeOf schema k needed.bytes needed.coded) here.1 (subst (λ (x : Schema). IsCodeOf x needed.key needed.bytes needed.coded) schema_is needed.code_is)) in
-        let one : needed.coded ≡ coded = same_version schema needed.coded coded undo.key stands.bytes code.numbers stands.code_is.numbers code.record_is stands.code_is.record_is in
+        =
+        subst (λ (b : List ℕ). IsCodeOf schema undo.key b needed.coded) bytes_are
+        (subst (λ (k : List ℕ). IsCodeOf schema k needed.bytes needed.coded) here.1
+        (subst (λ (x : Schema). IsCodeOf x needed.key needed.bytes needed.coded) schema_is needed.code_is)) in
+        let one : needed.coded ≡ coded =
+        same_version schema needed.coded coded undo.key stands.bytes code.numbers stands.code_is.numbers code.record_is stands.code_is.record_is in
         own_reaches needed.further pointer table here.0 (subst (λ (v : Coded). Reaches kept v.pointer needed.further pointer) one needed.reaches) stands.before)
         (λ apart. inl (reached_by table needed.further pointer needed.key needed.bytes needed.schema needed.coded needed.there
         (stands.without table needed.key ∙ taken_elsewhere undo (records_in high) table needed.key apart ∙ needed.record_is) needed.code_is needed.reaches))
@@ -239,7 +281,9 @@ module _ (undo : Undo) (schemas : List Schema) (schema : Schema) (kept : ℕ →
     unkept : (table pointer : ℕ) → was pointer ≡ None → IsNeededBy schemas low was table pointer → ⊥
     unkept table pointer none needed =
         let read = decoded schemas low was chains table needed.schema needed.key needed.bytes needed.coded are needed.there needed.record_is needed.code_is in
-        let way = on_way needed.schema needed.key was needed.coded.pointer needed.further pointer (older (in_table table chains (key_of needed.schema needed.coded.row))) read.1 needed.reaches in
+        let way =
+        on_way needed.schema needed.key was needed.coded.pointer needed.further pointer
+        (older (in_table table chains (key_of needed.schema needed.coded.row))) read.1 needed.reaches in
         let some : is_some (was pointer) ≡ true = pointer_leads needed.schema needed.key was pointer way.rest way.leads way.some in
         absurd (cc)
 

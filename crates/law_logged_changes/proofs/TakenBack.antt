@@ -32,7 +32,8 @@ use Rattle.law_logged_changes.proofs.Beginning.{top, tells_of_it, way_settled, n
 use Rattle.law_logged_changes.proofs.Needs.{taken_here, taken_elsewhere, here_or_not, StandsIn, put_elsewhere, apart_without, unneeded_without}
 use Rattle.law_logged_changes.proofs.GoingOn.{work_beside, work_again, own_beside, none_yet, done_beside}
 
-module _ (chains after : Chains) (old new : WorldState) (logged : Logged) (older : List Logged) (change : Change) (before : List Change) (place : Place) (room next : WorkRoom) (log_is : IsLogOf old (logged ∷ older) (change ∷ before)) (place_is : place_in old.schemas change ≡ Some place)
+module _ (chains after : Chains) (old new : WorldState) (logged : Logged) (older : List Logged) (change : Change) (before : List Change) (place : Place)
+    (room next : WorkRoom) (log_is : IsLogOf old (logged ∷ older) (change ∷ before)) (place_is : place_in old.schemas change ≡ Some place)
     (back : IsPuttingBack chains place logged.undo room old) (done : IsDone chains place logged.undo room next old new) (pops : Pops chains after place) where
   abbrev undo : Undo
   undo = logged.undo
@@ -44,7 +45,8 @@ module _ (chains after : Chains) (old new : WorldState) (logged : Logged) (older
   tells = tells_of_it chains old logged older change before place room log_is place_is
 
   told_before : IsTold new → IsTold old
-  told_before told = ⊎_elim (λ stays. stays_told old new stays told) (λ puts. put_told (clustered_index undo.table) undo.key (was_before undo) old new puts told) done.changes
+  told_before told =
+      ⊎_elim (λ stays. stays_told old new stays told) (λ puts. put_told (clustered_index undo.table) undo.key (was_before undo) old new puts told) done.changes
 
   same_schemas : new.schemas ≡ old.schemas
   same_schemas = ⊎_elim (λ stays. ap (λ (s : WorldState). s.schemas) stays.rest) (λ puts. ap (λ (s : WorldState). s.schemas) puts.rest) done.changes
@@ -57,7 +59,8 @@ module _ (chains after : Chains) (old new : WorldState) (logged : Logged) (older
       ⊎_elim
       (λ lag. stands chains place undo back.schema (rows_of old) lag.bytes lag.coded lag.done (IsLagging _ (versions_before chains place)) back.tells lag.way)
       (λ gone. let has = newest.record_is told in
-      stands chains place undo newest.schema (rows_of old) has.bytes has.coded 0 (IsLagging _ (versions_before chains place)) tells (way_settled chains old logged place newest.schema tells has (λ again. gone.all) told))
+      stands chains place undo newest.schema (rows_of old) has.bytes has.coded 0 (IsLagging _ (versions_before chains place)) tells
+      (way_settled chains old logged place newest.schema tells has (λ again. gone.all) told))
       (at_stage chains place undo back.schema (rows_of old) room.newest.items room.stage (back.holds told))
 
   taken : IsTold new → IsTakenBack after undo (rows_of new)
@@ -69,23 +72,29 @@ module _ (chains after : Chains) (old new : WorldState) (logged : Logged) (older
   puts_then : IsTold new → Puts (pairs_of old) (pairs_of new) (clustered_index undo.table) undo.key (was_before undo)
   puts_then told =
       ⊎_elim
-      (λ stays. absurd (not_before (told_before told) (ap (λ (pairs : ℕ → List Pair). value_of undo.key (pairs (clustered_index undo.table))) (sym (same_pairs_of old new stays told)) ∙ (taken told).there)))
+      (λ stays. absurd (not_before (told_before told)
+      (ap (λ (pairs : ℕ → List Pair). value_of undo.key (pairs (clustered_index undo.table))) (sym (same_pairs_of old new stays told)) ∙
+      (taken told).there)))
       (λ puts. put_pairs (clustered_index undo.table) undo.key (was_before undo) old new puts told)
       done.changes
 
   records_then : IsTold new → (table : ℕ) (key : List ℕ) → records_of new table key ≡ taken_back undo (records_of old) table key
   records_then told table key =
       ⊎_elim
-      (λ here. ap (λ (t : ℕ). records_of new t key) here.0 ∙ ap (records_of new undo.table) here.1 ∙ (taken told).there ∙ sym (taken_here undo (records_of old) table key here.0 here.1))
-      (λ apart. put_elsewhere undo (was_before undo) (pairs_of old) (pairs_of new) table key (puts_then told) apart ∙ sym (taken_elsewhere undo (records_of old) table key apart))
+      (λ here. ap (λ (t : ℕ). records_of new t key) here.0 ∙ ap (records_of new undo.table) here.1 ∙ (taken told).there ∙ sym
+      (taken_here undo (records_of old) table key here.0 here.1))
+      (λ apart. put_elsewhere undo (was_before undo) (pairs_of old) (pairs_of new) table key (puts_then told) apart ∙ sym
+      (taken_elsewhere undo (records_of old) table key apart))
       (here_or_not undo table key)
 
   pub log_then : IsLogOf new older before
   log_then =
-      log_on (IsTold old) (IsTold new) old.schemas new.schemas old.versions.kept_at new.versions.kept_at told_before (same_schemas_grow old.schemas new.schemas same_schemas)
+      log_on (IsTold old) (IsTold new) old.schemas new.schemas old.versions.kept_at new.versions.kept_at told_before
+      (same_schemas_grow old.schemas new.schemas same_schemas)
       (taken_back undo (records_of old)) (records_of new) older before
       (λ told table schema key there. records_then told table key)
-      (all_of (Keeps (IsTold old) (IsTold new) old.schemas new.schemas old.versions.kept_at new.versions.kept_at told_before (same_schemas_grow old.schemas new.schemas same_schemas)) older
+      (all_of (Keeps (IsTold old) (IsTold new) old.schemas new.schemas old.versions.kept_at new.versions.kept_at told_before
+      (same_schemas_grow old.schemas new.schemas same_schemas)) older
       (λ l told kind former there. ap (λ (kept : ℕ → Option Kept). kept l.pointer) (same_kept told) ∙ there))
       (newest_stands (IsTold old) old.schemas (records_of old) old.versions.kept_at logged older change before place place_is log_is).1
 
@@ -96,30 +105,36 @@ module _ (chains after : Chains) (old new : WorldState) (logged : Logged) (older
     has = newest.record_is (told_before told)
 
     stands_in : StandsIn undo old.schemas newest.schema old.versions.kept_at (pairs_of old) (pairs_of new) has.coded
-    stands_in = record { there = tells.there; bytes = has.bytes; record_is = has.there; code_is = has.code_is; before = has.before; without = records_then told }
+    stands_in =
+        record { there = tells.there; bytes = has.bytes; record_is = has.there; code_is = has.code_is; before = has.before; without = records_then told }
 
     clustered : AreClustered old.schemas (pairs_of old) old.versions.kept_at chains
     clustered = clustered_while chains place undo room old back (told_before told)
 
     leads : LeadTo newest.schema undo.key old.versions.kept_at has.coded.pointer (versions_before chains place)
-    leads = (newest_read undo newest.schema place old.schemas tells (pairs_of old) old.versions.kept_at chains has.bytes has.coded clustered (newest_is chains old logged place newest.schema tells has)).1
+    leads =
+        (newest_read undo newest.schema place old.schemas tells (pairs_of old) old.versions.kept_at chains has.bytes has.coded clustered
+        (newest_is chains old logged place newest.schema tells has)).1
 
     apart_in : AreApart old.schemas (pairs_of old) old.versions.kept_at → AreApart new.schemas (pairs_of new) new.versions.kept_at
     apart_in apart =
         subst (λ (schemas : List Schema). AreApart schemas (pairs_of new) new.versions.kept_at) (sym same_schemas)
         (subst (λ (kept : ℕ → Option Kept). AreApart old.schemas (pairs_of new) kept) (sym (same_kept told))
-        (apart_without undo old.schemas newest.schema old.versions.kept_at (pairs_of old) (pairs_of new) has.coded stands_in (versions_before chains place) leads apart))
+        (apart_without undo old.schemas newest.schema old.versions.kept_at (pairs_of old) (pairs_of new) has.coded stands_in (versions_before chains place)
+        leads apart))
 
     some_pointer : undo.kind ≡ 2 → LeadsBack undo old.versions.kept_at has.coded.pointer → has.coded.pointer ≢ 0
     some_pointer kind (inl new_row) = absurd (omega (arith, kind, new_row.0))
     some_pointer kind (inr (k, some, former, keeps, bytes)) = some
 
-    unneeded_in : undo.kind ≡ 2 → AreApart old.schemas (pairs_of old) old.versions.kept_at → IsUnneeded new.schemas (pairs_of new) new.versions.kept_at logged.pointer
+    unneeded_in : undo.kind ≡ 2 → AreApart old.schemas (pairs_of old) old.versions.kept_at
+        → IsUnneeded new.schemas (pairs_of new) new.versions.kept_at logged.pointer
     unneeded_in kind apart =
         subst (λ (pointer : ℕ). IsUnneeded new.schemas (pairs_of new) new.versions.kept_at pointer) (has.pointer_is kind)
         (subst (λ (schemas : List Schema). IsUnneeded schemas (pairs_of new) new.versions.kept_at has.coded.pointer) (sym same_schemas)
         (subst (λ (kept : ℕ → Option Kept). IsUnneeded old.schemas (pairs_of new) kept has.coded.pointer) (sym (same_kept told))
-        (unneeded_without undo old.schemas newest.schema old.versions.kept_at (pairs_of old) (pairs_of new) has.coded stands_in chains (versions_before chains place) clustered leads (some_pointer kind has.before) apart)))
+        (unneeded_without undo old.schemas newest.schema old.versions.kept_at (pairs_of old) (pairs_of new) has.coded stands_in chains
+        (versions_before chains place) clustered leads (some_pointer kind has.before) apart)))
 
   pub apart_then : PointersApart old → PointersApart new
   apart_then apart told = apart_in told (apart (told_before told))
@@ -134,7 +149,8 @@ module _ (chains after : Chains) (old new : WorldState) (logged : Logged) (older
     elsewhere = λ told. newest.elsewhere (told_before told);
   }
 
-  pub to_cut_then : (s : ℕ) (session : Session) (work : Work) → LogsAgree old → IsAlone s old → HasWork s session work old → work.log ≡ logged ∷ older → IsToCut s logged older before new
+  pub to_cut_then : (s : ℕ) (session : Session) (work : Work) → LogsAgree old → IsAlone s old → HasWork s session work old → work.log ≡ logged ∷ older
+      → IsToCut s logged older before new
   to_cut_then s session work agree alone has_work is = record {
     session = session;
     work = work;
@@ -143,7 +159,9 @@ module _ (chains after : Chains) (old new : WorldState) (logged : Logged) (older
     may = may_then agree.apart;
     logs = record {
       mine = log_then;
-      others = λ u x w differs h. none_yet u w old new (alone u differs) (own_beside u old new rest ∙ alone u differs) (agree.each u x w (work_beside u x w old new rest h));
+      others =
+          λ u x w differs h. none_yet u w old new (alone u differs) (own_beside u old new rest ∙ alone u differs)
+          (agree.each u x w (work_beside u x w old new rest h));
       apart = apart_then agree.apart;
     };
   } where
@@ -151,9 +169,14 @@ module _ (chains after : Chains) (old new : WorldState) (logged : Logged) (older
     rest = done_beside chains place s undo room next old new done
 
 -- the session's own changes, as the history has them
-pub to_cut_by_history : (s : ℕ) (chains after : Chains) (old new : WorldState) (session : Session) (work : Work) (logged : Logged) (older : List Logged) (change : Change) (before : List Change) (place : Place) (room next : WorkRoom)
-    → LogsAgree old → IsAlone s old → HasWork s session work old → work.log ≡ logged ∷ older → own s old.past ≡ change ∷ before → place_in old.schemas change ≡ Some place
-    → IsPuttingBack chains place logged.undo room old → IsDone chains place logged.undo room next old new → Pops chains after place → IsToCut s logged older before new
+pub to_cut_by_history : (s : ℕ) (chains after : Chains) (old new : WorldState) (session : Session) (work : Work) (logged : Logged) (older : List Logged)
+    (change : Change) (before : List Change) (place : Place) (room next : WorkRoom)
+    → LogsAgree old → IsAlone s old → HasWork s session work old → work.log ≡ logged ∷ older → own s old.past ≡ change ∷ before → place_in old.schemas change
+    ≡ Some place
+    → IsPuttingBack chains place logged.undo room old → IsDone chains place logged.undo room next old new → Pops chains after place → IsToCut s logged older
+    before new
 to_cut_by_history s chains after old new session work logged older change before place room next agree alone has_work is own_is place_is back done pops =
-    let log = subst (λ (l : List Logged). IsLogOf old l (change ∷ before)) is (subst (λ (changes : List Change). IsLogOf old work.log changes) own_is (agree.each s session work has_work)) in
+    let log =
+    subst (λ (l : List Logged). IsLogOf old l (change ∷ before)) is
+    (subst (λ (changes : List Change). IsLogOf old work.log changes) own_is (agree.each s session work has_work)) in
     to_cut_then chains after old new logged older change before place room next log place_is back done pops s session work agree alone has_work is

@@ -45,7 +45,8 @@ abbrev pub KeepElsewhere : Logged → List Logged → Type 0
 KeepElsewhere logged log = logged.undo.kind ≡ 2 → AllByRecursion (λ older. older.undo.kind ≡ 2 → older.pointer ≢ logged.pointer) log
 
 -- The undo record is that of the change, which is one of a row. Of the record that stands something is known where it is told.
-pub record Stands (told : Type 0) (schemas : List Schema) (records : RecordsAt) (kept : ℕ → Option Kept) (logged : Logged) (log : List Logged) (change : Change) : Type 0 where
+pub record Stands (told : Type 0) (schemas : List Schema) (records : RecordsAt) (kept : ℕ → Option Kept) (logged : Logged) (log : List Logged)
+    (change : Change) : Type 0 where
   pub place : Place
   pub place_is : place_in schemas change ≡ Some place
   pub schema : Schema

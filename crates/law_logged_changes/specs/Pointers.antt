@@ -28,7 +28,8 @@ pub record IsNeededBy (schemas : List Schema) (pairs : ℕ → List Pair) (kept 
 
 -- No two tables need what is kept behind one pointer.
 abbrev pub AreApart : List Schema → (ℕ → List Pair) → (ℕ → Option Kept) → Type 0
-AreApart schemas pairs kept = (table other pointer : ℕ) → IsNeededBy schemas pairs kept table pointer → IsNeededBy schemas pairs kept other pointer → table ≡ other
+AreApart schemas pairs kept =
+    (table other pointer : ℕ) → IsNeededBy schemas pairs kept table pointer → IsNeededBy schemas pairs kept other pointer → table ≡ other
 
 -- no row needs what is kept behind the pointer
 abbrev pub IsUnneeded : List Schema → (ℕ → List Pair) → (ℕ → Option Kept) → ℕ → Type 0

@@ -28,7 +28,8 @@ entries_kept m p =
     let kept = where_key place_cmp p (entries m) in
     let rising = is_sorted-where_key place_cmp p (entries m) (entries_sorted m) in
     let same : (q : Place) → get (retain_keys m p) q ≡ get (from_sorted kept) q =
-    λ q. get_kept m p q ∙ ap (λ o. cond (p q) o None) (get-entries m q) ∙ sym (find-where_key place_cmp p q (alike p q) (entries m)) ∙ sym (get-from_sorted place_cmp kept q rising) in
+    λ q. get_kept m p q ∙ ap (λ o. cond (p q) o None) (get-entries m q) ∙ sym (find-where_key place_cmp p q (alike p q) (entries m)) ∙ sym
+    (get-from_sorted place_cmp kept q rising) in
     ap entries (same_map place_cmp_total place_cmp-IsAntisymmetric (retain_keys m p) (from_sorted kept) same) ∙ entries-from_sorted place_cmp kept rising
 
 -- ---- each entry of a map stands at its place
@@ -42,7 +43,8 @@ lower Less h = refl
 lower Equal h = absurd h
 lower Greater h = absurd h
 
-later : (e : Place × List Value) (es fs : List (Place × List Value)) → T (below_all place_cmp e.0 es) → AllByRecursion (λ x. find place_cmp x.0 fs ≡ Some x.1) es → AllByRecursion (λ x. find place_cmp x.0 (e ∷ fs) ≡ Some x.1) es
+later : (e : Place × List Value) (es fs : List (Place × List Value)) → T (below_all place_cmp e.0 es)
+    → AllByRecursion (λ x. find place_cmp x.0 fs ≡ Some x.1) es → AllByRecursion (λ x. find place_cmp x.0 (e ∷ fs) ≡ Some x.1) es
 later e [] fs below all = tt
 later e (x ∷ es) fs below all =
     let parts = both (is_lt (place_cmp e.0 x.0)) (below_all place_cmp e.0 es) below in
@@ -55,7 +57,8 @@ standing (e ∷ es) rising =
     let parts = both (below_all place_cmp e.0 es) (is_sorted place_cmp es) rising in
     (ap (λ o. cond (is_eq o) (Some e.1) (find place_cmp e.0 es)) (tied_itself place_cmp_total e.0), later e es es parts.0 (standing es parts.1))
 
-by_get : (m : RowMap) (es : List (Place × List Value)) → AllByRecursion (λ e. find place_cmp e.0 (entries m) ≡ Some e.1) es → AllByRecursion (λ e. get m e.0 ≡ Some e.1) es
+by_get : (m : RowMap) (es : List (Place × List Value)) → AllByRecursion (λ e. find place_cmp e.0 (entries m) ≡ Some e.1) es
+    → AllByRecursion (λ e. get m e.0 ≡ Some e.1) es
 by_get m [] all = tt
 by_get m (e ∷ es) all = (get-entries m e.0 ∙ all.0, by_get m es all.1)
 
@@ -68,7 +71,9 @@ module _ (table : ℕ) (test found : List Value → Bool) where
   abbrev rows_in : List (Place × List Value) → List (List Value)
   rows_in es = filter test (map (λ (e : Place × List Value). e.1) (filter (λ (e : Place × List Value). e.0.0 == table) es))
 
-  rows_kept : (p : Place → Bool) (es : List (Place × List Value)) → AllByRecursion (λ e. p e.0 ≡ not ((e.0.0 == table) && is_missed test found (Some e.1))) es → rows_in (where_key place_cmp p es) ≡ filter found (rows_in es)
+  rows_kept : (p : Place → Bool) (es : List (Place × List Value))
+      → AllByRecursion (λ e. p e.0 ≡ not ((e.0.0 == table) && is_missed test found (Some e.1))) es
+      → rows_in (where_key place_cmp p es) ≡ filter found (rows_in es)
   rows_kept p [] all = refl
   rows_kept p (e ∷ es) all =
       let rest = rows_kept p es all.1 in
@@ -79,15 +84,18 @@ module _ (table : ℕ) (test found : List Value → Bool) where
               let kept : p e.0 ≡ true = all.0 ∙ ap (λ b. not (b && is_missed test found (Some e.1))) here ∙ ap (λ b. not (b && not (found e.1))) fails in
               rw kept (rw here (rw fails rest))
           | true ↦ λ passes.
-              let left : p e.0 ≡ not (not (found e.1)) = all.0 ∙ ap (λ b. not (b && is_missed test found (Some e.1))) here ∙ ap (λ b. not (b && not (found e.1))) passes in
+              let left : p e.0 ≡ not (not (found e.1)) =
+              all.0 ∙ ap (λ b. not (b && is_missed test found (Some e.1))) here ∙ ap (λ b. not (b && not (found e.1))) passes in
               elim (found e.1) as (λ b. found e.1 ≡ b → rows_in (where_key place_cmp p (e ∷ es)) ≡ filter found (rows_in (e ∷ es))) [
-                | true ↦ λ was. let kept : p e.0 ≡ true = left ∙ ap (λ b. not (not b)) was in rw kept (rw here (rw passes (rw was (ap (λ (rs : List (List Value)). e.1 ∷ rs) rest))))
+                | true ↦ λ was. let kept : p e.0 ≡ true =
+                    left ∙ ap (λ b. not (not b)) was in rw kept (rw here (rw passes (rw was (ap (λ (rs : List (List Value)). e.1 ∷ rs) rest))))
                 | false ↦ λ was. let gone : p e.0 ≡ false = left ∙ ap (λ b. not (not b)) was in rw gone (rw here (rw passes (rw was rest)))
               ] refl
         ] refl
       ] refl
 
-  kept_by : (m : RowMap) (es : List (Place × List Value)) → AllByRecursion (λ e. get m e.0 ≡ Some e.1) es → AllByRecursion (λ e. not ((e.0.0 == table) && is_missed test found (get m e.0)) ≡ not ((e.0.0 == table) && is_missed test found (Some e.1))) es
+  kept_by : (m : RowMap) (es : List (Place × List Value)) → AllByRecursion (λ e. get m e.0 ≡ Some e.1) es
+      → AllByRecursion (λ e. not ((e.0.0 == table) && is_missed test found (get m e.0)) ≡ not ((e.0.0 == table) && is_missed test found (Some e.1))) es
   kept_by m [] all = tt
   kept_by m (e ∷ es) all = (ap (λ o. not ((e.0.0 == table) && is_missed test found o)) all.0, kept_by m es all.1)
 

@@ -35,7 +35,8 @@ module _ (s table : ℕ) (test found : List Value → Bool) (past : List Event) 
 
   -- a row that stood still was not missed
   keeps : (place : Place) (row : Option (List Value)) → Throughout (λ h. get (base s h).rows place ≡ row) s past → kept place ≡ true
-  keeps place None all = ap (λ o. not ((place.0 == table) && is_missed test found o)) (now_of (λ h. get (base s h).rows place ≡ None) s past some all) ∙ off (place.0 == table)
+  keeps place None all =
+      ap (λ o. not ((place.0 == table) && is_missed test found o)) (now_of (λ h. get (base s h).rows place ≡ None) s past some all) ∙ off (place.0 == table)
     where
       off : (b : Bool) → not (b && false) ≡ true
       off true = refl
@@ -48,7 +49,8 @@ module _ (s table : ℕ) (test found : List Value → Bool) (past : List Event) 
             let here : place.0 ≡ table = (Decides-eqb place.0 table).0 same in
             elim (test row) as (λ b. test row ≡ b → not (b && not (found row)) ≡ true) [
               | false ↦ λ fails. refl
-              | true ↦ λ passes. ap (λ b. not (not b)) (still place.1 row (subst (λ t. Throughout (λ h. get (base s h).rows (t, place.1) ≡ Some row) s past) here all) passes)
+              | true ↦ λ passes. ap (λ b. not (not b)) (still place.1 row
+                  (subst (λ t. Throughout (λ h. get (base s h).rows (t, place.1) ≡ Some row) s past) here all) passes)
             ] refl
       ] refl
 
@@ -62,14 +64,21 @@ module _ (s table : ℕ) (test found : List Value → Bool) (past : List Event) 
             ∙ now_of (λ h. get (base s h).rows place ≡ row) s past some all;
         moved = λ place.
             let at = get_kept (base s past).rows kept place in
-            elim (kept place) as (λ b. get (without_missed table test found (base s past)).rows place ≡ cond b (get (base s past).rows place) None → (get (without_missed table test found (base s past)).rows place ≡ None) ⊎ Sometime (λ h. get (base s h).rows place ≡ get (without_missed table test found (base s past)).rows place) s past) [
+            elim (kept place) as (λ b. get (without_missed table test found (base s past)).rows place ≡ cond b (get (base s past).rows place) None →
+            (get (without_missed table test found (base s past)).rows place ≡ None) ⊎ Sometime
+            (λ h. get (base s h).rows place ≡ get (without_missed table test found (base s past)).rows place) s past) [
               | false ↦ λ e. inl e
               | true ↦ λ e. inr (now (λ h. get (base s h).rows place ≡ get (without_missed table test found (base s past)).rows place) s past some (sym e))
             ] at;
       }
 
-pub held_loose : (statement : Stmt) (name : List ℕ) (condition : Option Filter) (table : ℕ) (schema : Schema) (found : List Value → Bool) (s : ℕ) (past : List Event) → past ≢ [] → Searches statement name condition
-    → table_place (base s past).schemas name ≡ Some table → slice_get (base s past).schemas table ≡ Some schema → IsKeyed (base s past) → HasFoundStill s table (matches schema.columns condition) found past
+pub held_loose : (statement : Stmt) (name : List ℕ) (condition : Option Filter) (table : ℕ) (schema : Schema) (found : List Value → Bool) (s : ℕ)
+    (past : List Event) → past ≢ [] → Searches statement name condition
+    → table_place (base s past).schemas name ≡ Some table → slice_get (base s past).schemas table ≡ Some schema → IsKeyed (base s past) → HasFoundStill s
+    table (matches schema.columns condition) found past
     → MaySee Sight.of_moments s statement (without_missed table (matches schema.columns condition) found (base s past)) past
-held_loose statement name condition table schema found s past some searches there is keyed still =
-    (loose s table (matches schema.columns condition) found past some still, takes (base s past) name table schema (matches schema.columns condition) found there is keyed statement condition searches)
+held_loose statement name condition table schema found s past some searches there is keyed still = (
+  loose s table (matches schema.columns condition) found past some still,
+  takes (base s past) name table schema (matches schema.columns condition) found
+      there is keyed statement condition searches,
+)

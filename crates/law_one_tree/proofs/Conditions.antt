@@ -72,7 +72,8 @@ Stands Tight below tokens = MayTight below
 Stands Single below tokens = Unit {0}
 
 -- the machine reads what the grammar spells
-runs : {s : Strength} {xs ys : List Token} {f : Filter} → Condition s xs f ys → (below : List (Frame FilterTree)) → Stands s below ys → {zs : List Token} {b : FilterTree} → Run go Leaf (Has below (filter_tree f) ys) b zs → Run go Leaf (Wants below xs) b zs
+runs : {s : Strength} {xs ys : List Token} {f : Filter} → Condition s xs f ys → (below : List (Frame FilterTree)) → Stands s below ys
+    → {zs : List Token} {b : FilterTree} → Run go Leaf (Has below (filter_tree f) ys) b zs → Run go Leaf (Wants below xs) b zs
 runs (grammar.atom a) below h r = leaf (leaf_of a) r
 runs (grammar.not c) below h r = step refl (runs c (Takes tree.Not ∷ below) tt (step refl r))
 runs (grammar.brackets c) below h r = step refl (runs c (Bracket ∷ below) (tt, tt) (step refl r))
@@ -88,5 +89,6 @@ runs (grammar.or {ys = ys} {zs = zs} {f = f} {g = g} c d) below h r =
 run_of : {xs ys : List Token} {f : Filter} → Condition Loose xs f ys → NoOperator (follow ys) → Run go Leaf (Wants [] xs) (filter_tree f) ys
 run_of {ys = ys} {f = f} c h = runs c [] (tt, no_operator follow opening (follow ys) h) (whole (ends follow opening (filter_tree f) ys h))
 
-pub condition_one : {xs ys zs : List Token} {f g : Filter} → Condition Loose xs f ys → Condition Loose xs g zs → NoOperator (follow ys) → NoOperator (follow zs) → Same (filter_tree f) (filter_tree g) ys zs
+pub condition_one : {xs ys zs : List Token} {f g : Filter} → Condition Loose xs f ys → Condition Loose xs g zs → NoOperator (follow ys)
+    → NoOperator (follow zs) → Same (filter_tree f) (filter_tree g) ys zs
 condition_one c d h k = one_run go Leaf apart leaf_one (run_of c h) (run_of d k)

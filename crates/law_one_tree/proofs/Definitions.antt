@@ -71,7 +71,9 @@ bracket_no_name : {A : Type 0} {xs us ys zs : List Token} {column name : List �
 bracket_no_name e (grammar.bracketed c) grammar.bare = absurd (cc)
 bracket_no_name e (grammar.bracketed c) grammar.quoted = absurd (cc)
 
-column_one : {xs ys zs ws vs ps qs rs ts : List Token} {name other : List ℕ} {k l : DeclaredKind} {n m : Option Bool} {p q : Bool} → Name xs name ys → ColumnKind ys k zs → Nullable zs n ws → Primary ws p vs → Name xs other ps → ColumnKind ps l qs → Nullable qs m rs → Primary rs q ts → EndsDefinition vs → EndsDefinition ts → Same (definition.Column name k n p) (definition.Column other l m q) vs ts
+column_one : {xs ys zs ws vs ps qs rs ts : List Token} {name other : List ℕ} {k l : DeclaredKind} {n m : Option Bool} {p q : Bool} → Name xs name ys
+    → ColumnKind ys k zs → Nullable zs n ws → Primary ws p vs → Name xs other ps → ColumnKind ps l qs → Nullable qs m rs → Primary rs q ts
+    → EndsDefinition vs → EndsDefinition ts → Same (definition.Column name k n p) (definition.Column other l m q) vs ts
 column_one {rs = rs} {ts = ts} {m = m} {q = q} a b c d x y z w h i =
     let s = name_same refl a x in
     let t = along ColumnKind (λ xs ys zs a b k l. kind_one k l) s.1 b y in
@@ -101,10 +103,12 @@ define_one (grammar.named_key w n b) (grammar.named_key v m c) h i =
 define_same : {xs us ys zs : List Token} {a b : Definition} → xs ≡ us → Define xs a ys → Define us b zs → EndsDefinition ys → EndsDefinition zs → Same a b ys zs
 define_same {zs = zs} {b = b} e c d h i = define_one c (subst (λ (ts : List Token). Define ts b zs) (sym e) d) h i
 
-pub definitions_same : {xs us ys zs : List Token} {a b : List Definition} → xs ≡ us → Commas Define xs a (Close ∷ ys) → Commas Define us b (Close ∷ zs) → Same a b (Close ∷ ys) (Close ∷ zs)
+pub definitions_same : {xs us ys zs : List Token} {a b : List Definition} → xs ≡ us → Commas Define xs a (Close ∷ ys) → Commas Define us b (Close ∷ zs)
+    → Same a b (Close ∷ ys) (Close ∷ zs)
 definitions_same e c d = commas_one Define EndsDefinition (λ ys. tt) (λ xs us ys zs a b e i j f g. define_same e i j f g) e c d tt tt tt tt
 
-pub skips_one : {xs ys zs us vs : List Token} {a b : Bool} {table other : List ℕ} → IfNotExists xs a ys → IfNotExists xs b zs → Name ys table us → Name zs other vs → Same a b ys zs
+pub skips_one : {xs ys zs us vs : List Token} {a b : Bool} {table other : List ℕ} → IfNotExists xs a ys → IfNotExists xs b zs → Name ys table us
+    → Name zs other vs → Same a b ys zs
 skips_one grammar.unsaid grammar.unsaid n m = (refl, refl)
 skips_one grammar.unsaid grammar.said n m = elim n [ ]
 skips_one grammar.said grammar.unsaid n m = elim m [ ]

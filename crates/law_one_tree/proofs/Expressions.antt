@@ -72,7 +72,8 @@ Stands Tight below tokens = MayTight below
 Stands Single below tokens = Unit {0}
 
 -- the machine reads what the grammar spells
-runs : {s : Strength} {xs ys : List Token} {e : Expr} → Expression s xs e ys → (below : List (Frame ExprTree)) → Stands s below ys → {zs : List Token} {b : ExprTree} → Run go Leaf (Has below (expr_tree e) ys) b zs → Run go Leaf (Wants below xs) b zs
+runs : {s : Strength} {xs ys : List Token} {e : Expr} → Expression s xs e ys → (below : List (Frame ExprTree)) → Stands s below ys
+    → {zs : List Token} {b : ExprTree} → Run go Leaf (Has below (expr_tree e) ys) b zs → Run go Leaf (Wants below xs) b zs
 runs (grammar.of_literal l) below h r = leaf (_, of_literal l, refl) r
 runs (grammar.of_column n) below h r = leaf (_, of_column n, refl) r
 runs (grammar.negate {xs = xs} n c) below h r =
@@ -93,5 +94,6 @@ runs (grammar.minus {ys = ys} {zs = zs} {e = e} {f = f} c d) below h r =
 run_of : {xs ys : List Token} {e : Expr} → Expression Loose xs e ys → NoOperator (follow ys) → Run go Leaf (Wants [] xs) (expr_tree e) ys
 run_of {ys = ys} {e = e} c h = runs c [] (tt, no_operator follow opening (follow ys) h) (whole (ends follow opening (expr_tree e) ys h))
 
-pub expression_one : {xs ys zs : List Token} {e f : Expr} → Expression Loose xs e ys → Expression Loose xs f zs → NoOperator (follow ys) → NoOperator (follow zs) → Same (expr_tree e) (expr_tree f) ys zs
+pub expression_one : {xs ys zs : List Token} {e f : Expr} → Expression Loose xs e ys → Expression Loose xs f zs → NoOperator (follow ys)
+    → NoOperator (follow zs) → Same (expr_tree e) (expr_tree f) ys zs
 expression_one c d h k = one_run go Leaf apart leaf_one (run_of c h) (run_of d k)

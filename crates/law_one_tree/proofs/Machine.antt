@@ -62,9 +62,12 @@ next follow opening (Has (Bracket ∷ below) a tokens) = in_brackets below a (fo
 pub data Run {T : Type 0} (go : State T → Option (State T)) (Operand : List Token → T → List Token → Type 0) : State T → T → List Token → Type 0 where
   whole : {a : T} {tokens : List Token} → go (Has [] a tokens) ≡ None → Run go Operand (Has [] a tokens) a tokens
   step : {s t : State T} {a : T} {tokens : List Token} → go s ≡ Some t → Run go Operand t a tokens → Run go Operand s a tokens
-  leaf : {below : List (Frame T)} {xs ys zs : List Token} {a b : T} → Operand xs a ys → Run go Operand (Has below a ys) b zs → Run go Operand (Wants below xs) b zs
+  leaf : {below : List (Frame T)} {xs ys zs : List Token} {a b : T} → Operand xs a ys → Run go Operand (Has below a ys) b zs
+      → Run go Operand (Wants below xs) b zs
 
-module _ {T : Type 0} (go : State T → Option (State T)) (Operand : List Token → T → List Token → Type 0) (apart : (below : List (Frame T)) (xs ys : List Token) (a : T) → Operand xs a ys → go (Wants below xs) ≡ None) (one : (xs ys zs : List Token) (a b : T) → Operand xs a ys → Operand xs b zs → (a ≡ b) × (ys ≡ zs)) where
+module _ {T : Type 0} (go : State T → Option (State T)) (Operand : List Token → T → List Token → Type 0)
+    (apart : (below : List (Frame T)) (xs ys : List Token) (a : T) → Operand xs a ys → go (Wants below xs) ≡ None)
+    (one : (xs ys zs : List Token) (a b : T) → Operand xs a ys → Operand xs b zs → (a ≡ b) × (ys ≡ zs)) where
   pub one_run : {s : State T} {a b : T} {ys zs : List Token} → Run go Operand s a ys → Run go Operand s b zs → (a ≡ b) × (ys ≡ zs)
   one_run (whole e) (whole f) = (refl, refl)
   one_run (whole e) (step f q) = absurd (cc)
@@ -121,26 +124,30 @@ module _ {T : Type 0} (follow : List Token → Follow T) (opening : List Token �
   no_operator Nothing h = tt
 
   -- behind an operand that may be the left side of a tight operator
-  pub tight_goes : (below : List (Frame T)) (a : T) (f : T → T → T) (tokens rest : List Token) → follow tokens ≡ Tight f rest → MayTight below → next follow opening (Has below a tokens) ≡ Some (Wants (Takes (f a) ∷ below) rest)
+  pub tight_goes : (below : List (Frame T)) (a : T) (f : T → T → T) (tokens rest : List Token) → follow tokens ≡ Tight f rest → MayTight below
+      → next follow opening (Has below a tokens) ≡ Some (Wants (Takes (f a) ∷ below) rest)
   tight_goes [] a f tokens rest e h = ap (λ (x : Follow T). at_bottom a x) e
   tight_goes (Takes g ∷ below) a f tokens rest e h = absurd h
   tight_goes (Adds g ∷ below) a f tokens rest e h = ap (λ (x : Follow T). in_sum g below a tokens x) e
   tight_goes (Bracket ∷ below) a f tokens rest e h = ap (λ (x : Follow T). in_brackets below a x) e
 
-  pub loose_goes : (below : List (Frame T)) (a : T) (f : T → T → T) (tokens rest : List Token) → follow tokens ≡ Loose f rest → MayLoose below → next follow opening (Has below a tokens) ≡ Some (Wants (Adds (f a) ∷ below) rest)
+  pub loose_goes : (below : List (Frame T)) (a : T) (f : T → T → T) (tokens rest : List Token) → follow tokens ≡ Loose f rest → MayLoose below
+      → next follow opening (Has below a tokens) ≡ Some (Wants (Adds (f a) ∷ below) rest)
   loose_goes [] a f tokens rest e h = ap (λ (x : Follow T). at_bottom a x) e
   loose_goes (Takes g ∷ below) a f tokens rest e h = absurd h
   loose_goes (Adds g ∷ below) a f tokens rest e h = absurd h
   loose_goes (Bracket ∷ below) a f tokens rest e h = ap (λ (x : Follow T). in_brackets below a x) e
 
   -- behind the right side of a loose operator
-  sum_ends : (g : T → T) (below : List (Frame T)) (a : T) (tokens : List Token) (x : Follow T) → NoTight x → in_sum g below a tokens x ≡ Some (Has below (g a) tokens)
+  sum_ends : (g : T → T) (below : List (Frame T)) (a : T) (tokens : List Token) (x : Follow T) → NoTight x
+      → in_sum g below a tokens x ≡ Some (Has below (g a) tokens)
   sum_ends g below a tokens (Tight f rest) h = absurd h
   sum_ends g below a tokens (Loose f rest) h = refl
   sum_ends g below a tokens (Closing rest) h = refl
   sum_ends g below a tokens Nothing h = refl
 
-  pub adds_goes : (g : T → T) (below : List (Frame T)) (a : T) (tokens : List Token) → NoTight (follow tokens) → next follow opening (Has (Adds g ∷ below) a tokens) ≡ Some (Has below (g a) tokens)
+  pub adds_goes : (g : T → T) (below : List (Frame T)) (a : T) (tokens : List Token) → NoTight (follow tokens)
+      → next follow opening (Has (Adds g ∷ below) a tokens) ≡ Some (Has below (g a) tokens)
   adds_goes g below a tokens h = sum_ends g below a tokens (follow tokens) h
 
   bottom_ends : (a : T) (x : Follow T) → NoOperator x → at_bottom a x ≡ None

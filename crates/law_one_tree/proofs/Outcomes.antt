@@ -41,7 +41,9 @@ folded h n a o (tree.Not t) = n (folded h n a o t)
 folded h n a o (tree.And t u) = a (folded h n a o t) (folded h n a o u)
 folded h n a o (tree.Or t u) = o (folded h n a o t) (folded h n a o u)
 
-module _ {X : Type 0} (h : Filter → X) (n : X → X) (a o : X → X → X) (en : (p : _) (f : Filter) → h (filters.Not' p f) ≡ n (h f)) (ea : (p : _) (f : Filter) (q : _) (g : Filter) → h (filters.And' p f q g) ≡ a (h f) (h g)) (eo : (p : _) (f : Filter) (q : _) (g : Filter) → h (filters.Or' p f q g) ≡ o (h f) (h g)) where
+module _ {X : Type 0} (h : Filter → X) (n : X → X) (a o : X → X → X) (en : (p : _) (f : Filter) → h (filters.Not' p f) ≡ n (h f))
+    (ea : (p : _) (f : Filter) (q : _) (g : Filter) → h (filters.And' p f q g) ≡ a (h f) (h g))
+    (eo : (p : _) (f : Filter) (q : _) (g : Filter) → h (filters.Or' p f q g) ≡ o (h f) (h g)) where
   through : (f : Filter) → h f ≡ folded h n a o (filter_tree f)
   unfolding folded
   through (filters.Compare left how right) = refl
@@ -60,7 +62,9 @@ abbrev truth_on : Filter → List Column → List Value → Truth
 truth_on f columns row = truth_of columns row f
 
 truths : (f g : Filter) → filter_tree f ≡ filter_tree g → truth_on f ≡ truth_on g
-truths f g e = by_filter truth_on (λ k columns row. not_of (k columns row)) (λ j k columns row. and_of (j columns row) (k columns row)) (λ j k columns row. or_of (j columns row) (k columns row)) (λ p f. refl) (λ p f q g. refl) (λ p f q g. refl) f g e
+truths f g e =
+    by_filter truth_on (λ k columns row. not_of (k columns row)) (λ j k columns row. and_of (j columns row) (k columns row))
+    (λ j k columns row. or_of (j columns row) (k columns row)) (λ p f. refl) (λ p f q g. refl) (λ p f q g. refl) f g e
 
 filters_known : (columns : List Column) (f g : Filter) → filter_tree f ≡ filter_tree g → filter_known columns f ≡ filter_known columns g
 filters_known columns f g e = by_filter (filter_known columns) (λ k. k) (λ j k. j && k) (λ j k. j && k) (λ p f. refl) (λ p f q g. refl) (λ p f q g. refl) f g e
@@ -68,7 +72,8 @@ filters_known columns f g e = by_filter (filter_known columns) (λ k. k) (λ j k
 filters_fit : (columns : List Column) (f g : Filter) → filter_tree f ≡ filter_tree g → filter_fits columns f ≡ filter_fits columns g
 filters_fit columns f g e = by_filter (filter_fits columns) (λ k. k) (λ j k. j && k) (λ j k. j && k) (λ p f. refl) (λ p f q g. refl) (λ p f q g. refl) f g e
 
-matchings : (f g : Option Filter) → where_tree f ≡ where_tree g → (columns : List Column) (rows : List (List Value)) → matching columns f rows ≡ matching columns g rows
+matchings : (f g : Option Filter) → where_tree f ≡ where_tree g → (columns : List Column) (rows : List (List Value))
+    → matching columns f rows ≡ matching columns g rows
 matchings None None e columns rows = refl
 matchings None (Some g) e columns rows = absurd (cc)
 matchings (Some f) None e columns rows = absurd (cc)
@@ -95,7 +100,10 @@ reckoned h n a s m (tree.Add t u) = a (reckoned h n a s m t) (reckoned h n a s m
 reckoned h n a s m (tree.Subtract t u) = s (reckoned h n a s m t) (reckoned h n a s m u)
 reckoned h n a s m (tree.Multiply t u) = m (reckoned h n a s m t) (reckoned h n a s m u)
 
-module _ {X : Type 0} (h : Expr → X) (n : X → X) (a s m : X → X → X) (en : (p : _) (e : Expr) → h (expr.Negate' p e) ≡ n (h e)) (ea : (p : _) (e : Expr) (q : _) (f : Expr) → h (expr.Add' p e q f) ≡ a (h e) (h f)) (es : (p : _) (e : Expr) (q : _) (f : Expr) → h (expr.Subtract' p e q f) ≡ s (h e) (h f)) (em : (p : _) (e : Expr) (q : _) (f : Expr) → h (expr.Multiply' p e q f) ≡ m (h e) (h f)) where
+module _ {X : Type 0} (h : Expr → X) (n : X → X) (a s m : X → X → X) (en : (p : _) (e : Expr) → h (expr.Negate' p e) ≡ n (h e))
+    (ea : (p : _) (e : Expr) (q : _) (f : Expr) → h (expr.Add' p e q f) ≡ a (h e) (h f))
+    (es : (p : _) (e : Expr) (q : _) (f : Expr) → h (expr.Subtract' p e q f) ≡ s (h e) (h f))
+    (em : (p : _) (e : Expr) (q : _) (f : Expr) → h (expr.Multiply' p e q f) ≡ m (h e) (h f)) where
   reckons : (e : Expr) → h e ≡ reckoned h n a s m (expr_tree e)
   unfolding reckoned
   reckons (expr.Literal l) = refl
@@ -109,10 +117,14 @@ module _ {X : Type 0} (h : Expr → X) (n : X → X) (a s m : X → X → X) (en
   by_expr e f k = reckons e ∙ ap (λ (t : ExprTree). reckoned h n a s m t) k ∙ sym (reckons f)
 
 values : (columns : List Column) (row : List Value) (e f : Expr) → expr_tree e ≡ expr_tree f → expr_value columns row e ≡ expr_value columns row f
-values columns row e f k = by_expr (expr_value columns row) (λ v. and_then v negated) (both ◌+ℤ◌) (both ◌-ℤ◌) (both ◌*ℤ◌) (λ p e. refl) (λ p e q f. refl) (λ p e q f. refl) (λ p e q f. refl) e f k
+values columns row e f k =
+    by_expr (expr_value columns row) (λ v. and_then v negated) (both ◌+ℤ◌) (both ◌-ℤ◌) (both ◌*ℤ◌) (λ p e. refl) (λ p e q f. refl) (λ p e q f. refl)
+    (λ p e q f. refl) e f k
 
 exprs_known : (columns : List Column) (e f : Expr) → expr_tree e ≡ expr_tree f → expr_known columns e ≡ expr_known columns f
-exprs_known columns e f k = by_expr (expr_known columns) (λ j. j) (λ i j. i && j) (λ i j. i && j) (λ i j. i && j) (λ p e. refl) (λ p e q f. refl) (λ p e q f. refl) (λ p e q f. refl) e f k
+exprs_known columns e f k =
+    by_expr (expr_known columns) (λ j. j) (λ i j. i && j) (λ i j. i && j) (λ i j. i && j) (λ p e. refl) (λ p e q f. refl) (λ p e q f. refl) (λ p e q f. refl)
+    e f k
 
 -- whether the whole right side fits, and whether it fits as a part
 abbrev fit_pair : List Column → DataType → Expr → Bool × Bool
@@ -125,7 +137,9 @@ abbrev two_fit : DataType → Bool × Bool → Bool × Bool → Bool × Bool
 two_fit type x y = twice (is_same_type type Number && (x.1 && y.1))
 
 pairs_fit : (columns : List Column) (type : DataType) (e f : Expr) → expr_tree e ≡ expr_tree f → fit_pair columns type e ≡ fit_pair columns type f
-pairs_fit columns type e f k = by_expr (fit_pair columns type) (λ (x : Bool × Bool). twice (is_same_type type Number && x.1)) (two_fit type) (two_fit type) (two_fit type) (λ p e. refl) (λ p e q f. refl) (λ p e q f. refl) (λ p e q f. refl) e f k
+pairs_fit columns type e f k =
+    by_expr (fit_pair columns type) (λ (x : Bool × Bool). twice (is_same_type type Number && x.1)) (two_fit type) (two_fit type) (two_fit type) (λ p e. refl)
+    (λ p e q f. refl) (λ p e q f. refl) (λ p e q f. refl) e f k
 
 wholes_fit : (columns : List Column) (type : Option DataType) (e f : Expr) → expr_tree e ≡ expr_tree f → whole_fits columns e type ≡ whole_fits columns f type
 wholes_fit columns None e f k = refl
@@ -154,7 +168,8 @@ set_fits_same : (schema : Schema) (a b : Set) → set_tree a ≡ set_tree b → 
 set_fits_same schema a b e =
     let x = column_same a b e in let y = wholes_fit schema.columns (column_type schema.columns a.column) a.value b.value (value_same a b e) in cc
 
-sets_same : (p : Set → Bool) → ((a b : Set) → set_tree a ≡ set_tree b → p a ≡ p b) → (xs ys : List Set) → map set_tree xs ≡ map set_tree ys → list_all p xs ≡ list_all p ys
+sets_same : (p : Set → Bool) → ((a b : Set) → set_tree a ≡ set_tree b → p a ≡ p b) → (xs ys : List Set) → map set_tree xs ≡ map set_tree ys
+    → list_all p xs ≡ list_all p ys
 sets_same p same [] [] e = refl
 sets_same p same [] (y ∷ ys) e = absurd (cc)
 sets_same p same (x ∷ xs) [] e = absurd (cc)
@@ -168,15 +183,18 @@ then_same : {A B : Type 0} (r : Result A SqlError) (f g : A → Result B SqlErro
 then_same (Ok a) f g h = h a
 then_same (Err e) f g h = refl
 
-all_assigned_same : (columns : List Column) (xs ys : List Set) → map set_tree xs ≡ map set_tree ys → (row : List Value) → all_assigned columns row xs ≡ all_assigned columns row ys
+all_assigned_same : (columns : List Column) (xs ys : List Set) → map set_tree xs ≡ map set_tree ys → (row : List Value)
+    → all_assigned columns row xs ≡ all_assigned columns row ys
 all_assigned_same columns [] [] e row = refl
 all_assigned_same columns [] (y ∷ ys) e row = absurd (cc)
 all_assigned_same columns (x ∷ xs) [] e row = absurd (cc)
 all_assigned_same columns (x ∷ xs) (y ∷ ys) e row =
     ap (λ (r : Result (List Value) SqlError). and_then r (λ after. all_assigned columns after xs)) (assigned_same columns row x y (cc))
-    ∙ then_same (assigned columns row y) (λ after. all_assigned columns after xs) (λ after. all_assigned columns after ys) (λ after. all_assigned_same columns xs ys (cc) after)
+    ∙ then_same (assigned columns row y) (λ after. all_assigned columns after xs) (λ after. all_assigned columns after ys)
+    (λ after. all_assigned_same columns xs ys (cc) after)
 
-updated_same : (table : ℕ) (schema : Schema) (xs ys : List Set) → map set_tree xs ≡ map set_tree ys → (rows : List (List Value)) → updated table schema xs rows ≡ updated table schema ys rows
+updated_same : (table : ℕ) (schema : Schema) (xs ys : List Set) → map set_tree xs ≡ map set_tree ys → (rows : List (List Value))
+    → updated table schema xs rows ≡ updated table schema ys rows
 updated_same table schema xs ys e [] = refl
 updated_same table schema xs ys e (row ∷ rows) =
     let x = all_assigned_same schema.columns xs ys e row in let y = updated_same table schema xs ys e rows in
@@ -185,7 +203,8 @@ updated_same table schema xs ys e (row ∷ rows) =
 
 -- ---- statements
 
-on_rows_same : (db : Database) (table : List ℕ) (f g : ℕ → Schema → List (List Value) → Outcome) → ((n : ℕ) (schema : Schema) (rows : List (List Value)) → f n schema rows ≡ g n schema rows) → on_rows db table f ≡ on_rows db table g
+on_rows_same : (db : Database) (table : List ℕ) (f g : ℕ → Schema → List (List Value) → Outcome)
+    → ((n : ℕ) (schema : Schema) (rows : List (List Value)) → f n schema rows ≡ g n schema rows) → on_rows db table f ≡ on_rows db table g
 on_rows_same db table f g h = at (table_place db.schemas table)
   where
     there : (n : ℕ) (o : Option Schema) → on_schema n o (rows_of n db) f ≡ on_schema n o (rows_of n db) g
@@ -203,15 +222,25 @@ on_table_same (Some schema) f g h = h schema
 module _ (db : Database) (table : List ℕ) (f g : Option Filter) (e : where_tree f ≡ where_tree g) where
   select_same : (selected : Selected) (lock : Option Mode) → outcome (stmt.Select selected table f lock) db ≡ outcome (stmt.Select selected table g lock) db
   select_same selected lock =
-      let r = on_table_same (schema_named db.schemas table) (select_refusal selected f) (select_refusal selected g) (λ schema. let k = wheres_known f g e schema.columns in let t = wheres_fit f g e schema.columns in cc) in
-      let a = on_rows_same db table (select_answer selected f) (select_answer selected g) (λ n schema rows. ap (λ (m : List (List Value)). answered (Rows (map (selected_of schema.columns selected) m))) (matchings f g e schema.columns rows)) in
+      let r =
+      on_table_same (schema_named db.schemas table) (select_refusal selected f) (select_refusal selected g)
+      (λ schema. let k = wheres_known f g e schema.columns in let t = wheres_fit f g e schema.columns in cc) in
+      let a =
+      on_rows_same db table (select_answer selected f) (select_answer selected g)
+      (λ n schema rows. ap (λ (m : List (List Value)). answered (Rows (map (selected_of schema.columns selected) m)))
+      (matchings f g e schema.columns rows)) in
       ap (λ (x : Option SqlError). unless_refused x (answer_to (stmt.Select selected table f lock) db)) r
       ∙ ap (λ (y : Outcome). unless_refused (refusal db.schemas (stmt.Select selected table g lock)) y) a
 
   delete_same : outcome (stmt.Delete table f) db ≡ outcome (stmt.Delete table g) db
   delete_same =
-      let r = on_table_same (schema_named db.schemas table) (delete_refusal f) (delete_refusal g) (λ schema. let k = wheres_known f g e schema.columns in let t = wheres_fit f g e schema.columns in cc) in
-      let a = on_rows_same db table (delete_answer f) (delete_answer g) (λ n schema rows. ap (λ (m : List (List Value)). counted (record { changes = deleted n schema m; refusal = None })) (matchings f g e schema.columns rows)) in
+      let r =
+      on_table_same (schema_named db.schemas table) (delete_refusal f) (delete_refusal g)
+      (λ schema. let k = wheres_known f g e schema.columns in let t = wheres_fit f g e schema.columns in cc) in
+      let a =
+      on_rows_same db table (delete_answer f) (delete_answer g)
+      (λ n schema rows. ap (λ (m : List (List Value)). counted (record { changes = deleted n schema m; refusal = None }))
+      (matchings f g e schema.columns rows)) in
       ap (λ (x : Option SqlError). unless_refused x (answer_to (stmt.Delete table f) db)) r
       ∙ ap (λ (y : Outcome). unless_refused (refusal db.schemas (stmt.Delete table g)) y) a
 
@@ -237,7 +266,8 @@ plain_same a other e = cc
 pub outcome_same : (a b : Stmt) → tree_of a ≡ tree_of b → (db : Database) → outcome a db ≡ outcome b db
 outcome_same (stmt.Select s t f l) (stmt.Select v u g m) e db =
     let x : s ≡ v = cc in let y : t ≡ u = cc in let z : l ≡ m = cc in
-    select_same db t f g (cc) s l ∙ ap (λ (s : Selected). outcome (stmt.Select s t g l) db) x ∙ ap (λ (t : List ℕ). outcome (stmt.Select v t g l) db) y ∙ ap (λ (l : Option Mode). outcome (stmt.Select v u g l) db) z
+    select_same db t f g (cc) s l ∙ ap (λ (s : Selected). outcome (stmt.Select s t g l) db) x ∙ ap (λ (t : List ℕ). outcome (stmt.Select v t g l) db) y ∙ ap
+    (λ (l : Option Mode). outcome (stmt.Select v u g l) db) z
 outcome_same (stmt.Select s t f l) b e db = absurd (cc)
 outcome_same (stmt.Update t xs f) (stmt.Update u ys g) e db =
     let y : t ≡ u = cc in update_same db t f g (cc) xs ys (cc) ∙ ap (λ (t : List ℕ). outcome (stmt.Update t ys g) db) y

@@ -22,7 +22,8 @@ pub behind : {x y : Token} {xs ys : List Token} → x ∷ xs ≡ y ∷ ys → xs
 behind e = cc
 
 -- one part is read of equal tokens, if one is of the same
-pub along : {A : Type 0} (Item : List Token → A → List Token → Type 0) → ((xs ys zs : List Token) (a b : A) → Item xs a ys → Item xs b zs → Same a b ys zs) → {xs us ys zs : List Token} {a b : A} → xs ≡ us → Item xs a ys → Item us b zs → Same a b ys zs
+pub along : {A : Type 0} (Item : List Token → A → List Token → Type 0) → ((xs ys zs : List Token) (a b : A) → Item xs a ys → Item xs b zs → Same a b ys zs)
+    → {xs us ys zs : List Token} {a b : A} → xs ≡ us → Item xs a ys → Item us b zs → Same a b ys zs
 along Item one {xs = xs} {ys = ys} {zs = zs} {a = a} {b = b} e i j = one xs ys zs a b i (subst (λ (ts : List Token). Item ts b zs) (sym e) j)
 
 name_one : {xs ys zs : List Token} {a b : List ℕ} → Name xs a ys → Name xs b zs → Same a b ys zs
@@ -61,14 +62,18 @@ BeginsNoComma (Comma ∷ rest) = ⊥
 BeginsNoComma (other ∷ rest) = Unit {0}
 
 -- Ends says of the tokens behind an item that it goes on no further.
-pub commas_one : {A : Type 0} (Item : List Token → A → List Token → Type 0) (Ends : List Token → Type 0) → ((ys : List Token) → Ends (Comma ∷ ys)) → ((xs us ys zs : List Token) (a b : A) → xs ≡ us → Item xs a ys → Item us b zs → Ends ys → Ends zs → Same a b ys zs) → {xs us ys zs : List Token} {as' bs : List A} → xs ≡ us → Commas Item xs as' ys → Commas Item us bs zs → Ends ys → Ends zs → BeginsNoComma ys → BeginsNoComma zs → Same as' bs ys zs
+pub commas_one : {A : Type 0} (Item : List Token → A → List Token → Type 0) (Ends : List Token → Type 0) → ((ys : List Token) → Ends (Comma ∷ ys))
+    → ((xs us ys zs : List Token) (a b : A) → xs ≡ us → Item xs a ys → Item us b zs → Ends ys → Ends zs → Same a b ys zs)
+    → {xs us ys zs : List Token} {as' bs : List A} → xs ≡ us → Commas Item xs as' ys → Commas Item us bs zs → Ends ys → Ends zs → BeginsNoComma ys
+    → BeginsNoComma zs → Same as' bs ys zs
 commas_one {A = A} Item Ends comma one {xs = xs} {us = us} {ys = ys} {zs = zs} e (grammar.last {a = a} i) (grammar.last {a = b} j) f g n m =
     let s = one xs us ys zs a b e i j f g in (ap (λ (x : A). x ∷ []) s.0, s.1)
 commas_one Item Ends comma one {xs = xs} {us = us} {ys = ys} e (grammar.last {a = a} i) (grammar.more {ys = vs} {a = b} j d) f g n m =
     let s = one xs us ys (Comma ∷ vs) a b e i j f (comma vs) in absurd (subst BeginsNoComma s.1 n)
 commas_one Item Ends comma one {xs = xs} {us = us} {zs = zs} e (grammar.more {ys = ws} {a = a} i c) (grammar.last {a = b} j) f g n m =
     let s = one xs us (Comma ∷ ws) zs a b e i j (comma ws) g in absurd (subst BeginsNoComma (sym s.1) m)
-commas_one Item Ends comma one {xs = xs} {us = us} e (grammar.more {ys = ws} {a = a} {others = as'} i c) (grammar.more {ys = vs} {a = b} {others = bs} j d) f g n m =
+commas_one Item Ends comma one {xs = xs} {us = us} e (grammar.more {ys = ws} {a = a} {others = as'} i c) (grammar.more {ys = vs} {a = b} {others = bs} j d) f
+    g n m =
     let s = one xs us (Comma ∷ ws) (Comma ∷ vs) a b e i j (comma ws) (comma vs) in
     let t = commas_one Item Ends comma one (behind s.1) c d f g n m in
     (cc, t.1)
@@ -77,16 +82,19 @@ commas_one Item Ends comma one {xs = xs} {us = us} e (grammar.more {ys = ws} {a 
 abbrev pub Anything : List Token → Type 0
 Anything xs = Unit {0}
 
-pub names_same : {xs us ys zs : List Token} {a b : List (List ℕ)} → xs ≡ us → Commas Name xs a ys → Commas Name us b zs → BeginsNoComma ys → BeginsNoComma zs → Same a b ys zs
+pub names_same : {xs us ys zs : List Token} {a b : List (List ℕ)} → xs ≡ us → Commas Name xs a ys → Commas Name us b zs → BeginsNoComma ys
+    → BeginsNoComma zs → Same a b ys zs
 names_same e c d n m = commas_one Name Anything (λ ys. tt) (λ xs us ys zs a b e i j f g. name_same e i j) e c d tt tt n m
 
-lits_same : {xs us ys zs : List Token} {a b : List Literal} → xs ≡ us → Commas Lit xs a ys → Commas Lit us b zs → BeginsNoComma ys → BeginsNoComma zs → Same a b ys zs
+lits_same : {xs us ys zs : List Token} {a b : List Literal} → xs ≡ us → Commas Lit xs a ys → Commas Lit us b zs → BeginsNoComma ys → BeginsNoComma zs
+    → Same a b ys zs
 lits_same e c d n m = commas_one Lit Anything (λ ys. tt) (λ xs us ys zs a b e i j f g. lit_same e i j) e c d tt tt n m
 
 pub tuple_same : {xs us ys zs : List Token} {a b : List Literal} → xs ≡ us → Tuple xs a ys → Tuple us b zs → Same a b ys zs
 tuple_same e (grammar.tuple c) (grammar.tuple d) = let s = lits_same (behind e) c d tt tt in (s.0, behind s.1)
 
-pub tuples_same : {xs us ys zs : List Token} {a b : List (List Literal)} → xs ≡ us → Commas Tuple xs a ys → Commas Tuple us b zs → BeginsNoComma ys → BeginsNoComma zs → Same a b ys zs
+pub tuples_same : {xs us ys zs : List Token} {a b : List (List Literal)} → xs ≡ us → Commas Tuple xs a ys → Commas Tuple us b zs → BeginsNoComma ys
+    → BeginsNoComma zs → Same a b ys zs
 tuples_same e c d n m = commas_one Tuple Anything (λ ys. tt) (λ xs us ys zs a b e i j f g. tuple_same e i j) e c d tt tt n m
 
 -- ---- comparisons and tests
@@ -100,10 +108,14 @@ oper_same e (grammar.of_column n) (grammar.of_column m) = let s = name_same e n 
 -- what follows the first operand of a comparison or a test
 data Test : Operand → List Token → Filter → List Token → Type 0 where
   compare : {xs ys : List Token} {left right : Operand} {how : Comparison} → Oper xs right ys → Test left (Compare how ∷ xs) (filter.Compare left how right) ys
-  between : {xs ys zs : List Token} {name : List ℕ} {low high : Literal} → Lit xs low (Key word.And ∷ ys) → Lit ys high zs → Test (operand.Column name) (Key word.Between ∷ xs) (filter.Between name false low high) zs
-  not_between : {xs ys zs : List Token} {name : List ℕ} {low high : Literal} → Lit xs low (Key word.And ∷ ys) → Lit ys high zs → Test (operand.Column name) (Key word.Not ∷ Key word.Between ∷ xs) (filter.Between name true low high) zs
-  among : {xs ys : List Token} {name : List ℕ} {literals : List Literal} → Tuple xs literals ys → Test (operand.Column name) (Key word.In ∷ xs) (filter.In name false literals) ys
-  not_among : {xs ys : List Token} {name : List ℕ} {literals : List Literal} → Tuple xs literals ys → Test (operand.Column name) (Key word.Not ∷ Key word.In ∷ xs) (filter.In name true literals) ys
+  between : {xs ys zs : List Token} {name : List ℕ} {low high : Literal} → Lit xs low (Key word.And ∷ ys) → Lit ys high zs
+      → Test (operand.Column name) (Key word.Between ∷ xs) (filter.Between name false low high) zs
+  not_between : {xs ys zs : List Token} {name : List ℕ} {low high : Literal} → Lit xs low (Key word.And ∷ ys) → Lit ys high zs
+      → Test (operand.Column name) (Key word.Not ∷ Key word.Between ∷ xs) (filter.Between name true low high) zs
+  among : {xs ys : List Token} {name : List ℕ} {literals : List Literal} → Tuple xs literals ys
+      → Test (operand.Column name) (Key word.In ∷ xs) (filter.In name false literals) ys
+  not_among : {xs ys : List Token} {name : List ℕ} {literals : List Literal} → Tuple xs literals ys
+      → Test (operand.Column name) (Key word.Not ∷ Key word.In ∷ xs) (filter.In name true literals) ys
   is_null : {xs : List Token} {name : List ℕ} → Test (operand.Column name) (Key word.Is ∷ Key word.Null ∷ xs) (filter.IsNull name false) xs
   is_not_null : {xs : List Token} {name : List ℕ} → Test (operand.Column name) (Key word.Is ∷ Key word.Not ∷ Key word.Null ∷ xs) (filter.IsNull name true) xs
 

@@ -62,7 +62,8 @@ trees_kept name [] = refl
 trees_kept name (Piece.ran statement reply ∷ ps) = trees_kept name ps
 trees_kept name (Piece.kept other ∷ ps) = by_test (bytes_eq other name) (trees_kept name ps)
   where
-    by_test : (b : Bool) → trees (pieces_to name ps) ≡ trees_to name (trees ps) → trees (if b then Piece.kept other ∷ ps else pieces_to name ps) ≡ (if b then kept other ∷ trees ps else trees_to name (trees ps))
+    by_test : (b : Bool) → trees (pieces_to name ps) ≡ trees_to name (trees ps)
+        → trees (if b then Piece.kept other ∷ ps else pieces_to name ps) ≡ (if b then kept other ∷ trees ps else trees_to name (trees ps))
     by_test true e = refl
     by_test false e = e
 
@@ -78,7 +79,9 @@ trees_without name [] = refl
 trees_without name (Piece.ran statement reply ∷ ps) = ap (λ (ts : List PieceTree). ran (tree_of statement) reply ∷ ts) (trees_without name ps)
 trees_without name (Piece.kept other ∷ ps) = by_test (bytes_eq other name) (trees_without name ps)
   where
-    by_test : (b : Bool) → trees (without name ps) ≡ trees_left name (trees ps) → trees (if not b then Piece.kept other ∷ without name ps else without name ps) ≡ (if not b then kept other ∷ trees_left name (trees ps) else trees_left name (trees ps))
+    by_test : (b : Bool) → trees (without name ps) ≡ trees_left name (trees ps)
+        → trees (if not b then Piece.kept other ∷ without name ps else without name ps) ≡
+        (if not b then kept other ∷ trees_left name (trees ps) else trees_left name (trees ps))
     by_test true e = e
     by_test false e = ap (λ (ts : List PieceTree). kept other ∷ ts) e
 
@@ -100,16 +103,19 @@ item_tree other reply ps = refl
 
 -- ---- one work
 
-statement_done : (text : List ℕ) (reply : Reply) (ps qs xs ys : List Piece) → trees ps ≡ trees qs → DoesStatement Spells text reply ps xs → DoesStatement Spells text reply qs ys → trees xs ≡ trees ys
+statement_done : (text : List ℕ) (reply : Reply) (ps qs xs ys : List Piece) → trees ps ≡ trees qs → DoesStatement Spells text reply ps xs
+    → DoesStatement Spells text reply qs ys → trees xs ≡ trees ys
 statement_done text reply ps qs xs ys e d k =
     let same = one_tree text d.0 k.0 d.1 k.1 in
     let l = item_tree d.0 reply ps in let r = item_tree k.0 reply qs in
-    ap trees d.2 ∙ l ∙ ap (λ (t : StmtTree). with_tree t reply (trees ps)) same ∙ ap (λ (ts : List PieceTree). with_tree (tree_of k.0) reply ts) e ∙ sym r ∙ ap trees (sym k.2)
+    ap trees d.2 ∙ l ∙ ap (λ (t : StmtTree). with_tree t reply (trees ps)) same ∙ ap (λ (ts : List PieceTree). with_tree (tree_of k.0) reply ts) e ∙ sym r ∙
+    ap trees (sym k.2)
 
 stays : (ps qs xs ys : List Piece) → trees ps ≡ trees qs → xs ≡ ps → ys ≡ qs → trees xs ≡ trees ys
 stays ps qs xs ys e f g = ap trees f ∙ e ∙ ap trees (sym g)
 
-item_done : (item : Option Item) (reply : Reply) (ps qs xs ys : List Piece) → trees ps ≡ trees qs → DoesItem Spells item reply ps xs → DoesItem Spells item reply qs ys → trees xs ≡ trees ys
+item_done : (item : Option Item) (reply : Reply) (ps qs xs ys : List Piece) → trees ps ≡ trees qs → DoesItem Spells item reply ps xs
+    → DoesItem Spells item reply qs ys → trees xs ≡ trees ys
 item_done (Some (Sql text)) Done ps qs xs ys e d k = statement_done text Done ps qs xs ys e d k
 item_done (Some (Sql text)) (Count n) ps qs xs ys e d k = statement_done text (Count n) ps qs xs ys e d k
 item_done (Some (Sql text)) (Rows rows) ps qs xs ys e d k = statement_done text (Rows rows) ps qs xs ys e d k
@@ -119,26 +125,31 @@ done_one : (s : ℕ) (past : List Event) (xs ys : List Piece) → HasDone Spells
 done_one s [] xs ys d k = stays [] [] xs ys refl d k
 done_one s (Begin t n l ∷ past) xs ys d k = by_either (t == s) d k (λ e f. stays [] [] xs ys refl e f) (λ e f. done_one s past xs ys e f)
 done_one s (Ended t j reply ∷ past) xs ys d k =
-    by_either (t == s) d k (λ e f. item_done (under_way s past) reply e.0 f.0 xs ys (done_one s past e.0 f.0 e.1 f.1) e.2 f.2) (λ e f. done_one s past xs ys e f)
+    by_either (t == s) d k (λ e f. item_done (under_way s past) reply e.0 f.0 xs ys (done_one s past e.0 f.0 e.1 f.1) e.2 f.2)
+    (λ e f. done_one s past xs ys e f)
 done_one s (other ∷ past) xs ys d k = done_one s past xs ys d k
 
-worked_one : (s : ℕ) (later : Option Reply) (past : List Event) (xs ys : List Piece) → HasWorked Spells s later past xs → HasWorked Spells s later past ys → trees xs ≡ trees ys
+worked_one : (s : ℕ) (later : Option Reply) (past : List Event) (xs ys : List Piece) → HasWorked Spells s later past xs → HasWorked Spells s later past ys
+    → trees xs ≡ trees ys
 worked_one s later past xs ys (ps, d, inl b) (qs, k, inl c) =
     let same = asked_one s b.1.0 c.1.0 past b.1.1 c.1.1 in
     let e = done_one s past ps qs d k in
-    ap trees b.1.2 ∙ ap (λ (t : StmtTree). ran t (compared later) ∷ trees ps) same ∙ ap (λ (ts : List PieceTree). ran (tree_of c.1.0) (compared later) ∷ ts) e ∙ ap trees (sym c.1.2)
+    ap trees b.1.2 ∙ ap (λ (t : StmtTree). ran t (compared later) ∷ trees ps) same ∙ ap (λ (ts : List PieceTree). ran (tree_of c.1.0) (compared later) ∷ ts)
+    e ∙ ap trees (sym c.1.2)
 worked_one s later past xs ys (ps, d, inl b) (qs, k, inr c) = absurd (cc)
 worked_one s later past xs ys (ps, d, inr b) (qs, k, inl c) = absurd (cc)
 worked_one s later past xs ys (ps, d, inr b) (qs, k, inr c) = stays ps qs xs ys (done_one s past ps qs d k) b.1 c.1
 
-works_one : (later : ℕ → Option Reply) (past : List Event) (xs ys : List (List Piece)) → AreWorks Spells later past xs → AreWorks Spells later past ys → map trees xs ≡ map trees ys
+works_one : (later : ℕ → Option Reply) (past : List Event) (xs ys : List (List Piece)) → AreWorks Spells later past xs → AreWorks Spells later past ys
+    → map trees xs ≡ map trees ys
 works_one later [] xs ys d k = ap (map trees) d ∙ ap (map trees) (sym k)
 works_one later (Ended s j reply ∷ past) xs ys d k = works_one (with_later s (Some reply) later) past xs ys d k
 works_one later (Started s j item ∷ past) xs ys d k = works_one (with_later s None later) past xs ys d k
 works_one later (Committed s ∷ past) xs ys d k =
     let first = worked_one s (later s) past d.0 k.0 d.2 k.2 in
     let rest = works_one later past d.1 k.1 d.3 k.3 in
-    ap (map trees) d.4 ∙ ap (λ (ts : List PieceTree). ts ∷ map trees d.1) first ∙ ap (λ (ts : List (List PieceTree)). trees k.0 ∷ ts) rest ∙ ap (map trees) (sym k.4)
+    ap (map trees) d.4 ∙ ap (λ (ts : List PieceTree). ts ∷ map trees d.1) first ∙ ap (λ (ts : List (List PieceTree)). trees k.0 ∷ ts) rest ∙ ap (map trees)
+    (sym k.4)
 works_one later (other ∷ past) xs ys d k = works_one later past xs ys d k
 
 -- ---- one replay
@@ -193,6 +204,7 @@ works_answer db (x ∷ xs) (y ∷ ys) e h =
     let here = work_answers (alone db xs) x y (cc) h.1 in
     (works_answer db xs ys rest h.0, subst (λ (d : Database). WorkAnswers d y) (alone_same db xs ys rest) here)
 
-pub one_replay : (past : List Event) (xs ys : List (List Piece)) (db : Database) → AreWorks Spells (λ s. None) past xs → AreWorks Spells (λ s. None) past ys → WorksAnswer db xs → WorksAnswer db ys × (alone db xs ≡ alone db ys)
+pub one_replay : (past : List Event) (xs ys : List (List Piece)) (db : Database) → AreWorks Spells (λ s. None) past xs
+    → AreWorks Spells (λ s. None) past ys → WorksAnswer db xs → WorksAnswer db ys × (alone db xs ≡ alone db ys)
 one_replay past xs ys db d k h =
     let same = works_one (λ s. None) past xs ys d k in (works_answer db xs ys same h, alone_same db xs ys same)

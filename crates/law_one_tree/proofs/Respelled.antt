@@ -63,8 +63,10 @@ value_same e (expr.Multiply' p f q g) k = absurd (cc)
 value_same e other k = cc
 
 expression_again : {s : Strength} {xs ys : List Token} {e : Expr} → Expression s xs e ys → (f : Expr) → expr_tree e ≡ expr_tree f → Expression s xs f ys
-expression_again {s = s} {xs = xs} {ys = ys} {e = e} (grammar.of_literal l) f k = subst (λ (x : Expr). Expression s xs x ys) (value_same e f k) (grammar.of_literal l)
-expression_again {s = s} {xs = xs} {ys = ys} {e = e} (grammar.of_column n) f k = subst (λ (x : Expr). Expression s xs x ys) (value_same e f k) (grammar.of_column n)
+expression_again {s = s} {xs = xs} {ys = ys} {e = e} (grammar.of_literal l) f k = subst (λ (x : Expr). Expression s xs x ys) (value_same e f k)
+    (grammar.of_literal l)
+expression_again {s = s} {xs = xs} {ys = ys} {e = e} (grammar.of_column n) f k = subst (λ (x : Expr). Expression s xs x ys) (value_same e f k)
+    (grammar.of_column n)
 expression_again (grammar.brackets c) f k = grammar.brackets (expression_again c f k)
 expression_again (grammar.factor c) f k = grammar.factor (expression_again c f k)
 expression_again (grammar.term c) f k = grammar.term (expression_again c f k)
@@ -83,7 +85,8 @@ assignment_again {xs = xs} (grammar.assign {ys = ys} n x) t e =
     let value = ap (λ (k : List ℕ × ExprTree). k.1) e in
     grammar.assign (subst (λ (name : List ℕ). Name xs name (Compare Equal ∷ ys)) column n) (expression_again x t.value value)
 
-sets_again : {xs ys : List Token} {ss : List Set} → Commas Assignment xs ss ys → (ts : List Set) → map set_tree ss ≡ map set_tree ts → Commas Assignment xs ts ys
+sets_again : {xs ys : List Token} {ss : List Set} → Commas Assignment xs ss ys → (ts : List Set) → map set_tree ss ≡ map set_tree ts
+    → Commas Assignment xs ts ys
 sets_again (grammar.last a) [] e = absurd (cc)
 sets_again (grammar.last a) (t ∷ []) e = grammar.last (assignment_again a t (cc))
 sets_again (grammar.last a) (t ∷ u ∷ ts) e = absurd (cc)

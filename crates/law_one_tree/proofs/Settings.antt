@@ -34,7 +34,8 @@ set_same (stmt.Delete t f) (stmt.Delete u g) e made is_open before = refl
 set_same (stmt.Delete t f) b e made is_open before = absurd (cc)
 set_same a b e made is_open before = ap (λ (s : Stmt). set_by s made is_open before) (plain_same a b e)
 
-set_by_item : (item : Option Item) (reply : Reply) (made : ℕ) (is_open : Bool) (x y a b : Setting) → x ≡ y → SetByItem Spells item reply made is_open x a → SetByItem Spells item reply made is_open y b → a ≡ b
+set_by_item : (item : Option Item) (reply : Reply) (made : ℕ) (is_open : Bool) (x y a b : Setting) → x ≡ y → SetByItem Spells item reply made is_open x a
+    → SetByItem Spells item reply made is_open y b → a ≡ b
 set_by_item (Some (Sql text)) Done made is_open x y a b e p q =
     p.2 ∙ set_same p.0 q.0 (one_tree text p.0 q.0 p.1 q.1) made is_open x ∙ ap (λ (before : Setting). set_by q.0 made is_open before) e ∙ sym q.2
 set_by_item item reply made is_open x y a b e p q = p ∙ e ∙ sym q
@@ -48,5 +49,6 @@ set_one s (Committed t ∷ past) a b p q =
 set_one s (RolledBack t ∷ past) a b p q =
     by_either (t == s) p q (λ e f. e.2 ∙ ap at_end (set_one s past e.0 f.0 e.1 f.1) ∙ sym f.2) (λ e f. set_one s past a b e f)
 set_one s (Ended t j reply ∷ past) a b p q =
-    by_either (t == s) p q (λ e f. set_by_item (under_way s past) reply (length (own s past)) (is_some (level s past)) e.0 f.0 a b (set_one s past e.0 f.0 e.1 f.1) e.2 f.2) (λ e f. set_one s past a b e f)
+    by_either (t == s) p q (λ e f. set_by_item (under_way s past) reply (length (own s past)) (is_some (level s past)) e.0 f.0 a b
+    (set_one s past e.0 f.0 e.1 f.1) e.2 f.2) (λ e f. set_one s past a b e f)
 set_one s (other ∷ past) a b p q = set_one s past a b p q

@@ -39,7 +39,8 @@ ends_condition (Key word.For ∷ rest) h = tt
 ends_condition (Key word.Lock ∷ rest) h = tt
 ends_condition (other ∷ rest) h = absurd h
 
-where_same : {xs us ys zs : List Token} {f g : Option Filter} → xs ≡ us → Where xs f ys → Where us g zs → EndsWhere ys → EndsWhere zs → Same (where_tree f) (where_tree g) ys zs
+where_same : {xs us ys zs : List Token} {f g : Option Filter} → xs ≡ us → Where xs f ys → Where us g zs → EndsWhere ys → EndsWhere zs
+    → Same (where_tree f) (where_tree g) ys zs
 where_same e grammar.each grammar.each h k = (refl, e)
 where_same e grammar.each (grammar.those d) h k = absurd (subst EndsWhere e h)
 where_same e (grammar.those c) grammar.each h k = absurd (subst EndsWhere (sym e) k)
@@ -89,7 +90,8 @@ ends_expression (other ∷ rest) h = absurd h
 data Assigns : List Token → List ℕ × ExprTree → List Token → Type 0 where
   assigns : {xs ys : List Token} {set : Set} → Assignment xs set ys → Assigns xs (set_tree set) ys
 
-assigns_same : {xs us ys zs : List Token} {a b : List ℕ × ExprTree} → xs ≡ us → Assigns xs a ys → Assigns us b zs → EndsAssignment ys → EndsAssignment zs → Same a b ys zs
+assigns_same : {xs us ys zs : List Token} {a b : List ℕ × ExprTree} → xs ≡ us → Assigns xs a ys → Assigns us b zs → EndsAssignment ys → EndsAssignment zs
+    → Same a b ys zs
 assigns_same e (assigns (grammar.assign {zs = ys} n x)) (assigns (grammar.assign {zs = zs} {e = f} m y)) h k =
     let s = name_same e n m in
     let moved = subst (λ (ts : List Token). Expression Loose ts f zs) (sym (behind s.1)) y in
@@ -108,8 +110,11 @@ where_ends : {xs : List Token} {f : Option Filter} → Where xs f [] → EndsAss
 where_ends grammar.each = tt
 where_ends (grammar.those c) = tt
 
-sets_same : {xs us ys zs : List Token} {a b : List Set} {f g : Option Filter} → xs ≡ us → Commas Assignment xs a ys → Commas Assignment us b zs → Where ys f [] → Where zs g [] → Same (map set_tree a) (map set_tree b) ys zs
-sets_same e c d w v = commas_one Assigns EndsAssignment (λ ys. tt) (λ xs us ys zs a b e i j f g. assigns_same e i j f g) e (by_trees c) (by_trees d) (where_ends w) (where_ends v) (where_no_comma w) (where_no_comma v)
+sets_same : {xs us ys zs : List Token} {a b : List Set} {f g : Option Filter} → xs ≡ us → Commas Assignment xs a ys → Commas Assignment us b zs
+    → Where ys f [] → Where zs g [] → Same (map set_tree a) (map set_tree b) ys zs
+sets_same e c d w v =
+    commas_one Assigns EndsAssignment (λ ys. tt) (λ xs us ys zs a b e i j f g. assigns_same e i j f g) e (by_trees c) (by_trees d) (where_ends w)
+    (where_ends v) (where_no_comma w) (where_no_comma v)
 
 -- ---- INSERT
 
@@ -119,7 +124,8 @@ into_one grammar.unsaid grammar.into n m = elim n [ ]
 into_one grammar.into grammar.unsaid n m = elim m [ ]
 into_one grammar.into grammar.into n m = refl
 
-columns_one : {xs ys zs us vs : List Token} {a b : Option (List (List ℕ))} → ColumnList xs a ys → ColumnList xs b zs → ValuesWord ys us → ValuesWord zs vs → Same a b ys zs
+columns_one : {xs ys zs us vs : List Token} {a b : Option (List (List ℕ))} → ColumnList xs a ys → ColumnList xs b zs → ValuesWord ys us → ValuesWord zs vs
+    → Same a b ys zs
 columns_one grammar.unsaid grammar.unsaid v w = (refl, refl)
 columns_one grammar.unsaid (grammar.listed c) v w = elim v [ ]
 columns_one (grammar.listed c) grammar.unsaid v w = elim w [ ]
@@ -151,7 +157,8 @@ switch_one grammar.one_digit grammar.one_digit = refl
 switch_one grammar.on grammar.on = refl
 switch_one grammar.off grammar.off = refl
 
-scope_one : {xs ys zs : List Token} {a b : List ℕ} {s t : LevelScope} → Scope xs s (Bare (Some word.Transaction) a ∷ ys) → Scope xs t (Bare (Some word.Transaction) b ∷ zs) → Same s t ys zs
+scope_one : {xs ys zs : List Token} {a b : List ℕ} {s t : LevelScope} → Scope xs s (Bare (Some word.Transaction) a ∷ ys)
+    → Scope xs t (Bare (Some word.Transaction) b ∷ zs) → Same s t ys zs
 scope_one grammar.next grammar.next = (refl, refl)
 scope_one grammar.session grammar.session = (refl, refl)
 

@@ -47,14 +47,18 @@ places_none schemas (Put table row ∷ changes) = places_none schemas changes
 places_none schemas (Remove table key ∷ changes) = places_none schemas changes
 
 -- where one slot is written, each slot agrees
-slots_set : (schemas schemas' : List Schema) (e : Event) (h : List Event) (s : ℕ) (slots : List Slot) (new : Slot) → MayCome h e → AreIds h → ((u : ℕ) → u ≢ s → is_of u e ≡ false) → s < length slots
+slots_set : (schemas schemas' : List Schema) (e : Event) (h : List Event) (s : ℕ) (slots : List Slot) (new : Slot) → MayCome h e → AreIds h
+    → ((u : ℕ) → u ≢ s → is_of u e ≡ false) → s < length slots
     → ((u : ℕ) → u ≢ s → (slot : Slot) → SlotAgrees schemas (e ∷ h) u slot → SlotAgrees schemas' (e ∷ h) u slot)
-    → ((u : ℕ) → SlotAgrees schemas h u (get_or slots u fresh)) → SlotAgrees schemas' (e ∷ h) s new → (u : ℕ) → SlotAgrees schemas' (e ∷ h) u (get_or (set slots s new) u fresh)
+    → ((u : ℕ) → SlotAgrees schemas h u (get_or slots u fresh)) → SlotAgrees schemas' (e ∷ h) s new → (u : ℕ) → SlotAgrees schemas' (e ∷ h) u
+    (get_or (set slots s new) u fresh)
 slots_set schemas schemas' e h s slots new may ids mine lt wider all here u =
     elim (eqb_tells u s) [
-      | inl same ↦ subst (λ v. SlotAgrees schemas' (e ∷ h) v (get_or (set slots s new) v fresh)) (sym same.1) (subst (SlotAgrees schemas' (e ∷ h) s) (sym (get_or-set_same slots s new fresh lt)) here)
+      | inl same ↦ subst (λ v. SlotAgrees schemas' (e ∷ h) v (get_or (set slots s new) v fresh)) (sym same.1)
+          (subst (SlotAgrees schemas' (e ∷ h) s) (sym (get_or-set_same slots s new fresh lt)) here)
       | inr differ ↦
-          subst (SlotAgrees schemas' (e ∷ h) u) (sym (get_or-set_other slots s u new fresh differ.1)) (wider u differ.1 (get_or slots u fresh) (other_kept schemas e h u may ids (mine u differ.1) (get_or slots u fresh) (all u)))
+          subst (SlotAgrees schemas' (e ∷ h) u) (sym (get_or-set_other slots s u new fresh differ.1))
+          (wider u differ.1 (get_or slots u fresh) (other_kept schemas e h u may ids (mine u differ.1) (get_or slots u fresh) (all u)))
     ]
 
 get_or-joined : (slots : List Slot) (u : ℕ) → get_or (slots ++ fresh ∷ []) u fresh ≡ get_or slots u fresh
@@ -64,16 +68,19 @@ get_or-joined (x ∷ slots) zero = refl
 get_or-joined (x ∷ slots) (suc u) = get_or-joined slots u
 
 -- who had no changes has none
-fewer : (h g : List Event) → ((s : ℕ) → own s h ≡ [] → own s g ≡ []) → ((s : ℕ) → IsOpen s h → IsOpen s g) → (writer : Option ℕ) → WriterAgrees h writer → WriterAgrees g writer
+fewer : (h g : List Event) → ((s : ℕ) → own s h ≡ [] → own s g ≡ []) → ((s : ℕ) → IsOpen s h → IsOpen s g) → (writer : Option ℕ) → WriterAgrees h writer
+    → WriterAgrees g writer
 fewer h g f o None agrees = λ s. f s (agrees s)
 fewer h g f o (Some w) agrees = (o w agrees.0, λ s differ. f s (agrees.1 s differ))
 
 -- the session that lets go has no changes left
-let_go : (h g : List Event) (t : ℕ) → ((s : ℕ) → own s h ≡ [] → own s g ≡ []) → ((s : ℕ) → s ≢ t → IsOpen s h → IsOpen s g) → own t g ≡ [] → (writer : Option ℕ) → WriterAgrees h writer → WriterAgrees g (writer_without writer t)
+let_go : (h g : List Event) (t : ℕ) → ((s : ℕ) → own s h ≡ [] → own s g ≡ []) → ((s : ℕ) → s ≢ t → IsOpen s h → IsOpen s g) → own t g ≡ []
+    → (writer : Option ℕ) → WriterAgrees h writer → WriterAgrees g (writer_without writer t)
 let_go h g t f o none None agrees = λ s. f s (agrees s)
 let_go h g t f o none (Some w) agrees =
     elim (eqb_tells w t) [
-      | inl same ↦ rw same.0 (λ s. elim (eqb_tells s t) [ inl me ↦ subst (λ u. own u g ≡ []) (sym me.1) none | inr differ ↦ f s (agrees.1 s (λ is. differ.1 (is ∙ same.1))) ])
+      | inl same ↦ rw same.0 (λ s. elim (eqb_tells s t)
+          [ inl me ↦ subst (λ u. own u g ≡ []) (sym me.1) none | inr differ ↦ f s (agrees.1 s (λ is. differ.1 (is ∙ same.1))) ])
       | inr differ ↦ rw differ.0 (o w differ.1 agrees.0, λ s other. f s (agrees.1 s other))
     ]
 
@@ -93,11 +100,13 @@ place_again place None = refl
 place_again place (Some w) = refl
 
 -- what is kept of an open session
-taken : (schemas : List Schema) (h : List Event) (s : ℕ) (o : Option Work) → WorkAgrees schemas h s o → IsOpen s h → (w : Work) × (o ≡ Some w) × IsWorkOf schemas h s w
+taken : (schemas : List Schema) (h : List Event) (s : ℕ) (o : Option Work) → WorkAgrees schemas h s o → IsOpen s h
+    → (w : Work) × (o ≡ Some w) × IsWorkOf schemas h s w
 taken schemas h s None agrees is-open = absurd (false≢true (sym (ap is_some agrees.level_is) ∙ is-open))
 taken schemas h s (Some w) agrees is-open = (w, refl, agrees)
 
-places_count : (schemas : List Schema) (changes : List Change) (places : List (Option Place)) → map (place_in schemas) changes ≡ places → length changes ≡ length places
+places_count : (schemas : List Schema) (changes : List Change) (places : List (Option Place)) → map (place_in schemas) changes ≡ places
+    → length changes ≡ length places
 places_count schemas [] places same = ap length same
 places_count schemas (change ∷ changes) places same =
     let rest = places_count schemas changes (map (place_in schemas) changes) refl in
@@ -105,7 +114,10 @@ places_count schemas (change ∷ changes) places same =
     omega (arith, rest, count)
 
 -- the newest change, which can be taken back
-newest_of : (schemas : List Schema) (changes : List Change) (places : List (Option Place)) (keep : ℕ) → map (place_in schemas) changes ≡ places → IsUndoable keep changes → (change : Change) × (before : List Change) × (changes ≡ change ∷ before) × (first places ≡ place_in schemas change) × IsOfRow change × (length before ≡ keep)
+newest_of : (schemas : List Schema) (changes : List Change) (places : List (Option Place)) (keep : ℕ) → map (place_in schemas) changes ≡ places
+    → IsUndoable keep changes
+    → (change : Change) × (before : List Change) × (changes ≡ change ∷ before) × (first places ≡ place_in schemas change) × IsOfRow change ×
+    (length before ≡ keep)
 newest_of schemas [] places keep same undoable = absurd undoable
 newest_of schemas (change ∷ changes) places keep same undoable = (change, changes, refl, sym (ap first same), undoable.0, undoable.1)
 
@@ -121,15 +133,26 @@ tables_stay s (Put table row) h of-row = refl
 tables_stay s (Remove table key) h of-row = refl
 
 -- a slot in the words of more tables
-work_wider : (schemas more : List Schema) (h : List Event) (s : ℕ) → AllByRecursion (IsTabled (length schemas)) (own s h) → (o : Option Work) → WorkAgrees schemas h s o → WorkAgrees (schemas ++ more) h s o
+work_wider : (schemas more : List Schema) (h : List Event) (s : ℕ) → AllByRecursion (IsTabled (length schemas)) (own s h) → (o : Option Work)
+    → WorkAgrees schemas h s o → WorkAgrees (schemas ++ more) h s o
 work_wider schemas more h s tabled None agrees = agrees
 work_wider schemas more h s tabled (Some w) agrees =
-    record { level_is = agrees.level_is; txn_is = agrees.txn_is; id_is = agrees.id_is; places_are = places_stay schemas more (own s h) tabled ∙ agrees.places_are; view_is = agrees.view_is }
+    record {
+      level_is = agrees.level_is;
+      txn_is = agrees.txn_is;
+      id_is = agrees.id_is;
+      places_are = places_stay schemas more (own s h) tabled ∙
+          agrees.places_are;
+      view_is = agrees.view_is;
+    }
 
-slot_wider : (schemas more : List Schema) (h : List Event) (s : ℕ) → AllByRecursion (IsTabled (length schemas)) (own s h) → (slot : Slot) → SlotAgrees schemas h s slot → SlotAgrees (schemas ++ more) h s slot
-slot_wider schemas more h s tabled slot agrees = record { started_is = agrees.started_is; work_is = work_wider schemas more h s tabled slot.work agrees.work_is }
+slot_wider : (schemas more : List Schema) (h : List Event) (s : ℕ) → AllByRecursion (IsTabled (length schemas)) (own s h) → (slot : Slot)
+    → SlotAgrees schemas h s slot → SlotAgrees (schemas ++ more) h s slot
+slot_wider schemas more h s tabled slot agrees =
+    record { started_is = agrees.started_is; work_is = work_wider schemas more h s tabled slot.work agrees.work_is }
 
-module _ (names : List (List ℕ)) (h : List Event) (room : ℕ) (schemas : List Schema) (chains : Chains) (txns : Txns) (slots : List Slot) (owed : ℕ) (writer : Option ℕ) (agreed : IsAgreed names h room schemas chains txns slots owed writer) where
+module _ (names : List (List ℕ)) (h : List Event) (room : ℕ) (schemas : List Schema) (chains : Chains) (txns : Txns) (slots : List Slot) (owed : ℕ)
+    (writer : Option ℕ) (agreed : IsAgreed names h room schemas chains txns slots owed writer) where
   ids : AreIds h
   ids = ids_of h agreed.ordered
 
@@ -137,7 +160,8 @@ module _ (names : List (List ℕ)) (h : List Event) (room : ℕ) (schemas : List
   within s lt = omega (arith, lt, agreed.enough)
 
   -- an entry of session s, with what becomes of each part
-  after_with : (schemas' : List Schema) (e : Event) (s : ℕ) → ((u : ℕ) → u ≢ s → is_of u e ≡ false) → MayCome h e → length (e ∷ h) < 2 ^ 63 → s < length names → opening (e ∷ h) ≡ opening h → schemas' ≡ created (e ∷ h)
+  after_with : (schemas' : List Schema) (e : Event) (s : ℕ) → ((u : ℕ) → u ≢ s → is_of u e ≡ false) → MayCome h e → length (e ∷ h) < 2 ^ 63
+      → s < length names → opening (e ∷ h) ≡ opening h → schemas' ≡ created (e ∷ h)
       → ((u : ℕ) → u ≢ s → (slot : Slot) → SlotAgrees schemas (e ∷ h) u slot → SlotAgrees schemas' (e ∷ h) u slot)
       → (txns' : Txns) → txns' ≡ record { open_txns = opens (e ∷ h); begun = begins (e ∷ h); next = given (e ∷ h) + 1 }
       → (slot : Slot) → SlotAgrees schemas' (e ∷ h) s slot
@@ -161,7 +185,8 @@ module _ (names : List (List ℕ)) (h : List Event) (room : ℕ) (schemas : List
       }
 
   -- an entry that makes no table
-  after : (e : Event) (s : ℕ) → ((u : ℕ) → u ≢ s → is_of u e ≡ false) → MayCome h e → length (e ∷ h) < 2 ^ 63 → s < length names → opening (e ∷ h) ≡ opening h → created (e ∷ h) ≡ created h
+  after : (e : Event) (s : ℕ) → ((u : ℕ) → u ≢ s → is_of u e ≡ false) → MayCome h e → length (e ∷ h) < 2 ^ 63 → s < length names
+      → opening (e ∷ h) ≡ opening h → created (e ∷ h) ≡ created h
       → (txns' : Txns) → txns' ≡ record { open_txns = opens (e ∷ h); begun = begins (e ∷ h); next = given (e ∷ h) + 1 }
       → (slot : Slot) → SlotAgrees schemas (e ∷ h) s slot
       → (chains' : Chains) → ((place : Place) → AreVersions (e ∷ h) (row_opened (e ∷ h) place) (is_at schemas place) (versions_at place chains'))
@@ -169,7 +194,8 @@ module _ (names : List (List ℕ)) (h : List Event) (room : ℕ) (schemas : List
       → (owed' room' : ℕ) → owed + owed_by (e ∷ h) s ≤ owed' + owed_by h s → owed' ≤ room'
       → IsAgreed names (e ∷ h) room' schemas chains' txns' (set slots s slot) owed' writer'
   after e s mine may few joined same-opening same-tables txns' txns-are slot slot-is chains' rows-are writer' writes owed' room' owes fits =
-      after_with schemas e s mine may few joined same-opening (agreed.tables ∙ sym same-tables) (λ u differ x is. is) txns' txns-are slot slot-is chains' rows-are writer' writes owed' room' owes fits
+      after_with schemas e s mine may few joined same-opening (agreed.tables ∙ sym same-tables) (λ u differ x is. is) txns' txns-are slot slot-is chains'
+      rows-are writer' writes owed' room' owes fits
 
   pub owed_some : (s : ℕ) → s < length names → owed_by h s ≤ room
   owed_some s lt = omega (arith, owing.owed_within h s (length names) lt, agreed.owes, agreed.has_room)
@@ -224,7 +250,9 @@ module _ (names : List (List ℕ)) (h : List Event) (room : ℕ) (schemas : List
         rows = agreed.rows;
         writes = agreed.writes;
         enough = omega (arith, agreed.enough, length-append slots (fresh ∷ []), more);
-        owes = let all : owed_by_all h (length (names ++ name ∷ [])) ≡ owed_by h (length names) + owed_by_all h (length names) = ap (owed_by_all h) more in omega (arith, all, agreed.strangers (length names) (omega arith), agreed.owes);
+        owes =
+            let all : owed_by_all h (length (names ++ name ∷ [])) ≡ owed_by h (length names) + owed_by_all h (length names) = ap (owed_by_all h) more in
+            omega (arith, all, agreed.strangers (length names) (omega arith), agreed.owes);
         has_room = agreed.has_room;
         strangers = λ u le. agreed.strangers u (omega (arith, le, more));
       }
@@ -232,8 +260,10 @@ module _ (names : List (List ℕ)) (h : List Event) (room : ℕ) (schemas : List
   mine_tells : (s u : ℕ) → u ≢ s → eqb s u ≡ false
   mine_tells s u differ = grind (arith, nat_tests, differ)
 
-  pub agreed_started : (s j : ℕ) (item : Item) → under_way s h ≡ None → j ≡ started s h + 1 → length (Started s j item ∷ h) < 2 ^ 63 → s < length names → (room' : ℕ) → owed + 1 ≤ room'
-      → IsAgreed names (Started s j item ∷ h) room' schemas chains txns (set slots s (record (get_or slots s fresh) { started = (get_or slots s fresh).started + 1 })) (owed + 1) writer
+  pub agreed_started : (s j : ℕ) (item : Item) → under_way s h ≡ None → j ≡ started s h + 1 → length (Started s j item ∷ h) < 2 ^ 63 → s < length names
+      → (room' : ℕ) → owed + 1 ≤ room'
+      → IsAgreed names (Started s j item ∷ h) room' schemas chains txns
+      (set slots s (record (get_or slots s fresh) { started = (get_or slots s fresh).started + 1 })) (owed + 1) writer
   agreed_started s j item idle j-is few joined room' fits =
       let may : MayCome h (Started s j item) = (idle, j-is) in
       after (Started s j item) s (mine_tells s) may few joined refl refl txns agreed.txns_are
@@ -242,11 +272,13 @@ module _ (names : List (List ℕ)) (h : List Event) (room : ℕ) (schemas : List
         started_is = grind (arith, nat_tests, (agreed.sessions s).started_is);
         work_is = work_kept schemas (Started s j item) h s may ids refl refl refl refl refl (get_or slots s fresh).work (agreed.sessions s).work_is;
       })
-      chains (λ place. rows.rows_stay (Started s j item) h (λ u. refl) (λ u. refl) (λ n id. refl) (λ n. refl) (row_opened h place) (is_at schemas place) (versions_at place chains) (agreed.rows place))
+      chains (λ place. rows.rows_stay (Started s j item) h (λ u. refl) (λ u. refl) (λ n id. refl) (λ n. refl) (row_opened h place) (is_at schemas place)
+      (versions_at place chains) (agreed.rows place))
       writer (fewer h (Started s j item ∷ h) (λ u none. none) (λ u o. o) writer agreed.writes)
       (owed + 1) room' (omega (arith, owing.owed_started s j item h idle)) fits
 
-  pub agreed_ended : (s j : ℕ) (reply : Reply) → MayCome h (Ended s j reply) → length (Ended s j reply ∷ h) < 2 ^ 63 → s < length names → (room' : ℕ) → room ≤ room' + 1
+  pub agreed_ended : (s j : ℕ) (reply : Reply) → MayCome h (Ended s j reply) → length (Ended s j reply ∷ h) < 2 ^ 63 → s < length names → (room' : ℕ)
+      → room ≤ room' + 1
       → IsAgreed names (Ended s j reply ∷ h) room' schemas chains txns slots (owed - 1) writer
   agreed_ended s j reply may few joined room' fits =
       let one = owing.owed_ended s j reply may.0 h may.1 in
@@ -257,7 +289,8 @@ module _ (names : List (List ℕ)) (h : List Event) (room : ℕ) (schemas : List
         started_is = (agreed.sessions s).started_is;
         work_is = work_kept schemas (Ended s j reply) h s may ids refl refl refl refl refl (get_or slots s fresh).work (agreed.sessions s).work_is;
       })
-      chains (λ place. rows.rows_stay (Ended s j reply) h (λ u. refl) (λ u. refl) (λ n id. refl) (λ n. refl) (row_opened h place) (is_at schemas place) (versions_at place chains) (agreed.rows place))
+      chains (λ place. rows.rows_stay (Ended s j reply) h (λ u. refl) (λ u. refl) (λ n id. refl) (λ n. refl) (row_opened h place) (is_at schemas place)
+      (versions_at place chains) (agreed.rows place))
       writer (fewer h (Ended s j reply ∷ h) (λ u none. none) (λ u o. o) writer agreed.writes)
       (owed - 1) room' (omega (arith, one, owed_in s joined)) (omega (arith, agreed.has_room, fits)))
 
@@ -275,24 +308,42 @@ module _ (names : List (List ℕ)) (h : List Event) (room : ℕ) (schemas : List
         started_is = (agreed.sessions s).started_is;
         work_is = work_kept schemas (Acked s moment) h s may ids refl refl refl refl refl (get_or slots s fresh).work (agreed.sessions s).work_is;
       })
-      chains (λ place. rows.rows_stay (Acked s moment) h (λ u. refl) (λ u. refl) (λ n id. refl) (λ n. refl) (row_opened h place) (is_at schemas place) (versions_at place chains) (agreed.rows place))
+      chains (λ place. rows.rows_stay (Acked s moment) h (λ u. refl) (λ u. refl) (λ n id. refl) (λ n. refl) (row_opened h place) (is_at schemas place)
+      (versions_at place chains) (agreed.rows place))
       writer (fewer h (Acked s moment ∷ h) (λ u none. none) (λ u o. o) writer agreed.writes)
       (owed - 1) room' (omega (arith, one, owed_in s joined)) (omega (arith, agreed.has_room, fits)))
 
   pub acked_owed : (s moment : ℕ) → MayCome h (Acked s moment) → s < length names → 1 ≤ owed
   acked_owed s moment may joined = omega (arith, owing.owed_acked s moment h may.0 may.1, owed_in s joined)
 
-  pub agreed_begin : (s m : ℕ) (l : Level) → MayCome h (Begin s (begins h + 1) l) → m ≡ txns.begun + 1 → length (Begin s m l ∷ h) < 2 ^ 63 → s < length names → (room' : ℕ) → owed + 2 ≤ room'
-      → (txns' : Txns) → txns' ≡ record { open_txns = txns.open_txns ++ (m, record { session = s; level = l; id = 0 }) ∷ []; begun = txns.begun + 1; next = txns.next }
-      → IsAgreed names (Begin s m l ∷ h) room' schemas chains txns' (set slots s (record (get_or slots s fresh) { work = Some (record { txn = m; level = l; id = 0; view = None; places = [] }) })) (owed + 2) writer
+  pub agreed_begin : (s m : ℕ) (l : Level) → MayCome h (Begin s (begins h + 1) l) → m ≡ txns.begun + 1 → length (Begin s m l ∷ h) < 2 ^ 63
+      → s < length names → (room' : ℕ) → owed + 2 ≤ room'
+      → (txns' : Txns) → txns' ≡ record {
+        open_txns = txns.open_txns ++ (m, record { session = s; level = l; id = 0 }) ∷ [];
+        begun = txns.begun + 1;
+        next =
+            txns.next;
+      }
+      → IsAgreed names (Begin s m l ∷ h) room' schemas chains txns'
+      (set slots s (record (get_or slots s fresh) { work = Some (record { txn = m; level = l; id = 0; view = None; places = [] }) })) (owed + 2) writer
   agreed_begin s m l may m-is few joined room' fits txns' txns-are =
       let number : m ≡ begins h + 1 = m-is ∙ ap (λ (t : Txns). t.begun + 1) agreed.txns_are in
       let may' : MayCome h (Begin s m l) = (number, may.1) in
       let none : own s h ≡ [] = ids.closed s may.1 in
       let none' : (u : ℕ) → own u h ≡ [] → own u (Begin s m l ∷ h) ≡ [] = λ u is. grind (arith, nat_tests, is) in
-      let same-own : (u : ℕ) → own u (Begin s m l ∷ h) ≡ own u h = λ u. elim (eqb_tells s u) [ inl same ↦ subst (λ v. own v (Begin s m l ∷ h) ≡ own v h) same.1 (none' s none ∙ sym none) | inr differ ↦ grind (arith, nat_tests, differ.0) ] in
+      let same-own : (u : ℕ) → own u (Begin s m l ∷ h) ≡ own u h =
+      λ u. elim (eqb_tells s u) [
+        | inl same ↦ subst (λ v. own v (Begin s m l ∷ h) ≡ own v h) same.1 (none' s none ∙ sym none)
+        | inr differ ↦ grind
+            (arith, nat_tests, differ.0)
+      ] in
       after (Begin s m l) s (mine_tells s) may' few joined refl refl txns'
-      (txns-are ∙ ap (λ (t : Txns). record { open_txns = t.open_txns ++ (m, record { session = s; level = l; id = 0 }) ∷ []; begun = t.begun + 1; next = t.next }) agreed.txns_are)
+      (txns-are ∙ ap (λ (t : Txns). record {
+        open_txns = t.open_txns ++ (m, record { session = s; level = l; id = 0 }) ∷ [];
+        begun = t.begun + 1;
+        next =
+            t.next;
+      }) agreed.txns_are)
       (record (get_or slots s fresh) { work = Some (record { txn = m; level = l; id = 0; view = None; places = [] }) })
       (record {
         started_is = (agreed.sessions s).started_is;
@@ -304,7 +355,8 @@ module _ (names : List (List ℕ)) (h : List Event) (room : ℕ) (schemas : List
           view_is = grind (arith, nat_tests);
         };
       })
-      chains (λ place. rows.rows_new_id (Begin s m l) h s none (λ u differ. other_id (Begin s m l) h u (mine_tells s u differ)) same-own (λ n id. refl) (λ n. refl) (row_opened h place) (is_at schemas place) (versions_at place chains) (agreed.rows place))
+      chains (λ place. rows.rows_new_id (Begin s m l) h s none (λ u differ. other_id (Begin s m l) h u (mine_tells s u differ)) same-own (λ n id. refl)
+      (λ n. refl) (row_opened h place) (is_at schemas place) (versions_at place chains) (agreed.rows place))
       writer (fewer h (Begin s m l ∷ h) none' (λ u o. grind (arith, nat_tests, o)) writer agreed.writes)
       (owed + 2) room' (omega (arith, owing.owed_begin s m l h)) fits
 
@@ -315,7 +367,8 @@ module _ (names : List (List ℕ)) (h : List Event) (room : ℕ) (schemas : List
   next_fits = omega (arith, given_few h, ap (λ (t : Txns). t.next) agreed.txns_are, agreed.small)
 
   -- a transaction's end
-  ended_work : (e : Event) (s : ℕ) → level s (e ∷ h) ≡ None → own s (e ∷ h) ≡ [] → started s (e ∷ h) ≡ started s h → SlotAgrees schemas (e ∷ h) s (record (get_or slots s fresh) { work = None })
+  ended_work : (e : Event) (s : ℕ) → level s (e ∷ h) ≡ None → own s (e ∷ h) ≡ [] → started s (e ∷ h) ≡ started s h
+      → SlotAgrees schemas (e ∷ h) s (record (get_or slots s fresh) { work = None })
   ended_work e s closed none same-count =
       record {
         started_is = same-count ∙ (agreed.sessions s).started_is;
@@ -339,17 +392,20 @@ module _ (names : List (List ℕ)) (h : List Event) (room : ℕ) (schemas : List
 
   pub agreed_committed : (s : ℕ) → MayCome h (Committed s) → length (Committed s ∷ h) < 2 ^ 63 → s < length names → (room' : ℕ) → room ≤ room' + 1
       → (n : ℕ) → n ≡ txn_of_work (get_or slots s fresh).work → (changes : ℕ) → changes ≡ length (places_of_work (get_or slots s fresh).work)
-      → IsAgreed names (Committed s ∷ h) room' schemas chains (record txns { open_txns = without n txns.open_txns }) (set slots s (record (get_or slots s fresh) { work = None })) (owed - (changes + 1)) (writer_without writer s)
+      → IsAgreed names (Committed s ∷ h) room' schemas chains (record txns { open_txns = without n txns.open_txns })
+      (set slots s (record (get_or slots s fresh) { work = None })) (owed - (changes + 1)) (writer_without writer s)
   agreed_committed s may few joined room' fits n n-is changes changes-are =
       let one = owing.owed_committed s h may in
       let number : n ≡ txn s h = n-is ∙ txn_is s may in
       let count : changes ≡ length (own s h) = changes-are ∙ count_is s in
       after (Committed s) s (mine_tells s) may few joined refl refl (record txns { open_txns = without n txns.open_txns })
-      (ap (λ (t : Txns). record t { open_txns = without n t.open_txns }) agreed.txns_are ∙ ap (λ m. record { open_txns = without m (opens h); begun = begins h; next = given h + 1 }) number)
+      (ap (λ (t : Txns). record t { open_txns = without n t.open_txns }) agreed.txns_are ∙ ap
+      (λ m. record { open_txns = without m (opens h); begun = begins h; next = given h + 1 }) number)
       (record (get_or slots s fresh) { work = None })
       (ended_work (Committed s) s (grind (arith, nat_tests)) (grind (arith, nat_tests)) refl)
       chains (λ place. rows.rows_committed s h may ids (row_opened h place) (is_at schemas place) (versions_at place chains) (agreed.rows place))
-      (writer_without writer s) (let_go h (Committed s ∷ h) s (λ u none. grind (arith, nat_tests, none)) (λ u differ o. grind (arith, nat_tests, o, differ)) (grind (arith, nat_tests)) writer agreed.writes)
+      (writer_without writer s) (let_go h (Committed s ∷ h) s (λ u none. grind (arith, nat_tests, none)) (λ u differ o. grind (arith, nat_tests, o, differ))
+      (grind (arith, nat_tests)) writer agreed.writes)
       (owed - (changes + 1)) room' (omega (arith, one, owed_in s joined, count)) (omega (arith, agreed.has_room, fits))
 
   pub committed_owed : (s : ℕ) → MayCome h (Committed s) → s < length names → length (places_of_work (get_or slots s fresh).work) + 1 ≤ owed
@@ -357,17 +413,26 @@ module _ (names : List (List ℕ)) (h : List Event) (room : ℕ) (schemas : List
 
   pub agreed_rolled_back : (s : ℕ) → MayCome h (RolledBack s) → length (RolledBack s ∷ h) < 2 ^ 63 → s < length names → (room' : ℕ) → room ≤ room' + 1
       → (n : ℕ) → n ≡ txn_of_work (get_or slots s fresh).work
-      → IsAgreed names (RolledBack s ∷ h) room' schemas chains (record txns { open_txns = without n txns.open_txns }) (set slots s (record (get_or slots s fresh) { work = None })) (owed - 2) (writer_without writer s)
+      → IsAgreed names (RolledBack s ∷ h) room' schemas chains (record txns { open_txns = without n txns.open_txns })
+      (set slots s (record (get_or slots s fresh) { work = None })) (owed - 2) (writer_without writer s)
   agreed_rolled_back s may few joined room' fits n n-is =
       let one = owing.owed_rolled_back s h may.0 in
       let number : n ≡ txn s h = n-is ∙ txn_is s may.0 in
-      let same-own : (u : ℕ) → own u (RolledBack s ∷ h) ≡ own u h = λ u. elim (eqb_tells s u) [ inl same ↦ subst (λ v. own v (RolledBack s ∷ h) ≡ own v h) same.1 (let now : own s (RolledBack s ∷ h) ≡ [] = grind (arith, nat_tests) in now ∙ sym may.1) | inr differ ↦ grind (arith, nat_tests, differ.0) ] in
+      let same-own : (u : ℕ) → own u (RolledBack s ∷ h) ≡ own u h =
+      λ u. elim (eqb_tells s u) [
+        | inl same ↦ subst (λ v. own v (RolledBack s ∷ h) ≡ own v h) same.1
+            (let now : own s (RolledBack s ∷ h) ≡ [] = grind (arith, nat_tests) in now ∙ sym may.1)
+        | inr differ ↦ grind (arith, nat_tests, differ.0)
+      ] in
       after (RolledBack s) s (mine_tells s) may few joined refl refl (record txns { open_txns = without n txns.open_txns })
-      (ap (λ (t : Txns). record t { open_txns = without n t.open_txns }) agreed.txns_are ∙ ap (λ m. record { open_txns = without m (opens h); begun = begins h; next = given h + 1 }) number)
+      (ap (λ (t : Txns). record t { open_txns = without n t.open_txns }) agreed.txns_are ∙ ap
+      (λ m. record { open_txns = without m (opens h); begun = begins h; next = given h + 1 }) number)
       (record (get_or slots s fresh) { work = None })
       (ended_work (RolledBack s) s (grind (arith, nat_tests)) (grind (arith, nat_tests)) refl)
-      chains (λ place. rows.rows_stay (RolledBack s) h (λ u. refl) same-own (λ n' id. refl) (λ n'. refl) (row_opened h place) (is_at schemas place) (versions_at place chains) (agreed.rows place))
-      (writer_without writer s) (let_go h (RolledBack s ∷ h) s (λ u none. grind (arith, nat_tests, none)) (λ u differ o. grind (arith, nat_tests, o, differ)) (grind (arith, nat_tests)) writer agreed.writes)
+      chains (λ place. rows.rows_stay (RolledBack s) h (λ u. refl) same-own (λ n' id. refl) (λ n'. refl) (row_opened h place) (is_at schemas place)
+      (versions_at place chains) (agreed.rows place))
+      (writer_without writer s) (let_go h (RolledBack s ∷ h) s (λ u none. grind (arith, nat_tests, none)) (λ u differ o. grind (arith, nat_tests, o, differ))
+      (grind (arith, nat_tests)) writer agreed.writes)
       (owed - 2) room' (omega (arith, one, owed_in s joined)) (omega (arith, agreed.has_room, fits))
 
   pub rolled_back_owed : (s : ℕ) → MayCome h (RolledBack s) → s < length names → 2 ≤ owed
@@ -389,7 +454,8 @@ module _ (names : List (List ℕ)) (h : List Event) (room : ℕ) (schemas : List
   zero_seen own-id = let inactive = zero_inactive (opens h) in grind (arith, nat_tests, inactive)
 
   -- what is taken for a view at this point
-  view_now : (s : ℕ) (own-id : ℕ) → own-id ≡ id_of h s → IsViewOf (View s ∷ h) s (commits h) (record { active = active_of (opens h); own = own-id; next = given h + 1 })
+  view_now : (s : ℕ) (own-id : ℕ) → own-id ≡ id_of h s
+      → IsViewOf (View s ∷ h) s (commits h) (record { active = active_of (opens h); own = own-id; next = given h + 1 })
   view_now s own-id own-is =
       record {
         is-view = grind (arith, nat_tests);
@@ -401,20 +467,27 @@ module _ (names : List (List ℕ)) (h : List Event) (room : ℕ) (schemas : List
               | inl c ↦
                   let among = is_among_all h c.0 id c.1 in
                   let inactive : list_any (λ a. a == id) (active_of (opens h)) ≡ false =
-                  active_none h agreed.ordered id (λ u open-u same. absurd (false≢true (sym (ids.open_not_among u c.0 open-u) ∙ (ap (is_among h c.0) same ∙ c.1)))) in
+                  active_none h agreed.ordered id (λ u open-u same. absurd
+                  (false≢true (sym (ids.open_not_among u c.0 open-u) ∙ (ap (is_among h c.0) same ∙ c.1)))) in
                   grind (arith, nat_tests, own-is, differ, among, ids.among_below c.0 id c.1, inactive)
               | inr o ↦
-                  let active : list_any (λ a. a == id) (active_of (opens h)) ≡ true = subst (λ i. list_any (λ a. a == i) (active_of (opens h)) ≡ true) o.2 (active_open h agreed.ordered o.0 o.1 (subst (λ i. 0 < i) (sym o.2) o.3)) in
+                  let active : list_any (λ a. a == id) (active_of (opens h)) ≡ true =
+                  subst (λ i. list_any (λ a. a == i) (active_of (opens h)) ≡ true) o.2
+                  (active_open h agreed.ordered o.0 o.1 (subst (λ i. 0 < i) (sym o.2) o.3)) in
                   let apart : is_among h (commits h) id ≡ false = subst (λ i. is_among h (commits h) i ≡ false) o.2 (ids.open_not_among o.0 (commits h) o.1) in
                   grind (arith, nat_tests, own-is, differ, active, apart)
             ];
       }
 
-  pub agreed_view : (s own-id : ℕ) → MayCome h (View s) → IsOpen s h → own-id ≡ id_of_work (get_or slots s fresh).work → (sight : Sight) → sight ≡ record { active = active_of txns.open_txns; own = own-id; next = txns.next } → length (View s ∷ h) < 2 ^ 63 → s < length names → (room' : ℕ) → owed ≤ room'
-      → IsAgreed names (View s ∷ h) room' schemas chains txns (set slots s (record (get_or slots s fresh) { work = with_view sight (get_or slots s fresh).work })) owed writer
+  pub agreed_view : (s own-id : ℕ) → MayCome h (View s) → IsOpen s h → own-id ≡ id_of_work (get_or slots s fresh).work → (sight : Sight)
+      → sight ≡ record { active = active_of txns.open_txns; own = own-id; next = txns.next } → length (View s ∷ h) < 2 ^ 63 → s < length names
+      → (room' : ℕ) → owed ≤ room'
+      → IsAgreed names (View s ∷ h) room' schemas chains txns
+      (set slots s (record (get_or slots s fresh) { work = with_view sight (get_or slots s fresh).work })) owed writer
   agreed_view s own-id may is-open own-is sight sight-is few joined room' fits =
       let mine = taken schemas h s (get_or slots s fresh).work (agreed.sessions s).work_is is-open in
-      let is : sight ≡ record { active = active_of (opens h); own = own-id; next = given h + 1 } = sight-is ∙ ap (λ (t : Txns). record { active = active_of t.open_txns; own = own-id; next = t.next }) agreed.txns_are in
+      let is : sight ≡ record { active = active_of (opens h); own = own-id; next = given h + 1 } = sight-is ∙ ap
+      (λ (t : Txns). record { active = active_of t.open_txns; own = own-id; next = t.next }) agreed.txns_are in
       after (View s) s (mine_tells s) may few joined refl refl txns agreed.txns_are
       (record (get_or slots s fresh) { work = with_view sight (get_or slots s fresh).work })
       (record {
@@ -428,19 +501,22 @@ module _ (names : List (List ℕ)) (h : List Event) (room : ℕ) (schemas : List
               view_is = (commits h, subst (IsViewOf (View s ∷ h) s (commits h)) (sym is) (view_now s own-id (own-is ∙ id_is s is-open)));
             });
       })
-      chains (λ place. rows.rows_stay (View s) h (λ u. refl) (λ u. refl) (λ n id. refl) (λ n. refl) (row_opened h place) (is_at schemas place) (versions_at place chains) (agreed.rows place))
+      chains (λ place. rows.rows_stay (View s) h (λ u. refl) (λ u. refl) (λ n id. refl) (λ n. refl) (row_opened h place) (is_at schemas place)
+      (versions_at place chains) (agreed.rows place))
       writer (fewer h (View s ∷ h) (λ u none. none) (λ u o. o) writer agreed.writes)
       owed room' (omega (arith, owing.owed_view s h is-open)) fits
 
   -- what is found at a place under the session's view
-  pub visible_is : (s : ℕ) (w : Work) (sight : Sight) (place : Place) → (get_or slots s fresh).work ≡ Some w → w.view ≡ Some sight → (n : ℕ) → view_of s h ≡ Some n → first_seen (sees w.id sight) (versions_at place chains) ≡ row_seen h s n place
+  pub visible_is : (s : ℕ) (w : Work) (sight : Sight) (place : Place) → (get_or slots s fresh).work ≡ Some w → w.view ≡ Some sight → (n : ℕ)
+      → view_of s h ≡ Some n → first_seen (sees w.id sight) (versions_at place chains) ≡ row_seen h s n place
   visible_is s w sight place is view-is n is-n =
       let mine : IsWorkOf schemas h s w = subst (WorkAgrees schemas h s) is (agreed.sessions s).work_is in
       let v = subst (ViewAgrees h s) view-is mine.view_is in
       let same : v.0 ≡ n = let e = sym v.1.is-view ∙ is-n in cc in
       ap (λ id. first_seen (sees id sight) (versions_at place chains)) (sym mine.id_is)
       ∙ (subst (λ m. first_seen (sees (id_of h s) sight) (versions_at place chains) ≡ row_at (row_opened h place) (is_at schemas place) (seen h s m)) same
-      (rows.seen_is_snapshot h s v.0 sight ids (ap is_some mine.level_is) v.1 (row_opened h place) (is_at schemas place) (versions_at place chains) (agreed.rows place))
+      (rows.seen_is_snapshot h s v.0 sight ids (ap is_some mine.level_is) v.1 (row_opened h place) (is_at schemas place) (versions_at place chains)
+      (agreed.rows place))
       ∙ ap (λ (tables : List Schema). row_at (row_opened h place) (is_at tables place) (seen h s n)) agreed.tables)
 
   append_empty : {X : Type 0} (xs ys : List X) → xs ++ ys ≡ [] → (xs ≡ []) × (ys ≡ [])
@@ -459,8 +535,13 @@ module _ (names : List (List ℕ)) (h : List Event) (room : ℕ) (schemas : List
       let empty = append_empty (versions_of (id_of h v.0) at (own v.0 h)) v.1.behind (sym v.1.parts ∙ none) in
       let below : row_at opened at (committed n h) ≡ None = sym (v.1.reads n needed) ∙ ap (first_seen (is_settled h n)) empty.1 in
       let above : list_any at (own s h) ≡ false =
-      elim (eqb_tells s v.0) [ inl same ↦ ap (λ u. list_any at (own u h)) same.1 ∙ no_change (id_of h v.0) at (own v.0 h) empty.0 | inr differ ↦ v.1.alone s differ.1 ] in
-      ap (λ (tables : List Schema). row_at opened (is_at tables place) (seen h s n)) (sym agreed.tables) ∙ (rows.row_at-append opened at (own s h) (committed n h) above ∙ below)
+      elim (eqb_tells s v.0) [
+        | inl same ↦ ap (λ u. list_any at (own u h)) same.1 ∙ no_change (id_of h v.0) at (own v.0 h) empty.0
+        | inr differ ↦ v.1.alone s
+            differ.1
+      ] in
+      ap (λ (tables : List Schema). row_at opened (is_at tables place) (seen h s n)) (sym agreed.tables) ∙
+      (rows.row_at-append opened at (own s h) (committed n h) above ∙ below)
 
   pub first_is : (place first : Place) → IsFirstFrom place chains first → IsFirstSeen h place first
   first_is place first is = record { from = is.from; between = λ other from before. unseen other (is.between other from before) }
@@ -479,7 +560,8 @@ module _ (names : List (List ℕ)) (h : List Event) (room : ℕ) (schemas : List
       let v = agreed.rows place in (
         v.0,
         λ other differ. ap (λ (tables : List Schema). list_any (is_at tables place) (own other h)) (sym agreed.tables) ∙ v.1.alone other differ,
-        is ∙ rows.newest_is h v.0 (row_opened h place) (is_at schemas place) (versions_at place chains) v.1 ∙ ap (λ (tables : List Schema). row_at (row_opened h place) (is_at tables place) (seen h v.0 (commits h))) agreed.tables,
+        is ∙ rows.newest_is h v.0 (row_opened h place) (is_at schemas place) (versions_at place chains) v.1 ∙ ap
+            (λ (tables : List Schema). row_at (row_opened h place) (is_at tables place) (seen h v.0 (commits h))) agreed.tables,
       )
 
   -- ---- changes
@@ -499,8 +581,10 @@ module _ (names : List (List ℕ)) (h : List Event) (room : ℕ) (schemas : List
       rw (listed, ← mine.txn_is, ← mine.id_is) found
 
   -- the session's slot after a change: its place stands first, and it has its id
-  changed_slot : (schemas' : List Schema) (s : ℕ) (change : Change) (place : Option Place) → place_in schemas' change ≡ place → map (place_in schemas') (own s h) ≡ map (place_in schemas) (own s h)
-      → (w : Work) → IsWorkOf schemas h s w → (w' : Work) → w'.txn ≡ w.txn → w'.level ≡ w.level → w'.view ≡ w.view → w'.places ≡ place ∷ w.places → w'.id ≡ id_of (Changed s change ∷ h) s
+  changed_slot : (schemas' : List Schema) (s : ℕ) (change : Change) (place : Option Place) → place_in schemas' change ≡ place
+      → map (place_in schemas') (own s h) ≡ map (place_in schemas) (own s h)
+      → (w : Work) → IsWorkOf schemas h s w → (w' : Work) → w'.txn ≡ w.txn → w'.level ≡ w.level → w'.view ≡ w.view → w'.places ≡ place ∷ w.places → w'.id ≡
+      id_of (Changed s change ∷ h) s
       → SlotAgrees schemas' (Changed s change ∷ h) s (record (get_or slots s fresh) { work = Some w' })
   changed_slot schemas' s change place place-is same-places w mine w' same-txn same-level same-view places-are id-is =
       let own-is : own s (Changed s change ∷ h) ≡ change ∷ own s h = grind (arith, nat_tests) in
@@ -510,7 +594,9 @@ module _ (names : List (List ℕ)) (h : List Event) (room : ℕ) (schemas : List
           level_is = mine.level_is ∙ ap Some (sym same-level);
           txn_is = mine.txn_is ∙ sym same-txn;
           id_is = sym id-is;
-          places_are = ap (map (place_in schemas')) own-is ∙ (ap (λ q. q ∷ map (place_in schemas') (own s h)) place-is ∙ (ap (λ qs. place ∷ qs) (same-places ∙ mine.places_are) ∙ sym places-are));
+          places_are =
+              ap (map (place_in schemas')) own-is ∙ (ap (λ q. q ∷ map (place_in schemas') (own s h)) place-is ∙
+              (ap (λ qs. place ∷ qs) (same-places ∙ mine.places_are) ∙ sym places-are));
           view_is = subst (ViewAgrees (Changed s change ∷ h) s) (sym same-view) (view_agrees_changed s change h ids w.view mine.view_is);
         };
       }
@@ -526,11 +612,14 @@ module _ (names : List (List ℕ)) (h : List Event) (room : ℕ) (schemas : List
     slots-are : slots' ≡ set slots s (record (get_or slots s fresh) { work = Some w' })
     txns-now : txns' ≡ record { open_txns = opens (Changed s change ∷ h); begun = begins h; next = given (Changed s change ∷ h) + 1 }
 
-  change_parts : (s : ℕ) (change : Change) (place : Option Place) → s < length slots → (w : Work) → (get_or slots s fresh).work ≡ Some w → IsWorkOf schemas h s w
-      → (once : List Slot) → once ≡ set slots s (record (get_or slots s fresh) { work = Some (record w { places = place ∷ w.places }) }) → (txns' : Txns) (slots' : List Slot) → GivesId s txns txns' once slots'
+  change_parts : (s : ℕ) (change : Change) (place : Option Place) → s < length slots → (w : Work) → (get_or slots s fresh).work ≡ Some w
+      → IsWorkOf schemas h s w
+      → (once : List Slot) → once ≡ set slots s (record (get_or slots s fresh) { work = Some (record w { places = place ∷ w.places }) }) → (txns' : Txns)
+      (slots' : List Slot) → GivesId s txns txns' once slots'
       → ChangeParts s change place w txns' slots'
   change_parts s change place lt w is mine once once-is txns' slots' gives =
-      let at : get_or once s fresh ≡ record (get_or slots s fresh) { work = Some (record w { places = place ∷ w.places }) } = ap (λ xs. get_or xs s fresh) once-is ∙ get_or-set_same slots s (record (get_or slots s fresh) { work = Some (record w { places = place ∷ w.places }) }) fresh lt in
+      let at : get_or once s fresh ≡ record (get_or slots s fresh) { work = Some (record w { places = place ∷ w.places }) } = ap (λ xs. get_or xs s fresh)
+      once-is ∙ get_or-set_same slots s (record (get_or slots s fresh) { work = Some (record w { places = place ∷ w.places }) }) fresh lt in
       let work-at : (get_or once s fresh).work ≡ Some (record w { places = place ∷ w.places }) = ap (λ (x : Slot). x.work) at in
       elim (eqb_tells (id_of h s) 0) [
         | inl none ↦
@@ -542,10 +631,14 @@ module _ (names : List (List ℕ)) (h : List Event) (room : ℕ) (schemas : List
               same-view = refl;
               places-are = refl;
               id-now = ap (λ (t : Txns). t.next) agreed.txns_are ∙ grind (arith, nat_tests, none.1);
-              slots-are = to.1 ∙ (ap (λ x. set once s (record x { work = with_id txns.next x.work })) at ∙ (ap (λ xs. set xs s (record (get_or slots s fresh) { work = Some (record w { places = place ∷ w.places; id = txns.next }) })) once-is ∙ set_again slots s _ _));
+              slots-are =
+                  to.1 ∙ (ap (λ x. set once s (record x { work = with_id txns.next x.work })) at ∙
+                  (ap (λ xs. set xs s (record (get_or slots s fresh) { work = Some (record w { places = place ∷ w.places; id = txns.next }) })) once-is ∙
+                  set_again slots s _ _));
               txns-now = to.0 ∙ (ap (λ o. record txns { open_txns = with_txn_id (txn_of_work o) txns.next txns.open_txns; next = txns.next + 1 }) work-at
                   ∙ (ap (λ m. record txns { open_txns = with_txn_id m txns.next txns.open_txns; next = txns.next + 1 }) (sym mine.txn_is)
-                  ∙ (ap (λ (t : Txns). record t { open_txns = with_txn_id (txn s h) t.next t.open_txns; next = t.next + 1 }) agreed.txns_are ∙ rw none.0 refl)));
+                  ∙ (ap (λ (t : Txns). record t { open_txns = with_txn_id (txn s h) t.next t.open_txns; next = t.next + 1 }) agreed.txns_are ∙ rw none.0
+                  refl)));
             }
         | inr some ↦
             let to = gives.later_write (λ zero-is. some.1 (mine.id_is ∙ (sym (ap id_of_work work-at) ∙ zero-is))) in
@@ -562,7 +655,8 @@ module _ (names : List (List ℕ)) (h : List Event) (room : ℕ) (schemas : List
       ]
 
   -- a change, by the session that alone has changes
-  changed_with : (schemas' : List Schema) (s : ℕ) (change : Change) (place : Option Place) → place_in schemas' change ≡ place → map (place_in schemas') (own s h) ≡ map (place_in schemas) (own s h) → schemas' ≡ created (Changed s change ∷ h)
+  changed_with : (schemas' : List Schema) (s : ℕ) (change : Change) (place : Option Place) → place_in schemas' change ≡ place
+      → map (place_in schemas') (own s h) ≡ map (place_in schemas) (own s h) → schemas' ≡ created (Changed s change ∷ h)
       → ((u : ℕ) → u ≢ s → (slot : Slot) → SlotAgrees schemas (Changed s change ∷ h) u slot → SlotAgrees schemas' (Changed s change ∷ h) u slot)
       → MayCome h (Changed s change) → writer ≡ Some s → length (Changed s change ∷ h) < 2 ^ 63 → s < length names → (room' : ℕ) → owed + 1 ≤ room'
       → (once : List Slot) → once ≡ set slots s (record (get_or slots s fresh) { work = with_place place (get_or slots s fresh).work })
@@ -572,19 +666,23 @@ module _ (names : List (List ℕ)) (h : List Event) (room : ℕ) (schemas : List
   changed_with schemas' s change place place-is same-places tables-are wider may locked few joined room' fits once once-is txns' slots' gives new rows-are =
       let is-open : IsOpen s h = may.0 in
       let mine = taken schemas h s (get_or slots s fresh).work (agreed.sessions s).work_is is-open in
-      let parts = change_parts s change place (within s joined) mine.0 mine.1 mine.2 once (once-is ∙ ap (λ o. set slots s (record (get_or slots s fresh) { work = with_place place o })) mine.1) txns' slots' gives in
+      let parts =
+      change_parts s change place (within s joined) mine.0 mine.1 mine.2 once
+      (once-is ∙ ap (λ o. set slots s (record (get_or slots s fresh) { work = with_place place o })) mine.1) txns' slots' gives in
       let alone = lone s locked in
       subst (λ (xs : List Slot). IsAgreed names (Changed s change ∷ h) room' schemas' new txns' xs (owed + 1) writer) (sym parts.slots-are)
       (after_with schemas' (Changed s change) s (mine_tells s) may few joined refl tables-are wider txns' parts.txns-now
       (record (get_or slots s fresh) { work = Some parts.w' })
-      (changed_slot schemas' s change place place-is same-places mine.0 mine.2 parts.w' parts.same-txn parts.same-level parts.same-view parts.places-are parts.id-now)
+      (changed_slot schemas' s change place place-is same-places mine.0 mine.2 parts.w' parts.same-txn parts.same-level parts.same-view parts.places-are
+      parts.id-now)
       new rows-are
       writer
       (subst (WriterAgrees (Changed s change ∷ h)) (sym locked) (is-open, λ u differ. grind (arith, nat_tests, alone u differ, differ)))
       (owed + 1) room' (omega (arith, owing.owed_changed s change h is-open)) fits)
 
   -- a change of a row
-  pub agreed_changed : (s : ℕ) (change : Change) (place : Place) → IsOfRow change → place_in schemas change ≡ Some place → MayCome h (Changed s change) → writer ≡ Some s → length (Changed s change ∷ h) < 2 ^ 63 → s < length names → (room' : ℕ) → owed + 1 ≤ room'
+  pub agreed_changed : (s : ℕ) (change : Change) (place : Place) → IsOfRow change → place_in schemas change ≡ Some place → MayCome h (Changed s change)
+      → writer ≡ Some s → length (Changed s change ∷ h) < 2 ^ 63 → s < length names → (room' : ℕ) → owed + 1 ≤ room'
       → (once : List Slot) → once ≡ set slots s (record (get_or slots s fresh) { work = with_place (Some place) (get_or slots s fresh).work })
       → (txns' : Txns) (slots' : List Slot) → GivesId s txns txns' once slots'
       → (new : Chains) → Pushes chains new place (record { writer = id_for (id_of_work (get_or slots s fresh).work) txns.next; row = row_of change })
@@ -594,13 +692,16 @@ module _ (names : List (List ℕ)) (h : List Event) (room : ℕ) (schemas : List
       ap (λ i. id_for i txns.next) (id_is s may.0) ∙ (ap (λ (t : Txns). id_for (id_of h s) t.next) agreed.txns_are ∙ new_id s change) in
       let picks : (p : Place) → is_at schemas p change ≡ is_same_place place p = λ p. ap (is_place p) place-is in
       let version : Version = record { writer = id_for (id_of_work (get_or slots s fresh).work) txns.next; row = row_of change } in
-      changed_with schemas s change (Some place) place-is refl (agreed.tables ∙ sym (tables_stay s change h of-row)) (λ u differ slot is. is) may locked few joined room' fits once once-is txns' slots' gives new
+      changed_with schemas s change (Some place) place-is refl (agreed.tables ∙ sym (tables_stay s change h of-row)) (λ u differ slot is. is) may locked few
+      joined room' fits once once-is txns' slots' gives new
       (λ p. rows.rows_changed s change h ids (lone s locked) (row_opened h p) (is_at schemas p) (versions_at p chains) (versions_at p new)
-      (λ yes. pushes p ∙ (ap (λ b. cond b (version ∷ versions_at p chains) (versions_at p chains)) (sym (picks p) ∙ yes) ∙ ap (λ i. record { writer = i; row = row_of change } ∷ versions_at p chains) writes-with))
+      (λ yes. pushes p ∙ (ap (λ b. cond b (version ∷ versions_at p chains) (versions_at p chains)) (sym (picks p) ∙ yes) ∙ ap
+      (λ i. record { writer = i; row = row_of change } ∷ versions_at p chains) writes-with))
       (λ apart. pushes p ∙ ap (λ b. cond b (version ∷ versions_at p chains) (versions_at p chains)) (sym (picks p) ∙ apart)) (agreed.rows p))
 
   -- a table that is made
-  pub agreed_created : (s : ℕ) (schema : Schema) → MayCome h (Changed s (Create schema)) → writer ≡ Some s → length (Changed s (Create schema) ∷ h) < 2 ^ 63 → s < length names → (room' : ℕ) → owed + 1 ≤ room'
+  pub agreed_created : (s : ℕ) (schema : Schema) → MayCome h (Changed s (Create schema)) → writer ≡ Some s
+      → length (Changed s (Create schema) ∷ h) < 2 ^ 63 → s < length names → (room' : ℕ) → owed + 1 ≤ room'
       → (once : List Slot) → once ≡ set slots s (record (get_or slots s fresh) { work = with_place None (get_or slots s fresh).work })
       → (txns' : Txns) (slots' : List Slot) → GivesId s txns txns' once slots'
       → IsAgreed names (Changed s (Create schema) ∷ h) room' (schemas ++ schema ∷ []) chains txns' slots' (owed + 1) writer
@@ -608,25 +709,35 @@ module _ (names : List (List ℕ)) (h : List Event) (room : ℕ) (schemas : List
       let more = schema ∷ [] in
       let alone = lone s locked in
       let count : length (created h) ≡ length schemas = ap length (sym agreed.tables) in
-      let owns : (u : ℕ) → AllByRecursion (IsTabled (length schemas)) (own u h) = λ u. subst (λ n. AllByRecursion (IsTabled n) (own u h)) count (own_tabled h agreed.ordered u) in
-      let commits-of : (n : ℕ) → AllByRecursion (IsTabled (length schemas)) (committed n h) = λ n. subst (λ m. AllByRecursion (IsTabled m) (committed n h)) count (committed_tabled h agreed.ordered n) in
-      let alike : (p : Place) (changes : List Change) → AllByRecursion (IsTabled (length schemas)) changes → AllByRecursion (λ change. is_at (schemas ++ more) p change ≡ is_at schemas p change) changes =
-      λ p changes all. all_weaker (IsTabled (length schemas)) (λ change. is_at (schemas ++ more) p change ≡ is_at schemas p change) (at_stays schemas more p) changes all in
-      changed_with (schemas ++ more) s (Create schema) None refl (places_stay schemas more (own s h) (owns s)) (ap (λ (tables : List Schema). tables ++ more) agreed.tables)
+      let owns : (u : ℕ) → AllByRecursion (IsTabled (length schemas)) (own u h) =
+      λ u. subst (λ n. AllByRecursion (IsTabled n) (own u h)) count (own_tabled h agreed.ordered u) in
+      let commits-of : (n : ℕ) → AllByRecursion (IsTabled (length schemas)) (committed n h) =
+      λ n. subst (λ m. AllByRecursion (IsTabled m) (committed n h)) count (committed_tabled h agreed.ordered n) in
+      let alike : (p : Place) (changes : List Change) → AllByRecursion (IsTabled (length schemas)) changes → AllByRecursion
+      (λ change. is_at (schemas ++ more) p change ≡ is_at schemas p change) changes =
+      λ p changes all. all_weaker (IsTabled (length schemas)) (λ change. is_at (schemas ++ more) p change ≡ is_at schemas p change) (at_stays schemas more p)
+      changes all in
+      changed_with (schemas ++ more) s (Create schema) None refl (places_stay schemas more (own s h) (owns s))
+      (ap (λ (tables : List Schema). tables ++ more) agreed.tables)
       (λ u differ slot is.
       let none : own u (Changed s (Create schema) ∷ h) ≡ [] = grind (arith, nat_tests, alone u differ, differ) in
       slot_wider schemas more (Changed s (Create schema) ∷ h) u (subst (AllByRecursion (IsTabled (length schemas))) (sym none) tt) slot is)
       may locked few joined room' fits once once-is txns' slots' gives chains
       (λ p. rows.rows_changed s (Create schema) h ids alone (row_opened h p) (is_at (schemas ++ more) p) (versions_at p chains) (versions_at p chains)
       (λ yes. absurd (false≢true yes)) (λ apart. refl)
-      (rows.rows_alike h (row_opened h p) (is_at schemas p) (is_at (schemas ++ more) p) (λ u. alike p (own u h) (owns u)) (λ n. alike p (committed n h) (commits-of n)) (versions_at p chains) (agreed.rows p)))
+      (rows.rows_alike h (row_opened h p) (is_at schemas p) (is_at (schemas ++ more) p) (λ u. alike p (own u h) (owns u))
+      (λ n. alike p (committed n h) (commits-of n)) (versions_at p chains) (agreed.rows p)))
 
   -- the session's transaction is in the table, also once its place is put
-  pub there_put : (s : ℕ) (place : Option Place) → IsOpen s h → s < length names → (once : List Slot) → once ≡ set slots s (record (get_or slots s fresh) { work = with_place place (get_or slots s fresh).work }) → (w : Work) → (get_or once s fresh).work ≡ Some w → is_there w.txn txns.open_txns × (id_at w.txn txns.open_txns ≡ w.id)
+  pub there_put : (s : ℕ) (place : Option Place) → IsOpen s h → s < length names → (once : List Slot)
+      → once ≡ set slots s (record (get_or slots s fresh) { work = with_place place (get_or slots s fresh).work }) → (w : Work)
+      → (get_or once s fresh).work ≡ Some w → is_there w.txn txns.open_txns × (id_at w.txn txns.open_txns ≡ w.id)
   there_put s place is-open joined once once-is w is =
       let mine = taken schemas h s (get_or slots s fresh).work (agreed.sessions s).work_is is-open in
-      let at : get_or once s fresh ≡ record (get_or slots s fresh) { work = with_place place (get_or slots s fresh).work } = ap (λ xs. get_or xs s fresh) once-is ∙ get_or-set_same slots s (record (get_or slots s fresh) { work = with_place place (get_or slots s fresh).work }) fresh (within s joined) in
-      let now : Some (record mine.0 { places = place ∷ mine.0.places }) ≡ Some w = ap (with_place place) (sym mine.1) ∙ (sym (ap (λ (x : Slot). x.work) at) ∙ is) in
+      let at : get_or once s fresh ≡ record (get_or slots s fresh) { work = with_place place (get_or slots s fresh).work } = ap (λ xs. get_or xs s fresh)
+      once-is ∙ get_or-set_same slots s (record (get_or slots s fresh) { work = with_place place (get_or slots s fresh).work }) fresh (within s joined) in
+      let now : Some (record mine.0 { places = place ∷ mine.0.places }) ≡ Some w = ap (with_place place) (sym mine.1) ∙
+      (sym (ap (λ (x : Slot). x.work) at) ∙ is) in
       let same : record mine.0 { places = place ∷ mine.0.places } ≡ w = cc in
       subst (λ (x : Work). is_there x.txn txns.open_txns × (id_at x.txn txns.open_txns ≡ x.id)) same (there s is-open mine.0 mine.1)
 
@@ -641,7 +752,8 @@ module _ (names : List (List ℕ)) (h : List Event) (room : ℕ) (schemas : List
   -- the newest change is taken back
   pub agreed_undone : (s keep : ℕ) → MayCome h (Undone s keep) → length (Undone s keep ∷ h) < 2 ^ 63 → s < length names → (room' : ℕ) → room ≤ room' + 1
       → (o : Option Place) → o ≡ first (places_of_work (get_or slots s fresh).work) → (new : Chains) → TakesBack o chains new
-      → IsAgreed names (Undone s keep ∷ h) room' schemas new txns (set slots s (record (get_or slots s fresh) { work = without_place (get_or slots s fresh).work })) (owed - 1) writer
+      → IsAgreed names (Undone s keep ∷ h) room' schemas new txns
+      (set slots s (record (get_or slots s fresh) { work = without_place (get_or slots s fresh).work })) (owed - 1) writer
   agreed_undone s keep may few joined room' fits o o-is new takes =
       let is-open : IsOpen s h = may.0 in
       let mine = taken schemas h s (get_or slots s fresh).work (agreed.sessions s).work_is is-open in
@@ -673,31 +785,43 @@ module _ (names : List (List ℕ)) (h : List Event) (room : ℕ) (schemas : List
       (λ yes. pops p ∙ ap (λ b. cond b (older (versions_at p chains)) (versions_at p chains)) (sym (picks p) ∙ yes))
       (λ apart. pops p ∙ ap (λ b. cond b (older (versions_at p chains)) (versions_at p chains)) (sym (picks p) ∙ apart)) (agreed.rows p))
       writer
-      (fewer h (Undone s keep ∷ h) (λ u none. elim (eqb_tells s u) [ inl same ↦ absurd (let no : own s h ≡ [] = ap (λ v. own v h) same.1 ∙ none in cc (newest.2, no)) | inr differ ↦ grind (arith, nat_tests, differ.0, none) ]) (λ u q. q) writer agreed.writes)
+      (fewer h (Undone s keep ∷ h) (λ u none. elim (eqb_tells s u) [
+        | inl same ↦ absurd (let no : own s h ≡ [] = ap (λ v. own v h) same.1 ∙ none in cc (newest.2, no))
+        | inr differ ↦ grind
+            (arith, nat_tests, differ.0, none)
+      ]) (λ u q. q) writer agreed.writes)
       (owed - 1) room' (omega (arith, one, owed_in s joined)) (omega (arith, agreed.has_room, fits))
 
   pub undone_owed : (s keep : ℕ) → MayCome h (Undone s keep) → s < length names → 1 ≤ owed
   undone_owed s keep may joined = omega (arith, owing.owed_by_open h s may.0, owed_in s joined)
 
   -- a place that was put and taken away leaves each slot as it was
-  pub agreed_again : (s : ℕ) (place : Option Place) → s < length names → (once twice : List Slot) → once ≡ set slots s (record (get_or slots s fresh) { work = with_place place (get_or slots s fresh).work }) → twice ≡ set once s (record (get_or once s fresh) { work = without_place (get_or once s fresh).work })
+  pub agreed_again : (s : ℕ) (place : Option Place) → s < length names → (once twice : List Slot)
+      → once ≡ set slots s (record (get_or slots s fresh) { work = with_place place (get_or slots s fresh).work })
+      → twice ≡ set once s (record (get_or once s fresh) { work = without_place (get_or once s fresh).work })
       → (room' : ℕ) → room ≤ room' → IsAgreed names h room' schemas chains txns twice owed writer
   agreed_again s place joined once twice once-is twice-is room' fits =
-      let at : get_or once s fresh ≡ record (get_or slots s fresh) { work = with_place place (get_or slots s fresh).work } = ap (λ xs. get_or xs s fresh) once-is ∙ get_or-set_same slots s (record (get_or slots s fresh) { work = with_place place (get_or slots s fresh).work }) fresh (within s joined) in
-      let back : twice ≡ slots = twice-is ∙ (ap (λ x. set once s (record x { work = without_place x.work })) at ∙ (ap (λ o. set once s (record (get_or slots s fresh) { work = o })) (place_again place (get_or slots s fresh).work) ∙ (ap (λ xs. set xs s (get_or slots s fresh)) once-is ∙ (set_again slots s _ _ ∙ set_back slots s)))) in
+      let at : get_or once s fresh ≡ record (get_or slots s fresh) { work = with_place place (get_or slots s fresh).work } = ap (λ xs. get_or xs s fresh)
+      once-is ∙ get_or-set_same slots s (record (get_or slots s fresh) { work = with_place place (get_or slots s fresh).work }) fresh (within s joined) in
+      let back : twice ≡ slots =
+      twice-is ∙ (ap (λ x. set once s (record x { work = without_place x.work })) at ∙
+      (ap (λ o. set once s (record (get_or slots s fresh) { work = o })) (place_again place (get_or slots s fresh).work) ∙
+      (ap (λ xs. set xs s (get_or slots s fresh)) once-is ∙ (set_again slots s _ _ ∙ set_back slots s)))) in
       subst (λ xs. IsAgreed names h room' schemas chains txns xs owed writer) (sym back) (agreed_room room' fits)
 
 -- ---- the first past
 
 -- Where all versions are older than this history, the newest is the row of the opening.
-opened_versions : (db : Database) (place : Place) (versions : List Version) → IsOpenedWith (get db.rows (in_model place)) versions → AreVersions (Opened db ∷ []) (get db.rows (in_model place)) (is_at db.schemas place) versions
+opened_versions : (db : Database) (place : Place) (versions : List Version) → IsOpenedWith (get db.rows (in_model place)) versions
+    → AreVersions (Opened db ∷ []) (get db.rows (in_model place)) (is_at db.schemas place) versions
 opened_versions db place versions is = (
   0,
   record {
     behind = versions;
     parts = refl;
     alone = λ s differ. refl;
-    are_settled = all_weaker (λ (v : Version). v.writer ≡ 0) (λ (v : Version). IsSettled (Opened db ∷ []) v.writer) (λ v zero-is. inl zero-is) versions is.older;
+    are_settled =
+        all_weaker (λ (v : Version). v.writer ≡ 0) (λ (v : Version). IsSettled (Opened db ∷ []) v.writer) (λ v zero-is. inl zero-is) versions is.older;
     reads = λ n needed. first n versions is.older ∙ is.row_is;
   },
 ) where

@@ -27,21 +27,30 @@ grouped (x ∷ xs) ys zs = ap (λ l. x ∷ l) (grouped xs ys zs)
 -- changes leave the tables, and add some
 tables_after : (db : Database) (changes : List Change) → (made : List Schema) × ((changed db changes).schemas ≡ db.schemas ++ made)
 tables_after db [] = ([], sym (append-nil db.schemas))
-tables_after db (Create schema ∷ changes) = let before = tables_after db changes in (before.0 ++ schema ∷ [], ap (λ (l : List Schema). l ++ schema ∷ []) before.1 ∙ grouped db.schemas before.0 (schema ∷ []))
+tables_after db (Create schema ∷ changes) =
+    let before = tables_after db changes in (
+      before.0 ++ schema ∷ [],
+      ap (λ (l : List Schema). l ++ schema ∷ []) before.1 ∙ grouped db.schemas before.0
+          (schema ∷ []),
+    )
 tables_after db (Put table row ∷ changes) = tables_after db changes
 tables_after db (Remove table key ∷ changes) = tables_after db changes
 
 module _ (db : Database) where
-  key_after : (changes : List Change) (table : ℕ) (row : List Value) → table < length db.schemas → key_in (changed db changes).schemas table row ≡ key_in db.schemas table row
-  key_after changes table row lt = let made = tables_after db changes in ap (λ (l : List Schema). key_in l table row) made.1 ∙ key_stays db.schemas made.0 table row lt
+  key_after : (changes : List Change) (table : ℕ) (row : List Value) → table < length db.schemas
+      → key_in (changed db changes).schemas table row ≡ key_in db.schemas table row
+  key_after changes table row lt =
+      let made = tables_after db changes in ap (λ (l : List Schema). key_in l table row) made.1 ∙ key_stays db.schemas made.0 table row lt
 
-  pub get_is : (changes : List Change) → AllByRecursion (IsTabled (length db.schemas)) changes → (p : Place) → get (changed db changes).rows (in_model p) ≡ row_at (get db.rows (in_model p)) (is_at db.schemas p) changes
+  pub get_is : (changes : List Change) → AllByRecursion (IsTabled (length db.schemas)) changes → (p : Place)
+      → get (changed db changes).rows (in_model p) ≡ row_at (get db.rows (in_model p)) (is_at db.schemas p) changes
   get_is [] all p = refl
   get_is (Create schema ∷ changes) all p = get_is changes all.1 p
   get_is (Put table row ∷ changes) all p =
       let at : Place = record { table = table; key = key_in db.schemas table row } in
       get-insert place_cmp_total (changed db changes).rows (table, key_in (changed db changes).schemas table row) row (in_model p)
-      ∙ (ap (λ (key : Value). cond (eq_by_cmp place_cmp (in_model p) (table, key)) (Some row) (get (changed db changes).rows (in_model p))) (key_after changes table row all.0)
+      ∙ (ap (λ (key : Value). cond (eq_by_cmp place_cmp (in_model p) (table, key)) (Some row) (get (changed db changes).rows (in_model p)))
+      (key_after changes table row all.0)
       ∙ (ap (λ b. cond b (Some row) (get (changed db changes).rows (in_model p))) (same_place_equiv.symm p at)
       ∙ ap (cond (is_same_place at p) (Some row)) (get_is changes all.1 p)))
   get_is (Remove table key ∷ changes) all p =
@@ -54,7 +63,8 @@ all_joined : (P : Change → Type 0) (xs ys : List Change) → AllByRecursion P 
 all_joined P [] ys all other = other
 all_joined P (x ∷ xs) ys all other = (all.0, all_joined P xs ys all.1 other)
 
-pub seen_is : (h : List Event) (s n : ℕ) (place : Place) → IsOrdered h → get (changed (with_all_tables h) (seen h s n)).rows (in_model place) ≡ row_seen h s n place
+pub seen_is : (h : List Event) (s n : ℕ) (place : Place) → IsOrdered h
+    → get (changed (with_all_tables h) (seen h s n)).rows (in_model place) ≡ row_seen h s n place
 seen_is h s n place ordered =
     get_is (with_all_tables h) (seen h s n)
     (all_joined (IsTabled (length (created h))) (own s h) (committed n h) (own_tabled h ordered s) (committed_tabled h ordered n)) place

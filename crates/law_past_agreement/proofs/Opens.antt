@@ -17,13 +17,15 @@ there_front : (n : ℕ) (xs ys : List Entry) → is_there n xs → is_there n (x
 there_front n [] ys there = cc
 there_front n (e ∷ xs) ys there = (grind (arith, nat_tests, there_front n xs ys, there), grind (arith, nat_tests, there_front n xs ys, there))
 
-there_last : (n : ℕ) (xs : List Entry) (e : Entry) → e.0 ≡ n → AllByRecursion (λ (x : Entry). x.0 < n) xs → is_there n (xs ++ e ∷ []) × (id_at n (xs ++ e ∷ []) ≡ e.1.id)
+there_last : (n : ℕ) (xs : List Entry) (e : Entry) → e.0 ≡ n → AllByRecursion (λ (x : Entry). x.0 < n) xs
+    → is_there n (xs ++ e ∷ []) × (id_at n (xs ++ e ∷ []) ≡ e.1.id)
 there_last n [] e is all = (grind (arith, nat_tests, is), grind (arith, nat_tests, is))
 there_last n (x ∷ xs) e is all = let rest = there_last n xs e is all.1 in (grind (arith, nat_tests, rest.0, all.0), grind (arith, nat_tests, rest.1, all.0))
 
 there_without : (n m : ℕ) (xs : List Entry) → n ≢ m → is_there n xs → is_there n (without m xs) × (id_at n (without m xs) ≡ id_at n xs)
 there_without n m [] differ there = cc
-there_without n m (e ∷ xs) differ there = (grind (arith, nat_tests, there_without n m xs differ, there, differ), grind (arith, nat_tests, there_without n m xs differ, there, differ))
+there_without n m (e ∷ xs) differ there =
+    (grind (arith, nat_tests, there_without n m xs differ, there, differ), grind (arith, nat_tests, there_without n m xs differ, there, differ))
 
 there_given : (n m id : ℕ) (xs : List Entry) → is_there n xs → is_there n (with_id m id xs) × (id_at n (with_id m id xs) ≡ cond (nat_eq n m) id (id_at n xs))
 there_given n m id [] there = cc
@@ -40,11 +42,13 @@ all_weaker P Q f (x ∷ xs) all = (f x all.0, all_weaker P Q f xs all.1)
 all_without : (P Q : Entry → Type 0) (n : ℕ) → ((x : Entry) → n ≢ x.0 → P x → Q x) → (xs : List Entry) → AllByRecursion P xs → AllByRecursion Q (without n xs)
 all_without P Q n f [] all = tt
 all_without P Q n f (x ∷ xs) all = go (eqb_tells n x.0) (all_without P Q n f xs all.1) where
-  go : ((eqb n x.0 ≡ true) × (n ≡ x.0)) ⊎ ((eqb n x.0 ≡ false) × (n ≢ x.0)) → AllByRecursion Q (without n xs) → AllByRecursion Q (cond (not (nat_eq n x.0)) (x ∷ without n xs) (without n xs))
+  go : ((eqb n x.0 ≡ true) × (n ≡ x.0)) ⊎ ((eqb n x.0 ≡ false) × (n ≢ x.0)) → AllByRecursion Q (without n xs)
+      → AllByRecursion Q (cond (not (nat_eq n x.0)) (x ∷ without n xs) (without n xs))
   go (inl same) rest = rw same.0 rest
   go (inr differ) rest = rw differ.0 (f x differ.1 all.0, rest)
 
-all_given : (P Q : Entry → Type 0) (n id : ℕ) → ((x : Entry) → n ≡ x.0 → P x → Q (x.0, record x.1 { id = id })) → ((x : Entry) → n ≢ x.0 → P x → Q x) → (xs : List Entry) → AllByRecursion P xs → AllByRecursion Q (with_id n id xs)
+all_given : (P Q : Entry → Type 0) (n id : ℕ) → ((x : Entry) → n ≡ x.0 → P x → Q (x.0, record x.1 { id = id })) → ((x : Entry) → n ≢ x.0 → P x → Q x)
+    → (xs : List Entry) → AllByRecursion P xs → AllByRecursion Q (with_id n id xs)
 all_given P Q n id f g [] all = tt
 all_given P Q n id f g (x ∷ xs) all = (go (eqb_tells n x.0), all_given P Q n id f g xs all.1) where
   go : ((eqb n x.0 ≡ true) × (n ≡ x.0)) ⊎ ((eqb n x.0 ≡ false) × (n ≢ x.0)) → Q (cond (nat_eq n x.0) (x.0, record x.1 { id = id }) x)
@@ -69,16 +73,21 @@ pub record AreOpens (h : List Event) : Type 0 where
   pub back : AllByRecursion (IsEntry h) (opens h)
 
 -- an entry stays one where its session's transaction does
-same_entry : (h g : List Event) → ((s : ℕ) → level s g ≡ level s h) → ((s : ℕ) → txn s g ≡ txn s h) → ((s : ℕ) → id_of g s ≡ id_of h s) → (e : Entry) → IsEntry h e → IsEntry g e
-same_entry h g levels numbers ids e is = record { is-open = ap is_some (levels e.1.session) ∙ is.is-open; number = numbers e.1.session ∙ is.number; id-is = ids e.1.session ∙ is.id-is }
+same_entry : (h g : List Event) → ((s : ℕ) → level s g ≡ level s h) → ((s : ℕ) → txn s g ≡ txn s h) → ((s : ℕ) → id_of g s ≡ id_of h s) → (e : Entry)
+    → IsEntry h e → IsEntry g e
+same_entry h g levels numbers ids e is =
+    record { is-open = ap is_some (levels e.1.session) ∙ is.is-open; number = numbers e.1.session ∙ is.number; id-is = ids e.1.session ∙ is.id-is }
 
 begun : (h : List Event) (t m : ℕ) (l : _) → AreIds h → m ≡ begins h + 1 → level t h ≡ None → AreOpens h → AreOpens (Begin t m l ∷ h)
 begun h t m l ids new closed opened =
-    let below : AllByRecursion (λ (x : Entry). x.0 < m) (opens h) = all_weaker (IsEntry h) (λ (x : Entry). x.0 < m) (λ x is. omega (arith, is.number, ids.numbered x.1.session, new)) (opens h) opened.back in
+    let below : AllByRecursion (λ (x : Entry). x.0 < m) (opens h) =
+    all_weaker (IsEntry h) (λ (x : Entry). x.0 < m) (λ x is. omega (arith, is.number, ids.numbered x.1.session, new)) (opens h) opened.back in
     record {
       there = λ s is-open.
           elim (eqb_tells t s) [
-            | inl same ↦ let last = there_last m (opens h) (m, record { session = t; level = l; id = 0 }) refl below in (grind (arith, nat_tests, last.0, same.0), grind (arith, nat_tests, last.1, same.0))
+            | inl same ↦ let last =
+                there_last m (opens h) (m, record { session = t; level = l; id = 0 }) refl below in
+                (grind (arith, nat_tests, last.0, same.0), grind (arith, nat_tests, last.1, same.0))
             | inr differ ↦
                 let before : IsOpen s h = grind (arith, nat_tests, is-open, differ.0) in
                 let front = there_front (txn s h) (opens h) ((m, record { session = t; level = l; id = 0 }) ∷ []) (opened.there s before).0 in
@@ -87,11 +96,18 @@ begun h t m l ids new closed opened =
       back = all_front (IsEntry (Begin t m l ∷ h)) (opens h) (m, record { session = t; level = l; id = 0 })
           (all_weaker (IsEntry h) (IsEntry (Begin t m l ∷ h)) (λ x is.
           let other : t ≢ x.1.session = λ same. cc (subst (λ s. level s h ≡ None) same closed, is.is-open) in
-          record { is-open = grind (arith, nat_tests, is.is-open, other); number = grind (arith, nat_tests, is.number, other); id-is = grind (arith, nat_tests, is.id-is, other) }) (opens h) opened.back)
+          record {
+            is-open = grind (arith, nat_tests, is.is-open, other);
+            number = grind (arith, nat_tests, is.number, other);
+            id-is = grind
+                (arith, nat_tests, is.id-is, other);
+          }) (opens h) opened.back)
           (record { is-open = grind (arith, nat_tests); number = grind (arith, nat_tests); id-is = grind (arith, nat_tests) });
     }
 
-closed : (e : Event) (h : List Event) (t : ℕ) → AreIds h → IsOpen t h → ((s : ℕ) → t ≢ s → level s (e ∷ h) ≡ level s h) → (level t (e ∷ h) ≡ None) → ((s : ℕ) → txn s (e ∷ h) ≡ txn s h) → ((s : ℕ) → id_of (e ∷ h) s ≡ id_of h s) → opens (e ∷ h) ≡ without (txn t h) (opens h) → AreOpens h → AreOpens (e ∷ h)
+closed : (e : Event) (h : List Event) (t : ℕ) → AreIds h → IsOpen t h → ((s : ℕ) → t ≢ s → level s (e ∷ h) ≡ level s h) → (level t (e ∷ h) ≡ None)
+    → ((s : ℕ) → txn s (e ∷ h) ≡ txn s h) → ((s : ℕ) → id_of (e ∷ h) s ≡ id_of h s) → opens (e ∷ h) ≡ without (txn t h) (opens h) → AreOpens h
+    → AreOpens (e ∷ h)
 closed e h t ids was-open others now numbers same-ids is opened =
     record {
       there = λ s is-open.
@@ -103,7 +119,12 @@ closed e h t ids was-open others now numbers same-ids is opened =
       back = subst (AllByRecursion (IsEntry (e ∷ h))) (sym is)
           (all_without (IsEntry h) (IsEntry (e ∷ h)) (txn t h) (λ x apart was.
           let other : t ≢ x.1.session = λ same. apart (ap (λ s. txn s h) same ∙ was.number) in
-          record { is-open = ap is_some (others x.1.session other) ∙ was.is-open; number = numbers x.1.session ∙ was.number; id-is = same-ids x.1.session ∙ was.id-is }) (opens h) opened.back);
+          record {
+            is-open = ap is_some (others x.1.session other) ∙ was.is-open;
+            number = numbers x.1.session ∙ was.number;
+            id-is = same-ids x.1.session ∙
+                was.id-is;
+          }) (opens h) opened.back);
     }
 
 first_write : (t : ℕ) (change : _) (h : List Event) → AreIds h → IsOpen t h → id_of h t ≡ 0 → AreOpens h → AreOpens (Changed t change ∷ h)
@@ -133,18 +154,30 @@ first_write t change h ids is-open none opened =
 later_write : (t : ℕ) (change : _) (h : List Event) → eqb (id_of h t) 0 ≡ false → AreOpens h → AreOpens (Changed t change ∷ h)
 later_write t change h some opened =
     let is : opens (Changed t change ∷ h) ≡ opens h = rw some refl in
-    let same-id : (s : ℕ) → id_of (Changed t change ∷ h) s ≡ id_of h s = λ s. elim (eqb_tells t s) [ inl same ↦ grind (arith, nat_tests, same.1, some) | inr differ ↦ rw differ.0 refl ] in
+    let same-id : (s : ℕ) → id_of (Changed t change ∷ h) s ≡ id_of h s =
+    λ s. elim (eqb_tells t s) [ inl same ↦ grind (arith, nat_tests, same.1, some) | inr differ ↦ rw differ.0 refl ] in
     record {
       there = λ s open-s. rw (is, same-id s) (opened.there s open-s);
-      back = subst (AllByRecursion (IsEntry (Changed t change ∷ h))) (sym is) (all_weaker (IsEntry h) (IsEntry (Changed t change ∷ h)) (λ x was. record { is-open = was.is-open; number = was.number; id-is = same-id x.1.session ∙ was.id-is }) (opens h) opened.back);
+      back =
+          subst (AllByRecursion (IsEntry (Changed t change ∷ h))) (sym is)
+          (all_weaker (IsEntry h) (IsEntry (Changed t change ∷ h))
+          (λ x was. record { is-open = was.is-open; number = was.number; id-is = same-id x.1.session ∙ was.id-is }) (opens h) opened.back);
     }
 
 step : (e : Event) (h : List Event) → MayCome h e → AreIds h → AreOpens h → AreOpens (e ∷ h)
 step (Begin t m l) h may ids opened = begun h t m l ids may.0 may.1 opened
-step (Changed t change) h may ids opened = elim (eqb_tells (id_of h t) 0) [ inl none ↦ first_write t change h ids may.0 none.1 opened | inr some ↦ later_write t change h some.0 opened ]
-step (Committed t) h may ids opened = closed (Committed t) h t ids may (λ s other. grind (arith, nat_tests, other)) (grind (arith, nat_tests)) (λ s. refl) (λ s. refl) refl opened
-step (RolledBack t) h may ids opened = closed (RolledBack t) h t ids may.0 (λ s other. grind (arith, nat_tests, other)) (grind (arith, nat_tests)) (λ s. refl) (λ s. refl) refl opened
-step e h may ids opened = record { there = opened.there; back = all_weaker (IsEntry h) (IsEntry (e ∷ h)) (λ x is. record { is-open = is.is-open; number = is.number; id-is = is.id-is }) (opens h) opened.back }
+step (Changed t change) h may ids opened =
+    elim (eqb_tells (id_of h t) 0) [ inl none ↦ first_write t change h ids may.0 none.1 opened | inr some ↦ later_write t change h some.0 opened ]
+step (Committed t) h may ids opened =
+    closed (Committed t) h t ids may (λ s other. grind (arith, nat_tests, other)) (grind (arith, nat_tests)) (λ s. refl) (λ s. refl) refl opened
+step (RolledBack t) h may ids opened =
+    closed (RolledBack t) h t ids may.0 (λ s other. grind (arith, nat_tests, other)) (grind (arith, nat_tests)) (λ s. refl) (λ s. refl) refl opened
+step e h may ids opened =
+    record {
+      there = opened.there;
+      back = all_weaker (IsEntry h) (IsEntry (e ∷ h))
+          (λ x is. record { is-open = is.is-open; number = is.number; id-is = is.id-is }) (opens h) opened.back;
+    }
 
 pub opens_of : (h : List Event) → IsOrdered h → AreOpens h
 opens_of [] ordered = record { there = λ s is-open. cc; back = tt }
@@ -166,4 +199,6 @@ active_open h ordered s is-open some = let there = (opens_of h ordered).there s 
 
 -- and an id of no open transaction is not
 pub active_none : (h : List Event) → IsOrdered h → (id : ℕ) → ((s : ℕ) → IsOpen s h → id_of h s ≢ id) → list_any (λ a. a == id) (active_of (opens h)) ≡ false
-active_none h ordered id others = has_none id (opens h) (all_weaker (IsEntry h) (λ (x : Entry). x.1.id ≢ id) (λ x is same. others x.1.session is.is-open (is.id-is ∙ same)) (opens h) (opens_of h ordered).back)
+active_none h ordered id others =
+    has_none id (opens h) (all_weaker (IsEntry h) (λ (x : Entry). x.1.id ≢ id) (λ x is same. others x.1.session is.is-open (is.id-is ∙ same)) (opens h)
+    (opens_of h ordered).back)

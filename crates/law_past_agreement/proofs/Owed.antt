@@ -25,18 +25,25 @@ module _ (g h : List Event) (t : ℕ) (same : (u : ℕ) → u ≢ t → owed_by 
   all_of zero lt = absurd (omega arith)
   all_of (suc n) lt =
       elim (eqb_tells n t) [
-        | inl here ↦ subst (λ m. (owed_by g m + owed_by_all g n) + owed_by h t ≡ (owed_by h m + owed_by_all h n) + owed_by g t) (sym here.1) (omega (arith, all_beyond n (omega (arith, here.1))))
+        | inl here ↦ subst (λ m. (owed_by g m + owed_by_all g n) + owed_by h t ≡ (owed_by h m + owed_by_all h n) + owed_by g t) (sym here.1)
+            (omega (arith, all_beyond n (omega (arith, here.1))))
         | inr there ↦ omega (arith, same n there.1, all_of n (omega (arith, there.1)))
       ]
 
 -- what is owed to all, where one entry of session t comes
-pub owed_after : (e : Event) (h : List Event) (t n : ℕ) → ((u : ℕ) → u ≢ t → is_of u e ≡ false) → t < n → owed_by_all (e ∷ h) n + owed_by h t ≡ owed_by_all h n + owed_by (e ∷ h) t
+pub owed_after : (e : Event) (h : List Event) (t n : ℕ) → ((u : ℕ) → u ≢ t → is_of u e ≡ false) → t < n
+    → owed_by_all (e ∷ h) n + owed_by h t ≡ owed_by_all h n + owed_by (e ∷ h) t
 owed_after e h t n mine lt = all_of (e ∷ h) h t (λ u differ. others e h u (mine u differ)) n lt
 
 -- to each session is owed no more than to all
 pub owed_within : (h : List Event) (t n : ℕ) → t < n → owed_by h t ≤ owed_by_all h n
 owed_within h t zero lt = absurd (omega arith)
-owed_within h t (suc n) lt = elim (eqb_tells n t) [ inl here ↦ subst (λ m. owed_by h t ≤ owed_by h m + owed_by_all h n) (sym here.1) (omega arith) | inr there ↦ omega (arith, owed_within h t n (omega (arith, there.1))) ]
+owed_within h t (suc n) lt =
+    elim (eqb_tells n t) [
+      | inl here ↦ subst (λ m. owed_by h t ≤ owed_by h m + owed_by_all h n) (sym here.1) (omega arith)
+      | inr there ↦ omega
+          (arith, owed_within h t n (omega (arith, there.1)))
+    ]
 
 -- ---- what an entry makes of what is owed to its session
 
@@ -62,7 +69,11 @@ owed_begin t m l h =
 
 pub owed_view : (t : ℕ) (h : List Event) → IsOpen t h → owed_by (View t ∷ h) t ≡ owed_by h t
 owed_view t h is-open =
-    rw (open_owed (level t h) (length (own t h)) (awaits_ack (of_item t (View t ∷ h))) is-open, open_owed (level t h) (length (own t h)) (awaits_ack (of_item t h)) is-open) refl
+    rw (
+      open_owed (level t h) (length (own t h)) (awaits_ack (of_item t (View t ∷ h))) is-open,
+      open_owed (level t h) (length (own t h))
+          (awaits_ack (of_item t h)) is-open,
+    ) refl
 
 pub owed_changed : (t : ℕ) (change : Change) (h : List Event) → IsOpen t h → owed_by (Changed t change ∷ h) t ≡ owed_by h t + 1
 owed_changed t change h is-open =
@@ -72,7 +83,8 @@ owed_changed t change h is-open =
     let was = open_owed (level t h) (length (own t h)) (awaits_ack (of_item t h)) is-open in
     omega (arith, now, was, count)
 
-pub owed_undone : (t keep : ℕ) (h : List Event) → IsOpen t h → length (own t h) ≡ keep + 1 → length (own t (Undone t keep ∷ h)) ≡ keep → owed_by (Undone t keep ∷ h) t + 1 ≡ owed_by h t
+pub owed_undone : (t keep : ℕ) (h : List Event) → IsOpen t h → length (own t h) ≡ keep + 1 → length (own t (Undone t keep ∷ h)) ≡ keep
+    → owed_by (Undone t keep ∷ h) t + 1 ≡ owed_by h t
 owed_undone t keep h is-open before after =
     let now = open_owed (level t h) (length (own t (Undone t keep ∷ h))) (awaits_ack (of_item t (Undone t keep ∷ h))) is-open in
     let was = open_owed (level t h) (length (own t h)) (awaits_ack (of_item t h)) is-open in

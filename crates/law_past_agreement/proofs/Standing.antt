@@ -68,7 +68,8 @@ given_rise e h = omega arith
 
 -- no id is 0
 pub standing_some : (h : List Event) (id : ℕ) → AreIds h → IsStanding h id → 0 < id
-standing_some h id ids (inl c) = elim (cases_lt 0 id) [ inl lt ↦ lt | inr le ↦ let none : id ≡ 0 = omega (arith, le) in absurd (grind (arith, nat_tests, none, c.1, ids.among_some c.0)) ]
+standing_some h id ids (inl c) =
+    elim (cases_lt 0 id) [ inl lt ↦ lt | inr le ↦ let none : id ≡ 0 = omega (arith, le) in absurd (grind (arith, nat_tests, none, c.1, ids.among_some c.0)) ]
 standing_some h id ids (inr o) = o.3
 
 -- an id that stands stood before, or has just been given
@@ -87,7 +88,13 @@ stood (Changed t change) h id may ids (inr o) =
     ]
 stood (Committed t) h id may ids (inl c) =
     elim (eqb_tells (id_of h t) id) [
-      | inl same ↦ inl (inr (t, may, same.1, elim (cases_lt 0 id) [ inl lt ↦ lt | inr le ↦ let none : id ≡ 0 = omega (arith, le) in absurd (grind (arith, nat_tests, none, c.1, ids.among_some c.0)) ]))
+      | inl same ↦ inl (inr (
+        t,
+        may,
+        same.1,
+        elim (cases_lt 0 id)
+            [ inl lt ↦ lt | inr le ↦ let none : id ≡ 0 = omega (arith, le) in absurd (grind (arith, nat_tests, none, c.1, ids.among_some c.0)) ],
+      ))
       | inr differ ↦ inl (inl (c.0, grind (arith, nat_tests, c.1, differ.0)))
     ]
 stood (Committed t) h id may ids (inr o) = inl (inr (o.0, grind (arith, nat_tests, o.1), o.2, o.3))
@@ -96,7 +103,8 @@ stood (RolledBack t) h id may ids (inr o) = inl (inr (o.0, grind (arith, nat_tes
 stood e h id may ids standing = inl standing
 
 -- A view stays what it is while the session's id and view do, at an own entry too.
-pub view_kept : (e : Event) (h : List Event) (s n : ℕ) (sight : Sight) → MayCome h e → AreIds h → id_of (e ∷ h) s ≡ id_of h s → view_of s (e ∷ h) ≡ view_of s h → IsViewOf h s n sight → IsViewOf (e ∷ h) s n sight
+pub view_kept : (e : Event) (h : List Event) (s n : ℕ) (sight : Sight) → MayCome h e → AreIds h → id_of (e ∷ h) s ≡ id_of h s
+    → view_of s (e ∷ h) ≡ view_of s h → IsViewOf h s n sight → IsViewOf (e ∷ h) s n sight
 view_kept e h s n sight may ids same-id same-view v =
     record {
       is-view = same-view ∙ v.is-view;
@@ -112,7 +120,8 @@ view_kept e h s n sight may ids same-id same-view v =
     }
 
 -- It does too where the session is given its id later than its view.
-pub view_changed : (s : ℕ) (change : Change) (h : List Event) (n : ℕ) (sight : Sight) → AreIds h → IsViewOf h s n sight → IsViewOf (Changed s change ∷ h) s n sight
+pub view_changed : (s : ℕ) (change : Change) (h : List Event) (n : ℕ) (sight : Sight) → AreIds h → IsViewOf h s n sight
+    → IsViewOf (Changed s change ∷ h) s n sight
 view_changed s change h n sight ids v =
     record {
       is-view = v.is-view;
@@ -132,7 +141,8 @@ view_changed s change h n sight ids v =
       later = λ id lt. v.later id (omega (arith, given_rise (Changed s change) h, lt));
     }
 
-pub view_agrees : (e : Event) (h : List Event) (s : ℕ) → MayCome h e → AreIds h → id_of (e ∷ h) s ≡ id_of h s → view_of s (e ∷ h) ≡ view_of s h → (o : Option Sight) → ViewAgrees h s o → ViewAgrees (e ∷ h) s o
+pub view_agrees : (e : Event) (h : List Event) (s : ℕ) → MayCome h e → AreIds h → id_of (e ∷ h) s ≡ id_of h s → view_of s (e ∷ h) ≡ view_of s h
+    → (o : Option Sight) → ViewAgrees h s o → ViewAgrees (e ∷ h) s o
 view_agrees e h s may ids same-id same-view None v = same-view ∙ v
 view_agrees e h s may ids same-id same-view (Some sight) v = (v.0, view_kept e h s v.0 sight may ids same-id same-view v.1)
 
@@ -141,8 +151,11 @@ view_agrees_changed s change h ids None v = v
 view_agrees_changed s change h ids (Some sight) v = (v.0, view_changed s change h v.0 sight ids v.1)
 
 -- What is kept of a transaction stays right while its level, its number, its id, its changes and its view do.
-pub work_kept : (schemas : List Schema) (e : Event) (h : List Event) (s : ℕ) → MayCome h e → AreIds h → level s (e ∷ h) ≡ level s h → txn s (e ∷ h) ≡ txn s h → id_of (e ∷ h) s ≡ id_of h s → own s (e ∷ h) ≡ own s h → view_of s (e ∷ h) ≡ view_of s h → (o : Option Work) → WorkAgrees schemas h s o → WorkAgrees schemas (e ∷ h) s o
-work_kept schemas e h s may ids same-level same-txn same-id same-own same-view None agrees = record { level_is = same-level ∙ agrees.level_is; own_is = same-own ∙ agrees.own_is }
+pub work_kept : (schemas : List Schema) (e : Event) (h : List Event) (s : ℕ) → MayCome h e → AreIds h → level s (e ∷ h) ≡ level s h
+    → txn s (e ∷ h) ≡ txn s h → id_of (e ∷ h) s ≡ id_of h s → own s (e ∷ h) ≡ own s h → view_of s (e ∷ h) ≡ view_of s h → (o : Option Work)
+    → WorkAgrees schemas h s o → WorkAgrees schemas (e ∷ h) s o
+work_kept schemas e h s may ids same-level same-txn same-id same-own same-view None agrees =
+    record { level_is = same-level ∙ agrees.level_is; own_is = same-own ∙ agrees.own_is }
 work_kept schemas e h s may ids same-level same-txn same-id same-own same-view (Some w) agrees =
     record {
       level_is = same-level ∙ agrees.level_is;
@@ -157,7 +170,8 @@ pub other_id : (e : Event) (h : List Event) (s : ℕ) → is_of s e ≡ false �
 other_id e h s other = grind (arith, nat_tests)
 
 -- What is kept of a session stays right at an entry of another one.
-pub other_kept : (schemas : List Schema) (e : Event) (h : List Event) (s : ℕ) → MayCome h e → AreIds h → is_of s e ≡ false → (slot : Slot) → SlotAgrees schemas h s slot → SlotAgrees schemas (e ∷ h) s slot
+pub other_kept : (schemas : List Schema) (e : Event) (h : List Event) (s : ℕ) → MayCome h e → AreIds h → is_of s e ≡ false → (slot : Slot)
+    → SlotAgrees schemas h s slot → SlotAgrees schemas (e ∷ h) s slot
 other_kept schemas e h s may ids other slot agrees =
     let same = untouched e h s other in
     record {

@@ -23,20 +23,24 @@ tabled_more m n le (Create schema) is = tt
 tabled_more m n le (Put table row) is = omega (arith, le, is)
 tabled_more m n le (Remove table key) is = omega (arith, le, is)
 
-pub key_stays : (schemas more : List Schema) (table : ℕ) (row : List Value) → table < length schemas → key_in (schemas ++ more) table row ≡ key_in schemas table row
+pub key_stays : (schemas more : List Schema) (table : ℕ) (row : List Value) → table < length schemas
+    → key_in (schemas ++ more) table row ≡ key_in schemas table row
 key_stays [] more table row lt = absurd (omega (arith, lt))
 key_stays (schema ∷ schemas) more zero row lt = refl
 key_stays (schema ∷ schemas) more (suc table) row lt = key_stays schemas more table row (omega (arith, lt))
 
-pub place_stays : (schemas more : List Schema) (change : Change) → IsTabled (length schemas) change → place_in (schemas ++ more) change ≡ place_in schemas change
+pub place_stays : (schemas more : List Schema) (change : Change) → IsTabled (length schemas) change
+    → place_in (schemas ++ more) change ≡ place_in schemas change
 place_stays schemas more (Create schema) is = refl
 place_stays schemas more (Put table row) is = ap (λ key. Some (record { table = table; key = key })) (key_stays schemas more table row is)
 place_stays schemas more (Remove table key) is = refl
 
-pub at_stays : (schemas more : List Schema) (place : Place) (change : Change) → IsTabled (length schemas) change → is_at (schemas ++ more) place change ≡ is_at schemas place change
+pub at_stays : (schemas more : List Schema) (place : Place) (change : Change) → IsTabled (length schemas) change
+    → is_at (schemas ++ more) place change ≡ is_at schemas place change
 at_stays schemas more place change is = ap (is_place place) (place_stays schemas more change is)
 
-pub places_stay : (schemas more : List Schema) (changes : List Change) → AllByRecursion (IsTabled (length schemas)) changes → map (place_in (schemas ++ more)) changes ≡ map (place_in schemas) changes
+pub places_stay : (schemas more : List Schema) (changes : List Change) → AllByRecursion (IsTabled (length schemas)) changes
+    → map (place_in (schemas ++ more)) changes ≡ map (place_in schemas) changes
 places_stay schemas more [] all = refl
 places_stay schemas more (change ∷ changes) all = rw (place_stays schemas more change all.0, places_stay schemas more changes all.1) refl
 
@@ -62,14 +66,20 @@ created_rise (events.Changed s (Put table row)) h may = omega arith
 created_rise (events.Changed s (Remove table key)) h may = omega arith
 created_rise e h may = omega arith
 
-risen : (e : Event) (h : List Event) → MayCome h e → (changes : List Change) → AllByRecursion (IsTabled (length (created h))) changes → AllByRecursion (IsTabled (length (created (e ∷ h)))) changes
-risen e h may changes all = all_weaker (IsTabled (length (created h))) (IsTabled (length (created (e ∷ h)))) (tabled_more (length (created h)) (length (created (e ∷ h))) (created_rise e h may)) changes all
+risen : (e : Event) (h : List Event) → MayCome h e → (changes : List Change) → AllByRecursion (IsTabled (length (created h))) changes
+    → AllByRecursion (IsTabled (length (created (e ∷ h)))) changes
+risen e h may changes all =
+    all_weaker (IsTabled (length (created h))) (IsTabled (length (created (e ∷ h))))
+    (tabled_more (length (created h)) (length (created (e ∷ h))) (created_rise e h may)) changes all
 
 -- each change of an open transaction
-own_step : (e : Event) (h : List Event) (s : ℕ) → MayCome h e → AllByRecursion (IsTabled (length (created h))) (own s h) → AllByRecursion (IsTabled (length (created h))) (own s (e ∷ h))
+own_step : (e : Event) (h : List Event) (s : ℕ) → MayCome h e → AllByRecursion (IsTabled (length (created h))) (own s h)
+    → AllByRecursion (IsTabled (length (created h))) (own s (e ∷ h))
 own_step (events.Begin t n level) h s may all = all_cond (IsTabled (length (created h))) _ [] (own s h) tt all
 own_step (events.Changed t change) h s may all = all_cond (IsTabled (length (created h))) _ (change ∷ own s h) (own s h) (may.1, all) all
-own_step (events.Undone t keep) h s may all = all_cond (IsTabled (length (created h))) _ (oldest keep (own s h)) (own s h) (all_dropped (IsTabled (length (created h))) (length (own s h) - keep) (own s h) all) all
+own_step (events.Undone t keep) h s may all =
+    all_cond (IsTabled (length (created h))) _ (oldest keep (own s h)) (own s h)
+    (all_dropped (IsTabled (length (created h))) (length (own s h) - keep) (own s h) all) all
 own_step (events.Committed t) h s may all = all_cond (IsTabled (length (created h))) _ [] (own s h) tt all
 own_step (events.RolledBack t) h s may all = all_cond (IsTabled (length (created h))) _ [] (own s h) tt all
 own_step e h s may all = all
@@ -79,8 +89,11 @@ own_tabled [] ordered s = tt
 own_tabled (e ∷ h) ordered s = risen e h ordered.0 (own s (e ∷ h)) (own_step e h s ordered.0 (own_tabled h ordered.1 s))
 
 -- each change that was committed
-committed_step : (e : Event) (h : List Event) (n : ℕ) → ((s : ℕ) → AllByRecursion (IsTabled (length (created h))) (own s h)) → AllByRecursion (IsTabled (length (created h))) (committed n h) → AllByRecursion (IsTabled (length (created h))) (committed n (e ∷ h))
-committed_step (events.Committed t) h n owns all = all_cond (IsTabled (length (created h))) _ (own t h ++ committed n h) (committed n h) (all_joined (IsTabled (length (created h))) (own t h) (committed n h) (owns t) all) all
+committed_step : (e : Event) (h : List Event) (n : ℕ) → ((s : ℕ) → AllByRecursion (IsTabled (length (created h))) (own s h))
+    → AllByRecursion (IsTabled (length (created h))) (committed n h) → AllByRecursion (IsTabled (length (created h))) (committed n (e ∷ h))
+committed_step (events.Committed t) h n owns all =
+    all_cond (IsTabled (length (created h))) _ (own t h ++ committed n h) (committed n h)
+    (all_joined (IsTabled (length (created h))) (own t h) (committed n h) (owns t) all) all
 committed_step e h n owns all = all
 
 pub committed_tabled : (h : List Event) → IsOrdered h → (n : ℕ) → AllByRecursion (IsTabled (length (created h))) (committed n h)

@@ -79,14 +79,18 @@ below_kept table key [] below = tt
 below_kept table key (e ∷ es) below =
     keep (eqb e.0.0 table) (below_kept table key es (right_of (is_lt (place_cmp key e.0)) (below_all place_cmp key es) below)) where
       keep : (b : Bool) → T (below_all place_cmp key (of_table table es)) → T (below_all place_cmp key (cond b (e ∷ of_table table es) (of_table table es)))
-      keep true rest = both (is_lt (place_cmp key e.0)) (below_all place_cmp key (of_table table es)) (left_of (is_lt (place_cmp key e.0)) (below_all place_cmp key es) below) rest
+      keep true rest =
+          both (is_lt (place_cmp key e.0)) (below_all place_cmp key (of_table table es))
+          (left_of (is_lt (place_cmp key e.0)) (below_all place_cmp key es) below) rest
       keep false rest = rest
 
 sorted_kept : (table : ℕ) (es : List (Place × List Value)) → T (is_sorted place_cmp es) → T (is_sorted place_cmp (of_table table es))
 sorted_kept table [] sorted = tt
 sorted_kept table (e ∷ es) sorted =
-    keep (eqb e.0.0 table) (below_kept table e.0 es (left_of (below_all place_cmp e.0 es) (is_sorted place_cmp es) sorted)) (sorted_kept table es (right_of (below_all place_cmp e.0 es) (is_sorted place_cmp es) sorted)) where
-      keep : (b : Bool) → T (below_all place_cmp e.0 (of_table table es)) → T (is_sorted place_cmp (of_table table es)) → T (is_sorted place_cmp (cond b (e ∷ of_table table es) (of_table table es)))
+    keep (eqb e.0.0 table) (below_kept table e.0 es (left_of (below_all place_cmp e.0 es) (is_sorted place_cmp es) sorted))
+    (sorted_kept table es (right_of (below_all place_cmp e.0 es) (is_sorted place_cmp es) sorted)) where
+      keep : (b : Bool) → T (below_all place_cmp e.0 (of_table table es)) → T (is_sorted place_cmp (of_table table es))
+          → T (is_sorted place_cmp (cond b (e ∷ of_table table es) (of_table table es)))
       keep true below rest = both (below_all place_cmp e.0 (of_table table es)) (is_sorted place_cmp (of_table table es)) below rest
       keep false below rest = rest
 
@@ -94,8 +98,10 @@ found_there : (table : ℕ) (key : Value) (es : List (Place × List Value)) → 
 found_there table key [] = refl
 found_there table key (e ∷ es) =
     step (eqb_tells e.0.0 table) (found_there table key es) where
-      step : ((eqb e.0.0 table ≡ true) × (e.0.0 ≡ table)) ⊎ ((eqb e.0.0 table ≡ false) × (e.0.0 ≢ table)) → find place_cmp (table, key) (of_table table es) ≡ find place_cmp (table, key) es
-          → find place_cmp (table, key) (cond (eqb e.0.0 table) (e ∷ of_table table es) (of_table table es)) ≡ cond (eq_by_cmp place_cmp (table, key) e.0) (Some e.1) (find place_cmp (table, key) es)
+      step : ((eqb e.0.0 table ≡ true) × (e.0.0 ≡ table)) ⊎ ((eqb e.0.0 table ≡ false) × (e.0.0 ≢ table))
+          → find place_cmp (table, key) (of_table table es) ≡ find place_cmp (table, key) es
+          → find place_cmp (table, key) (cond (eqb e.0.0 table) (e ∷ of_table table es) (of_table table es)) ≡ cond (eq_by_cmp place_cmp (table, key) e.0)
+          (Some e.1) (find place_cmp (table, key) es)
       step (inl same) rest = rw same.0 (ap (cond (eq_by_cmp place_cmp (table, key) e.0) (Some e.1)) rest)
       step (inr differ) rest = rw (differ.0, apart_tables (table, key) e.0 (λ same. differ.1 (sym same))) rest
 
@@ -103,7 +109,8 @@ none_elsewhere : (table : ℕ) (place : Place) → place.0 ≢ table → (es : L
 none_elsewhere table place apart [] = refl
 none_elsewhere table place apart (e ∷ es) =
     step (eqb_tells e.0.0 table) (none_elsewhere table place apart es) where
-      step : ((eqb e.0.0 table ≡ true) × (e.0.0 ≡ table)) ⊎ ((eqb e.0.0 table ≡ false) × (e.0.0 ≢ table)) → find place_cmp place (of_table table es) ≡ None → find place_cmp place (cond (eqb e.0.0 table) (e ∷ of_table table es) (of_table table es)) ≡ None
+      step : ((eqb e.0.0 table ≡ true) × (e.0.0 ≡ table)) ⊎ ((eqb e.0.0 table ≡ false) × (e.0.0 ≢ table)) → find place_cmp place (of_table table es) ≡ None
+          → find place_cmp place (cond (eqb e.0.0 table) (e ∷ of_table table es) (of_table table es)) ≡ None
       step (inl same) rest = rw (same.0, apart_tables place e.0 (λ is. apart (is ∙ same.1))) rest
       step (inr differ) rest = rw differ.0 rest
 
@@ -115,12 +122,15 @@ rows_back : (table : ℕ) (rows : List (Value × List Value)) → map (λ (e : P
 rows_back table [] = refl
 rows_back table (r ∷ rows) = ap (λ (later : List (List Value)). r.1 ∷ later) (rows_back table rows)
 
-pub rows_are : (table : ℕ) (m : RowMap) (rows : List (Value × List Value)) → AreRowsOfTable table m rows → rows_of table (record { schemas = []; rows = m }) ≡ rows_in rows
+pub rows_are : (table : ℕ) (m : RowMap) (rows : List (Value × List Value)) → AreRowsOfTable table m rows
+    → rows_of table (record { schemas = []; rows = m }) ≡ rows_in rows
 rows_are table m rows are =
     let same : of_table table (entries m) ≡ at_places table rows =
-    same_entries place_cmp place_cmp_total same_places (of_table table (entries m)) (at_places table rows) (sorted_kept table (entries m) (entries_sorted m)) (subst T (sym are.rising) tt)
+    same_entries place_cmp place_cmp_total same_places (of_table table (entries m)) (at_places table rows) (sorted_kept table (entries m) (entries_sorted m))
+    (subst T (sym are.rising) tt)
     (λ place. elim (eqb_tells place.0 table) [
-      | inl here ↦ subst (λ t. find place_cmp (t, place.1) (of_table table (entries m)) ≡ find place_cmp (t, place.1) (at_places table rows)) (sym here.1) (found_there table place.1 (entries m) ∙ (sym (get-entries m (table, place.1)) ∙ sym (are.each place.1)))
+      | inl here ↦ subst (λ t. find place_cmp (t, place.1) (of_table table (entries m)) ≡ find place_cmp (t, place.1) (at_places table rows)) (sym here.1)
+          (found_there table place.1 (entries m) ∙ (sym (get-entries m (table, place.1)) ∙ sym (are.each place.1)))
       | inr apart ↦ none_elsewhere table place apart.1 (entries m) ∙ sym (none_of_rows table place apart.1 rows)
     ]) in
     ap (map (λ (e : Place × List Value). e.1)) same ∙ rows_back table rows

@@ -112,7 +112,8 @@ abbrev pub owed_by_all : List Event → ℕ → ℕ
 owed_by_all h zero = 0
 owed_by_all h (suc n) = owed_by h n + owed_by_all h n
 
-pub record IsAgreed (names : List (List ℕ)) (h : List Event) (room : ℕ) (schemas : List Schema) (chains : Chains) (txns : Txns) (slots : List Slot) (owed : ℕ) (writer : Option ℕ) : Type 0 where
+pub record IsAgreed (names : List (List ℕ)) (h : List Event) (room : ℕ) (schemas : List Schema) (chains : Chains) (txns : Txns) (slots : List Slot)
+    (owed : ℕ) (writer : Option ℕ) : Type 0 where
   pub ordered : IsOrdered h
   pub small : length h < 2 ^ 63
   pub tables : schemas ≡ created h

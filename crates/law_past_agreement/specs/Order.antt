@@ -47,7 +47,11 @@ MayCome past (events.Committed s) = IsOpen s past
 MayCome past (events.Acked s moment) = (awaits_ack (of_item s past) ≡ true) × IsClosed s past
 MayCome past (events.RolledBack s) = IsOpen s past × (own s past ≡ [])
 MayCome past (events.Ended s j reply) = (item : Item) × (under_way s past ≡ Some item) × (j ≡ started s past)
-MayCome past other = ⊥
+MayCome past (events.Waits s lock blockers at) = IsOpen s past
+MayCome past (events.Victim s cycle) = IsOpen s past
+MayCome past (events.Signal name) = Unit {0}
+-- an engine that has stopped keeps no store
+MayCome past (events.Stopped cause) = ⊥
 
 -- each entry could come when it came
 abbrev pub IsOrdered : List Event → Type 0

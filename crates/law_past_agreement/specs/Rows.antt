@@ -79,4 +79,5 @@ IsLastSeen h place = (other : Place) → place_order place other ≡ Less → Is
 
 -- The newest row of a place, committed or not: as the one session sees it whose changes may be newest there.
 abbrev pub IsNewestSeen : List Event → Place → Option (List Value) → Type 0
-IsNewestSeen h place row = (s : ℕ) × ((other : ℕ) → other ≢ s → list_any (is_at (created h) place) (own other h) ≡ false) × (row ≡ row_seen h s (commits h) place)
+IsNewestSeen h place row =
+    (s : ℕ) × ((other : ℕ) → other ≢ s → list_any (is_at (created h) place) (own other h) ≡ false) × (row ≡ row_seen h s (commits h) place)

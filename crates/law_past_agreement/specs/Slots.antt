@@ -72,7 +72,8 @@ set_work s f slots = let slot = slice_index_or slots s fresh in slice_set slots 
 -- the session's transaction has its id, a new one where it had none
 pub record GivesId (s : ℕ) (old new : Txns) (slots slots' : List Slot) : Type 0 where
   pub first_write : id_of_work (slice_index_or slots s fresh).work ≡ 0 → is_some (slice_index_or slots s fresh).work ≡ true
-      → (new ≡ record old { open_txns = with_txn_id (txn_of_work (slice_index_or slots s fresh).work) old.next old.open_txns; next = old.next + 1 }) × (slots' ≡ set_work s (with_id old.next) slots)
+      → (new ≡ record old { open_txns = with_txn_id (txn_of_work (slice_index_or slots s fresh).work) old.next old.open_txns; next = old.next + 1 }) ×
+      (slots' ≡ set_work s (with_id old.next) slots)
   pub later_write : id_of_work (slice_index_or slots s fresh).work ≢ 0 → (new ≡ old) × (slots' ≡ slots)
 
 -- the session that may write, where it is another one

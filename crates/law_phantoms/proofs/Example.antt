@@ -35,7 +35,7 @@ use Rattle.sql_history.specs.Settings.{Setting, HasSet, at_first}
 use Rattle.sql_history.specs.Statements.{refused_at_once}
 use Rattle.sql_history.specs.LooseReading.{newest}
 use Rattle.sql_history.specs.Legal.{IsLegal, Takes, MayBegin, MayChange, MayCommit, MayEnd}
-use Rattle.sql_history.specs.Serial.{Piece, HasDone, with_item, IsSerializable}
+use Rattle.sql_history.specs.Serial.{Piece, HasDone, with_item, IsSerializable, IsSetUp}
 use Rattle.law_one_tree.specs.Trees.{filter_tree, tree_of}
 use Rattle.law_one_tree.specs.Trees as tree
 use Rattle.law_one_tree.proofs.Outcomes.{plain_same}
@@ -49,7 +49,7 @@ use Rattle.law_calm.specs.Standing.{HasStanding}
 use Rattle.law_serial.specs.Turns.{IsSerial}
 use Rattle.law_serial.specs.Example.{one_column, empty_table, a_row, putting}
 use Rattle.law_serial.proofs.Example.{insert, spells-putting, no_rows, inserted-answer, inserted-reply, after_put, one_row, not_empty}
-use Rattle.law_phantoms.specs.Phantoms.{IsPhantomFree, IsSetUp}
+use Rattle.law_phantoms.specs.Phantoms.{IsPhantomFree}
 use Rattle.law_phantoms.specs.Example.{leveling, beginning, deleting, putting_another, committing, another_row, searched, interleaved}
 
 -- ---- the texts
@@ -66,10 +66,15 @@ delete = stmt.Delete (codes "t") (Some condition)
 abbrev insert_another : Stmt
 insert_another = stmt.Insert (codes "t") None ((literal.Int (pos 2) ∷ []) ∷ [])
 
-leveling-tokens : AreTokens leveling (Key word.Set ∷ Bare (Some word.Session) (codes "SESSION") ∷ Bare (Some word.Transaction) (codes "TRANSACTION") ∷ Bare (Some word.Isolation) (codes "ISOLATION") ∷ Bare (Some word.Level) (codes "LEVEL") ∷ Bare (Some word.Serializable) (codes "SERIALIZABLE") ∷ [])
+leveling-tokens : AreTokens leveling (Key word.Set ∷ Bare (Some word.Session) (codes "SESSION") ∷ Bare (Some word.Transaction) (codes "TRANSACTION") ∷ Bare
+    (Some word.Isolation) (codes "ISOLATION") ∷ Bare (Some word.Level) (codes "LEVEL") ∷ Bare (Some word.Serializable) (codes "SERIALIZABLE") ∷ [])
 unfolding after_blank token_at word_token sign_at
 leveling-tokens =
-    AreTokens.token refl refl (AreTokens.blank refl (AreTokens.token refl refl (AreTokens.blank refl (AreTokens.token refl refl (AreTokens.blank refl (AreTokens.token refl refl (AreTokens.blank refl (AreTokens.token refl refl (AreTokens.blank refl (AreTokens.token refl refl AreTokens.nothing))))))))))
+    AreTokens.token refl refl (AreTokens.blank refl
+    (AreTokens.token refl refl (AreTokens.blank refl
+    (AreTokens.token refl refl (AreTokens.blank refl
+    (AreTokens.token refl refl (AreTokens.blank refl
+    (AreTokens.token refl refl (AreTokens.blank refl (AreTokens.token refl refl AreTokens.nothing))))))))))
 
 beginning-tokens : AreTokens beginning (Bare (Some word.Begin) (codes "BEGIN") ∷ [])
 unfolding after_blank token_at word_token sign_at
@@ -79,19 +84,29 @@ committing-tokens : AreTokens committing (Bare (Some word.Commit) (codes "COMMIT
 unfolding after_blank token_at word_token sign_at
 committing-tokens = AreTokens.token refl refl AreTokens.nothing
 
-deleting-tokens : AreTokens deleting (Key word.Delete ∷ Key word.From ∷ Bare None (codes "t") ∷ Key word.Where ∷ Bare None (codes "k") ∷ Compare Equal ∷ Number (codes "2") ∷ [])
+deleting-tokens : AreTokens deleting (Key word.Delete ∷ Key word.From ∷ Bare None (codes "t") ∷ Key word.Where ∷ Bare None (codes "k") ∷ Compare Equal ∷
+    Number (codes "2") ∷ [])
 unfolding after_blank token_at word_token sign_at
 deleting-tokens =
-    AreTokens.token refl refl (AreTokens.blank refl (AreTokens.token refl refl (AreTokens.blank refl (AreTokens.token refl refl (AreTokens.blank refl (AreTokens.token refl refl (AreTokens.blank refl (AreTokens.token refl refl (AreTokens.token refl refl (AreTokens.token refl refl AreTokens.nothing))))))))))
+    AreTokens.token refl refl (AreTokens.blank refl
+    (AreTokens.token refl refl (AreTokens.blank refl
+    (AreTokens.token refl refl (AreTokens.blank refl
+    (AreTokens.token refl refl (AreTokens.blank refl
+    (AreTokens.token refl refl (AreTokens.token refl refl (AreTokens.token refl refl AreTokens.nothing))))))))))
 
-deleting-statement : Statement (Key word.Delete ∷ Key word.From ∷ Bare None (codes "t") ∷ Key word.Where ∷ Bare None (codes "k") ∷ Compare Equal ∷ Number (codes "2") ∷ []) delete
+deleting-statement : Statement (Key word.Delete ∷ Key word.From ∷ Bare None (codes "t") ∷ Key word.Where ∷ Bare None (codes "k") ∷ Compare Equal ∷ Number
+    (codes "2") ∷ []) delete
 unfolding plain_number
-deleting-statement = Statement.delete Name.bare (Where.those (Condition.conj (Condition.neg (Condition.atom (Atom.compare (Oper.of_column Name.bare) (Oper.of_literal Lit.number))))))
+deleting-statement =
+    Statement.delete Name.bare (Where.those (Condition.conj
+    (Condition.neg (Condition.atom (Atom.compare (Oper.of_column Name.bare) (Oper.of_literal Lit.number))))))
 
 another-tokens : AreTokens putting_another (Key word.Insert ∷ Bare None (codes "t") ∷ Key word.Values ∷ Open ∷ Number (codes "2") ∷ Close ∷ [])
 unfolding after_blank token_at word_token sign_at
 another-tokens =
-    AreTokens.token refl refl (AreTokens.blank refl (AreTokens.token refl refl (AreTokens.blank refl (AreTokens.token refl refl (AreTokens.token refl refl (AreTokens.token refl refl (AreTokens.token refl refl AreTokens.nothing)))))))
+    AreTokens.token refl refl (AreTokens.blank refl
+    (AreTokens.token refl refl (AreTokens.blank refl
+    (AreTokens.token refl refl (AreTokens.token refl refl (AreTokens.token refl refl (AreTokens.token refl refl AreTokens.nothing)))))))
 
 another-statement : Statement (Key word.Insert ∷ Bare None (codes "t") ∷ Key word.Values ∷ Open ∷ Number (codes "2") ∷ Close ∷ []) insert_another
 unfolding plain_number
@@ -219,7 +234,16 @@ level_ends =
       ends = (
         refl,
         inl refl,
-        inl (record { statement = set_level; asks = (leveling, refl, spells-leveling); setting = at_first; is_set = refl; refusal = None; found = inl refl; ends = (refl, refl); no_victim = refl }),
+        inl (record {
+          statement = set_level;
+          asks = (leveling, refl, spells-leveling);
+          setting = at_first;
+          is_set = refl;
+          refusal = None;
+          found = inl refl;
+          ends = (refl, refl);
+          no_victim = refl;
+        }),
       );
     }
 
@@ -232,7 +256,16 @@ level_ends_too =
       ends = (
         refl,
         inl refl,
-        inl (record { statement = set_level; asks = (leveling, refl, spells-leveling); setting = at_first; is_set = refl; refusal = None; found = inl refl; ends = (refl, refl); no_victim = refl }),
+        inl (record {
+          statement = set_level;
+          asks = (leveling, refl, spells-leveling);
+          setting = at_first;
+          is_set = refl;
+          refusal = None;
+          found = inl refl;
+          ends = (refl, refl);
+          no_victim = refl;
+        }),
       );
     }
 
@@ -308,12 +341,30 @@ delete_ends =
 
 -- ---- session 2 puts its row
 
-abbrev puts : (past : List Event) → under_way 2 past ≡ Some (Sql putting) → before_item 2 past ≡ past_10 → Sometime (λ h. refused_at_once 2 leveled insert h ≡ None) 2 past → Takes Spells 2 insert past
-puts past asked before free = record { asks = (putting, asked, spells-putting); setting = leveled; is_set = subst (λ (h : List Event). HasSet Spells 2 h leveled) (sym before) set_second; not_refused = free }
+abbrev puts : (past : List Event) → under_way 2 past ≡ Some (Sql putting) → before_item 2 past ≡ past_10
+    → Sometime (λ h. refused_at_once 2 leveled insert h ≡ None) 2 past → Takes Spells 2 insert past
+puts past asked before free =
+    record {
+      asks = (putting, asked, spells-putting);
+      setting = leveled;
+      is_set = subst (λ (h : List Event). HasSet Spells 2 h leveled) (sym before)
+          set_second;
+      not_refused = free;
+    }
 
 may_begin_too : MayBegin Spells 2 2 Serializable past_11
 may_begin_too =
-    record { numbered = refl; closed = refl; first = refl; acked = refl; statement = insert; takes = puts past_11 refl refl (inl refl); level_is = refl; by = refl }
+    record {
+      numbered = refl;
+      closed = refl;
+      first = refl;
+      acked = refl;
+      statement = insert;
+      takes = puts past_11 refl refl (inl refl);
+      level_is = refl;
+      by =
+          refl;
+    }
 
 none_changed : (other : ℕ) → own other past_13 ≡ []
 none_changed other = by_session 2 other (λ is same. rw is refl) (λ is. rw is (by_session 1 other (λ one same. rw one refl) (λ one. rw one refl)))
@@ -330,7 +381,8 @@ may_put =
       within = omega (arith, ap length no_rows);
     }
 
-made_one : (past : List Event) → own 2 past ≡ Put 0 a_row ∷ own_before 2 past → HasMade (length (outcome insert empty_table).changes) 2 (outcome insert empty_table).changes past
+made_one : (past : List Event) → own 2 past ≡ Put 0 a_row ∷ own_before 2 past
+    → HasMade (length (outcome insert empty_table).changes) 2 (outcome insert empty_table).changes past
 made_one past made = subst (λ (o : Outcome). HasMade (length o.changes) 2 o.changes past) (sym inserted-answer) made
 
 may_commit_too : MayCommit Spells 2 past_14
@@ -370,7 +422,13 @@ put_ends =
           refusal = None;
           found = inl refl;
           ends = (
-            record { l = Serializable; level_is = refl; answers = record { db = base 2 past_14; sees = refl; answer = inserted-reply; changes = made_one past_14 refl }; viewed = λ is. cc },
+            record {
+              l = Serializable;
+              level_is = refl;
+              answers = record
+                  { db = base 2 past_14; sees = refl; answer = inserted-reply; changes = made_one past_14 refl };
+              viewed = λ is. cc;
+            },
             (record { closed = refl; committed = refl; not_rolled_back = refl }, refl, refl),
           );
           no_victim = refl;
@@ -450,7 +508,17 @@ commit_ends =
       ends = (
         refl,
         inl refl,
-        inl (record { statement = stmt.Commit; asks = (committing, refl, spells-committing); setting = leveled; is_set = set_put; refusal = None; found = inl refl; ends = (refl, refl, refl); no_victim = refl }),
+        inl (record {
+          statement = stmt.Commit;
+          asks = (committing, refl, spells-committing);
+          setting = leveled;
+          is_set = set_put;
+          refusal = None;
+          found = inl
+              refl;
+          ends = (refl, refl, refl);
+          no_victim = refl;
+        }),
       );
     }
 
@@ -535,8 +603,15 @@ pub serializable_example : IsSerializable interleaved
 serializable_example = ((λ other. refl), ((λ other. refl), tt))
 
 pub set_up_example : IsSetUp interleaved
-set_up_example =
-    ((λ is. cc), (λ is. refl), ((λ is. cc), (λ is. refl), ((λ is. cc), (λ is. refl), ((λ is. cc), (λ is. refl), ((λ is. cc), (λ is. refl), ((λ is. cc), (λ is. refl), ((λ is. cc), (λ is. refl), tt)))))))
+set_up_example = (
+  (λ is. cc),
+  (λ is. refl),
+  (
+    (λ is. cc),
+    (λ is. refl),
+    ((λ is. cc), (λ is. refl), ((λ is. cc), (λ is. refl), ((λ is. cc), (λ is. refl), ((λ is. cc), (λ is. refl), ((λ is. cc), (λ is. refl), tt))))),
+  ),
+)
 
 -- amid session 1's transaction the other adds entries
 pub not_serial_example : IsSerial interleaved → ⊥
@@ -561,10 +636,14 @@ delete_one other is = (cc)
 -- the search for key 2 doesn't meet the row of key 1
 not_met : (place : Place) → passed (matches one_column.columns (Some condition)) (get after_put.rows place) ≡ None
 not_met place =
-    ap (passed (matches one_column.columns (Some condition))) (get_one empty_table (Put 0 a_row) place ∙ ap (cond (is_change_at empty_table.schemas place (Put 0 a_row)) (Some a_row)) (get-from_entries place_cmp_total [] place))
-    ∙ elim (is_change_at empty_table.schemas place (Put 0 a_row)) as (λ b. passed (matches one_column.columns (Some condition)) (cond b (Some a_row) None) ≡ None) [ true ↦ refl | false ↦ refl ]
+    ap (passed (matches one_column.columns (Some condition)))
+    (get_one empty_table (Put 0 a_row) place ∙ ap (cond (is_change_at empty_table.schemas place (Put 0 a_row)) (Some a_row))
+    (get-from_entries place_cmp_total [] place))
+    ∙ elim (is_change_at empty_table.schemas place (Put 0 a_row)) as
+    (λ b. passed (matches one_column.columns (Some condition)) (cond b (Some a_row) None) ≡ None) [ true ↦ refl | false ↦ refl ]
 
-unmet : (table : ℕ) (schema : Schema) → ◌≡◌ {A = Option ℕ} (Some 0) (Some table) → slice_get (one_column ∷ []) table ≡ Some schema → IsUnmet table (matches schema.columns (Some condition)) empty_table (Put 0 a_row ∷ [])
+unmet : (table : ℕ) (schema : Schema) → ◌≡◌ {A = Option ℕ} (Some 0) (Some table) → slice_get (one_column ∷ []) table ≡ Some schema
+    → IsUnmet table (matches schema.columns (Some condition)) empty_table (Put 0 a_row ∷ [])
 unmet table schema there is =
     let zero : 0 ≡ table = cc in
     let same : one_column ≡ schema = (let e = ap (λ n. slice_get (one_column ∷ []) n) zero ∙ is in cc) in
@@ -584,13 +663,15 @@ beside_one pieces (done, has, inl whole) =
     subst (λ (ps : List Piece). AreBeside ps empty_table (Put 0 a_row ∷ [])) (sym (whole.1 ∙ done_one done has)) (unmet, tt)
 beside_one pieces (done, has, inr back) = absurd (let less = back.0 in omega (arith, less))
 
-first_commit : (s : ℕ) (pieces : List Piece) → s ≢ 2 → level s past_14 ≡ Some Serializable → HasStanding Spells s past_14 pieces → AreBeside pieces empty_table (Put 0 a_row ∷ [])
+first_commit : (s : ℕ) (pieces : List Piece) → s ≢ 2 → level s past_14 ≡ Some Serializable → HasStanding Spells s past_14 pieces
+    → AreBeside pieces empty_table (Put 0 a_row ∷ [])
 first_commit s pieces apart open_at stands =
     by_session 1 s
     (λ is same. beside_one pieces (subst (λ t. HasStanding Spells t past_14 pieces) (sym same) stands))
     (λ is. by_session 2 s (λ two same. absurd (apart (sym same))) (λ two. (let e = rw two at open_at in let f = rw is at e in cc)))
 
-last_commit : (s : ℕ) (pieces : List Piece) → s ≢ 1 → level s past_20 ≡ Some Serializable → HasStanding Spells s past_20 pieces → AreBeside pieces (committed_db past_20) (own 1 past_20)
+last_commit : (s : ℕ) (pieces : List Piece) → s ≢ 1 → level s past_20 ≡ Some Serializable → HasStanding Spells s past_20 pieces
+    → AreBeside pieces (committed_db past_20) (own 1 past_20)
 last_commit s pieces apart open_at stands =
     by_session 2 s
     (λ two same. (let e = rw two at open_at in cc))

@@ -29,10 +29,12 @@ tied Less e = cc
 tied Equal e = refl
 tied Greater e = cc
 
-place_there : (schemas more : List Schema) (place : Place) (change : Change) → place.0 < length schemas → is_change_at schemas place change ≡ true → place_of (schemas ++ more) change ≡ Some place
+place_there : (schemas more : List Schema) (place : Place) (change : Change) → place.0 < length schemas → is_change_at schemas place change ≡ true
+    → place_of (schemas ++ more) change ≡ Some place
 place_there schemas more place (Create schema) there is = cc
 place_there schemas more place (Put table row) there is =
-    let same : place ≡ (table, key_in schemas table row) = place_cmp-IsAntisymmetric place (table, key_in schemas table row) (tied (place_cmp place (table, key_in schemas table row)) is) in
+    let same : place ≡ (table, key_in schemas table row) =
+    place_cmp-IsAntisymmetric place (table, key_in schemas table row) (tied (place_cmp place (table, key_in schemas table row)) is) in
     ap (λ (k : Value). Some (table, k)) (key_in-more schemas more table row (subst (λ (p : Place). p.0 < length schemas) same there)) ∙ ap Some (sym same)
 place_there schemas more place (Remove table key) there is =
     ap Some (sym (place_cmp-IsAntisymmetric place (table, key) (tied (place_cmp place (table, key)) is)))
@@ -41,7 +43,8 @@ or_false : (a b : Bool) → a ≡ false → b ≡ false → (a || b) ≡ false
 or_false true b e f = e
 or_false false b e f = f
 
-spared : (schemas more : List Schema) (db : Database) (place : Place) (changes : List Change) → db.schemas ≡ schemas ++ more → place.0 < length schemas → Spares db place changes → touches schemas changes place ≡ false
+spared : (schemas more : List Schema) (db : Database) (place : Place) (changes : List Change) → db.schemas ≡ schemas ++ more → place.0 < length schemas
+    → Spares db place changes → touches schemas changes place ≡ false
 spared schemas more db place [] is there spares = refl
 spared schemas more db place (change ∷ changes) is there spares =
     or_false (is_change_at schemas place change) (touches schemas changes place)
@@ -53,7 +56,8 @@ spared schemas more db place (change ∷ changes) is there spares =
 
 -- ---- one entry more
 
-touches-drop : (schemas : List Schema) (place : Place) (n : ℕ) (changes : List Change) → touches schemas (drop n changes) place ≡ true → touches schemas changes place ≡ true
+touches-drop : (schemas : List Schema) (place : Place) (n : ℕ) (changes : List Change) → touches schemas (drop n changes) place ≡ true
+    → touches schemas changes place ≡ true
 touches-drop schemas place zero changes is = is
 touches-drop schemas place (suc n) [] is = is
 touches-drop schemas place (suc n) (change ∷ changes) is =
@@ -65,7 +69,8 @@ changes_rows (Changed t change) = true
 changes_rows other = false
 
 -- only an entry of a change adds one
-no_more : (schemas : List Schema) (s : ℕ) (place : Place) (e : Event) (past : List Event) → changes_rows e ≡ false → touches schemas (own s (e ∷ past)) place ≡ true → touches schemas (own s past) place ≡ true
+no_more : (schemas : List Schema) (s : ℕ) (place : Place) (e : Event) (past : List Event) → changes_rows e ≡ false
+    → touches schemas (own s (e ∷ past)) place ≡ true → touches schemas (own s past) place ≡ true
 no_more schemas s place (Changed t change) past not is = cc
 no_more schemas s place (Begin t n l) past not is = by_session t s (λ mine same. (let f = rw mine at is in cc)) (λ other. rw other at is)
 no_more schemas s place (Committed t) past not is = by_session t s (λ mine same. (let f = rw mine at is in cc)) (λ other. rw other at is)
@@ -77,12 +82,15 @@ no_more schemas s place e past not is = is
 less_apart : (schemas : List Schema) (e : Event) (past : List Event) → changes_rows e ≡ false → AllApart schemas past → AllApart schemas (e ∷ past)
 less_apart schemas e past not apart s t differ place there is =
     elim (touches schemas (own t (e ∷ past)) place) as (λ b. touches schemas (own t (e ∷ past)) place ≡ b → b ≡ false) [
-      | true ↦ λ both. let f = apart s t differ place there (no_more schemas s place e past not is) in let g = no_more schemas t place e past not both in (let h = sym g ∙ f in cc)
+      | true ↦ λ both. let f =
+          apart s t differ place there (no_more schemas s place e past not is) in let g = no_more schemas t place e past not both in (let h = sym g ∙ f in cc)
       | false ↦ λ none. refl
     ] refl
 
 module _ (says : Language) (schemas more : List Schema) where
-  change_apart : (u : ℕ) (change : Change) (past : List Event) → (newest past).schemas ≡ schemas ++ more → ((place : Place) → place_of (newest past).schemas change ≡ Some place → (other : ℕ) → other ≢ u → Spares (newest past) place (own other past)) → AllApart schemas past → AllApart schemas (Changed u change ∷ past)
+  change_apart : (u : ℕ) (change : Change) (past : List Event) → (newest past).schemas ≡ schemas ++ more
+      → ((place : Place) → place_of (newest past).schemas change ≡ Some place → (other : ℕ) → other ≢ u → Spares (newest past) place (own other past))
+      → AllApart schemas past → AllApart schemas (Changed u change ∷ past)
   change_apart u change past tables free apart s t differ place there is =
       let missed : (other : ℕ) → other ≢ u → is_change_at schemas place change ≡ true → touches schemas (own other past) place ≡ false =
       λ other others at. spared schemas more (newest past) place (own other past) tables there
@@ -92,7 +100,8 @@ module _ (says : Language) (schemas more : List Schema) where
       let not_t : t ≢ u = λ e. differ (sym (e ∙ same)) in
       by_session u t (λ m e. absurd (not_t (sym e)))
       (λ other. rw other
-      (elim (is_change_at schemas place change) as (λ b. is_change_at schemas place change ≡ b → (b || touches schemas (own s past) place) ≡ true → touches schemas (own t past) place ≡ false) [
+      (elim (is_change_at schemas place change) as
+      (λ b. is_change_at schemas place change ≡ b → (b || touches schemas (own s past) place) ≡ true → touches schemas (own t past) place ≡ false) [
         | true ↦ λ at e. missed t not_t at
         | false ↦ λ at e. apart s t differ place there e
       ] refl (rw mine at is))))
@@ -109,7 +118,8 @@ module _ (says : Language) (schemas more : List Schema) where
       (λ other_t. rw other_t (apart s t differ place there before)))
 
   -- a legal entry keeps them apart
-  pub free_always : (e : Event) (past : List Event) → MayFollow says past e → (newest past).schemas ≡ schemas ++ more → AllApart schemas past → AllApart schemas (e ∷ past)
+  pub free_always : (e : Event) (past : List Event) → MayFollow says past e → (newest past).schemas ≡ schemas ++ more → AllApart schemas past
+      → AllApart schemas (e ∷ past)
   free_always (Changed u change) past legal tables apart = change_apart u change past tables legal.2.free apart
   free_always (Begin t n l) past legal tables apart = less_apart schemas (Begin t n l) past refl apart
   free_always e past legal tables apart = less_apart schemas e past refl apart

@@ -18,7 +18,7 @@ use Rattle.sql_history.specs.Items.{Language, Asks}
 use Rattle.sql_history.specs.Statements.{Sight, sight_of}
 use Rattle.sql_history.specs.LooseReading.{newest, uncommitted}
 use Rattle.sql_history.specs.Legal.{IsLegal}
-use Rattle.sql_history.specs.Serial.{Piece, IsSerializable, IsUnstarted}
+use Rattle.sql_history.specs.Serial.{Piece, IsSerializable, IsUnstarted, IsSetUp}
 use Rattle.sql_history.proofs.Pasts.{changed_append, commit_adds}
 use Rattle.law_beside.specs.Beside.{AreOfRows}
 use Rattle.law_beside.proofs.Apart.{schemas_stay}
@@ -34,20 +34,22 @@ use Rattle.law_calm.proofs.Kept.{all_kept}
 use Rattle.law_serial.specs.Turns.{IsSerial}
 use Rattle.law_serial.proofs.Turns.{one_serial, no_commit, open_works}
 use Rattle.law_serial.proofs.Calm.{serial_sees, serial_calm}
-use Rattle.law_phantoms.specs.Phantoms.{AllApart, IsPhantomFree, AreSparedAt, SparesLocked, IsSetUp}
+use Rattle.law_phantoms.specs.Phantoms.{AllApart, IsPhantomFree, AreSparedAt, SparesLocked}
 use Rattle.law_phantoms.proofs.Free.{free_always}
 use Rattle.law_phantoms.proofs.Setup.{absent_others, setup_of_one, setup_apart, set_up, set_up_before, makes_no_table}
 use Rattle.law_phantoms.proofs.Views.{serializable_level, serializable_sees}
 
 newest_tables : (past : List Event) → (newest past).schemas ≡ (committed_db past).schemas ++ made_of (uncommitted past)
 newest_tables past =
-    ap (λ (d : Database). d.schemas) (changed_append (opening past) (uncommitted past) (committed (commits past) past)) ∙ schemas_after (committed_db past) (uncommitted past)
+    ap (λ (d : Database). d.schemas) (changed_append (opening past) (uncommitted past) (committed (commits past) past)) ∙ schemas_after (committed_db past)
+    (uncommitted past)
 
 -- at the commits of a serial history nobody else has a transaction open
 pub serial_free : (says : Language) (past : List Event) → IsSerial past → IsPhantomFree says past
 serial_free says [] serial = tt
 serial_free says (Committed t ∷ past) serial = (
-  λ s pieces differ open_at stands. let other : (t == s) ≡ false = grind (arith, nat_tests, differ) in no_commit t s past other serial (open_works s past (ap is_some open_at)),
+  λ s pieces differ open_at stands. let other : (t == s) ≡ false =
+      grind (arith, nat_tests, differ) in no_commit t s past other serial (open_works s past (ap is_some open_at)),
   serial_free says past serial.1,
 )
 serial_free says (e ∷ past) serial = serial_free says past serial.1
@@ -93,7 +95,13 @@ module _ (says : Language) (one : ReadsOne says) where
 
   before : (e : Event) (past : List Event) → IsFree (e ∷ past) → IsFree past
   before e past all =
-      record { legal = all.legal.1; serializable = serializable_before e past all.serializable; is_set_up = set_up_before says e past all.is_set_up; free = free_before e past all.free }
+      record {
+        legal = all.legal.1;
+        serializable = serializable_before e past all.serializable;
+        is_set_up = set_up_before says e past all.is_set_up;
+        free =
+            free_before e past all.free;
+      }
 
   -- what follows
   pub record Holds (past : List Event) : Type 0 where
@@ -114,7 +122,8 @@ module _ (says : Language) (one : ReadsOne says) where
   begun_apart s t past all apart is_open asked zero =
       open_not s past is_open (absent_others says past all.legal (setting_up t past all zero asked) s apart).closed
 
-  no_table : (s : ℕ) (past : List Event) → IsLegal says past → s ≢ 0 → (table : List ℕ) (skips : Bool) (definitions : List Definition) → Asks says s (stmt.CreateTable table skips definitions) past → did begins_txn s past ≡ false
+  no_table : (s : ℕ) (past : List Event) → IsLegal says past → s ≢ 0 → (table : List ℕ) (skips : Bool) (definitions : List Definition)
+      → Asks says s (stmt.CreateTable table skips definitions) past → did begins_txn s past ≡ false
   no_table s past legal apart table skips definitions asks = makes_no_table says one s apart asks.0 table skips definitions asks.2 past legal asks.1
 
   commit_rows : (t : ℕ) (past : List Event) → IsFree (Committed t ∷ past) → Holds past → t ≢ 0 → AreOfRows (own t past)
@@ -123,7 +132,8 @@ module _ (says : Language) (one : ReadsOne says) where
       let earlier = before (Committed t) past all in
       let kept = all_kept says one past legal.1 holds.calm in
       of_rows (committed_db past).schemas (own t past)
-      (makes_rows says one t None past legal.1 (serializable_sees says one t past apart legal.1 earlier.serializable) (holds.each t apart) legal.0.1 legal.0.2 (kept.works t (holds.each t apart)) kept.within
+      (makes_rows says one t None past legal.1 (serializable_sees says one t past apart legal.1 earlier.serializable) (holds.each t apart) legal.0.1
+      legal.0.2 (kept.works t (holds.each t apart)) kept.within
       (λ r a is. some_none is)
       (λ table skips definitions begun asks. true_false begun (no_table t past legal.1 apart table skips definitions asks)))
 
@@ -158,7 +168,8 @@ module _ (says : Language) (one : ReadsOne says) where
   entry_calm e past all holds = tt
 
   entry_apart : (e : Event) (past : List Event) → IsFree (e ∷ past) → Holds past → AllApart (committed_db (e ∷ past)).schemas (e ∷ past)
-  entry_apart (Opened db) past all holds = setup_apart says (committed_db (Opened db ∷ past)).schemas (Opened db ∷ past) all.legal (subst IsUnstarted (sym all.legal.0) tt)
+  entry_apart (Opened db) past all holds =
+      setup_apart says (committed_db (Opened db ∷ past)).schemas (Opened db ∷ past) all.legal (subst IsUnstarted (sym all.legal.0) tt)
   entry_apart (Committed t) past all holds =
       by_session t 0
       (λ is zero.

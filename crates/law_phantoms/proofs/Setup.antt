@@ -16,12 +16,12 @@ use Rattle.sql_history.specs.Items.{Language, Asks}
 use Rattle.sql_history.specs.Settings.{Setting}
 use Rattle.sql_history.specs.Statements.{refused_at_once}
 use Rattle.sql_history.specs.Legal.{IsLegal}
-use Rattle.sql_history.specs.Serial.{is_setup, IsUnstarted, SetsUpFirst}
+use Rattle.sql_history.specs.Serial.{IsUnstarted, IsSetUp}
 use Rattle.law_work.proofs.Alike.{ReadsOne}
 use Rattle.law_work.proofs.Entries.{by_session, no_item, true_false}
 use Rattle.law_work.proofs.Items.{read_as, did_same}
 use Rattle.law_serial.specs.Turns.{IsOfOne}
-use Rattle.law_phantoms.specs.Phantoms.{AllApart, IsSetUp}
+use Rattle.law_phantoms.specs.Phantoms.{AllApart, is_setup, SetsUpFirst}
 
 unstarted_before : (e : Event) (past : List Event) → IsUnstarted (e ∷ past) → IsUnstarted past
 unstarted_before (Started t j item) past unstarted = unstarted.1
@@ -32,7 +32,8 @@ module _ (says : Language) where
   numbered : (s : ℕ) (past : List Event) → IsLegal says past → is_some (level s past) ≡ true → txn s past ≢ 0
   numbered s [] legal is_open = (cc)
   numbered s (Begin t n l ∷ past) legal is_open =
-      by_session t s (λ is same. rw is (λ none. (let e = legal.0.2.numbered in let f : 0 ≡ begins past + 1 = sym none ∙ e in absurd (omega (arith, f))))) (λ is. rw is (numbered s past legal.1 (rw is at is_open)))
+      by_session t s (λ is same. rw is (λ none. (let e = legal.0.2.numbered in let f : 0 ≡ begins past + 1 = sym none ∙ e in absurd (omega (arith, f)))))
+      (λ is. rw is (numbered s past legal.1 (rw is at is_open)))
   numbered s (Committed t ∷ past) legal is_open =
       by_session t s (λ is same. (let e = rw is at is_open in cc)) (λ is. numbered s past legal.1 (rw is at is_open))
   numbered s (RolledBack t ∷ past) legal is_open =
@@ -55,24 +56,31 @@ module _ (says : Language) where
 
   -- none of its entries comes
   not_its : (t : ℕ) (e : Event) (past : List Event) → t ≢ 0 → IsLegal says (e ∷ past) → IsUnstarted (e ∷ past) → IsAbsent t past → is_of t e ≡ false
-  not_its t (Begin u n l) past apart legal unstarted absent = by_session u t (λ is same. absurd (asks_nothing t u legal.0.2.statement past absent same legal.0.2.takes.asks)) (λ is. is)
+  not_its t (Begin u n l) past apart legal unstarted absent =
+      by_session u t (λ is same. absurd (asks_nothing t u legal.0.2.statement past absent same legal.0.2.takes.asks)) (λ is. is)
   not_its t (Started u j item) past apart legal unstarted absent = by_session u t (λ is same. absurd (apart (sym same ∙ unstarted.0))) (λ is. is)
-  not_its t (View u) past apart legal unstarted absent = by_session u t (λ is same. absurd (asks_nothing t u legal.0.2.statement past absent same legal.0.2.takes.asks)) (λ is. is)
-  not_its t (Changed u change) past apart legal unstarted absent = by_session u t (λ is same. absurd (asks_nothing t u legal.0.2.statement past absent same legal.0.2.takes.asks)) (λ is. is)
-  not_its t (Waits u lock blockers at) past apart legal unstarted absent = by_session u t (λ is same. absurd (asks_nothing t u legal.0.2.statement past absent same legal.0.2.asks)) (λ is. is)
+  not_its t (View u) past apart legal unstarted absent =
+      by_session u t (λ is same. absurd (asks_nothing t u legal.0.2.statement past absent same legal.0.2.takes.asks)) (λ is. is)
+  not_its t (Changed u change) past apart legal unstarted absent =
+      by_session u t (λ is same. absurd (asks_nothing t u legal.0.2.statement past absent same legal.0.2.takes.asks)) (λ is. is)
+  not_its t (Waits u lock blockers at) past apart legal unstarted absent =
+      by_session u t (λ is same. absurd (asks_nothing t u legal.0.2.statement past absent same legal.0.2.asks)) (λ is. is)
   not_its t (Victim u cycle) past apart legal unstarted absent =
       by_session u t
       (λ is same.
       let waits = legal.0.2.waits in
       absurd (numbered waits.s past legal.1 waits.is_open (waits.is_txn ∙ ap (λ v. txn v past) same ∙ absent.no_txn)))
       (λ is. is)
-  not_its t (Undone u keep) past apart legal unstarted absent = by_session u t (λ is same. absurd (opens_nothing t u past absent same legal.0.2.is_open)) (λ is. is)
+  not_its t (Undone u keep) past apart legal unstarted absent =
+      by_session u t (λ is same. absurd (opens_nothing t u past absent same legal.0.2.is_open)) (λ is. is)
   not_its t (Ended u j reply) past apart legal unstarted absent =
       by_session u t (λ is same. no_item (sym absent.item ∙ subst (λ v. under_way v past ≡ Some legal.0.1.item) same legal.0.1.asked)) (λ is. is)
-  not_its t (Committed u) past apart legal unstarted absent = by_session u t (λ is same. absurd (opens_nothing t u past absent same legal.0.2.is_open)) (λ is. is)
+  not_its t (Committed u) past apart legal unstarted absent =
+      by_session u t (λ is same. absurd (opens_nothing t u past absent same legal.0.2.is_open)) (λ is. is)
   not_its t (Acked u moment) past apart legal unstarted absent =
       by_session u t (λ is same. true_false legal.0.2.owed (ap (λ v. awaits_ack (of_item v past)) same ∙ ap awaits_ack absent.entries)) (λ is. is)
-  not_its t (RolledBack u) past apart legal unstarted absent = by_session u t (λ is same. absurd (opens_nothing t u past absent same legal.0.2.is_open)) (λ is. is)
+  not_its t (RolledBack u) past apart legal unstarted absent =
+      by_session u t (λ is same. absurd (opens_nothing t u past absent same legal.0.2.is_open)) (λ is. is)
   not_its t e past apart legal unstarted absent = refl
 
   pub absent_others : (past : List Event) → IsLegal says past → IsUnstarted past → (t : ℕ) → t ≢ 0 → IsAbsent t past
@@ -80,7 +88,14 @@ module _ (says : Language) where
   absent_others (e ∷ past) legal unstarted t apart =
       let before = absent_others past legal.1 (unstarted_before e past unstarted) t apart in
       let same = untouched e past t (not_its t e past apart legal unstarted before) in
-      record { item = same.item ∙ before.item; entries = same.entries ∙ before.entries; closed = same.level_is ∙ before.closed; no_txn = same.txn_is ∙ before.no_txn; no_changes = same.own_is ∙ before.no_changes }
+      record {
+        item = same.item ∙ before.item;
+        entries = same.entries ∙ before.entries;
+        closed = same.level_is ∙ before.closed;
+        no_txn = same.txn_is ∙
+            before.no_txn;
+        no_changes = same.own_is ∙ before.no_changes;
+      }
 
   -- so it is a history of one session
   pub setup_of_one : (past : List Event) → IsLegal says past → IsUnstarted past → IsOfOne 0 past
@@ -134,7 +149,8 @@ module _ (says : Language) where
   sets_up_first (e ∷ past) legal set = (first_at e past legal set, sets_up_first past legal.1 (set_up_before e past set))
 
   -- another session makes no table
-  module _ (one : ReadsOne says) (s : ℕ) (apart : s ≢ 0) (text table : List ℕ) (skips : Bool) (definitions : List Definition) (says_it : says text (stmt.CreateTable table skips definitions)) where
+  module _ (one : ReadsOne says) (s : ℕ) (apart : s ≢ 0) (text table : List ℕ) (skips : Bool) (definitions : List Definition)
+      (says_it : says text (stmt.CreateTable table skips definitions)) where
     always_refused : (setting : Setting) (past : List Event) → refused_at_once s setting (stmt.CreateTable table skips definitions) past ≡ None → ⊥
     always_refused setting past none = by_session s 0 (λ is same. apart same) (λ is. (let e = rw is at none in cc))
 

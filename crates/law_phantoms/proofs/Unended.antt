@@ -22,7 +22,7 @@ use Rattle.sql_history.specs.Settings.{HasSet, at_first}
 use Rattle.sql_history.specs.Statements.{refused_at_once}
 use Rattle.sql_history.specs.LooseReading.{newest}
 use Rattle.sql_history.specs.Legal.{IsLegal, Takes, MayBegin, MayChange, MayCommit, MayEnd, MayView}
-use Rattle.sql_history.specs.Serial.{Piece, HasDone, HasWorked, with_item, WorksAnswer, AnswersAsAlone, IsSerializable, SetsUpFirst}
+use Rattle.sql_history.specs.Serial.{Piece, HasDone, HasWorked, with_item, WorksAnswer, AnswersAsAlone, IsSerializable}
 use Rattle.law_one_tree.specs.Trees.{tree_of}
 use Rattle.law_one_tree.proofs.Outcomes.{plain_same}
 use Rattle.law_one_tree.proofs.Statements.{one_tree}
@@ -32,7 +32,7 @@ use Rattle.law_calm.specs.Pieces.{AreBeside}
 use Rattle.law_calm.specs.Standing.{HasStanding}
 use Rattle.law_serial.specs.Example.{one_column, empty_table, a_row, putting, reading}
 use Rattle.law_serial.proofs.Example.{insert, select, spells-putting, spells-reading, no_rows, inserted-answer, inserted-reply, selected-answer, not_empty}
-use Rattle.law_phantoms.specs.Phantoms.{IsPhantomFree}
+use Rattle.law_phantoms.specs.Phantoms.{IsPhantomFree, SetsUpFirst}
 use Rattle.law_phantoms.specs.Example.{leveling, beginning, committing, unended}
 use Rattle.law_phantoms.proofs.Example.{set_level, spells-leveling, spells-beginning, spells-committing, leveled}
 
@@ -153,7 +153,13 @@ read_ends =
           refusal = None;
           found = inl refl;
           ends = (
-            record { l = RepeatableRead; level_is = refl; answers = record { db = empty_table; sees = (0, refl, refl); answer = read_nothing; changes = refl }; viewed = λ is not. absurd (not refl) },
+            record {
+              l = RepeatableRead;
+              level_is = refl;
+              answers = record
+                  { db = empty_table; sees = (0, refl, refl); answer = read_nothing; changes = refl };
+              viewed = λ is not. absurd (not refl);
+            },
             (record { stays = refl; not_begun = refl; not_committed = refl; not_rolled_back = refl }, refl),
           );
           no_victim = refl;
@@ -181,19 +187,46 @@ level_ends =
       ends = (
         refl,
         inl refl,
-        inl (record { statement = set_level; asks = (leveling, refl, spells-leveling); setting = at_first; is_set = refl; refusal = None; found = inl refl; ends = (refl, refl); no_victim = refl }),
+        inl (record {
+          statement = set_level;
+          asks = (leveling, refl, spells-leveling);
+          setting = at_first;
+          is_set = refl;
+          refusal = None;
+          found = inl refl;
+          ends = (refl, refl);
+          no_victim = refl;
+        }),
       );
     }
 
 set_first : HasSet Spells 1 past_10 leveled
 set_first = (at_first, refl, (set_level, spells-leveling, refl))
 
-abbrev puts : (past : List Event) → under_way 1 past ≡ Some (Sql putting) → before_item 1 past ≡ past_10 → Sometime (λ h. refused_at_once 1 leveled insert h ≡ None) 1 past → Takes Spells 1 insert past
-puts past asked before free = record { asks = (putting, asked, spells-putting); setting = leveled; is_set = subst (λ (h : List Event). HasSet Spells 1 h leveled) (sym before) set_first; not_refused = free }
+abbrev puts : (past : List Event) → under_way 1 past ≡ Some (Sql putting) → before_item 1 past ≡ past_10
+    → Sometime (λ h. refused_at_once 1 leveled insert h ≡ None) 1 past → Takes Spells 1 insert past
+puts past asked before free =
+    record {
+      asks = (putting, asked, spells-putting);
+      setting = leveled;
+      is_set = subst (λ (h : List Event). HasSet Spells 1 h leveled) (sym before)
+          set_first;
+      not_refused = free;
+    }
 
 may_begin_too : MayBegin Spells 1 2 Serializable past_11
 may_begin_too =
-    record { numbered = refl; closed = refl; first = refl; acked = refl; statement = insert; takes = puts past_11 refl refl (inl refl); level_is = refl; by = refl }
+    record {
+      numbered = refl;
+      closed = refl;
+      first = refl;
+      acked = refl;
+      statement = insert;
+      takes = puts past_11 refl refl (inl refl);
+      level_is = refl;
+      by =
+          refl;
+    }
 
 none_changed : (other : ℕ) → own other past_12 ≡ []
 none_changed other = by_session 1 other (λ is same. rw is refl) (λ is. rw is (by_session 0 other (λ zero same. rw zero refl) (λ zero. rw zero refl)))
@@ -224,7 +257,14 @@ may_commit_too =
           l = Serializable;
           level_is = refl;
           reply = Count 1;
-          answers = record { db = base 1 past_13; sees = refl; answer = inserted-reply; changes = subst (λ (o : Outcome). HasMade (length o.changes) 1 o.changes past_13) (sym inserted-answer) refl };
+          answers =
+              record {
+                db = base 1 past_13;
+                sees = refl;
+                answer = inserted-reply;
+                changes = subst
+                    (λ (o : Outcome). HasMade (length o.changes) 1 o.changes past_13) (sym inserted-answer) refl;
+              };
           not_refused = λ error is. cc;
         },
       );
@@ -284,21 +324,47 @@ pub serializable_unended : IsSerializable unended
 serializable_unended = ((λ other. refl), ((λ not_zero. absurd (not_zero refl)), tt))
 
 pub first_unended : SetsUpFirst unended
-first_unended =
-    ((λ is. cc), ((λ is. cc), ((λ is. cc), ((λ is. cc), ((λ is. cc), ((λ is. cc), ((λ is. cc), ((λ is. (refl, (refl, tt))), ((λ is. (refl, (refl, tt))), ((λ is. cc), ((λ is. (refl, tt)), ((λ is. (refl, tt)), ((λ is. cc), ((λ is. tt), ((λ is. cc), tt)))))))))))))))
+first_unended = (
+  (λ is. cc),
+  (
+    (λ is. cc),
+    (
+      (λ is. cc),
+      (
+        (λ is. cc),
+        (
+          (λ is. cc),
+          (
+            (λ is. cc),
+            (
+              (λ is. cc),
+              (
+                (λ is. (refl, (refl, tt))),
+                ((λ is. (refl, (refl, tt))), ((λ is. cc), ((λ is. (refl, tt)), ((λ is. (refl, tt)), ((λ is. cc), ((λ is. tt), ((λ is. cc), tt))))))),
+              ),
+            ),
+          ),
+        ),
+      ),
+    ),
+  ),
+)
 
 pub free_unended : IsPhantomFree Spells unended
 free_unended = (last, (first, tt))
   where
-    last : (s : ℕ) (pieces : List Piece) → s ≢ 0 → level s past_14 ≡ Some Serializable → HasStanding Spells s past_14 pieces → AreBeside pieces (committed_db past_14) (own 0 past_14)
+    last : (s : ℕ) (pieces : List Piece) → s ≢ 0 → level s past_14 ≡ Some Serializable → HasStanding Spells s past_14 pieces
+        → AreBeside pieces (committed_db past_14) (own 0 past_14)
     last s pieces apart open_at stands =
         by_session 1 s (λ one same. (let e = rw one at open_at in cc))
         (λ one. by_session 0 s (λ zero same. absurd (apart (sym same))) (λ zero. (let e = rw one at open_at in let f = rw zero at e in cc)))
 
-    first : (s : ℕ) (pieces : List Piece) → s ≢ 1 → level s past_13 ≡ Some Serializable → HasStanding Spells s past_13 pieces → AreBeside pieces (committed_db past_13) (own 1 past_13)
+    first : (s : ℕ) (pieces : List Piece) → s ≢ 1 → level s past_13 ≡ Some Serializable → HasStanding Spells s past_13 pieces
+        → AreBeside pieces (committed_db past_13) (own 1 past_13)
     first s pieces apart open_at stands =
         by_session 1 s (λ one same. absurd (apart (sym same)))
-        (λ one. by_session 0 s (λ zero same. (let e = rw one at open_at in let f = rw zero at e in cc)) (λ zero. (let e = rw one at open_at in let f = rw zero at e in cc)))
+        (λ one. by_session 0 s (λ zero same. (let e = rw one at open_at in let f = rw zero at e in cc))
+        (λ zero. (let e = rw one at open_at in let f = rw zero at e in cc)))
 
 -- ---- alone, session 0 would read session 1's row
 
@@ -335,7 +401,8 @@ unended_not_alone answers =
     last.4
     ∙ ap (λ (w : List Piece). w ∷ last.1) (worked_first last.0 last.2)
     ∙ ap (λ (ws : List (List Piece)). (Piece.ran select (Some (Rows [])) ∷ []) ∷ ws)
-    (first.4 ∙ ap (λ (w : List Piece). w ∷ first.1) (worked_second first.0 first.2) ∙ ap (λ (ws : List (List Piece)). (Piece.ran insert None ∷ []) ∷ ws) first.3) in
+    (first.4 ∙ ap (λ (w : List Piece). w ∷ first.1) (worked_second first.0 first.2) ∙ ap (λ (ws : List (List Piece)). (Piece.ran insert None ∷ []) ∷ ws)
+    first.3) in
     let replies = (subst (WorksAnswer empty_table) works answers.answers).1.1 in
     let put = ap (λ (o : Outcome). (outcome select (apply empty_table o.changes)).reply) inserted-answer in
     (let e = replies ∙ put ∙ sym selected-answer in cc)

@@ -41,7 +41,8 @@ not_ended {A} s l e past is open_at =
 
 module _ (says : Language) where
   -- A view at SERIALIZABLE is the newest entry: its commit stands directly behind it.
-  view_owes : (s n : ℕ) (past : List Event) → IsLegal says past → level s past ≡ Some Serializable → view_of s past ≡ Some n → (owes_commit past ≡ Some s) × (n ≡ commits past)
+  view_owes : (s n : ℕ) (past : List Event) → IsLegal says past → level s past ≡ Some Serializable → view_of s past ≡ Some n
+      → (owes_commit past ≡ Some s) × (n ≡ commits past)
   view_owes s n [] legal open_at view = (cc)
   view_owes s n (View t ∷ past) legal open_at view =
       by_session t s
@@ -79,9 +80,13 @@ module _ (says : Language) where
       not_ended s Serializable e past (subst (λ o. PaysCommit o e) before.0 legal.0.3) open_at
 
   module _ (one : ReadsOne says) (s : ℕ) (text : List ℕ) (past : List Event) where
-    sees : (statement : Stmt) (says_it : says text statement) (on_rows : is_on_rows statement ≡ true) (alone : Bool) (db : Database) → Spans says one s text statement says_it on_rows past → level s past ≡ Some Serializable → AllIn (opening past) (own_before s past ++ committed (commits past) past) → MaySee (sight_of Serializable alone statement) s statement db past → db ≡ base s past
+    sees : (statement : Stmt) (says_it : says text statement) (on_rows : is_on_rows statement ≡ true) (alone : Bool) (db : Database)
+        → Spans says one s text statement says_it on_rows past → level s past ≡ Some Serializable
+        → AllIn (opening past) (own_before s past ++ committed (commits past) past) → MaySee (sight_of Serializable alone statement) s statement db past
+        → db ≡ base s past
     sees (stmt.Select selected table condition None) says_it on_rows true db span open_at within sight =
-        sight.2 ∙ sees_view says one s text (stmt.Select selected table condition None) says_it on_rows refl sight.0 past span within (view_owes s sight.0 past span.legal open_at sight.1).1
+        sight.2 ∙ sees_view says one s text (stmt.Select selected table condition None) says_it on_rows refl sight.0 past span within
+        (view_owes s sight.0 past span.legal open_at sight.1).1
     sees (stmt.Select selected table condition None) says_it on_rows false db span open_at within sight = sight
     sees (stmt.Select selected table condition (Some mode)) says_it on_rows alone db span open_at within sight = sight
     sees (stmt.Update table sets condition) says_it on_rows alone db span open_at within sight = sight
@@ -91,5 +96,6 @@ module _ (says : Language) where
   pub serializable_sees : (one : ReadsOne says) (s : ℕ) (past : List Event) → s ≢ 0 → IsLegal says past → IsSerializable past → SeesLatest says s past
   serializable_sees one s past apart legal all statement l alone db asks on_rows on unbroken level_is within sight =
       let same : l ≡ Serializable = serializable_level s l past apart all level_is in
-      sees one s asks.0 past statement asks.2 on_rows alone db (record { legal = legal; asked = asks.1; unbroken = unbroken; on = on }) (level_is ∙ ap Some same) within
+      sees one s asks.0 past statement asks.2 on_rows alone db (record { legal = legal; asked = asks.1; unbroken = unbroken; on = on })
+      (level_is ∙ ap Some same) within
       (subst (λ m. MaySee (sight_of m alone statement) s statement db past) same sight)

@@ -1,13 +1,13 @@
--- Histories that are free of phantoms, and whose setup part is over before the sessions begin.
-use Rattle.std.specs.Prelude.{◌≡◌, ◌≢◌, ℕ, ◌<◌, true, false, List, [], ◌∷◌, length, Some, None}
+-- Histories that are free of phantoms.
+use Rattle.std.specs.Prelude.{◌≡◌, ◌≢◌, ℕ, ◌<◌, ◌==◌, Bool, true, false, List, [], ◌∷◌, length, Some, None}
 use Rattle.inno_types.specs.declared.lock.Level.{Level}
 use Rattle.inno_types.specs.declared.lock.Level.TheVariants.{Serializable}
 use Rattle.inno_types.specs.declared.value.Schema.{Schema}
 use Rattle.inno_db.specs.declared.change.Change.{Change}
 use Rattle.inno_db.specs.Database.{Database, Place}
 use Rattle.inno_model.specs.declared.event.Event.{Event}
-use Rattle.inno_model.specs.declared.event.Event.TheVariants.{Started, Committed}
-use Rattle.inno_model.specs.Past.{own, level, under_way}
+use Rattle.inno_model.specs.declared.event.Event.TheVariants.{Started, Ended, Committed}
+use Rattle.inno_model.specs.Past.{own, level}
 use Rattle.sql_history.specs.Items.{Language}
 use Rattle.sql_history.specs.Statements.{Sight, sight_of}
 use Rattle.sql_history.specs.Serial.{Piece, IsUnstarted}
@@ -18,14 +18,16 @@ use Rattle.law_calm.specs.Standing.{HasStanding}
 
 -- of the tables that are there, no place has changes of two sessions
 abbrev pub AllApart : List Schema → List Event → Type 0
-AllApart schemas past = (s t : ℕ) → s ≢ t → (place : Place) → place.0 < length schemas → touches schemas (own s past) place ≡ true → touches schemas (own t past) place ≡ false
+AllApart schemas past =
+    (s t : ℕ) → s ≢ t → (place : Place) → place.0 < length schemas → touches schemas (own s past) place ≡ true → touches schemas (own t past) place ≡ false
 
 -- No transaction commits a change of a row that a standing piece of another's work has searched, before or behind. (Of the
 -- transactions at SERIALIZABLE: at other levels a statement may have read rows that it did not lock.)
 abbrev pub IsPhantomFree : Language → List Event → Type 0
 IsPhantomFree says [] = Unit {0}
 IsPhantomFree says (Committed t ∷ past) =
-    ((s : ℕ) (pieces : List Piece) → s ≢ t → level s past ≡ Some Serializable → HasStanding says s past pieces → AreBeside pieces (committed_db past) (own t past))
+    ((s : ℕ) (pieces : List Piece) → s ≢ t → level s past ≡ Some Serializable → HasStanding says s past pieces → AreBeside pieces (committed_db past)
+    (own t past))
     × IsPhantomFree says past
 IsPhantomFree says (other ∷ past) = IsPhantomFree says past
 
@@ -43,13 +45,20 @@ AreSparedAt l (piece ∷ pieces) db changes = IsSparedAt l piece db changes × A
 abbrev pub SparesLocked : Language → List Event → Type 0
 SparesLocked says [] = Unit {0}
 SparesLocked says (Committed t ∷ past) =
-    ((s : ℕ) (l : Level) (pieces : List Piece) → s ≢ t → level s past ≡ Some l → HasStanding says s past pieces → AreSparedAt l pieces (committed_db past) (own t past))
+    ((s : ℕ) (l : Level) (pieces : List Piece) → s ≢ t → level s past ≡ Some l → HasStanding says s past pieces → AreSparedAt l pieces (committed_db past)
+    (own t past))
     × SparesLocked says past
 SparesLocked says (other ∷ past) = SparesLocked says past
 
--- The setup part, session 0, starts its items while no other session has started any, and has ended them all when another
--- does.
-abbrev pub IsSetUp : List Event → Type 0
-IsSetUp [] = Unit {0}
-IsSetUp (Started s j item ∷ past) = (s ≡ 0 → IsUnstarted past) × (s ≢ 0 → under_way 0 past ≡ None) × IsSetUp past
-IsSetUp (other ∷ past) = IsSetUp past
+-- ---- a weaker premise, which does not suffice
+
+-- an item of the setup part starts or ends
+abbrev pub is_setup : Event → Bool
+is_setup (Started s j item) = s == 0
+is_setup (Ended s j reply) = s == 0
+is_setup other = false
+
+-- The setup part stands first: none of its items starts or ends behind another session's start.
+abbrev pub SetsUpFirst : List Event → Type 0
+SetsUpFirst [] = Unit {0}
+SetsUpFirst (e ∷ past) = (is_setup e ≡ true → IsUnstarted past) × SetsUpFirst past

@@ -9,10 +9,10 @@ ghost use Rattle.inno_model.specs.declared.event.Event.{Event};
 ghost use Rattle.sql_grammar.specs.Grammar.{Spells};
 ghost use Rattle.sql_history.specs.LooseReading.{newest};
 ghost use Rattle.sql_history.specs.Legal.{IsLegal, MayFollow};
-ghost use Rattle.sql_history.specs.Serial.{AnswersAsAlone, IsSerializable, SetsUpFirst};
+ghost use Rattle.sql_history.specs.Serial.{AnswersAsAlone, IsSerializable, IsSetUp};
 ghost use Rattle.law_calm.specs.Calm.{IsCalm};
 ghost use Rattle.law_serial.specs.Turns.{IsSerial};
-ghost use Rattle.law_phantoms.specs.Phantoms.{AllApart, IsPhantomFree, SparesLocked, IsSetUp};
+ghost use Rattle.law_phantoms.specs.Phantoms.{AllApart, IsPhantomFree, SparesLocked, SetsUpFirst};
 ghost use Rattle.law_phantoms.specs.Example.{interleaved, unended};
 
 /// No entry of a legal history brings changes of two sessions to one place.

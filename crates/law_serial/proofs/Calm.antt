@@ -15,10 +15,12 @@ use Rattle.law_serial.proofs.Seeing.{sees_base}
 module _ (says : Language) (one : ReadsOne says) where
   pub serial_sees : (s : ℕ) (past : List Event) → IsLegal says past → IsSerial past → SeesLatest says s past
   serial_sees s past legal serial statement l alone db asks on_rows on unbroken level_is within sees =
-      sees_base says one s asks.0 statement asks.2 on_rows l alone db past (record { legal = legal; asked = asks.1; unbroken = unbroken; on = on }, serial) (ap is_some level_is) within sees
+      sees_base says one s asks.0 statement asks.2 on_rows l alone db past (record { legal = legal; asked = asks.1; unbroken = unbroken; on = on }, serial)
+      (ap is_some level_is) within sees
 
   meets_none : (s : ℕ) (e : Event) (past : List Event) → IsSerial (e ∷ past) → MeetsNone says s e past
-  meets_none s (Committed t) past serial = λ differ is_open. let other : (t == s) ≡ false = grind (arith, nat_tests, differ) in no_commit t s past other serial (open_works s past is_open)
+  meets_none s (Committed t) past serial =
+      λ differ is_open. let other : (t == s) ≡ false = grind (arith, nat_tests, differ) in no_commit t s past other serial (open_works s past is_open)
   meets_none s e past serial = tt
 
   pub serial_calm : (past : List Event) → IsLegal says past → IsSerial past → (s : ℕ) → IsCalm says s past

@@ -47,11 +47,14 @@ select = stmt.Select AllColumns (codes "t") None None
 putting-tokens : AreTokens putting (Key word.Insert ∷ Bare None (codes "t") ∷ Key word.Values ∷ Open ∷ Number (codes "1") ∷ Close ∷ [])
 unfolding after_blank token_at word_token sign_at
 putting-tokens =
-    AreTokens.token refl refl (AreTokens.blank refl (AreTokens.token refl refl (AreTokens.blank refl (AreTokens.token refl refl (AreTokens.token refl refl (AreTokens.token refl refl (AreTokens.token refl refl AreTokens.nothing)))))))
+    AreTokens.token refl refl (AreTokens.blank refl
+    (AreTokens.token refl refl (AreTokens.blank refl
+    (AreTokens.token refl refl (AreTokens.token refl refl (AreTokens.token refl refl (AreTokens.token refl refl AreTokens.nothing)))))))
 
 reading-tokens : AreTokens reading (Key word.Select ∷ Star ∷ Key word.From ∷ Bare None (codes "t") ∷ [])
 unfolding after_blank token_at word_token sign_at
-reading-tokens = AreTokens.token refl refl (AreTokens.token refl refl (AreTokens.token refl refl (AreTokens.blank refl (AreTokens.token refl refl AreTokens.nothing))))
+reading-tokens =
+    AreTokens.token refl refl (AreTokens.token refl refl (AreTokens.token refl refl (AreTokens.blank refl (AreTokens.token refl refl AreTokens.nothing))))
 
 putting-statement : Statement (Key word.Insert ∷ Bare None (codes "t") ∷ Key word.Values ∷ Open ∷ Number (codes "1") ∷ Close ∷ []) insert
 unfolding plain_number
@@ -86,8 +89,15 @@ at_ack = Acked 1 0 ∷ at_commit
 pub not_empty : (e : Event) (past : List Event) → (e ∷ past) ≢ []
 not_empty e past = λ x. cc
 
-abbrev inserts : (past : List Event) → under_way 1 past ≡ Some (Sql putting) → before_item 1 past ≡ at_opening → Sometime (λ h. refused_at_once 1 at_first insert h ≡ None) 1 past → Takes Spells 1 insert past
-inserts past asked before free = record { asks = (putting, asked, spells-putting); setting = at_first; is_set = subst (λ (h : List Event). HasSet Spells 1 h at_first) (sym before) refl; not_refused = free }
+abbrev inserts : (past : List Event) → under_way 1 past ≡ Some (Sql putting) → before_item 1 past ≡ at_opening
+    → Sometime (λ h. refused_at_once 1 at_first insert h ≡ None) 1 past → Takes Spells 1 insert past
+inserts past asked before free =
+    record {
+      asks = (putting, asked, spells-putting);
+      setting = at_first;
+      is_set = subst (λ (h : List Event). HasSet Spells 1 h at_first) (sym before) refl;
+      not_refused = free;
+    }
 
 may_begin : MayBegin Spells 1 1 RepeatableRead at_insert
 may_begin =
@@ -146,7 +156,8 @@ may_change =
       within = omega (arith, ap length no_rows);
     }
 
-made_whole : (past : List Event) → own 1 past ≡ Put 0 a_row ∷ own_before 1 past → HasMade (length (outcome insert empty_table).changes) 1 (outcome insert empty_table).changes past
+made_whole : (past : List Event) → own 1 past ≡ Put 0 a_row ∷ own_before 1 past
+    → HasMade (length (outcome insert empty_table).changes) 1 (outcome insert empty_table).changes past
 made_whole past made = subst (λ (o : Outcome). HasMade (length o.changes) 1 o.changes past) (sym inserted-answer) made
 
 may_commit : MayCommit Spells 1 at_change
@@ -186,7 +197,13 @@ may_end =
           refusal = None;
           found = inl refl;
           ends = (
-            record { l = RepeatableRead; level_is = refl; answers = record { db = base 1 at_change; sees = refl; answer = inserted-reply; changes = made_whole at_change refl }; viewed = λ is. cc },
+            record {
+              l = RepeatableRead;
+              level_is = refl;
+              answers = record
+                  { db = base 1 at_change; sees = refl; answer = inserted-reply; changes = made_whole at_change refl };
+              viewed = λ is. cc;
+            },
             (record { closed = refl; committed = refl; not_rolled_back = refl }, refl, refl),
           );
           no_victim = refl;
@@ -232,12 +249,28 @@ at_commit_read = Committed 2 ∷ at_view
 abbrev at_ack_read : List Event
 at_ack_read = Acked 2 0 ∷ at_commit_read
 
-abbrev selects : (past : List Event) → under_way 2 past ≡ Some (Sql reading) → before_item 2 past ≡ put → Sometime (λ h. refused_at_once 2 at_first select h ≡ None) 2 past → Takes Spells 2 select past
-selects past asked before free = record { asks = (reading, asked, spells-reading); setting = at_first; is_set = subst (λ (h : List Event). HasSet Spells 2 h at_first) (sym before) refl; not_refused = free }
+abbrev selects : (past : List Event) → under_way 2 past ≡ Some (Sql reading) → before_item 2 past ≡ put
+    → Sometime (λ h. refused_at_once 2 at_first select h ≡ None) 2 past → Takes Spells 2 select past
+selects past asked before free =
+    record {
+      asks = (reading, asked, spells-reading);
+      setting = at_first;
+      is_set = subst (λ (h : List Event). HasSet Spells 2 h at_first) (sym before) refl;
+      not_refused = free;
+    }
 
 may_begin_read : MayBegin Spells 2 2 RepeatableRead at_select
 may_begin_read =
-    record { numbered = refl; closed = refl; first = refl; acked = refl; statement = select; takes = selects at_select refl refl (inl refl); level_is = refl; by = refl }
+    record {
+      numbered = refl;
+      closed = refl;
+      first = refl;
+      acked = refl;
+      statement = select;
+      takes = selects at_select refl refl (inl refl);
+      level_is = refl;
+      by = refl;
+    }
 
 may_view : MayView Spells 2 at_begin_read
 may_view = record { statement = select; takes = selects at_begin_read refl refl (inl refl); l = RepeatableRead; level_is = refl; by = (refl, refl) }
@@ -279,7 +312,13 @@ may_end_read =
           refusal = None;
           found = inl refl;
           ends = (
-            record { l = RepeatableRead; level_is = refl; answers = record { db = after_put; sees = (1, refl, refl); answer = selected-answer; changes = refl }; viewed = λ is not. absurd (not refl) },
+            record {
+              l = RepeatableRead;
+              level_is = refl;
+              answers = record
+                  { db = after_put; sees = (1, refl, refl); answer = selected-answer; changes = refl };
+              viewed = λ is not. absurd (not refl);
+            },
             (record { closed = refl; committed = refl; not_rolled_back = refl }, refl, refl),
           );
           no_victim = refl;

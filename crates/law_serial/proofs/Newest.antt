@@ -29,17 +29,22 @@ unfolding among
 gathered f s [] others absent = refl
 gathered f s (t ∷ ts) others absent =
     by_session t s (λ is same. (let e = rw is at absent in cc))
-    (λ is. let apart : t ≢ s = grind (arith, nat_tests, is) in ap (λ (cs : List Change). cs ++ flat_map f ts) (others t apart) ∙ gathered f s ts others (rw is at absent))
+    (λ is. let apart : t ≢ s = grind (arith, nat_tests, is) in ap (λ (cs : List Change). cs ++ flat_map f ts) (others t apart) ∙ gathered f s ts others
+    (rw is at absent))
 
-one_writer : (f : ℕ → List Change) (s : ℕ) (past : List Event) → ((t : ℕ) → t ≢ s → f t ≡ []) → flat_map f (beginners past) ≡ cond (among s (beginners past)) (f s) []
+one_writer : (f : ℕ → List Change) (s : ℕ) (past : List Event) → ((t : ℕ) → t ≢ s → f t ≡ [])
+    → flat_map f (beginners past) ≡ cond (among s (beginners past)) (f s) []
 unfolding among
 one_writer f s [] others = refl
 one_writer f s (Begin t n l ∷ past) others =
-    elim (list_any (λ u. u == t) (beginners past)) as (λ b. list_any (λ u. u == t) (beginners past) ≡ b → flat_map f (if b then beginners past else t ∷ beginners past) ≡ cond (list_any (λ u. u == s) (if b then beginners past else t ∷ beginners past)) (f s) []) [
+    elim (list_any (λ u. u == t) (beginners past)) as
+    (λ b. list_any (λ u. u == t) (beginners past) ≡ b → flat_map f (if b then beginners past else t ∷ beginners past) ≡ cond
+    (list_any (λ u. u == s) (if b then beginners past else t ∷ beginners past)) (f s) []) [
       | true ↦ λ there. one_writer f s past others
       | false ↦ λ absent. by_session t s
           (λ is same. rw is
-          (ap (λ (cs : List Change). f t ++ cs) (gathered f s (beginners past) others (subst (λ u. list_any (λ v. v == u) (beginners past) ≡ false) same absent)) ∙ append-nil (f t) ∙ ap f same))
+          (ap (λ (cs : List Change). f t ++ cs) (gathered f s (beginners past) others
+          (subst (λ u. list_any (λ v. v == u) (beginners past) ≡ false) same absent)) ∙ append-nil (f t) ∙ ap f same))
           (λ is.
           let apart : t ≢ s = grind (arith, nat_tests, is) in
           rw is (ap (λ (cs : List Change). cs ++ flat_map f (beginners past)) (others t apart) ∙ one_writer f s past others))
@@ -52,7 +57,9 @@ module _ (says : Language) where
   unfolding among
   unbegun_closed s [] legal absent = refl
   unbegun_closed s (Begin t n l ∷ past) legal absent =
-      elim (list_any (λ u. u == t) (beginners past)) as (λ b. list_any (λ u. u == t) (beginners past) ≡ b → list_any (λ u. u == s) (if b then beginners past else t ∷ beginners past) ≡ false → (if t == s then Some l else level s past) ≡ None) [
+      elim (list_any (λ u. u == t) (beginners past)) as
+      (λ b. list_any (λ u. u == t) (beginners past) ≡ b → list_any (λ u. u == s) (if b then beginners past else t ∷ beginners past) ≡ false →
+      (if t == s then Some l else level s past) ≡ None) [
         | true ↦ λ there none. by_session t s
             (λ is same. true_false (subst (λ u. list_any (λ v. v == u) (beginners past) ≡ true) same there) none)
             (λ is. rw is (unbegun_closed s past legal.1 none))
@@ -83,7 +90,8 @@ module _ (says : Language) where
       let asked = subst (λ v. under_way v past ≡ Some (Sql asks.0)) same asks.1 in
       true_false (ap is_statement asked) idle
 
-  pub idle_quiet : (place : Place) (t : ℕ) (past : List Event) → IsLegal says past → level t past ≡ None → is_statement (under_way t past) ≡ false → LeavesAlone place t past
+  pub idle_quiet : (place : Place) (t : ℕ) (past : List Event) → IsLegal says past → level t past ≡ None → is_statement (under_way t past) ≡ false
+      → LeavesAlone place t past
   idle_quiet place t [] legal closed idle = tt
   idle_quiet place t (Started u j item ∷ past) legal closed idle =
       λ apart. let is = ne_eqb u t apart in idle_quiet place t past legal.1 closed (rw is at idle)
@@ -98,7 +106,8 @@ module _ (says : Language) where
       by_session u t (λ is same. absurd (open_is says u t past same legal.0.2.is_open closed))
       (λ is. ((λ same. absurd (let apart : u ≢ t = grind (arith, nat_tests, is) in apart same)), idle_quiet place t past legal.1 closed idle))
   idle_quiet place t (Committed u ∷ past) legal closed idle =
-      by_session u t (λ is same. asking t u legal.0.2.statement past same legal.0.2.takes.asks idle) (λ is. idle_quiet place t past legal.1 (rw is at closed) idle)
+      by_session u t (λ is same. asking t u legal.0.2.statement past same legal.0.2.takes.asks idle)
+      (λ is. idle_quiet place t past legal.1 (rw is at closed) idle)
   idle_quiet place t (RolledBack u ∷ past) legal closed idle =
       by_session u t
       (λ is same. elim legal.0.2.by [

@@ -26,7 +26,8 @@ use Rattle.law_calm.proofs.Spans as spans
 use Rattle.law_serial.proofs.Turns.{statement_works, others_idle, no_commit, view_latest, idle_closed, idle_asks}
 use Rattle.law_serial.proofs.Newest.{newest_own, idle_quiet}
 
-module _ (says : Language) (one : ReadsOne says) (s : ℕ) (text : List ℕ) (statement : Stmt) (says_it : says text statement) (on_rows : is_on_rows statement ≡ true) where
+module _ (says : Language) (one : ReadsOne says) (s : ℕ) (text : List ℕ) (statement : Stmt) (says_it : says text statement)
+    (on_rows : is_on_rows statement ≡ true) where
   abbrev Spans : List Event → Type 0
   Spans past = spans.Spans says one s text statement says_it on_rows past × IsSerial past
 
@@ -42,16 +43,22 @@ module _ (says : Language) (one : ReadsOne says) (s : ℕ) (text : List ℕ) (st
       by_session t s
       (λ is same.
       let not = subst (λ u. did begins_txn u past ≡ false) same legal.0.2.first in
-      let on = spans.unbegun_on says one s text statement says_it on_rows past legal.1 span.0.asked (spans.unbroken_step says one s text statement says_it on_rows (Begin t n l) past goes span.0.unbroken) not (subst (λ u. level u past ≡ None) same legal.0.2.closed) in
-      let none : own_before s past ≡ [] = ap (own s) (unbegun_before says s past not) ∙ closed_own says s (before_item s past) (legal_before says s past legal.1) on.1 in
+      let on =
+      spans.unbegun_on says one s text statement says_it on_rows past legal.1 span.0.asked
+      (spans.unbroken_step says one s text statement says_it on_rows (Begin t n l) past goes span.0.unbroken) not
+      (subst (λ u. level u past ≡ None) same legal.0.2.closed) in
+      let none : own_before s past ≡ [] =
+      ap (own s) (unbegun_before says s past not) ∙ closed_own says s (before_item s past) (legal_before says s past legal.1) on.1 in
       ap (λ (cs : List Change). changed (opening past) (cs ++ committed (commits past) past)) none ∙ rw is (rw is refl))
       (λ is. rw is refl)
   base_back (Started t j item) past span goes = rw goes refl
   base_back (Committed t) past span goes =
-      by_session t s (λ is same. (let on = span.0.on in let e = rw is at on in cc)) (λ is. no_commit t s past is span.1 (statement_works s text past span.0.asked))
+      by_session t s (λ is same. (let on = span.0.on in let e = rw is at on in cc))
+      (λ is. no_commit t s past is span.1 (statement_works s text past span.0.asked))
   base_back e past span goes = refl
 
-  throughout : (P : List Event → Type 0) (db : Database) → ((h : List Event) → Spans h → base s h ≡ db → P h) → (past : List Event) → Spans past → base s past ≡ db → Throughout P s past
+  throughout : (P : List Event → Type 0) (db : Database) → ((h : List Event) → Spans h → base s h ≡ db → P h) → (past : List Event) → Spans past
+      → base s past ≡ db → Throughout P s past
   throughout P db each [] span is = tt
   throughout P db each (e ∷ past) span is =
       (each (e ∷ past) span is, λ goes. throughout P db each past (before e past span goes) (base_back e past span goes ∙ is))
@@ -65,7 +72,8 @@ module _ (says : Language) (one : ReadsOne says) (s : ℕ) (text : List ℕ) (st
     newest_base : (past : List Event) → Spans past → newest past ≡ base s past
     newest_base past span =
         newest_own says s past span.0.legal (all_idle past span)
-        ∙ ap (λ (cs : List Change). changed (opening past) (cs ++ committed (commits past) past)) (spans.nothing_changed says one s text statement says_it on_rows select past span.0)
+        ∙ ap (λ (cs : List Change). changed (opening past) (cs ++ committed (commits past) past))
+        (spans.nothing_changed says one s text statement says_it on_rows select past span.0)
 
     quiet : (place : Place) (past : List Event) → Spans past → IsQuiet s place past
     quiet place past span t apart =
@@ -101,22 +109,28 @@ module _ (says : Language) (one : ReadsOne says) (s : ℕ) (text : List ℕ) (st
       locks Serializable e = cc
   plain_view l alone other needs = (cc)
 
-  sees_by : (sight : Sight) (db : Database) (past : List Event) → (needs_select sight ≡ true → is_select statement ≡ true) → Spans past → IsOpen s past → AllIn (opening past) (own_before s past ++ committed (commits past) past) → MaySee sight s statement db past → db ≡ base s past
-  sees_by Sight.of_view db past needs span is_open within sees = sees.2 ∙ spans.sees_view says one s text statement says_it on_rows (needs refl) sees.0 past span.0 within (view_latest says s sees.0 past span.0.legal span.1 is_open sees.1)
+  sees_by : (sight : Sight) (db : Database) (past : List Event) → (needs_select sight ≡ true → is_select statement ≡ true) → Spans past → IsOpen s past
+      → AllIn (opening past) (own_before s past ++ committed (commits past) past) → MaySee sight s statement db past → db ≡ base s past
+  sees_by Sight.of_view db past needs span is_open within sees =
+      sees.2 ∙ spans.sees_view says one s text statement says_it on_rows (needs refl) sees.0 past span.0 within
+      (view_latest says s sees.0 past span.0.legal span.1 is_open sees.1)
   sees_by Sight.of_latest db past needs span is_open within sees = sees
   sees_by Sight.of_moments db past needs span is_open within sees =
       let loose = sees.0 in
       same_database db (base s past) loose.tables
       (λ place. loose.still place (get (base s past).rows place)
-      (throughout (λ h. get (base s h).rows place ≡ get (base s past).rows place) (base s past) (λ h at is. ap (λ (d : Database). get d.rows place) is) past span refl)
+      (throughout (λ h. get (base s h).rows place ≡ get (base s past).rows place) (base s past) (λ h at is. ap (λ (d : Database). get d.rows place) is) past
+      span refl)
       (throughout (λ h. Unit {0}) (base s past) (λ h at is. tt) past span refl))
   sees_by Sight.of_dirty_moments db past needs span is_open within loose =
       let select = needs refl in
       same_database db (base s past) (loose.tables ∙ ap (λ (d : Database). d.schemas) (newest_base select past span))
       (λ place. loose.still place (get (base s past).rows place)
-      (throughout (λ h. get (newest h).rows place ≡ get (base s past).rows place) (base s past) (λ h at is. ap (λ (d : Database). get d.rows place) (newest_base select h at ∙ is)) past span refl)
+      (throughout (λ h. get (newest h).rows place ≡ get (base s past).rows place) (base s past)
+      (λ h at is. ap (λ (d : Database). get d.rows place) (newest_base select h at ∙ is)) past span refl)
       (throughout (IsQuiet s place) (base s past) (λ h at is. quiet select place h at) past span refl))
 
-  pub sees_base : (l : Level) (alone : Bool) (db : Database) (past : List Event) → Spans past → IsOpen s past → AllIn (opening past) (own_before s past ++ committed (commits past) past) → MaySee (sight_of l alone statement) s statement db past → db ≡ base s past
+  pub sees_base : (l : Level) (alone : Bool) (db : Database) (past : List Event) → Spans past → IsOpen s past
+      → AllIn (opening past) (own_before s past ++ committed (commits past) past) → MaySee (sight_of l alone statement) s statement db past → db ≡ base s past
   sees_base l alone db past span is_open within sees =
       sees_by (sight_of l alone statement) db past (plain_view l alone statement) span is_open within sees

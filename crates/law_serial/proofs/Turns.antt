@@ -20,7 +20,8 @@ one_session s t e is apart = grind (arith, nat_tests, is, apart)
 pub work_untouched : (s : ℕ) (e : Event) (past : List Event) → is_of s e ≡ false → is_at_work s (e ∷ past) ≡ is_at_work s past
 work_untouched s e past other =
     let same = untouched e past s other in
-    ap (λ (l : Option Level). is_some l || is_statement (under_way s (e ∷ past))) same.level_is ∙ ap (λ (i : Option Item). is_some (level s past) || is_statement i) same.item
+    ap (λ (l : Option Level). is_some l || is_statement (under_way s (e ∷ past))) same.level_is ∙ ap
+    (λ (i : Option Item). is_some (level s past) || is_statement i) same.item
 
 pub open_works : (s : ℕ) (past : List Event) → IsOpen s past → is_at_work s past ≡ true
 open_works s past is_open = ap (λ b. b || is_statement (under_way s past)) is_open

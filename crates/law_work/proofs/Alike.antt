@@ -53,7 +53,8 @@ commits_rows s setting (stmt.Update table sets condition) past rows by = by.1
 commits_rows s setting (stmt.Delete table condition) past rows by = by.1
 commits_rows s setting other past rows by = absurd (cc)
 
-pub rolls_back_rows : (s : ℕ) (setting : Setting) (a : Stmt) (past : List Event) → is_on_rows a ≡ true → RollsBackBy s setting a past → (did is_victim s past ≡ true) ⊎ (is_alone s setting past ≡ true)
+pub rolls_back_rows : (s : ℕ) (setting : Setting) (a : Stmt) (past : List Event) → is_on_rows a ≡ true → RollsBackBy s setting a past
+    → (did is_victim s past ≡ true) ⊎ (is_alone s setting past ≡ true)
 rolls_back_rows s setting (stmt.Select selected table condition lock) past rows by = by.1
 rolls_back_rows s setting (stmt.Insert table columns tuples) past rows by = by.1
 rolls_back_rows s setting (stmt.Update table sets condition) past rows by = by.1
@@ -91,7 +92,8 @@ keeper_changes s (stmt.SetAutocommit on) past keeps not by = by
 keeper_changes s (stmt.SetLevel scope level) past keeps not by = by
 keeper_changes s other past keeps not by = absurd (cc)
 
-pub keeper_undoes : (s keep : ℕ) (setting : Setting) (a : Stmt) (past : List Event) → keeps_changes a ≡ true → did begins_txn s past ≡ false → UndoesBy s keep setting a past → ⊥
+pub keeper_undoes : (s keep : ℕ) (setting : Setting) (a : Stmt) (past : List Event) → keeps_changes a ≡ true → did begins_txn s past ≡ false
+    → UndoesBy s keep setting a past → ⊥
 keeper_undoes s keep setting (stmt.CreateTable table if_not_exists definitions) past keeps not by = (cc)
 keeper_undoes s keep setting (stmt.Begin snapshot) past keeps not by = (let x = by.0 in cc)
 keeper_undoes s keep setting stmt.Commit past keeps not by = (let x = by.0 in cc)

@@ -60,13 +60,15 @@ module _ (says : Language) where
   idle_settled s (Begin t n l ∷ past) legal idle stays =
       by_session t s (λ is same. rw is refl) (λ is. rw is (idle_settled s past legal.1 idle stays))
   idle_settled s (Changed t change ∷ past) legal idle stays =
-      by_session t s (λ is same. absurd (asks_not t s legal.0.2.statement past same legal.0.2.takes.asks idle)) (λ is. rw is (idle_settled s past legal.1 idle stays))
+      by_session t s (λ is same. absurd (asks_not t s legal.0.2.statement past same legal.0.2.takes.asks idle))
+      (λ is. rw is (idle_settled s past legal.1 idle stays))
   idle_settled s (Undone t keep ∷ past) legal idle stays =
       by_session t s (λ is same. absurd (let e = rw is at stays in cc)) (λ is. rw is (idle_settled s past legal.1 idle (rw is at stays)))
   idle_settled s (Ended t j reply ∷ past) legal idle stays =
       by_session t s (λ is same. rw is refl) (λ is. rw is (idle_settled s past legal.1 (rw is at idle) (rw is at stays)))
   idle_settled s (Committed t ∷ past) legal idle stays =
-      by_session t s (λ is same. absurd (asks_not t s legal.0.2.statement past same legal.0.2.takes.asks idle)) (λ is. rw is (idle_settled s past legal.1 idle stays))
+      by_session t s (λ is same. absurd (asks_not t s legal.0.2.statement past same legal.0.2.takes.asks idle))
+      (λ is. rw is (idle_settled s past legal.1 idle stays))
   idle_settled s (RolledBack t ∷ past) legal idle stays =
       by_session t s (λ is same. absurd (let e = rw is at stays in cc)) (λ is. rw is (idle_settled s past legal.1 idle (rw is at stays)))
   idle_settled s (e ∷ past) legal idle stays = idle_settled s past legal.1 idle stays
@@ -94,7 +96,8 @@ module _ (says : Language) where
       by_session t s (λ is same. absurd (let e = rw is at not in cc)) (λ is. rw is (unbegun_before s past (rw is at not)))
   unbegun_before s (e ∷ past) not = let before = unbegun_before s past in grind (arith, nat_tests, before, not)
 
-  pub unbegun_settled : (s : ℕ) (item : Item) (past : List Event) → IsLegal says past → under_way s past ≡ Some item → did begins_txn s past ≡ false → own s (before_item s past) ≡ settled s past
+  pub unbegun_settled : (s : ℕ) (item : Item) (past : List Event) → IsLegal says past → under_way s past ≡ Some item → did begins_txn s past ≡ false
+      → own s (before_item s past) ≡ settled s past
   unbegun_settled s item past legal asked not =
       ap (own s) (sym (unbegun_before s past not)) ∙ before_settled s item past legal asked
 
@@ -126,6 +129,8 @@ module _ (says : Language) where
   legal_before s (e ∷ past) legal = legal_before s past legal.1
 
   -- the base of the session's item is what was committed, with its changes when its last item had ended
-  pub now_base : (s : ℕ) (item : Item) (past : List Event) → IsLegal says past → under_way s past ≡ Some item → base s past ≡ changed (committed_db past) (settled s past)
+  pub now_base : (s : ℕ) (item : Item) (past : List Event) → IsLegal says past → under_way s past ≡ Some item
+      → base s past ≡ changed (committed_db past) (settled s past)
   now_base s item past legal asked =
-      changed_append (opening past) (own_before s past) (committed (commits past) past) ∙ ap (changed (committed_db past)) (before_settled s item past legal asked)
+      changed_append (opening past) (own_before s past) (committed (commits past) past) ∙ ap (changed (committed_db past))
+      (before_settled s item past legal asked)

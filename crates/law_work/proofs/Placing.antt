@@ -45,7 +45,8 @@ applicable-in db changes (inr made) = subst (λ (cs : List Change). AllIn db (re
 
 -- ---- more tables
 
-pub key_in-more : (schemas more : List Schema) (table : ℕ) (row : List Value) → table < length schemas → key_in (schemas ++ more) table row ≡ key_in schemas table row
+pub key_in-more : (schemas more : List Schema) (table : ℕ) (row : List Value) → table < length schemas
+    → key_in (schemas ++ more) table row ≡ key_in schemas table row
 key_in-more [] more table row there = absurd (omega arith)
 key_in-more (schema ∷ schemas) more zero row there = refl
 key_in-more (schema ∷ schemas) more (suc table) row there = let less : table < length schemas = omega arith in key_in-more schemas more table row less
@@ -63,12 +64,14 @@ made_of (Remove table key ∷ earlier) = made_of earlier
 pub schemas_after : (db : Database) (changes : List Change) → (changed db changes).schemas ≡ db.schemas ++ made_of changes
 unfolding made_of
 schemas_after db [] = sym (append-nil db.schemas)
-schemas_after db (Create schema ∷ earlier) = ap (λ (ss : List Schema). ss ++ schema ∷ []) (schemas_after db earlier) ∙ append_assoc db.schemas (made_of earlier) (schema ∷ [])
+schemas_after db (Create schema ∷ earlier) =
+    ap (λ (ss : List Schema). ss ++ schema ∷ []) (schemas_after db earlier) ∙ append_assoc db.schemas (made_of earlier) (schema ∷ [])
 schemas_after db (Put table row ∷ earlier) = schemas_after db earlier
 schemas_after db (Remove table key ∷ earlier) = schemas_after db earlier
 
 -- rows are put at the same keys where more tables are there
-pub rows_over : (db : Database) (changes : List Change) (schemas more : List Schema) → schemas ≡ (changed db changes).schemas ++ more → AllIn db changes → (changed (over db schemas) changes).rows ≡ (changed db changes).rows
+pub rows_over : (db : Database) (changes : List Change) (schemas more : List Schema) → schemas ≡ (changed db changes).schemas ++ more → AllIn db changes
+    → (changed (over db schemas) changes).rows ≡ (changed db changes).rows
 rows_over db [] schemas more is all = refl
 rows_over db (Create schema ∷ earlier) schemas more is all =
     rows_over db earlier schemas (schema ∷ more) (is ∙ append_assoc (changed db earlier).schemas (schema ∷ []) more) all

@@ -12,10 +12,22 @@ use Rattle.law_work.proofs.Alike.{Alike, ReadsOne}
 
 alike_trees : (a b : Stmt) → tree_of a ≡ tree_of b → Alike a b
 alike_trees (stmt.Select selected table condition lock) (stmt.Select selected' table' condition' lock') same =
-    record { rows = refl; select = refl; answers = outcome_same (stmt.Select selected table condition lock) (stmt.Select selected' table' condition' lock') same; same = λ not. (cc) }
+    record {
+      rows = refl;
+      select = refl;
+      answers = outcome_same (stmt.Select selected table condition lock) (stmt.Select selected' table' condition' lock')
+          same;
+      same = λ not. (cc);
+    }
 alike_trees (stmt.Select selected table condition lock) other same = absurd (cc)
 alike_trees (stmt.Update table sets condition) (stmt.Update table' sets' condition') same =
-    record { rows = refl; select = refl; answers = outcome_same (stmt.Update table sets condition) (stmt.Update table' sets' condition') same; same = λ not. (cc) }
+    record {
+      rows = refl;
+      select = refl;
+      answers = outcome_same (stmt.Update table sets condition) (stmt.Update table' sets' condition') same;
+      same = λ not.
+          (cc);
+    }
 alike_trees (stmt.Update table sets condition) other same = absurd (cc)
 alike_trees (stmt.Delete table condition) (stmt.Delete table' condition') same =
     record { rows = refl; select = refl; answers = outcome_same (stmt.Delete table condition) (stmt.Delete table' condition') same; same = λ not. (cc) }

@@ -40,4 +40,5 @@ Tracks db [] saves own = (saves ≡ []) × (own ≡ [])
 Tracks db (Piece.kept name ∷ pieces) saves own =
     (earlier : List Save) × (saves ≡ record { name = name; made = length own } ∷ earlier) × Tracks db pieces earlier own
 Tracks db (Piece.ran statement reply ∷ pieces) saves own =
-    (before : List Change) × (own ≡ reverse (outcome statement (changed db before)).changes ++ before) × IsReplied reply (outcome statement (changed db before)) × Tracks db pieces saves before
+    (before : List Change) × (own ≡ reverse (outcome statement (changed db before)).changes ++ before) × IsReplied reply
+    (outcome statement (changed db before)) × Tracks db pieces saves before

@@ -26,12 +26,14 @@ abbrev pub slot_if : List Event → List Schema → ℕ → Option Session → S
 slot_if h schemas s None = fresh
 slot_if h schemas s (Some session) = slot_of h schemas s session
 
-slots_at : (k u : ℕ) (h : List Event) (schemas : List Schema) (sessions : List Session) → get_or (slots_from k h schemas sessions) u fresh ≡ slot_if h schemas (k + u) (slice_get sessions u)
+slots_at : (k u : ℕ) (h : List Event) (schemas : List Schema) (sessions : List Session)
+    → get_or (slots_from k h schemas sessions) u fresh ≡ slot_if h schemas (k + u) (slice_get sessions u)
 slots_at k u h schemas [] = refl
 slots_at k zero h schemas (x ∷ sessions) = ap (λ n. slot_of h schemas n x) (omega arith)
 slots_at k (suc u) h schemas (x ∷ sessions) = slots_at (k + 1) u h schemas sessions ∙ ap (λ n. slot_if h schemas n (slice_get sessions u)) (omega arith)
 
-pub slot_at : (u : ℕ) (h : List Event) (schemas : List Schema) (sessions : List Session) → get_or (slots_from 0 h schemas sessions) u fresh ≡ slot_if h schemas u (slice_get sessions u)
+pub slot_at : (u : ℕ) (h : List Event) (schemas : List Schema) (sessions : List Session)
+    → get_or (slots_from 0 h schemas sessions) u fresh ≡ slot_if h schemas u (slice_get sessions u)
 slot_at u h schemas sessions = slots_at 0 u h schemas sessions ∙ ap (λ n. slot_if h schemas n (slice_get sessions u)) (omega arith)
 
 pub slots_count : (k : ℕ) (h : List Event) (schemas : List Schema) (sessions : List Session) → length (slots_from k h schemas sessions) ≡ length sessions
@@ -39,17 +41,20 @@ slots_count k h schemas [] = refl
 slots_count k h schemas (x ∷ sessions) = ap suc (slots_count (k + 1) h schemas sessions)
 
 -- what agrees of a session agrees with the places that the past says
-canonical : (h : List Event) (schemas : List Schema) (s : ℕ) (slot : Slot) (session : Session) (places : List (Option Place)) → slot.work ≡ option_map (work_at places) session.work → SlotAgrees schemas h s slot → SlotAgrees schemas h s (slot_of h schemas s session)
+canonical : (h : List Event) (schemas : List Schema) (s : ℕ) (slot : Slot) (session : Session) (places : List (Option Place))
+    → slot.work ≡ option_map (work_at places) session.work → SlotAgrees schemas h s slot → SlotAgrees schemas h s (slot_of h schemas s session)
 canonical h schemas s slot session places same agrees =
     record { started_is = refl; work_is = go session.work (subst (WorkAgrees schemas h s) same agrees.work_is) }
   where
-    go : (work : Option Work) → WorkAgrees schemas h s (option_map (work_at places) work) → WorkAgrees schemas h s (option_map (work_at (map (place_in schemas) (own s h))) work)
+    go : (work : Option Work) → WorkAgrees schemas h s (option_map (work_at places) work)
+        → WorkAgrees schemas h s (option_map (work_at (map (place_in schemas) (own s h))) work)
     go None a = a
     go (Some w) a = record { level_is = a.level_is; txn_is = a.txn_is; id_is = a.id_is; places_are = refl; view_is = a.view_is }
 
 module _ (names : List (List ℕ)) (h : List Event) (schemas : List Schema) (chains : Chains) (txns : Txns) (writer : Option ℕ) where
   -- the slots may be others that agree, and what is owed is what the past says
-  pub with_slots : (room owed : ℕ) (slots others : List Slot) → IsAgreed names h room schemas chains txns slots owed writer → length names ≤ length others → ((u : ℕ) → SlotAgrees schemas h u (get_or others u fresh))
+  pub with_slots : (room owed : ℕ) (slots others : List Slot) → IsAgreed names h room schemas chains txns slots owed writer → length names ≤ length others
+      → ((u : ℕ) → SlotAgrees schemas h u (get_or others u fresh))
       → IsAgreed names h (owed_by_all h (length names)) schemas chains txns others (owed_by_all h (length names)) writer
   with_slots room owed slots others agreed enough each =
       record {
@@ -67,8 +72,10 @@ module _ (names : List (List ℕ)) (h : List Event) (schemas : List Schema) (cha
       }
 
   -- where each session's slot has its work, the world's sessions agree
-  pub settled : (room owed : ℕ) (slots : List Slot) (sessions : List Session) → IsAgreed names h room schemas chains txns slots owed writer → length names ≤ length sessions
-      → ((u : ℕ) (session : Session) → slice_get sessions u ≡ Some session → (places : List (Option Place)) × ((get_or slots u fresh).work ≡ option_map (work_at places) session.work))
+  pub settled : (room owed : ℕ) (slots : List Slot) (sessions : List Session) → IsAgreed names h room schemas chains txns slots owed writer
+      → length names ≤ length sessions
+      → ((u : ℕ) (session : Session) → slice_get sessions u ≡ Some session → (places : List (Option Place)) ×
+      ((get_or slots u fresh).work ≡ option_map (work_at places) session.work))
       → ((u : ℕ) → slice_get sessions u ≡ None → get_or slots u fresh ≡ fresh)
       → IsAgreed names h (owed_by_all h (length names)) schemas chains txns (slots_from 0 h schemas sessions) (owed_by_all h (length names)) writer
   settled room owed slots sessions agreed enough works strangers =
@@ -80,8 +87,10 @@ module _ (names : List (List ℕ)) (h : List Event) (schemas : List Schema) (cha
       go u (Some session) is = let work = works u session is in canonical h schemas u (get_or slots u fresh) session work.0 work.1 (agreed.sessions u)
 
   -- one session is another now, in lists too
-  pub one_settled : (room owed : ℕ) (g : List Event) (tables : List Schema) (s : ℕ) (before after : List Session) (slot : Slot) (session : Session) (places : List (Option Place))
-      → IsAgreed names h room schemas chains txns (set (slots_from 0 g tables before) s slot) owed writer → s < length before → length before ≡ length names → length after ≡ length before
+  pub one_settled : (room owed : ℕ) (g : List Event) (tables : List Schema) (s : ℕ) (before after : List Session) (slot : Slot) (session : Session)
+      (places : List (Option Place))
+      → IsAgreed names h room schemas chains txns (set (slots_from 0 g tables before) s slot) owed writer → s < length before → length before ≡ length names
+      → length after ≡ length before
       → slice_get after s ≡ Some session → ((u : ℕ) → u ≢ s → slice_get after u ≡ slice_get before u) → slot.work ≡ option_map (work_at places) session.work
       → IsAgreed names h (owed_by_all h (length names)) schemas chains txns (slots_from 0 h schemas after) (owed_by_all h (length names)) writer
   one_settled room owed g tables s before after slot session places agreed within count same_count here elsewhere work =
@@ -92,13 +101,20 @@ module _ (names : List (List ℕ)) (h : List Event) (schemas : List Schema) (cha
       kept : (u : ℕ) → u ≢ s → get_or (set (slots_from 0 g tables before) s slot) u fresh ≡ slot_if g tables u (slice_get before u)
       kept u differs = get_or-set_other (slots_from 0 g tables before) s u slot fresh differs ∙ slot_at u g tables before
 
-      mine : (u : ℕ) (x : Session) → slice_get after u ≡ Some x → u ≡ s → (ps : List (Option Place)) × ((get_or (set (slots_from 0 g tables before) s slot) u fresh).work ≡ option_map (work_at ps) x.work)
+      mine : (u : ℕ) (x : Session) → slice_get after u ≡ Some x → u ≡ s
+          → (ps : List (Option Place)) × ((get_or (set (slots_from 0 g tables before) s slot) u fresh).work ≡ option_map (work_at ps) x.work)
       mine u x is e =
-          let same : session ≡ x = some_one session x (sym here ∙ ap (slice_get after) (sym e) ∙ is) in
-          (places, ap (λ (y : Slot). y.work) (ap (λ n. get_or (set (slots_from 0 g tables before) s slot) n fresh) e ∙ get_or-set_same (slots_from 0 g tables before) s slot fresh (omega (arith, within, slots_count 0 g tables before))) ∙ work ∙ ap (λ (y : Session). option_map (work_at places) y.work) same)
+          let same : session ≡ x = some_one session x (sym here ∙ ap (slice_get after) (sym e) ∙ is) in (
+            places,
+            ap (λ (y : Slot). y.work) (ap (λ n. get_or (set (slots_from 0 g tables before) s slot) n fresh) e ∙ get_or-set_same
+                (slots_from 0 g tables before) s slot fresh (omega (arith, within, slots_count 0 g tables before))) ∙ work ∙ ap
+                (λ (y : Session). option_map (work_at places) y.work) same,
+          )
 
-      other : (u : ℕ) (x : Session) → slice_get after u ≡ Some x → u ≢ s → (ps : List (Option Place)) × ((get_or (set (slots_from 0 g tables before) s slot) u fresh).work ≡ option_map (work_at ps) x.work)
-      other u x is differs = (map (place_in tables) (own u g), ap (λ (y : Slot). y.work) (kept u differs ∙ ap (slot_if g tables u) (sym (elsewhere u differs) ∙ is)))
+      other : (u : ℕ) (x : Session) → slice_get after u ≡ Some x → u ≢ s
+          → (ps : List (Option Place)) × ((get_or (set (slots_from 0 g tables before) s slot) u fresh).work ≡ option_map (work_at ps) x.work)
+      other u x is differs =
+          (map (place_in tables) (own u g), ap (λ (y : Slot). y.work) (kept u differs ∙ ap (slot_if g tables u) (sym (elsewhere u differs) ∙ is)))
 
       stranger : (u : ℕ) → slice_get after u ≡ None → u ≢ s → get_or (set (slots_from 0 g tables before) s slot) u fresh ≡ fresh
       stranger u is differs = kept u differs ∙ ap (slot_if g tables u) (sym (elsewhere u differs) ∙ is)

@@ -33,6 +33,7 @@ slots_from s past schemas (session ∷ sessions) = slot_of past schemas s sessio
 
 -- The world's tables, transactions and sessions are what its past says, and so are these rows; who may write is this.
 pub record Agrees (chains : Chains) (writer : Option ℕ) (state : WorldState) : Type 0 where
-  pub lists : IsAgreed state.names state.past (owed_by_all state.past (length state.names)) state.schemas chains state.txns (slots_from 0 state.past state.schemas state.sessions) (owed_by_all state.past (length state.names)) writer
+  pub lists : IsAgreed state.names state.past (owed_by_all state.past (length state.names)) state.schemas chains state.txns
+      (slots_from 0 state.past state.schemas state.sessions) (owed_by_all state.past (length state.names)) writer
   pub count : length state.sessions ≡ length state.names
   pub own : (s : ℕ) (session : Session) (work : Work) → HasWork s session work state → work.own ≡ length (own s state.past)

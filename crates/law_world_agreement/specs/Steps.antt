@@ -56,7 +56,8 @@ pub record IsChangedBy (s : ℕ) (change : Change) (tables : List Schema) (old n
   pub past : new.past ≡ Changed s change ∷ old.past
   pub names : new.names ≡ old.names
   pub schemas : new.schemas ≡ tables
-  pub txns : new.txns ≡ (if work.id == 0 then record old.txns { open_txns = with_txn_id work.txn old.txns.next old.txns.open_txns; next = old.txns.next + 1 } else old.txns)
+  pub txns : new.txns ≡ (if work.id == 0 then record old.txns { open_txns = with_txn_id work.txn old.txns.next old.txns.open_txns; next = old.txns.next + 1 }
+      else old.txns)
   pub others : (t : ℕ) → t ≢ s → slice_get new.sessions t ≡ slice_get old.sessions t
   pub count : length new.sessions ≡ length old.sessions
 

@@ -39,7 +39,8 @@ tidied actor old new (Full need free) h = absurd h
 tidied actor old new TooDeep h = absurd h
 
 -- after that the actor leaves
-pub left : (actor : ℕ) (old between new : ListIndex) (answer : Move) → Tidies actor (shown old) (shown between) answer → Leaves actor (shown between) (shown new) → Leaves actor (shown old) (shown new)
+pub left : (actor : ℕ) (old between new : ListIndex) (answer : Move) → Tidies actor (shown old) (shown between) answer
+    → Leaves actor (shown between) (shown new) → Leaves actor (shown old) (shown new)
 left actor old between new answer tidy leaves =
     let same = tidied actor old between answer tidy in
     record {
@@ -73,7 +74,8 @@ calls_one p index old new step there stepped sound = record {
   beside = record { versions = record { told = λ told. told; kept = λ told. refl }; rest = refl };
 }
 
-pub inserts_with : (undo : Undo) (actor : ℕ) (key value : List ℕ) (old new : Index) (answer : Move) → Inserts actor key value old new answer → InsertsWith (Some undo) actor key value old new answer
+pub inserts_with : (undo : Undo) (actor : ℕ) (key value : List ℕ) (old new : Index) (answer : Move) → Inserts actor key value old new answer
+    → InsertsWith (Some undo) actor key value old new answer
 inserts_with undo actor key value old new NoMemory h = h.1
 inserts_with undo actor key value old new Done h = h
 inserts_with undo actor key value old new Step h = h
@@ -86,7 +88,8 @@ inserts_with undo actor key value old new End h = h
 inserts_with undo actor key value old new (Full need free) h = h
 inserts_with undo actor key value old new TooDeep h = h
 
-pub replaces_with : (undo : Undo) (actor : ℕ) (key value : List ℕ) (old new : Index) (answer : Move) → Replaces actor key value old new answer → ReplacesWith (Some undo) actor key value old new answer
+pub replaces_with : (undo : Undo) (actor : ℕ) (key value : List ℕ) (old new : Index) (answer : Move) → Replaces actor key value old new answer
+    → ReplacesWith (Some undo) actor key value old new answer
 replaces_with undo actor key value old new NoMemory h = h.1
 replaces_with undo actor key value old new Done h = h
 replaces_with undo actor key value old new Step h = h
@@ -100,7 +103,8 @@ replaces_with undo actor key value old new (Full need free) h = h
 replaces_with undo actor key value old new TooDeep h = h
 
 -- a call that has not changed its index brings nothing
-brings_none : (actor : ℕ) (undo : Undo) (old new : WorldState) (answer : Move) → answer ≢ Done → StaysBeside old new → Brings actor (Some undo) (is_done answer) old new
+brings_none : (actor : ℕ) (undo : Undo) (old new : WorldState) (answer : Move) → answer ≢ Done → StaysBeside old new
+    → Brings actor (Some undo) (is_done answer) old new
 brings_none actor undo old new NoMemory other h = h
 brings_none actor undo old new Done other h = absurd (other refl)
 brings_none actor undo old new Step other h = h
@@ -113,26 +117,43 @@ brings_none actor undo old new End other h = h
 brings_none actor undo old new (Full need free) other h = h
 brings_none actor undo old new TooDeep other h = h
 
-pub changes_none : (p : Parts) (index actor : ℕ) (undo : Undo) (old new : ListIndex) (call : Index → Index → Move → Type 0) (answer : Move) → slice_get p.indexes index ≡ Some old
+pub changes_none : (p : Parts) (index actor : ℕ) (undo : Undo) (old new : ListIndex) (call : Index → Index → Move → Type 0) (answer : Move)
+    → slice_get p.indexes index ≡ Some old
     → answer ≢ Done → call (shown old) (shown new) answer → Told AreSound (shown new)
     → Changes index actor (Some undo) call (world_of p) (world_of (record p { indexes = slice_set p.indexes index new })) answer
 changes_none p index actor undo old new call answer there other called sound =
     let one = calls_one p index old new (λ before after. call before after answer) there called sound in
-    record { index_is = one.index_is; beside = brings_none actor undo (world_of p) (world_of (record p { indexes = slice_set p.indexes index new })) answer other one.beside }
+    record {
+      index_is = one.index_is;
+      beside = brings_none actor undo (world_of p) (world_of (record p { indexes = slice_set p.indexes index new })) answer
+          other one.beside;
+    }
 
 -- the index has changed, and then the record was logged
-pub changes_logged : (p q : Parts) (index actor : ℕ) (undo : Undo) (old new : ListIndex) (call : Index → Index → Move → Type 0) → slice_get p.indexes index ≡ Some old
+pub changes_logged : (p q : Parts) (index actor : ℕ) (undo : Undo) (old new : ListIndex) (call : Index → Index → Move → Type 0)
+    → slice_get p.indexes index ≡ Some old
     → call (shown old) (shown new) Done → Told AreSound (shown new) → q.indexes ≡ slice_set p.indexes index new
     → IsLogged actor undo (world_of (record p { indexes = slice_set p.indexes index new })) (world_of q)
     → Changes index actor (Some undo) call (world_of p) (world_of q) Done
 changes_logged p q index actor undo old new call there called sound is logged = record {
   index_is = in_index p.indexes p q index old new (λ before after. call before after Done) there is called sound;
-  beside = record { session = logged.session; work = logged.work; has_work = record { session_is = logged.has_work.session_is; work_is = logged.has_work.work_is }; next = logged.next; kept = logged.kept; rest = logged.rest };
+  beside =
+      record {
+        session = logged.session;
+        work = logged.work;
+        has_work = record
+            { session_is = logged.has_work.session_is; work_is = logged.has_work.work_is };
+        next = logged.next;
+        kept = logged.kept;
+        rest = logged.rest;
+      };
 }
 
 -- what is kept where a record is logged
-pub keeps : (keeps_one : Bool) (schemas : List Schema) (pointer : ℕ) (undo : Undo) (kept : Option Kept) (slots : List (Option Kept)) → KeepsOnly keeps_one schemas undo kept
-    → 0 < pointer → pointer ≤ length slots → kept_behind slots pointer ≡ None → KeepsIf keeps_one schemas pointer undo (slotted slots) (slotted (filled_if pointer kept slots))
+pub keeps : (keeps_one : Bool) (schemas : List Schema) (pointer : ℕ) (undo : Undo) (kept : Option Kept) (slots : List (Option Kept))
+    → KeepsOnly keeps_one schemas undo kept
+    → 0 < pointer → pointer ≤ length slots → kept_behind slots pointer ≡ None → KeepsIf keeps_one schemas pointer undo (slotted slots)
+    (slotted (filled_if pointer kept slots))
 keeps true schemas pointer undo None slots h above there fresh = absurd h
 keeps true schemas pointer undo (Some kept) slots h above there fresh = record {
   told = λ told. told;
@@ -151,7 +172,8 @@ pushed_before [] list index within = absurd (omega arith)
 pushed_before (first ∷ lists) list zero within = refl
 pushed_before (first ∷ lists) list (suc index) within = pushed_before lists list index (omega arith)
 
-pushed_behind : (lists : List ListIndex) (list : ListIndex) (index : ℕ) → shown list ≡ empty_index → length lists ≤ index → index_in (lists ++ list ∷ []) index ≡ empty_index
+pushed_behind : (lists : List ListIndex) (list : ListIndex) (index : ℕ) → shown list ≡ empty_index → length lists ≤ index
+    → index_in (lists ++ list ∷ []) index ≡ empty_index
 pushed_behind [] list zero is behind = is
 pushed_behind [] list (suc index) is behind = refl
 pushed_behind (first ∷ lists) list zero is behind = absurd (omega arith)
@@ -165,14 +187,16 @@ none_past (first ∷ lists) (suc index) behind = none_past lists index (omega ar
 pub added_none : (lists : List ListIndex) → AreAdded 0 lists lists
 added_none lists = record { count = omega arith; before = λ index within. refl; empty = λ index behind. none_past lists index behind }
 
-added_empty : (more : ℕ) (old between : List ListIndex) (list : ListIndex) → AreAdded more old between → shown list ≡ empty_index → (index : ℕ) → length old ≤ index
+added_empty : (more : ℕ) (old between : List ListIndex) (list : ListIndex) → AreAdded more old between → shown list ≡ empty_index → (index : ℕ)
+    → length old ≤ index
     → index_in (between ++ list ∷ []) index ≡ empty_index
 added_empty more old between list added is index behind = elim (cases_lt index (length between)) [
   | inl within ↦ ap index_of_list (pushed_before between list index within) ∙ added.empty index behind
   | inr past ↦ pushed_behind between list index is past
 ]
 
-pub added_one : (more : ℕ) (old between : List ListIndex) (list : ListIndex) → AreAdded more old between → shown list ≡ empty_index → AreAdded (more + 1) old (between ++ list ∷ [])
+pub added_one : (more : ℕ) (old between : List ListIndex) (list : ListIndex) → AreAdded more old between → shown list ≡ empty_index
+    → AreAdded (more + 1) old (between ++ list ∷ [])
 added_one more old between list added is = record {
   count = omega (arith, length-append between (list ∷ []), added.count);
   before = λ index within. pushed_before between list index (omega (arith, added.count, within)) ∙ added.before index within;

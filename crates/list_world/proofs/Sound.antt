@@ -50,10 +50,13 @@ opens_none_at sessions s t txn old new there opens at = elim (cases_eq t s) [
 -- ---- pointers that were promised
 
 -- a session of which one is another now: it is that one, or was there before
-set_cases : (sessions : List Session) (s t : ℕ) (old new session : Session) → slice_get sessions s ≡ Some old → slice_get (slice_set sessions s new) t ≡ Some session
+set_cases : (sessions : List Session) (s t : ℕ) (old new session : Session) → slice_get sessions s ≡ Some old
+    → slice_get (slice_set sessions s new) t ≡ Some session
     → ((t ≡ s) × (new ≡ session)) ⊎ ((t ≢ s) × (slice_get sessions t ≡ Some session))
 set_cases sessions s t old new session there is = elim (cases_eq t s) [
-  | inl same ↦ let here : Some new ≡ Some session = sym (get_set_here sessions s new (slice_get_within sessions s old there)) ∙ subst (λ (n : ℕ). slice_get (slice_set sessions s new) n ≡ Some session) same is in
+  | inl same ↦ let here : Some new ≡ Some session =
+      sym (get_set_here sessions s new (slice_get_within sessions s old there)) ∙ subst (λ (n : ℕ). slice_get (slice_set sessions s new) n ≡ Some session)
+      same is in
       let eq : new ≡ session = cc in inl (same, eq)
   | inr other ↦ inr (other, sym (get_set_elsewhere sessions s t new other) ∙ is)
 ]
@@ -68,9 +71,12 @@ promised_slot slots slots' sessions s old new there slot others t session is = e
 
 -- the pointer of the one that is new, if it has one, no other has
 abbrev pub IsAlone : List Session → ℕ → Session → Type 0
-IsAlone sessions s new = (t : ℕ) (session : Session) → t ≢ s → slice_get sessions t ≡ Some session → 0 < new.undo_room → 0 < session.undo_room → new.next_pointer ≡ session.next_pointer → ⊥
+IsAlone sessions s new =
+    (t : ℕ) (session : Session) → t ≢ s → slice_get sessions t ≡ Some session → 0 < new.undo_room → 0 < session.undo_room → new.next_pointer ≡
+    session.next_pointer → ⊥
 
-promised_apart : (slots : List (Option Kept)) (sessions : List Session) (s : ℕ) (old new : Session) → ArePromised slots sessions → slice_get sessions s ≡ Some old → IsAlone sessions s new
+promised_apart : (slots : List (Option Kept)) (sessions : List Session) (s : ℕ) (old new : Session) → ArePromised slots sessions
+    → slice_get sessions s ≡ Some old → IsAlone sessions s new
     → (a b : ℕ) (one other : Session) → slice_get (slice_set sessions s new) a ≡ Some one → slice_get (slice_set sessions s new) b ≡ Some other
     → 0 < one.undo_room → 0 < other.undo_room → one.next_pointer ≡ other.next_pointer → a ≡ b
 promised_apart slots sessions s old new promised there alone a b one other at-a at-b room-a room-b same = elim (set_cases sessions s a old new one there at-a) [
@@ -85,15 +91,21 @@ promised_apart slots sessions s old new promised there alone a b one other at-a 
 ]
 
 -- the session's pointer is promised still
-pub promised_same : (slots : List (Option Kept)) (sessions : List Session) (s : ℕ) (old new : Session) → ArePromised slots sessions → slice_get sessions s ≡ Some old
+pub promised_same : (slots : List (Option Kept)) (sessions : List Session) (s : ℕ) (old new : Session) → ArePromised slots sessions
+    → slice_get sessions s ≡ Some old
     → new.undo_room ≡ old.undo_room → new.next_pointer ≡ old.next_pointer → ArePromised slots (slice_set sessions s new)
 promised_same slots sessions s old new promised there room pointer = record {
-  slot = promised_slot slots slots sessions s old new there (let had = promised.slot s old there in rw (room, pointer) had) (λ t session other at. promised.slot t session at);
-  apart = promised_apart slots sessions s old new promised there (λ t session other at mine its same. other (promised.apart t s session old at there its (rw (← room) mine) (sym same ∙ pointer)));
+  slot =
+      promised_slot slots slots sessions s old new there (let had = promised.slot s old there in rw (room, pointer) had)
+      (λ t session other at. promised.slot t session at);
+  apart =
+      promised_apart slots sessions s old new promised there
+      (λ t session other at mine its same. other (promised.apart t s session old at there its (rw (← room) mine) (sym same ∙ pointer)));
 }
 
 -- the session has used its pointer
-pub promised_spent : (slots : List (Option Kept)) (sessions : List Session) (s : ℕ) (old new : Session) → ArePromised slots sessions → slice_get sessions s ≡ Some old
+pub promised_spent : (slots : List (Option Kept)) (sessions : List Session) (s : ℕ) (old new : Session) → ArePromised slots sessions
+    → slice_get sessions s ≡ Some old
     → new.undo_room ≡ 0 → ArePromised slots (slice_set sessions s new)
 promised_spent slots sessions s old new promised there spent = record {
   slot = promised_slot slots slots sessions s old new there (λ roomy. absurd (omega (arith, spent, roomy))) (λ t session other at. promised.slot t session at);
@@ -103,21 +115,27 @@ promised_spent slots sessions s old new promised there spent = record {
 -- another slot was taken
 pub promised_more : (slots : List (Option Kept)) (sessions : List Session) → ArePromised slots sessions → ArePromised (slots ++ None ∷ []) sessions
 promised_more slots sessions promised = record {
-  slot = λ t session at roomy. let had = promised.slot t session at roomy in (had.0, omega (arith, had.1, length-append slots (None ∷ [])), ap (λ (f : ℕ → Option Kept). f session.next_pointer) (kept_taken slots) ∙ had.2);
+  slot =
+      λ t session at roomy. let had = promised.slot t session at roomy in
+      (had.0, omega (arith, had.1, length-append slots (None ∷ [])), ap (λ (f : ℕ → Option Kept). f session.next_pointer) (kept_taken slots) ∙ had.2);
   apart = promised.apart;
 }
 
 -- another slot was taken, and its pointer is promised to the session
-pub promised_taken : (slots : List (Option Kept)) (sessions : List Session) (s : ℕ) (old new : Session) → ArePromised slots sessions → slice_get sessions s ≡ Some old
+pub promised_taken : (slots : List (Option Kept)) (sessions : List Session) (s : ℕ) (old new : Session) → ArePromised slots sessions
+    → slice_get sessions s ≡ Some old
     → new.next_pointer ≡ length slots + 1 → ArePromised (slots ++ None ∷ []) (slice_set sessions s new)
 promised_taken slots sessions s old new promised there pointer = record {
   slot = promised_slot slots (slots ++ None ∷ []) sessions s old new there
       (λ roomy. (omega (arith, pointer), omega (arith, pointer, length-append slots (None ∷ [])), rw pointer (kept_past slots)))
       (λ t session other at. (promised_more slots sessions promised).slot t session at);
-  apart = promised_apart slots sessions s old new promised there (λ t session other at mine its same. omega (arith, (promised.slot t session at its).1, pointer, same));
+  apart =
+      promised_apart slots sessions s old new promised there
+      (λ t session other at mine its same. omega (arith, (promised.slot t session at its).1, pointer, same));
 }
 
-others_unfilled : (slots : List (Option Kept)) (sessions : List Session) (s : ℕ) (old : Session) (kept : Option Kept) → ArePromised slots sessions → slice_get sessions s ≡ Some old → 0 < old.undo_room
+others_unfilled : (slots : List (Option Kept)) (sessions : List Session) (s : ℕ) (old : Session) (kept : Option Kept) → ArePromised slots sessions
+    → slice_get sessions s ≡ Some old → 0 < old.undo_room
     → (t : ℕ) (session : Session) → t ≢ s → slice_get sessions t ≡ Some session → HasSlot (filled_if old.next_pointer kept slots) session
 others_unfilled slots sessions s old None promised there room t session other at = promised.slot t session at
 others_unfilled slots sessions s old (Some kept) promised there room t session other at = λ roomy.
@@ -126,17 +144,21 @@ others_unfilled slots sessions s old (Some kept) promised there room t session o
     (had.0, rw length-set had.1, kept_elsewhere slots old.next_pointer session.next_pointer kept (promised.slot s old there room).0 another ∙ had.2)
 
 -- the session's slot was filled
-pub promised_filled : (slots : List (Option Kept)) (sessions : List Session) (s : ℕ) (old new : Session) (kept : Option Kept) → ArePromised slots sessions → slice_get sessions s ≡ Some old
+pub promised_filled : (slots : List (Option Kept)) (sessions : List Session) (s : ℕ) (old new : Session) (kept : Option Kept) → ArePromised slots sessions
+    → slice_get sessions s ≡ Some old
     → 0 < old.undo_room → new.undo_room ≡ 0 → ArePromised (filled_if old.next_pointer kept slots) (slice_set sessions s new)
 promised_filled slots sessions s old new kept promised there room spent = record {
-  slot = promised_slot slots (filled_if old.next_pointer kept slots) sessions s old new there (λ roomy. absurd (omega (arith, spent, roomy))) (others_unfilled slots sessions s old kept promised there room);
+  slot =
+      promised_slot slots (filled_if old.next_pointer kept slots) sessions s old new there (λ roomy. absurd (omega (arith, spent, roomy)))
+      (others_unfilled slots sessions s old kept promised there room);
   apart = promised_apart slots sessions s old new promised there (λ t session other at mine its same. omega (arith, spent, mine));
 }
 
 -- ---- the whole
 
 -- One session is another now, which has opened nothing, and what is owed to it has changed by so much.
-pub sound_set : (room rows tables indexes : ℕ) (slots : List (Option Kept)) (begun : ℕ) (sessions : List Session) (s : ℕ) (old new : Session) (room' rows' : ℕ) (slots' : List (Option Kept))
+pub sound_set : (room rows tables indexes : ℕ) (slots : List (Option Kept)) (begun : ℕ) (sessions : List Session) (s : ℕ) (old new : Session)
+    (room' rows' : ℕ) (slots' : List (Option Kept))
     → IsSound room rows tables indexes slots begun sessions → slice_get sessions s ≡ Some old
     → OpensNone old new → ArePromised slots' (slice_set sessions s new)
     → owed_by_all sessions + owed_of new ≤ room' + owed_of old → owed_by_all sessions + owed_of new < 2 ^ 64 + owed_of old
@@ -147,14 +169,17 @@ sound_set room rows tables indexes slots begun sessions s old new room' rows' sl
   enough = omega (arith, sum_set owed_of sessions s old new there, enough);
   small = omega (arith, sum_set owed_of sessions s old new there, small);
   counted = omega (arith, sum_set puts_of sessions s old new there, counted);
-  apart = λ a b txn at-a at-b. sound.apart a b txn (opens_none_at sessions s a txn old new there opens at-a) (opens_none_at sessions s b txn old new there opens at-b);
+  apart =
+      λ a b txn at-a at-b. sound.apart a b txn (opens_none_at sessions s a txn old new there opens at-a)
+      (opens_none_at sessions s b txn old new there opens at-b);
   are_begun = λ a txn at-a. sound.are_begun a txn (opens_none_at sessions s a txn old new there opens at-a);
   promised = promised;
   numbered = sound.numbered;
 }
 
 -- One session is another now, to which no more is owed, and all else but slots is as it was.
-pub sound_quiet : (room rows tables indexes : ℕ) (slots : List (Option Kept)) (begun : ℕ) (sessions : List Session) (s : ℕ) (old new : Session) (slots' : List (Option Kept))
+pub sound_quiet : (room rows tables indexes : ℕ) (slots : List (Option Kept)) (begun : ℕ) (sessions : List Session) (s : ℕ) (old new : Session)
+    (slots' : List (Option Kept))
     → IsSound room rows tables indexes slots begun sessions → slice_get sessions s ≡ Some old
     → OpensNone old new → ArePromised slots' (slice_set sessions s new) → owed_of new ≤ owed_of old → puts_of new ≡ puts_of old
     → IsSound room rows tables indexes slots' begun (slice_set sessions s new)
@@ -162,7 +187,8 @@ sound_quiet room rows tables indexes slots begun sessions s old new slots' sound
     sound_set room rows tables indexes slots begun sessions s old new room rows slots' sound there opens promised
     (omega (arith, sound.enough, owes)) (omega (arith, sound.small, owes)) (omega (arith, sound.counted, puts))
 
-pub sound_taken : (room rows tables indexes : ℕ) (slots : List (Option Kept)) (begun : ℕ) (sessions : List Session) → IsSound room rows tables indexes slots begun sessions
+pub sound_taken : (room rows tables indexes : ℕ) (slots : List (Option Kept)) (begun : ℕ) (sessions : List Session)
+    → IsSound room rows tables indexes slots begun sessions
     → IsSound room rows tables indexes (slots ++ None ∷ []) begun sessions
 sound_taken room rows tables indexes slots begun sessions sound = record {
   few = sound.few;
@@ -224,7 +250,8 @@ sound_begun room rows tables indexes slots begun sessions s old new sound there 
 -- ---- the calls of the engine
 
 -- the history has taken more room
-pub sound_room : (room rows tables indexes : ℕ) (slots : List (Option Kept)) (begun : ℕ) (sessions : List Session) (room' : ℕ) → IsSound room rows tables indexes slots begun sessions
+pub sound_room : (room rows tables indexes : ℕ) (slots : List (Option Kept)) (begun : ℕ) (sessions : List Session) (room' : ℕ)
+    → IsSound room rows tables indexes slots begun sessions
     → room ≤ room' → IsSound room' rows tables indexes slots begun sessions
 sound_room room rows tables indexes slots begun sessions room' sound more = record {
   few = sound.few;
@@ -238,7 +265,8 @@ sound_room room rows tables indexes slots begun sessions room' sound more = reco
 }
 
 -- there is a table more
-pub sound_tables : (room rows tables indexes : ℕ) (slots : List (Option Kept)) (begun : ℕ) (sessions : List Session) (tables' indexes' : ℕ) → IsSound room rows tables indexes slots begun sessions
+pub sound_tables : (room rows tables indexes : ℕ) (slots : List (Option Kept)) (begun : ℕ) (sessions : List Session) (tables' indexes' : ℕ)
+    → IsSound room rows tables indexes slots begun sessions
     → indexes' ≡ 8 * tables' → IsSound room rows tables' indexes' slots begun sessions
 sound_tables room rows tables indexes slots begun sessions tables' indexes' sound numbered = record {
   few = sound.few;
@@ -252,7 +280,8 @@ sound_tables room rows tables indexes slots begun sessions tables' indexes' soun
 }
 
 -- a session of those to which one was added
-joined_at : (sessions : List Session) (new session : Session) (t : ℕ) → slice_get (sessions ++ new ∷ []) t ≡ Some session → (new ≡ session) ⊎ (slice_get sessions t ≡ Some session)
+joined_at : (sessions : List Session) (new session : Session) (t : ℕ) → slice_get (sessions ++ new ∷ []) t ≡ Some session
+    → (new ≡ session) ⊎ (slice_get sessions t ≡ Some session)
 joined_at [] new session zero is = inl (cc)
 joined_at [] new session (suc t) is = absurd (cc)
 joined_at (first ∷ sessions) new session zero is = inr is
@@ -270,7 +299,8 @@ joined_txn sessions new t txn idle at =
       | inr was ↦ ap txn_in was ∙ found.2
     ]
 
-pub sound_joined : (room rows tables indexes : ℕ) (slots : List (Option Kept)) (begun : ℕ) (sessions : List Session) (new : Session) → IsSound room rows tables indexes slots begun sessions
+pub sound_joined : (room rows tables indexes : ℕ) (slots : List (Option Kept)) (begun : ℕ) (sessions : List Session) (new : Session)
+    → IsSound room rows tables indexes slots begun sessions
     → length sessions < 68 → new.work ≡ None → new.undo_room ≡ 0 → owed_of new ≡ 0 → puts_of new ≡ 0
     → IsSound room rows tables indexes slots begun (sessions ++ new ∷ [])
 sound_joined room rows tables indexes slots begun sessions new sound few idle spent owes puts = record {
@@ -281,7 +311,9 @@ sound_joined room rows tables indexes slots begun sessions new sound few idle sp
   apart = λ a b txn at-a at-b. sound.apart a b txn (joined_txn sessions new a txn idle at-a) (joined_txn sessions new b txn idle at-b);
   are_begun = λ a txn at-a. sound.are_begun a txn (joined_txn sessions new a txn idle at-a);
   promised = record {
-    slot = λ t session at. elim (joined_at sessions new session t at) [ inl same ↦ λ roomy. absurd (omega (arith, ap (λ (x : Session). x.undo_room) same, spent, roomy)) | inr was ↦ sound.promised.slot t session was ];
+    slot =
+        λ t session at. elim (joined_at sessions new session t at)
+        [ inl same ↦ λ roomy. absurd (omega (arith, ap (λ (x : Session). x.undo_room) same, spent, roomy)) | inr was ↦ sound.promised.slot t session was ];
     apart = λ a b one other at-a at-b room-a room-b same. elim (joined_at sessions new one a at-a) [
       | inl is ↦ omega (arith, ap (λ (x : Session). x.undo_room) is, spent, room-a)
       | inr was ↦ elim (joined_at sessions new other b at-b) [

@@ -41,14 +41,25 @@ with_table parts s session work schema indexes =
       sessions = slice_set parts.sessions s (record session { work = Some (record work { own = work.own + 1 }) });
     }
 
-pub makes_table : (parts : Parts) (s : ℕ) (session : Session) (work : Work) (schema : Schema) (indexes : List ListIndex) → length parts.indexes ≡ 8 * length parts.schemas
+pub makes_table : (parts : Parts) (s : ℕ) (session : Session) (work : Work) (schema : Schema) (indexes : List ListIndex)
+    → length parts.indexes ≡ 8 * length parts.schemas
     → HasWork s session work (world_of parts) → length schema.keys ≤ 4 → AreAdded 8 parts.indexes indexes
     → MakesTable s schema (world_of parts) (world_of (with_table parts s session work schema indexes))
 makes_table parts s session work schema indexes numbered has few added = record {
   session = session;
   work = work;
   has_work = has;
-  mine = λ which within. record { table = length parts.schemas; which = which; number = refl; schema = schema; there = last_schema parts.schemas schema; key = within; few = omega (arith, within, few) };
+  mine =
+      λ which within. record {
+        table = length parts.schemas;
+        which = which;
+        number = refl;
+        schema = schema;
+        there = last_schema parts.schemas schema;
+        key =
+            within;
+        few = omega (arith, within, few);
+      };
   empty = λ which within. added.empty (8 * length parts.schemas + which) (omega (arith, numbered));
   same = λ index. same_index parts.indexes indexes index added;
   rest = refl;

@@ -33,11 +33,24 @@ abbrev pub index_in : List ListIndex → ℕ → Index
 index_in indexes index = index_of_list (slice_get indexes index)
 
 abbrev pub world_of : Parts → WorldState
-world_of parts = record { names = parts.names; past = parts.past; rows = parts.rows; schemas = parts.schemas; indexes = index_in parts.indexes; versions = slotted parts.slots; txns = parts.txns; sessions = parts.sessions; paged = None }
+world_of parts =
+    record {
+      names = parts.names;
+      past = parts.past;
+      rows = parts.rows;
+      schemas = parts.schemas;
+      indexes = index_in parts.indexes;
+      versions = slotted
+          parts.slots;
+      txns = parts.txns;
+      sessions = parts.sessions;
+      paged = None;
+    }
 
 -- a pointer that was promised has an empty slot
 abbrev pub HasSlot : List (Option Kept) → Session → Type 0
-HasSlot slots session = 0 < session.undo_room → (0 < session.next_pointer) × (session.next_pointer ≤ length slots) × (kept_behind slots session.next_pointer ≡ None)
+HasSlot slots session =
+    0 < session.undo_room → (0 < session.next_pointer) × (session.next_pointer ≤ length slots) × (kept_behind slots session.next_pointer ≡ None)
 
 -- the pointers that were promised
 pub record ArePromised (slots : List (Option Kept)) (sessions : List Session) : Type 0 where

@@ -66,9 +66,9 @@ impl EngineWorld for ListWorld {
         self.history.add(Event::Ended { s, j, reply });
     }
 
-    fn ack(&mut self, s: u32) {
+    fn ack(&mut self, s: u32, moment: u64) {
         self.sessions[s as usize].acknowledge();
-        self.history.add(Event::Acked { s, moment: 0 });
+        self.history.add(Event::Acked { s, moment });
     }
 
     fn set(&mut self, s: u32, stmt: &Stmt) {

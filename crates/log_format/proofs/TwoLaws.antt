@@ -134,7 +134,7 @@ record_again (RowPut table row) rest is = rw (row_spells.again (table, row) rest
 record_again (RowRemove table key) rest is = rw (row_key_spells.again ((table, 1), key) rest ((is.0, omega arith), is.1)) refl
 record_again (NewTable schema) rest is = rw (schema_spells.again schema rest is) refl
 
-record_spells : Spells record_at record_bytes IsRecord
+pub record_spells : Spells record_at record_bytes IsRecord
 record_spells = record { takes = record_takes; again = record_again }
 
 body_is : (bytes : List ℕ) (g : Group) → IsBytes bytes → body_at bytes ≡ Some g → (bytes ≡ body g) × (g.lsn < 2 ^ 64) × (length g.records < 2 ^ 16) × All IsRecord g.records

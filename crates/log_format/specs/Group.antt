@@ -57,6 +57,12 @@ pub record AreRecords (records : List Record) : Type 0 where
   pub count : length records < 2 ^ 16
   pub each : All IsRecord records
 
+-- these bytes spell them, so many, one behind the other
+pub record IsSpelled (records : List Record) (count : ℕ) (bytes : List ℕ) : Type 0 where
+  pub are : AreRecords records
+  pub number : count ≡ length records
+  pub spelled : bytes ≡ flat_map record_bytes records
+
 -- a group that has a spelling
 pub record IsGroup (g : Group) : Type 0 where
   pub lsn : g.lsn < 2 ^ 64

@@ -14,4 +14,4 @@ pub use group::{Group, Groups, Record, Records};
 pub use reading::group_of;
 pub use scan::{Found, get_groups, one_scan, scan_log};
 pub use schema_codec::Stop;
-pub use write::{put_group, put_group_as};
+pub use write::{put_group, put_group_as, put_removal, put_row, put_spelled_as, put_table};

@@ -1,14 +1,16 @@
 //! Spelling groups at the end of a vector. Memory may run out only past the vector's capacity, so that a caller who
 //! has reserved room is never refused. Numbers, byte strings and schemas are spelled by `schema_codec`.
 
-ghost use Rattle.std.specs.Prelude.{◌≡◌, ◌+◌, ◌^◌, ◌<◌, ◌≤◌, ◌∷◌, ◌++◌, ℕ, length, vec_len, vec_capacity, All, OnOk, OnErr};
+ghost use Rattle.std.specs.Prelude.{◌≡◌, ◌+◌, ◌^◌, ◌<◌, ◌≤◌, ◌∷◌, ◌++◌, ℕ, List, length, vec_len, vec_capacity, All, OnOk, OnErr};
 ghost use Rattle.std.specs.List.{flat_map};
 ghost use Rattle.schema_codec.specs.Numbers.{u16_bytes, u32_bytes};
-ghost use Rattle.schema_codec.specs.Schema.{counted, IsCounted};
-ghost use Rattle.log_format.specs.Group.{value_bytes, IsValue, record_bytes, IsRecord, AreRecords, body, group_bytes, IsGroup};
+ghost use Rattle.schema_codec.specs.Schema.{counted, IsCounted, IsSchema};
+ghost use Rattle.log_format.specs.Group.{value_bytes, IsValue, record_bytes, IsRecord, AreRecords, IsSpelled, body, group_bytes, IsGroup};
+ghost use Rattle.log_format.specs.declared.group.Record.{Record as RecordValue};
+ghost use Rattle.log_format.specs.declared.group.Record.TheVariants.{RowPut, RowRemove, NewTable};
 
 use crate::group::{Group, Record, Records};
-use inno_types::{Bytes, Value};
+use inno_types::{Bytes, Schema, Value};
 use schema_codec::{put_name, put_schema, put_u16, put_u32, put_u64};
 use std::alloc::{AllocError, Global};
 use std::mem;
@@ -71,6 +73,45 @@ fn put_page_record(page: u32, at: u16, bytes: &[u8], out: &mut Vec<u8>) -> Resul
     Ok(())
 }
 
+/// Spells the record of a row that is put at the end.
+pub fn put_row(table: u8, row: &[Value], out: &mut Vec<u8>) -> Result<(), AllocError>
+    requires { IsCounted IsValue row.now }
+    ensures ok { OnOk result (out.new.items ≡ out.old.items ++ record_bytes (RowPut table row.now)) }
+    ensures len { OnOk result (vec_len out.new ≡ vec_len out.old + length (record_bytes (RowPut table row.now))) }
+    ensures grows { vec_capacity out.old ≤ vec_capacity out.new }
+    ensures full { OnErr result (vec_capacity out.old < vec_len out.old + length (record_bytes (RowPut table row.now))) }
+{
+    out.extend_from_slice(&[3, 1, table])?;
+    put_values(row, out)?;
+    Ok(())
+}
+
+/// Spells the record of a removed row at the end.
+pub fn put_removal(table: u8, key: &Value, out: &mut Vec<u8>) -> Result<(), AllocError>
+    requires { IsValue key.now }
+    ensures ok { OnOk result (out.new.items ≡ out.old.items ++ record_bytes (RowRemove table key.now)) }
+    ensures len { OnOk result (vec_len out.new ≡ vec_len out.old + length (record_bytes (RowRemove table key.now))) }
+    ensures grows { vec_capacity out.old ≤ vec_capacity out.new }
+    ensures full { OnErr result (vec_capacity out.old < vec_len out.old + length (record_bytes (RowRemove table key.now))) }
+{
+    out.extend_from_slice(&[3, 2, table, 1])?;
+    put_value(key, out)?;
+    Ok(())
+}
+
+/// Spells the record of a new table at the end.
+pub fn put_table(schema: &Schema, out: &mut Vec<u8>) -> Result<(), AllocError>
+    requires { IsSchema schema.now }
+    ensures ok { OnOk result (out.new.items ≡ out.old.items ++ record_bytes (NewTable schema.now)) }
+    ensures len { OnOk result (vec_len out.new ≡ vec_len out.old + length (record_bytes (NewTable schema.now))) }
+    ensures grows { vec_capacity out.old ≤ vec_capacity out.new }
+    ensures full { OnErr result (vec_capacity out.old < vec_len out.old + length (record_bytes (NewTable schema.now))) }
+{
+    out.extend_from_slice(&[3, 3])?;
+    put_schema(schema, out)?;
+    Ok(())
+}
+
 #[tactic(auto, using(schema_codec::proofs::Lengths::lengths))]
 fn put_record(change: &Record, out: &mut Vec<u8>) -> Result<(), AllocError>
     requires { IsRecord change.now }
@@ -90,18 +131,15 @@ fn put_record(change: &Record, out: &mut Vec<u8>) -> Result<(), AllocError>
             Ok(())
         }
         Record::RowPut { table, row } => {
-            out.extend_from_slice(&[3, 1, *table])?;
-            put_values(row.as_slice(), out)?;
+            put_row(*table, row.as_slice(), out)?;
             Ok(())
         }
         Record::RowRemove { table, key } => {
-            out.extend_from_slice(&[3, 2, *table, 1])?;
-            put_value(key, out)?;
+            put_removal(*table, key, out)?;
             Ok(())
         }
         Record::NewTable { schema } => {
-            out.extend_from_slice(&[3, 3])?;
-            put_schema(schema, out)?;
+            put_table(schema, out)?;
             Ok(())
         }
     }
@@ -152,6 +190,32 @@ pub fn put_group_as(lsn: u64, records: &Records, out: &mut Vec<u8>) -> Result<()
         return Err(AllocError);
     };
     out[start..start + 4].copy_from_slice(&len.to_be_bytes());
+    Ok(())
+}
+
+/// Puts records that are spelled already at the end as the group of a log sequence number, as `put_group_as` does.
+#[tactic(auto, unfolding(crate::specs::Group::group_bytes, crate::specs::Group::body), using(schema_codec::proofs::Lengths::lengths))]
+pub fn put_spelled_as(
+    lsn: u64,
+    count: u16,
+    records: &[u8],
+    out: &mut Vec<u8>,
+) -> Result<(), AllocError>
+    requires { (rs : List RecordValue) × IsSpelled rs count records.now }
+    ensures ok { OnOk result ((rs : List RecordValue) → IsSpelled rs count records.now
+        → out.new.items ≡ out.old.items ++ group_bytes (record { lsn = lsn; records = rs })) }
+    ensures group { OnOk result ((rs : List RecordValue) → IsSpelled rs count records.now → IsGroup (record { lsn = lsn; records = rs })) }
+    ensures grows { vec_capacity out.old ≤ vec_capacity out.new }
+    ensures full { (room : ℕ) → room < 2 ^ 32 → vec_len out.old + room ≤ vec_capacity out.old →
+        OnErr result (room < 14 + length records.now) }
+{
+    let Ok(len) = u32::try_from(records.len() + 10) else {
+        return Err(AllocError);
+    };
+    put_u32(len, out)?;
+    put_u64(lsn, out)?;
+    put_u16(count, out)?;
+    out.extend_from_slice(records)?;
     Ok(())
 }
 

@@ -1,2 +1,3 @@
+mod GoingOn
 mod Zeroing
 mod ZeroRest

@@ -37,10 +37,13 @@ reaches_nothing kept from (suc further) pointer none reaches = reaches.0 none
 module _ (db : Database) (old : WorldState) (laid : IsLaid db old) where
   apart : PointersApart old
   apart told table other pointer one two =
-      let led = (decoded old.schemas (pairs_of old) old.versions.kept_at laid.chains table one.schema one.key one.bytes one.coded (laid.coded told).clustered one.there one.record_is one.code_is).1 in
+      let led =
+      (decoded old.schemas (pairs_of old) old.versions.kept_at laid.chains table one.schema one.key one.bytes one.coded (laid.coded told).clustered
+      one.there one.record_is one.code_is).1 in
       let place : Place = record { table = table; key = key_of one.schema one.coded.row } in
       let none : older (versions_at place laid.chains) ≡ [] = ap older (laid.versions place) ∙ none_older (get db.rows (in_model place)) in
-      absurd (reaches_nothing old.versions.kept_at one.coded.pointer one.further pointer (subst (LeadTo one.schema one.key old.versions.kept_at one.coded.pointer) none led) one.reaches)
+      absurd (reaches_nothing old.versions.kept_at one.coded.pointer one.further pointer
+      (subst (LeadTo one.schema one.key old.versions.kept_at one.coded.pointer) none led) one.reaches)
 
   -- what it tells doesn't change
   told_before : (rows : ℕ) → IsTold (with_opening db rows old) → IsTold old
@@ -68,5 +71,6 @@ module _ (db : Database) (old : WorldState) (laid : IsLaid db old) where
     refl,
   )
 
-  pub fresh_now : (new : WorldState) (rows : ℕ) → new ≡ with_opening db rows old → length db.schemas ≤ MOST_TABLES → rows_in db ≤ most_rows → rows ≡ rows_in db → IsFreshOf db new
+  pub fresh_now : (new : WorldState) (rows : ℕ) → new ≡ with_opening db rows old → length db.schemas ≤ MOST_TABLES → rows_in db ≤ most_rows
+      → rows ≡ rows_in db → IsFreshOf db new
   fresh_now new rows is few_tables few_rows counted = subst (IsFreshOf db) (sym is) (opened_literally few_tables few_rows rows counted)

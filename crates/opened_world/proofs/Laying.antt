@@ -48,7 +48,8 @@ use Rattle.opened_world.specs.Laid.{no_db, version_of, IsLaid, PutsNewRecord, Ha
 
 pub empty_db : (schemas : List Schema) (tables : List (List (List Value))) → schemas ≡ [] → tables ≡ [] → database_of schemas tables ≡ no_db
 empty_db schemas tables no-schemas no-tables =
-    subst (λ (s : List Schema). database_of s tables ≡ no_db) (sym no-schemas) (subst (λ (t : List (List (List Value))). database_of [] t ≡ no_db) (sym no-tables) refl)
+    subst (λ (s : List Schema). database_of s tables ≡ no_db) (sym no-schemas)
+    (subst (λ (t : List (List (List Value))). database_of [] t ≡ no_db) (sym no-tables) refl)
 
 pub laid_new : (state : WorldState) → IsNew state → IsLaid no_db state
 laid_new state new =
@@ -56,7 +57,9 @@ laid_new state new =
       fits = record { fitting = AreFitting-no_rows [] (λ n schema there. absurd (cc)); numbers = empty-Has64Bits [] };
       chains = [];
       versions = λ place. sym (ap version_of (get-empty place_cmp (in_model place)));
-      coded = λ told. subst (λ schemas. AreCoded schemas (pairs_of state) state.versions.kept_at []) (sym new.schemas) (no_tables (pairs_of state) state.versions.kept_at [] (λ place. refl));
+      coded =
+          λ told. subst (λ schemas. AreCoded schemas (pairs_of state) state.versions.kept_at []) (sym new.schemas)
+          (no_tables (pairs_of state) state.versions.kept_at [] (λ place. refl));
       schemas = new.schemas;
       names = new.names;
       past = new.past;
@@ -94,9 +97,12 @@ module _ (db : Database) (schema : Schema) (old new : WorldState) (storable : Is
         chains = laid.chains;
         versions = laid.versions;
         coded = λ told.
-            coded_again (old.schemas ++ schema ∷ []) new.schemas (pairs_of old) (pairs_of new) old.versions.kept_at new.versions.kept_at laid.chains (what_is_there laid.chains)
-            (ap (λ (s : WorldState). s.schemas) lays.rest) (λ d i. ap (λ (x : Index). pairs_in x.pairs) (lays.same i) d) (ap (λ (v : Versions). v.kept_at) versions_stay)
-            (a_table_more old.schemas schema (pairs_of old) old.versions.kept_at laid.chains (laid.coded (told_table told)) (its_columns schema storable) no_pairs);
+            coded_again (old.schemas ++ schema ∷ []) new.schemas (pairs_of old) (pairs_of new) old.versions.kept_at new.versions.kept_at laid.chains
+            (what_is_there laid.chains)
+            (ap (λ (s : WorldState). s.schemas) lays.rest) (λ d i. ap (λ (x : Index). pairs_in x.pairs) (lays.same i) d)
+            (ap (λ (v : Versions). v.kept_at) versions_stay)
+            (a_table_more old.schemas schema (pairs_of old) old.versions.kept_at laid.chains (laid.coded (told_table told)) (its_columns schema storable)
+            no_pairs);
         schemas = ap (λ (s : WorldState). s.schemas) lays.rest ∙ ap (λ (l : List Schema). l ++ schema ∷ []) laid.schemas;
         names = ap (λ (s : WorldState). s.names) lays.rest ∙ laid.names;
         past = ap (λ (s : WorldState). s.past) lays.rest ∙ laid.past;
@@ -109,7 +115,8 @@ module _ (db : Database) (schema : Schema) (old new : WorldState) (storable : Is
 abbrev pub at_row : ℕ → Schema → List Value → Place
 at_row table schema row = record { table = table; key = key_of schema row }
 
-module _ (db : Database) (table : ℕ) (row : List Value) (schema : Schema) (old mid : WorldState) (key : List ℕ) (laid : IsLaid db old) (there : slice_get old.schemas table ≡ Some schema) (storable : IsStorable schema)
+module _ (db : Database) (table : ℕ) (row : List Value) (schema : Schema) (old mid : WorldState) (key : List ℕ) (laid : IsLaid db old)
+    (there : slice_get old.schemas table ≡ Some schema) (storable : IsStorable schema)
     (puts : PutsNewRecord table schema row old mid key) (told : IsTold mid) where
   abbrev place : Place
   place = at_row table schema row
@@ -136,20 +143,25 @@ module _ (db : Database) (table : ℕ) (row : List Value) (schema : Schema) (old
   told_old = record { pairs = pairs_told (clustered_index table) key (Some value) old mid put told; versions = puts.inserts.beside.versions.told told.versions }
 
   nothing : value_of key (pairs_of old (clustered_index table)) ≡ None
-  nothing = tells (λ pairs. value_of key pairs ≡ None) (old.indexes (clustered_index table)).pairs puts.inserts.index_is.here.1 (told_old.pairs (clustered_index table))
+  nothing =
+      tells (λ pairs. value_of key pairs ≡ None) (old.indexes (clustered_index table)).pairs puts.inserts.index_is.here.1
+      (told_old.pairs (clustered_index table))
 
   same_schemas : mid.schemas ≡ old.schemas
   same_schemas = ap (λ (s : WorldState). s.schemas) puts.inserts.beside.rest
 
   none_before : versions_at place laid.chains ≡ []
   none_before =
-      absent old.schemas (pairs_of old) old.versions.kept_at laid.chains table schema at.column (key_of schema row) (laid.coded told_old).clustered there at.primary
+      absent old.schemas (pairs_of old) old.versions.kept_at laid.chains table schema at.column (key_of schema row) (laid.coded told_old).clustered there
+      at.primary
       (λ has. subst (λ (k : List ℕ). value_of k (pairs_of old (clustered_index table)) ≡ None) at.spelled nothing)
 
   coded_mid : AreCodedAs mid.schemas (pairs_of mid) mid.versions.kept_at chains (what_is_there laid.chains)
   coded_mid =
-      coded_again old.schemas mid.schemas (pairs_of mid) (pairs_of mid) old.versions.kept_at mid.versions.kept_at chains (what_is_there laid.chains) same_schemas refl (puts.inserts.beside.versions.kept told.versions)
-      (first_rows old.schemas (pairs_of old) (pairs_of mid) laid.chains chains table schema (edits.Put row) key there puts.row_is 0 (omega arith) pushes old.versions.kept_at tt nothing
+      coded_again old.schemas mid.schemas (pairs_of mid) (pairs_of mid) old.versions.kept_at mid.versions.kept_at chains (what_is_there laid.chains)
+      same_schemas refl (puts.inserts.beside.versions.kept told.versions)
+      (first_rows old.schemas (pairs_of old) (pairs_of mid) laid.chains chains table schema (edits.Put row) key there puts.row_is 0 (omega arith) pushes
+      old.versions.kept_at tt nothing
       (puts_pairs (clustered_index table) key (Some value) old mid put told) (laid.coded told_old))
 
   pub keys_changing : IsChangingKeys chains mid (record { table = table; key = key; before = None; after = Some row; which = 0; put = None })
@@ -170,7 +182,9 @@ module _ (db : Database) (table : ℕ) (row : List Value) (schema : Schema) (old
           what_is_there laid.chains,
           coded_mid,
           record {
-            lag = lag_stays laid.chains chains place (what_is_there laid.chains) (pushed_elsewhere laid.chains chains place version pushes) (λ tab which v apart. refl);
+            lag =
+                lag_stays laid.chains chains place (what_is_there laid.chains) (pushed_elsewhere laid.chains chains place version pushes)
+                (λ tab which v apart. refl);
             first = λ which below. absurd (omega (arith, below));
             here = refl;
             later = λ which above. refl;
@@ -185,7 +199,9 @@ module _ (db : Database) (table : ℕ) (row : List Value) (schema : Schema) (old
   key_is = key_in-at db.schemas table schema row there_db
 
   -- the rows of the database now
-  get_now : (other : Place) → get (insert db.rows (table, key_in db.schemas table row) row) (in_model other) ≡ cond (is_same_place place other) (Some row) (get db.rows (in_model other))
+  get_now : (other : Place)
+      → get (insert db.rows (table, key_in db.schemas table row) row) (in_model other) ≡ cond (is_same_place place other) (Some row)
+      (get db.rows (in_model other))
   get_now other =
       ap (λ (k : Value). get (insert db.rows (table, k) row) (in_model other)) key_is
       ∙ (get-insert place_cmp_total db.rows (table, key_of schema row) row (in_model other)
@@ -193,14 +209,20 @@ module _ (db : Database) (table : ℕ) (row : List Value) (schema : Schema) (old
 
   versions_now : (other : Place) → versions_at other chains ≡ version_of (get (insert db.rows (table, key_in db.schemas table row) row) (in_model other))
   versions_now other = pushes other ∙ (go (is_same_place place other) refl ∙ sym (ap version_of (get_now other))) where
-    go : (b : Bool) → is_same_place place other ≡ b → cond b (version ∷ versions_at other laid.chains) (versions_at other laid.chains) ≡ version_of (cond b (Some row) (get db.rows (in_model other)))
+    go : (b : Bool) → is_same_place place other ≡ b
+        → cond b (version ∷ versions_at other laid.chains) (versions_at other laid.chains) ≡ version_of (cond b (Some row) (get db.rows (in_model other)))
     go true is = ap (λ (vs : List Version). version ∷ vs) (ap (λ (p : Place). versions_at p laid.chains) (sym (same_place place other is)) ∙ none_before)
     go false is = laid.versions other
 
   pub laid_row : (new : WorldState) → TakesKeysOver table key row mid new → FitsWell db.schemas (Put table row) → IsLaid (apply_one db (Put table row)) new
   laid_row new over fits =
       record {
-        fits = record { fitting = AreFitting-apply_one db (Put table row) laid.fits.fitting fits.0; numbers = apply_one-Has64Bits db (Put table row) laid.fits.numbers fits.1 };
+        fits =
+            record {
+              fitting = AreFitting-apply_one db (Put table row) laid.fits.fitting fits.0;
+              numbers = apply_one-Has64Bits db (Put table row)
+                  laid.fits.numbers fits.1;
+            };
         chains = chains;
         versions = versions_now;
         coded = over.rows chains keys_changing;
@@ -217,16 +239,19 @@ its_table found schema P is all = subst (λ (o : Option Schema). IsSomeAnd o P) 
 
 -- ---- a row that is there
 
-no_record_there : (schema : Schema) (key : List ℕ) (kept : ℕ → Option Kept) (found : Option (List ℕ)) → is_some found ≡ true → IsRecordWith schema key kept found [] → ⊥
+no_record_there : (schema : Schema) (key : List ℕ) (kept : ℕ → Option Kept) (found : Option (List ℕ)) → is_some found ≡ true
+    → IsRecordWith schema key kept found [] → ⊥
 no_record_there schema key kept None is there = cc
 no_record_there schema key kept (Some bytes) is there = there
 
-pub row_there : (db : Database) (table : ℕ) (row : List Value) (schema : Schema) (state : WorldState) → IsLaid db state → IsTold state → slice_get state.schemas table ≡ Some schema → HasRecordThere table schema row state
+pub row_there : (db : Database) (table : ℕ) (row : List Value) (schema : Schema) (state : WorldState) → IsLaid db state → IsTold state
+    → slice_get state.schemas table ≡ Some schema → HasRecordThere table schema row state
     → get db.rows (table, key_in db.schemas table row) ≢ None
 row_there db table row schema state laid told there has none =
     let rows = (laid.coded told).clustered.tables table schema there in
     let at = key_at schema (edits.Put row) has.key has.row_is in
-    let found = tells (λ pairs. is_some (value_of has.key pairs) ≡ true) (state.indexes (clustered_index table)).pairs has.there (told.pairs (clustered_index table)) in
+    let found =
+    tells (λ pairs. is_some (value_of has.key pairs) ≡ true) (state.indexes (clustered_index table)).pairs has.there (told.pairs (clustered_index table)) in
     let key_is = key_in-at db.schemas table schema row (ap (λ (l : List Schema). slice_get l table) (sym laid.schemas) ∙ there) in
     let empty : in_table table laid.chains (key_of schema row) ≡ [] =
     laid.versions (at_row table schema row) ∙ ap version_of (ap (λ (k : Value). get db.rows (table, k)) (sym key_is) ∙ none) in
@@ -236,4 +261,5 @@ row_there db table row schema state laid told there has none =
     let recorded = rows.records (key_of schema row) has_key in
     no_record_there schema has.key state.versions.kept_at (value_of has.key (pairs_of state (clustered_index table))) found
     (subst (λ vs. IsRecordWith schema has.key state.versions.kept_at (value_of has.key (pairs_of state (clustered_index table))) vs) empty
-    (subst (λ k. IsRecordWith schema k state.versions.kept_at (value_of k (pairs_of state (clustered_index table))) (in_table table laid.chains (key_of schema row))) spelled recorded))
+    (subst (λ k. IsRecordWith schema k state.versions.kept_at (value_of k (pairs_of state (clustered_index table)))
+    (in_table table laid.chains (key_of schema row))) spelled recorded))

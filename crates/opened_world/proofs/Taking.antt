@@ -36,9 +36,11 @@ row_for schema row key fits numbers spelled =
 pub key_short : (schema : Schema) (row : List Value) (key : List ℕ) → IsStorable schema → IsRowFor schema row key → length key ≤ 67
 key_short schema row key storable is = let short = short_key schema row key storable is.key_is in omega (arith, short)
 
-pub value_short : (schema : Schema) (row : List Value) (key value : List ℕ) → IsStorable schema → IsRowFor schema row key → value ≡ version_code schema (record { row = row; writer = 0; pointer = 0; marked = false }) → length value ≤ 1024
+pub value_short : (schema : Schema) (row : List Value) (key value : List ℕ) → IsStorable schema → IsRowFor schema row key
+    → value ≡ version_code schema (record { row = row; writer = 0; pointer = 0; marked = false }) → length value ≤ 1024
 value_short schema row key value storable is value_is =
-    short_value schema (record { row = row; writer = 0; pointer = 0; marked = false }) key value storable (record { fits = is.fits.columns; key_is = is.key_is; value_is = value_is })
+    short_value schema (record { row = row; writer = 0; pointer = 0; marked = false }) key value storable
+    (record { fits = is.fits.columns; key_is = is.key_is; value_is = value_is })
 
 -- a record that was inserted
 pub new_record : (table : ℕ) (schema : Schema) (row : List Value) (old new : WorldState) (key value : List ℕ) (index : ℕ) → IsRowFor schema row key
@@ -47,7 +49,9 @@ pub new_record : (table : ℕ) (schema : Schema) (row : List Value) (old new : W
 new_record table schema row old new key value index row_is value_is index_is inserts =
     record {
       row_is = row_is;
-      inserts = subst (λ i. Changes i 0 None (λ before after answer. Inserts 0 key (version_code schema (record { row = row; writer = 0; pointer = 0; marked = false })) before after answer) old new moves.Done) index_is
+      inserts =
+          subst (λ i. Changes i 0 None (λ before after answer. Inserts 0 key
+          (version_code schema (record { row = row; writer = 0; pointer = 0; marked = false })) before after answer) old new moves.Done) index_is
           (subst (λ v. Changes index 0 None (λ before after answer. Inserts 0 key v before after answer) old new moves.Done) value_is inserts);
     }
 
@@ -62,12 +66,14 @@ pub taking_first : (start : KeysChange) (state : WorldState) (chains : Chains) �
 taking_first start state chains holds = record { chains = chains; holds = holds; follows = λ those is. is; rest = refl }
 
 -- what two steps leave as it was
-rests : (old mid new : WorldState) → mid ≡ record old { indexes = mid.indexes; versions = mid.versions; paged = mid.paged } → new ≡ record mid { indexes = new.indexes; versions = new.versions; paged = new.paged }
+rests : (old mid new : WorldState) → mid ≡ record old { indexes = mid.indexes; versions = mid.versions; paged = mid.paged }
+    → new ≡ record mid { indexes = new.indexes; versions = new.versions; paged = new.paged }
     → new ≡ record old { indexes = new.indexes; versions = new.versions; paged = new.paged }
 rests old mid new first next = next ∙ ap (λ (s : WorldState). record s { indexes = new.indexes; versions = new.versions; paged = new.paged }) first
 
 module _ (start : KeysChange) (old mid new : WorldState) (change : KeysChange) (taking : IsTaking start old mid change) where
-  pub taking_next : (next : KeysChange) → ((chains : Chains) → IsChangingKeys chains mid change → ChangesKeys 0 chains mid new change (Went next)) → IsTaking start old new next
+  pub taking_next : (next : KeysChange) → ((chains : Chains) → IsChangingKeys chains mid change → ChangesKeys 0 chains mid new change (Went next))
+      → IsTaking start old new next
   taking_next next step =
       let mine = step taking.chains taking.holds in
       record {
@@ -77,8 +83,10 @@ module _ (start : KeysChange) (old mid new : WorldState) (change : KeysChange) (
         rest = rests old mid new taking.rest mine.stays.rest;
       }
 
-  pub taken_rows : ((chains : Chains) → IsChangingKeys chains mid change → ChangesKeys 0 chains mid new change Done) → (chains : Chains) → IsChangingKeys chains old start → HasRows chains new
+  pub taken_rows : ((chains : Chains) → IsChangingKeys chains mid change → ChangesKeys 0 chains mid new change Done) → (chains : Chains)
+      → IsChangingKeys chains old start → HasRows chains new
   taken_rows step chains is = (step chains (taking.follows chains is)).1
 
-  pub taken_rest : ((chains : Chains) → IsChangingKeys chains mid change → ChangesKeys 0 chains mid new change Done) → new ≡ record old { indexes = new.indexes; versions = new.versions; paged = new.paged }
+  pub taken_rest : ((chains : Chains) → IsChangingKeys chains mid change → ChangesKeys 0 chains mid new change Done)
+      → new ≡ record old { indexes = new.indexes; versions = new.versions; paged = new.paged }
   taken_rest step = rests old mid new taking.rest (step taking.chains taking.holds).0.rest

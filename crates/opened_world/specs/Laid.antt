@@ -60,7 +60,8 @@ IsTooLarge db NoMemory = Unit {0}
 pub record PutsNewRecord (table : ℕ) (schema : Schema) (row : List Value) (old new : WorldState) (key : List ℕ) : Type 0 where
   pub row_is : IsRowFor schema row key
   pub inserts : Changes (clustered_index table) 0 None
-      (λ before after answer. Inserts 0 key (version_code schema (record { row = row; writer = 0; pointer = 0; marked = false })) before after answer) old new Done
+      (λ before after answer. Inserts 0 key (version_code schema (record { row = row; writer = 0; pointer = 0; marked = false })) before after answer) old
+      new Done
 
 -- there is a record at the key of the row
 pub record HasRecordThere (table : ℕ) (schema : Schema) (row : List Value) (state : WorldState) : Type 0 where
@@ -70,5 +71,6 @@ pub record HasRecordThere (table : ℕ) (schema : Schema) (row : List Value) (st
 
 -- The keys of the table have taken the row over, and nothing else has changed.
 pub record TakesKeysOver (table : ℕ) (key : List ℕ) (row : List Value) (old new : WorldState) : Type 0 where
-  pub rows : (chains : Chains) → IsChangingKeys chains old (record { table = table; key = key; before = None; after = Some row; which = 0; put = None }) → HasRows chains new
+  pub rows : (chains : Chains) → IsChangingKeys chains old (record { table = table; key = key; before = None; after = Some row; which = 0; put = None })
+      → HasRows chains new
   pub rest : new ≡ record old { indexes = new.indexes; versions = new.versions; paged = new.paged }

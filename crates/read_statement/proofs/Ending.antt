@@ -38,7 +38,8 @@ is_alone_of s setting h on closed = alone_of setting.autocommit (level s (before
 -- ---- by what it was found at its point
 
 module _ (s : ℕ) (h : List Event) (statement : Stmt) (takes : Takes Spells s statement h) (plain : is_plain_select statement ≡ true) where
-  pub answers_rows : (reply : Reply) → IsSeen h (point s h) s statement reply → own s (point s h) ≡ own_before s (point s h) → AnswersRows s takes.setting statement reply h
+  pub answers_rows : (reply : Reply) → IsSeen h (point s h) s statement reply → own s (point s h) ≡ own_before s (point s h)
+      → AnswersRows s takes.setting statement reply h
   answers_rows reply seen same =
       record {
         l = seen.found.l;
@@ -60,7 +61,8 @@ module _ (s : ℕ) (h : List Event) (statement : Stmt) (takes : Takes Spells s s
         sum = many.sum;
       }
 
-  pub ends_statement : (reply : Reply) → AnswersRows s takes.setting statement reply h → EndsRows s takes.setting reply h → did is_victim s h ≡ false → EndsStatement Spells s reply h
+  pub ends_statement : (reply : Reply) → AnswersRows s takes.setting statement reply h → EndsRows s takes.setting reply h → did is_victim s h ≡ false
+      → EndsStatement Spells s reply h
   ends_statement reply answered ends no-victim =
       record {
         statement = statement;
@@ -90,11 +92,18 @@ module _ (s : ℕ) (h : List Event) (statement : Stmt) (early : IsEarly h s stat
 
   stays_in : (l : Level) → level s (before_item s h) ≡ Some l → StaysIn s h
   stays_in l is = elim early.in_txn [
-    | inl stays ↦ record { stays = stays.0; not_begun = stays.1; not_committed = none_committed s h early.goes_on; not_rolled_back = none_rolled s h early.goes_on }
+    | inl stays ↦ record {
+      stays = stays.0;
+      not_begun = stays.1;
+      not_committed = none_committed s h early.goes_on;
+      not_rolled_back = none_rolled s h
+          early.goes_on;
+    }
     | inr opened ↦ absurd (some≢none (sym is ∙ opened.1))
   ]
 
-  goes : IsOpen s h → (before : Option Level) → level s (before_item s h) ≡ before → (autocommit : Bool) → early.takes.setting.autocommit ≡ autocommit → Goes before autocommit s h
+  goes : IsOpen s h → (before : Option Level) → level s (before_item s h) ≡ before → (autocommit : Bool) → early.takes.setting.autocommit ≡ autocommit
+      → Goes before autocommit s h
   goes is-open (Some l) is autocommit a = (stays_in l is, none_undone s h early.goes_on)
   goes is-open None is true a = elim early.in_txn [
     | inl stays ↦ absurd (not_closed s h is-open (stays.0 ∙ is))
@@ -102,10 +111,15 @@ module _ (s : ℕ) (h : List Event) (statement : Stmt) (early : IsEarly h s stat
   ]
   goes is-open None is false a = elim early.in_txn [
     | inl stays ↦ absurd (not_closed s h is-open (stays.0 ∙ is))
-    | inr opened ↦ (record { is_open = is-open; begun = opened.3; not_rolled_back = none_rolled s h early.goes_on }, none_committed s h early.goes_on, none_undone s h early.goes_on)
+    | inr opened ↦ (
+      record { is_open = is-open; begun = opened.3; not_rolled_back = none_rolled s h early.goes_on },
+      none_committed s h early.goes_on,
+      none_undone s h early.goes_on,
+    )
   ]
 
-  backs_out : IsOpen s h → (before : Option Level) → level s (before_item s h) ≡ before → (autocommit : Bool) → early.takes.setting.autocommit ≡ autocommit → BacksOut before autocommit s h
+  backs_out : IsOpen s h → (before : Option Level) → level s (before_item s h) ≡ before → (autocommit : Bool) → early.takes.setting.autocommit ≡ autocommit
+      → BacksOut before autocommit s h
   backs_out is-open (Some l) is autocommit a = (stays_in l is, early.own_is)
   backs_out is-open None is true a = elim early.in_txn [
     | inl stays ↦ absurd (not_closed s h is-open (stays.0 ∙ is))
@@ -113,7 +127,11 @@ module _ (s : ℕ) (h : List Event) (statement : Stmt) (early : IsEarly h s stat
   ]
   backs_out is-open None is false a = elim early.in_txn [
     | inl stays ↦ absurd (not_closed s h is-open (stays.0 ∙ is))
-    | inr opened ↦ (record { is_open = is-open; begun = opened.3; not_rolled_back = none_rolled s h early.goes_on }, none_committed s h early.goes_on, early.own_is ∙ opened.2)
+    | inr opened ↦ (
+      record { is_open = is-open; begun = opened.3; not_rolled_back = none_rolled s h early.goes_on },
+      none_committed s h early.goes_on,
+      early.own_is ∙ opened.2,
+    )
   ]
 
   given_up : IsOpen s h → IsGivenUp Spells s h
@@ -135,7 +153,12 @@ module _ (s : ℕ) (h : List Event) (statement : Stmt) (early : IsEarly h s stat
           not_committed = none_committed s h early.goes_on;
           not_rolled_back = none_rolled s h early.goes_on;
           no_victim = no_victim s h early.goes_on;
-          begun = elim early.in_txn [ inl stays ↦ inl stays.1 | inr opened ↦ inr (statement, early.takes, may_leave_open s h early.takes.setting statement early.plain opened.0) ];
+          begun =
+              elim early.in_txn [
+                | inl stays ↦ inl stays.1
+                | inr opened ↦ inr
+                    (statement, early.takes, may_leave_open s h early.takes.setting statement early.plain opened.0)
+              ];
         })));
         made = inl same_there;
       }
@@ -150,11 +173,18 @@ module _ (s : ℕ) (h : List Event) (statement : Stmt) (early : IsEarly h s stat
   ends_open kept settled within = ends_item s h statement early.takes early.plain kept (acked_of_on s h on) within (go kept settled) where
     go : (reply : Reply) → IsSettledBy reply h h s statement → EndsItem Spells s (Sql early.takes.asks.0) reply h
     go (replies.Rows rows) seen =
-        inl (ends_statement s h statement early.takes early.plain (replies.Rows rows) (answered_now (replies.Rows rows) seen) (goes (open_by (replies.Rows rows) seen.found) (level s (before_item s h)) refl early.takes.setting.autocommit refl) (no_victim s h early.goes_on))
+        inl (ends_statement s h statement early.takes early.plain (replies.Rows rows) (answered_now (replies.Rows rows) seen)
+        (goes (open_by (replies.Rows rows) seen.found) (level s (before_item s h)) refl early.takes.setting.autocommit refl) (no_victim s h early.goes_on))
     go (replies.Fail error) seen =
-        inl (ends_statement s h statement early.takes early.plain (replies.Fail error) (answered_now (replies.Fail error) seen) (backs_out (open_by (replies.Fail error) seen.found) (level s (before_item s h)) refl early.takes.setting.autocommit refl) (no_victim s h early.goes_on))
+        inl (ends_statement s h statement early.takes early.plain (replies.Fail error) (answered_now (replies.Fail error) seen)
+        (backs_out (open_by (replies.Fail error) seen.found) (level s (before_item s h)) refl early.takes.setting.autocommit refl)
+        (no_victim s h early.goes_on))
     go (replies.RunLimit rows) many =
-        inr (inr (is_overfull s h statement early.takes early.plain rows (subst (λ p. IsTooMany rows h p s statement) (sym now) many), inl (given_up (open_by many.reply many.found))))
+        inr (inr (
+          is_overfull s h statement early.takes early.plain rows (subst (λ p. IsTooMany rows h p s statement) (sym now) many),
+          inl
+              (given_up (open_by many.reply many.found)),
+        ))
     go replies.NoMemory settled = inr (inr wants_memory)
     go replies.Done settled = elim settled [ ]
     go (replies.Count n) settled = elim settled [ ]
@@ -170,12 +200,14 @@ module _ (s : ℕ) (h : List Event) (kept given : Reply) (closing : IsClosing h 
   answered_by : (reply : Reply) → IsSeen h (point s h) s closing.stmt reply → AnswersRows s closing.takes.setting closing.stmt reply h
   answered_by reply seen = answers_rows s h closing.stmt closing.takes closing.plain reply seen same_then
 
-  commits : HasClosed true s h → (before : Option Level) → level s (before_item s h) ≡ before → (autocommit : Bool) → closing.takes.setting.autocommit ≡ autocommit → Goes before autocommit s h
+  commits : HasClosed true s h → (before : Option Level) → level s (before_item s h) ≡ before → (autocommit : Bool)
+      → closing.takes.setting.autocommit ≡ autocommit → Goes before autocommit s h
   commits ended (Some l) is autocommit a = absurd (some≢none (sym is ∙ closing.closed_before))
   commits ended None is false a = absurd (false≢true (sym a ∙ closing.autocommit_is))
   commits ended None is true a = (record { closed = closing.closed; committed = ended.0; not_rolled_back = ended.1 }, closing.begun, closing.none_undone)
 
-  rolls_back : HasClosed false s h → (before : Option Level) → level s (before_item s h) ≡ before → (autocommit : Bool) → closing.takes.setting.autocommit ≡ autocommit → BacksOut before autocommit s h
+  rolls_back : HasClosed false s h → (before : Option Level) → level s (before_item s h) ≡ before → (autocommit : Bool)
+      → closing.takes.setting.autocommit ≡ autocommit → BacksOut before autocommit s h
   rolls_back ended (Some l) is autocommit a = absurd (some≢none (sym is ∙ closing.closed_before))
   rolls_back ended None is false a = absurd (false≢true (sym a ∙ closing.autocommit_is))
   rolls_back ended None is true a = (closing.begun, record { closed = closing.closed; rolled_back = ended.0; not_committed = ended.1 })
@@ -206,18 +238,22 @@ module _ (s : ℕ) (h : List Event) (kept given : Reply) (closing : IsClosing h 
   ends_closed acked within = ends_item s h closing.stmt closing.takes closing.plain kept acked within (go kept closing.settled closing.ended) where
     go : (reply : Reply) → IsSettledBy reply h (point s h) s closing.stmt → HasClosed (is_rows reply) s h → EndsItem Spells s (Sql closing.takes.asks.0) reply h
     go (replies.Rows rows) found ended =
-        inl (ends_statement s h closing.stmt closing.takes closing.plain (replies.Rows rows) (answered_by (replies.Rows rows) found) (commits ended (level s (before_item s h)) refl closing.takes.setting.autocommit refl) closing.no_victim)
+        inl (ends_statement s h closing.stmt closing.takes closing.plain (replies.Rows rows) (answered_by (replies.Rows rows) found)
+        (commits ended (level s (before_item s h)) refl closing.takes.setting.autocommit refl) closing.no_victim)
     go (replies.Fail error) found ended =
-        inl (ends_statement s h closing.stmt closing.takes closing.plain (replies.Fail error) (answered_by (replies.Fail error) found) (rolls_back ended (level s (before_item s h)) refl closing.takes.setting.autocommit refl) closing.no_victim)
+        inl (ends_statement s h closing.stmt closing.takes closing.plain (replies.Fail error) (answered_by (replies.Fail error) found)
+        (rolls_back ended (level s (before_item s h)) refl closing.takes.setting.autocommit refl) closing.no_victim)
     go (replies.RunLimit rows) many ended = inr (inr (is_overfull s h closing.stmt closing.takes closing.plain rows many, inl (was_given_up ended)))
-    go replies.NoMemory settled ended = inr (inr (record { leaves = inl (record { closed = closing.closed; rolled_back = ended.0; not_committed = ended.1 }); made = inl same_then }))
+    go replies.NoMemory settled ended =
+        inr (inr (record { leaves = inl (record { closed = closing.closed; rolled_back = ended.0; not_committed = ended.1 }); made = inl same_then }))
     go replies.Done settled ended = elim settled [ ]
     go (replies.Count n) settled ended = elim settled [ ]
     go (replies.NotSignalled n) settled ended = elim settled [ ]
     go replies.Stopped settled ended = elim settled [ ]
 
 -- rows that are committed, and that the history has no room for now
-pub ends_limited : (s rows : ℕ) (h : List Event) (answer : List (List Value)) (given : Reply) → IsClosing h s (replies.Rows answer) given → awaits_ack (of_item s h) ≡ false → most_rows < rows → rows ≡ rows_kept h + rows_of_reply (replies.Rows answer) → MayReply s (replies.RunLimit rows) h
+pub ends_limited : (s rows : ℕ) (h : List Event) (answer : List (List Value)) (given : Reply) → IsClosing h s (replies.Rows answer) given
+    → awaits_ack (of_item s h) ≡ false → most_rows < rows → rows ≡ rows_kept h + rows_of_reply (replies.Rows answer) → MayReply s (replies.RunLimit rows) h
 ends_limited s rows h answer given closing acked many sum =
     ends_item s h closing.stmt closing.takes closing.plain (replies.RunLimit rows) acked (inl refl)
     (inr (inr (
@@ -225,7 +261,9 @@ ends_limited s rows h answer given closing acked many sum =
         many = many;
         reply = replies.Rows answer;
         found = closing.settled.found;
-        sum = some_past (λ g. refused_at_once s closing.takes.setting closing.stmt g ≡ None) s h closing.takes.not_refused (λ g. rows ≡ rows_kept g + rows_of_reply (replies.Rows answer)) sum;
+        sum =
+            some_past (λ g. refused_at_once s closing.takes.setting closing.stmt g ≡ None) s h closing.takes.not_refused
+            (λ g. rows ≡ rows_kept g + rows_of_reply (replies.Rows answer)) sum;
       }),
       inr (was_committed s h (replies.Rows answer) given closing closing.ended),
     )))

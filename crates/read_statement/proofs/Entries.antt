@@ -22,10 +22,14 @@ use Rattle.sql_lists.proofs.Staying.{point_now, point_before, is_within, before_
 use Rattle.shared_lists.specs.Tasks.{Idle}
 use Rattle.shared_lists.specs.State.{State, Adds, Closes, Turns, Stays, task_of}
 use Rattle.law_past_agreement.specs.Order.{IsOfRow}
-use Rattle.sql_lists.specs.Steps.{Moves}
-use Rattle.sql_lists.proofs.Moving.{moves_none, moves_turns, moves_adds, moves_closes}
+use Rattle.sql_lists.specs.Going.{NearsAcked}
+use Rattle.sql_lists.specs.Steps.{Moves, GoesOnAcked}
+use Rattle.sql_lists.proofs.Moving.{moves_none, moves_turns, moves_adds, moves_closes, below_phase}
 use Rattle.read_statement.specs.declared.machine.Asked.{Asked}
-use Rattle.read_statement.specs.Running.{IsTakenWith, IsOpening, IsIn, IsEarly, HasView, MayTakeView, IsFound, IsSettledBy, IsAnswered, IsClosing, IsFailing, HasClosed, is_rows}
+use Rattle.read_statement.specs.declared.machine.ReadStatement.{ReadStatement}
+use Rattle.read_statement.specs.declared.machine.ReadStatement.TheVariants as machine
+use Rattle.read_statement.specs.Going.{to_go}
+use Rattle.read_statement.specs.Running.{IsTakenWith, IsOpening, IsIn, IsEarly, HasView, MayTakeView, IsFound, IsSettledBy, IsAnswered, IsClosing, IsFailing, HasClosed, is_rows, IsRunning, owes_ack, acked}
 use Rattle.read_statement.proofs.Items.{quiet_own, quiet_level, quiet_turn, none_closed, none_committed, none_rolled, none_undone, no_victim, turn_goes_on, takes_on, none_of}
 use Rattle.read_statement.proofs.Selects.{plain_taken, begins_by, commits_by, rolls_back_by, views_by, answers}
 use Rattle.read_statement.proofs.Ending.{is_alone_of}
@@ -33,7 +37,8 @@ use Rattle.read_statement.proofs.Staying.{settled_on, closing_on}
 
 -- ---- opening
 
-pub taken_opens : (s : ℕ) (h : List Event) (asked : Asked) → IsTakenWith asked.autocommit asked.level s asked.stmt h → is_select asked.stmt ≡ true → IsOpening h s asked
+pub taken_opens : (s : ℕ) (h : List Event) (asked : Asked) → IsTakenWith asked.autocommit asked.level s asked.stmt h → is_select asked.stmt ≡ true
+    → IsOpening h s asked
 taken_opens s h asked taken select =
     record {
       takes = taken.taken.takes;
@@ -112,27 +117,45 @@ module _ (s : ℕ) (h : List Event) (asked : Asked) (opening : IsOpening h s ask
 pub never : {P : Type 0} → false ≡ true → P
 never is = absurd (false≢true is)
 
-pub begun : (s n : ℕ) (l : Level) (old new : State) (asked : Asked) → IsOpening old.past s asked → IsClosed s old.past → own s old.past ≡ [] → task_of s old ≡ Idle → Adds (events.Begin s n l) s old new
-    → Moves s old new × (IsEarly new.past s asked.stmt asked.autocommit × IsOpen s new.past × (did takes_view s new.past ≡ false) × (task_of s new ≡ Idle)) × (started s new.past ≡ started s old.past)
+pub begun : (s n : ℕ) (l : Level) (old new : State) (asked : Asked) → IsOpening old.past s asked → IsClosed s old.past → own s old.past ≡ []
+    → task_of s old ≡ Idle → Adds (events.Begin s n l) s old new
+    → Moves s old new × (IsEarly new.past s asked.stmt asked.autocommit × IsOpen s new.past × (did takes_view s new.past ≡ false) × (task_of s new ≡ Idle)) ×
+    (started s new.past ≡ started s old.past)
 begun s n l old new asked opening closed none idle adds = (
-  moves_adds s (events.Begin s n l) old new (grind (arith, nat_tests)) never adds,
-  rw adds.past_is (begun_early s old.past asked opening n l closed none, begun_open s old.past asked opening n l closed none, begun_unseen s old.past asked opening n l closed none, adds.task_is ∙ idle),
+  moves_adds s (events.Begin s n l) old new (grind (arith, nat_tests)) refl never adds,
+  rw adds.past_is (
+    begun_early s old.past asked opening n l closed none,
+    begun_open s old.past asked opening n l closed none,
+    begun_unseen s old.past asked
+        opening n l closed none,
+    adds.task_is ∙ idle,
+  ),
   ap (started s) adds.past_is,
 )
 
 -- where a transaction is open it works in that
 pub stays_open : (s : ℕ) (state : State) (asked : Asked) → IsOpening state.past s asked → IsOpen s state.past → task_of s state ≡ Idle
-    → Moves s state state × (IsEarly state.past s asked.stmt false × IsOpen s state.past × (did takes_view s state.past ≡ false) × (task_of s state ≡ Idle)) × (started s state.past ≡ started s state.past)
-stays_open s state asked opening is-open idle = (moves_none s state, (early_in s state.past asked opening, is-open, unseen s state.past asked opening, idle), refl)
+    → Moves s state state × (IsEarly state.past s asked.stmt false × IsOpen s state.past × (did takes_view s state.past ≡ false) × (task_of s state ≡ Idle))
+    × (started s state.past ≡ started s state.past)
+stays_open s state asked opening is-open idle =
+    (moves_none s state, (early_in s state.past asked opening, is-open, unseen s state.past asked opening, idle), refl)
 
 -- the session has nothing under way, as before
 pub rests : (s : ℕ) (old new : State) → task_of s old ≡ Idle → Stays s old new → Turns s Idle old new
-rests s old new idle stays = record { names_are = stays.names_are; past_is = stays.past_is; writer_is = stays.writer_is; task_is = stays.task_is ∙ idle; others = stays.others }
+rests s old new idle stays =
+    record { names_are = stays.names_are; past_is = stays.past_is; writer_is = stays.writer_is; task_is = stays.task_is ∙ idle; others = stays.others }
 
 -- no memory was found
-pub fails : (s : ℕ) (old new : State) (statement : Stmt) (alone : Bool) → Turns s Idle old new → IsEarly old.past s statement alone → (alone ≡ true → IsOpen s old.past) → Moves s old new × (IsFailing new.past s alone × (task_of s new ≡ Idle)) × (new.past ≡ old.past)
-fails s old new statement alone turns early is-open =
-    (moves_turns s Idle old new turns, (subst (λ h. IsFailing h s alone) (sym turns.past_is) (record { stmt = statement; early = early; is_open = is-open }), turns.task_is), turns.past_is)
+pub fails : (s : ℕ) (old new : State) (statement : Stmt) (alone : Bool) → Turns s Idle old new → IsEarly old.past s statement alone
+    → (alone ≡ true → IsOpen s old.past) → Moves s old new × (IsFailing new.past s alone × (task_of s new ≡ Idle)) × (new.past ≡ old.past)
+fails s old new statement alone turns early is-open = (
+  moves_turns s Idle old new turns,
+  (
+    subst (λ h. IsFailing h s alone) (sym turns.past_is) (record { stmt = statement; early = early; is_open = is-open }),
+    turns.task_is,
+  ),
+  turns.past_is,
+)
 
 -- ---- the view
 
@@ -169,10 +192,12 @@ viewed_has s h takes =
     let counts : view_of s (events.View s ∷ h) ≡ Some (commits h) = grind (arith, nat_tests) in
     record { l = takes.0; level_is = takes.1; by_view = takes.2; viewed = λ by-view apart. seen; number = commits h; view_is = counts }
 
-pub viewed : (s : ℕ) (old new : State) (statement : Stmt) (alone : Bool) → IsEarly old.past s statement alone → IsOpen s old.past → MayTakeView s old.past → task_of s old ≡ Idle → Adds (events.View s) s old new
-    → Moves s old new × (IsEarly new.past s statement alone × IsOpen s new.past × HasView new.past s × (task_of s new ≡ Idle)) × (started s new.past ≡ started s old.past)
+pub viewed : (s : ℕ) (old new : State) (statement : Stmt) (alone : Bool) → IsEarly old.past s statement alone → IsOpen s old.past → MayTakeView s old.past
+    → task_of s old ≡ Idle → Adds (events.View s) s old new
+    → Moves s old new × (IsEarly new.past s statement alone × IsOpen s new.past × HasView new.past s × (task_of s new ≡ Idle)) ×
+    (started s new.past ≡ started s old.past)
 viewed s old new statement alone early is-open takes idle adds = (
-  moves_adds s (events.View s) old new (grind (arith, nat_tests)) never adds,
+  moves_adds s (events.View s) old new (grind (arith, nat_tests)) refl never adds,
   rw adds.past_is (viewed_early s old.past statement alone early, is-open, viewed_has s old.past takes, adds.task_is ∙ idle),
   ap (started s) adds.past_is,
 )
@@ -188,7 +213,15 @@ repeatable_view alone = refl
 pub has_view : (s : ℕ) (h : List Event) → level s h ≡ Some RepeatableRead → is_some (view_of s h) ≡ true → HasView h s
 has_view s h is some =
     let number = number_of (view_of s h) some in
-    record { l = RepeatableRead; level_is = is; by_view = repeatable_view; viewed = λ by-view apart. absurd (apart refl); number = number.0; view_is = number.1 }
+    record {
+      l = RepeatableRead;
+      level_is = is;
+      by_view = repeatable_view;
+      viewed = λ by-view apart. absurd (apart refl);
+      number = number.0;
+      view_is =
+          number.1;
+    }
 
 pub takes_committed : (s : ℕ) (h : List Event) → level s h ≡ Some ReadCommitted → did takes_view s h ≡ false → MayTakeView s h
 takes_committed s h is unseen = (ReadCommitted, is, λ alone. refl, λ same. (let x = same in cc), unseen)
@@ -209,7 +242,8 @@ module _ (s : ℕ) (h : List Event) (statement : Stmt) (early : IsEarly h s stat
   alone = is_alone_of s early.takes.setting h early.in_txn.0 early.in_txn.1
 
   pub may_roll_back : IsOpen s h → MayRollBack Spells s h
-  may_roll_back is-open = record { is_open = is-open; all_undone = none_own; by = inr (statement, early.takes, rolls_back_by s h early.takes.setting statement early.plain alone) }
+  may_roll_back is-open =
+      record { is_open = is-open; all_undone = none_own; by = inr (statement, early.takes, rolls_back_by s h early.takes.setting statement early.plain alone) }
 
   rows_commit : (rows : List (List Value)) → IsFound h s statement (replies.Rows rows) → IsOpen s h → MayCommit Spells s h
   rows_commit rows found is-open =
@@ -225,7 +259,8 @@ module _ (s : ℕ) (h : List Event) (statement : Stmt) (early : IsEarly h s stat
           l = there.l;
           level_is = ap (level s) (sym now) ∙ there.level_is;
           reply = replies.Rows rows;
-          answers = answers s h statement early.plain early.takes.setting (replies.Rows rows) there (subst (λ p. own s p ≡ own_before s p) (sym now) early.before_is);
+          answers =
+              answers s h statement early.plain early.takes.setting (replies.Rows rows) there (subst (λ p. own s p ≡ own_before s p) (sym now) early.before_is);
           not_refused = λ error is. (let x = is in cc);
         });
       }
@@ -235,7 +270,8 @@ module _ (s : ℕ) (h : List Event) (statement : Stmt) (early : IsEarly h s stat
   may_commit other is settled is-open = (let x = is in cc)
 
   module _ (e : Event) (within : is_within s e ≡ true) (over : is_over s (e ∷ h) ≡ true) (closed : level s (e ∷ h) ≡ None) (gone : own s (e ∷ h) ≡ [])
-      (same-begun : did begins_txn s (e ∷ h) ≡ did begins_txn s h) (same-victim : did is_victim s (e ∷ h) ≡ did is_victim s h) (same-undone : did undoes s (e ∷ h) ≡ did undoes s h) (same-viewed : did takes_view s (e ∷ h) ≡ did takes_view s h) where
+      (same-begun : did begins_txn s (e ∷ h) ≡ did begins_txn s h) (same-victim : did is_victim s (e ∷ h) ≡ did is_victim s h)
+      (same-undone : did undoes s (e ∷ h) ≡ did undoes s h) (same-viewed : did takes_view s (e ∷ h) ≡ did takes_view s h) where
     ended : (kept given : Reply) → given ≡ kept → IsSettledBy kept h h s statement → HasClosed (is_rows kept) s (e ∷ h) → IsClosing (e ∷ h) s kept given
     ended kept given same settled has-closed =
         let there : point s (e ∷ h) ≡ h = point_before e h s (turn_goes_on s h on) over in
@@ -260,7 +296,8 @@ module _ (s : ℕ) (h : List Event) (statement : Stmt) (early : IsEarly h s stat
 
   pub committed : (kept given : Reply) → is_rows kept ≡ true → given ≡ kept → IsSettledBy kept h h s statement → IsClosing (events.Committed s ∷ h) s kept given
   committed kept given rows same settled =
-      ended (events.Committed s) refl (grind (arith, nat_tests)) (grind (arith, nat_tests)) (grind (arith, nat_tests)) (grind (arith, nat_tests)) (grind (arith, nat_tests)) (grind (arith, nat_tests)) (grind (arith, nat_tests))
+      ended (events.Committed s) refl (grind (arith, nat_tests)) (grind (arith, nat_tests)) (grind (arith, nat_tests)) (grind (arith, nat_tests))
+      (grind (arith, nat_tests)) (grind (arith, nat_tests)) (grind (arith, nat_tests))
       kept given same settled
       (let rolls : did rolls_back_txn s (events.Committed s ∷ h) ≡ false = grind (arith, nat_tests, none_rolled s h early.goes_on) in
       let commits : did commits_txn s (events.Committed s ∷ h) ≡ true = grind (arith, nat_tests) in
@@ -268,40 +305,50 @@ module _ (s : ℕ) (h : List Event) (statement : Stmt) (early : IsEarly h s stat
 
   pub rolled : (kept given : Reply) → is_rows kept ≡ false → given ≡ kept → IsSettledBy kept h h s statement → IsClosing (events.RolledBack s ∷ h) s kept given
   rolled kept given no-rows same settled =
-      ended (events.RolledBack s) refl (grind (arith, nat_tests)) (grind (arith, nat_tests)) (grind (arith, nat_tests)) (grind (arith, nat_tests)) (grind (arith, nat_tests)) (grind (arith, nat_tests)) (grind (arith, nat_tests))
+      ended (events.RolledBack s) refl (grind (arith, nat_tests)) (grind (arith, nat_tests)) (grind (arith, nat_tests)) (grind (arith, nat_tests))
+      (grind (arith, nat_tests)) (grind (arith, nat_tests)) (grind (arith, nat_tests))
       kept given same settled
       (let rolls : did rolls_back_txn s (events.RolledBack s ∷ h) ≡ true = grind (arith, nat_tests) in
       let commits : did commits_txn s (events.RolledBack s ∷ h) ≡ false = grind (arith, nat_tests, none_committed s h early.goes_on) in
       subst (λ b. HasClosed b s (events.RolledBack s ∷ h)) (sym no-rows) (rolls, commits))
 
-pub commit_steps : (s : ℕ) (old new : State) (kept given : Reply) → is_rows kept ≡ true → IsAnswered old.past s true kept given → task_of s old ≡ Idle → Closes (events.Committed s) s old new
-    → Moves s old new × (IsClosing new.past s kept given × (is_rows kept ≡ true) × (awaits_ack (of_item s new.past) ≡ true) × (task_of s new ≡ Idle)) × (started s new.past ≡ started s old.past)
+pub commit_steps : (s : ℕ) (old new : State) (kept given : Reply) → is_rows kept ≡ true → IsAnswered old.past s true kept given → task_of s old ≡ Idle
+    → Closes (events.Committed s) s old new
+    → Moves s old new × (IsClosing new.past s kept given × (is_rows kept ≡ true) × (awaits_ack (of_item s new.past) ≡ true) × (task_of s new ≡ Idle)) ×
+    (started s new.past ≡ started s old.past)
 commit_steps s old new kept given rows a idle closes-it =
     let owed : awaits_ack (of_item s (events.Committed s ∷ old.past)) ≡ true = grind (arith, nat_tests) in (
-      moves_closes s (events.Committed s) old new (grind (arith, nat_tests)) refl closes-it,
+      moves_closes s (events.Committed s) old new (grind (arith, nat_tests)) refl refl closes-it,
       rw closes-it.past_is (committed s old.past a.stmt a.early kept given rows a.same a.settled, rows, owed, closes-it.task_is ∙ idle),
       ap (started s) closes-it.past_is,
     )
 
-pub roll_back_steps : (s : ℕ) (old new : State) (kept given : Reply) → is_rows kept ≡ false → IsAnswered old.past s true kept given → task_of s old ≡ Idle → Closes (events.RolledBack s) s old new
-    → Moves s old new × (IsClosing new.past s kept given × (awaits_ack (of_item s new.past) ≡ false) × (task_of s new ≡ Idle)) × (started s new.past ≡ started s old.past)
+pub roll_back_steps : (s : ℕ) (old new : State) (kept given : Reply) → is_rows kept ≡ false → IsAnswered old.past s true kept given → task_of s old ≡ Idle
+    → Closes (events.RolledBack s) s old new
+    → Moves s old new × (IsClosing new.past s kept given × (awaits_ack (of_item s new.past) ≡ false) × (task_of s new ≡ Idle)) ×
+    (started s new.past ≡ started s old.past)
 roll_back_steps s old new kept given no-rows a idle closes-it =
     let acked : awaits_ack (of_item s (events.RolledBack s ∷ old.past)) ≡ false = grind (arith, nat_tests) in (
-      moves_closes s (events.RolledBack s) old new (grind (arith, nat_tests)) refl closes-it,
+      moves_closes s (events.RolledBack s) old new (grind (arith, nat_tests)) refl refl closes-it,
       rw closes-it.past_is (rolled s old.past a.stmt a.early kept given no-rows a.same a.settled, acked, closes-it.task_is ∙ idle),
       ap (started s) closes-it.past_is,
     )
 
-pub ack_steps : (s : ℕ) (old new : State) (kept given : Reply) → IsClosing old.past s kept given → task_of s old ≡ Idle → Adds (events.Acked s 0) s old new
-    → Moves s old new × (IsClosing new.past s kept given × (awaits_ack (of_item s new.past) ≡ false) × (task_of s new ≡ Idle)) × (started s new.past ≡ started s old.past)
-ack_steps s old new kept given closing idle adds =
+-- ---- the acknowledgement of a commit
+
+pub goes_on_acked : (m : ReadStatement) → owes_ack m ≡ true → GoesOnAcked IsRunning m (acked m)
+goes_on_acked (machine.Unacked kept given) owes old new s moment r adds =
+    let e = events.Acked s moment in
     let h = old.past in
-    let none : awaits_ack (of_item s (events.Acked s 0 ∷ h)) ≡ false = grind (arith, nat_tests) in (
-      moves_adds s (events.Acked s 0) old new (grind (arith, nat_tests)) never adds,
-      rw adds.past_is (
-        closing_on s (events.Acked s 0) h refl (λ over. grind (arith, nat_tests, over)) refl refl (grind (arith, nat_tests)) (grind (arith, nat_tests)) (grind (arith, nat_tests)) (grind (arith, nat_tests)) (grind (arith, nat_tests)) (grind (arith, nat_tests)) kept given closing,
-        none,
-        adds.task_is ∙ idle,
-      ),
-      ap (started s) adds.past_is,
+    let none : awaits_ack (of_item s (e ∷ h)) ≡ false = grind (arith, nat_tests) in
+    rw adds.past_is (
+      closing_on s e h refl (λ over. grind (arith, nat_tests, over)) refl refl (grind (arith, nat_tests)) (grind (arith, nat_tests)) (grind (arith, nat_tests))
+          (grind (arith, nat_tests)) (grind (arith, nat_tests)) (grind (arith, nat_tests)) kept given r.0,
+      none,
+      adds.task_is ∙ r.3,
     )
+goes_on_acked m owes old new s moment r adds = absurd (false≢true owes)
+
+pub acked_nears : (m : ReadStatement) → owes_ack m ≡ true → NearsAcked to_go m (acked m)
+acked_nears (machine.Unacked kept given) owes old new s = below_phase 3 1 _ _ _ _ _ _ (omega arith)
+acked_nears m owes old new s = absurd (false≢true owes)

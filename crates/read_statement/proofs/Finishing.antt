@@ -19,14 +19,17 @@ use Rattle.law_past_agreement.specs.Order.{IsOfRow}
 use Rattle.sql_lists.specs.Kept.{MayReply, OwesAck}
 use Rattle.sql_lists.specs.Steps.{Moves, HasRowsAlone}
 use Rattle.sql_lists.proofs.Moving.{moves_adds}
-use Rattle.read_statement.specs.Running.{IsEarly, IsFailing, IsSettledBy, IsAnswered, IsClosing, is_rows}
+use Rattle.read_statement.specs.declared.machine.ReadStatement.{ReadStatement}
+use Rattle.read_statement.specs.declared.machine.ReadStatement.TheVariants as machine
+use Rattle.read_statement.specs.Running.{IsEarly, IsFailing, IsSettledBy, IsAnswered, IsClosing, is_rows, IsRunning, owes_ack}
 use Rattle.read_statement.proofs.Ending.{ends_open, ends_closed, ends_limited}
 use Rattle.read_statement.proofs.Entries.{may_commit, may_roll_back}
 
-pub end_steps : (s : ℕ) (old new : State) (kept given : Reply) → given ≡ kept → HasRowsAlone s old.past → task_of s old ≡ Idle → Adds (events.Ended s (started s old.past) kept) s old new
+pub end_steps : (s : ℕ) (old new : State) (kept given : Reply) → given ≡ kept → HasRowsAlone s old.past → task_of s old ≡ Idle
+    → Adds (events.Ended s (started s old.past) kept) s old new
     → Moves s old new × (new.past ≡ events.Ended s (started s old.past) given ∷ old.past) × HasRowsAlone s old.past × (task_of s new ≡ Idle)
 end_steps s old new kept given same rows-alone idle adds = (
-  moves_adds s (events.Ended s (started s old.past) kept) old new (grind (arith, nat_tests)) (λ is. absurd (false≢true is)) adds,
+  moves_adds s (events.Ended s (started s old.past) kept) old new (grind (arith, nat_tests)) refl (λ is. absurd (false≢true is)) adds,
   adds.past_is ∙ ap (λ r. events.Ended s (started s old.past) r ∷ old.past) (sym same),
   rows-alone,
   adds.task_is ∙ idle,
@@ -60,6 +63,10 @@ failing_answered s h alone failing = record { same = refl; stmt = failing.stmt; 
 
 -- ---- a transaction that has ended
 
+pub owes_it : (state : State) (s : ℕ) (m : ReadStatement) → owes_ack m ≡ true → IsRunning state s m → OwesAck s state.past
+owes_it state s (machine.Unacked kept given) owes r = record { owed = r.2; closed = r.0.closed }
+owes_it state s m owes r = absurd (false≢true owes)
+
 module _ (s : ℕ) (h : List Event) (kept given : Reply) (closing : IsClosing h s kept given) where
   pub closing_not_done : kept ≢ replies.Done
   closing_not_done = not_done kept h (point s h) s closing.stmt closing.settled
@@ -67,12 +74,10 @@ module _ (s : ℕ) (h : List Event) (kept given : Reply) (closing : IsClosing h 
   pub closing_rows_alone : HasRowsAlone s h
   closing_rows_alone = subst (AllByRecursion IsOfRow) (sym closing.nothing) tt
 
-  pub closing_owes : awaits_ack (of_item s h) ≡ true → OwesAck s h
-  closing_owes owed = record { owed = owed; closed = closing.closed }
-
   pub closing_ends : awaits_ack (of_item s h) ≡ false → IsWithin kept h → MayReply s kept h
   closing_ends acked within = ends_closed s h kept given closing acked within
 
-pub closing_limited : (s rows : ℕ) (h : List Event) (kept given : Reply) → is_rows kept ≡ true → IsClosing h s kept given → awaits_ack (of_item s h) ≡ false → most_rows < rows → rows ≡ rows_kept h + rows_of_reply kept → MayReply s (replies.RunLimit rows) h
+pub closing_limited : (s rows : ℕ) (h : List Event) (kept given : Reply) → is_rows kept ≡ true → IsClosing h s kept given
+    → awaits_ack (of_item s h) ≡ false → most_rows < rows → rows ≡ rows_kept h + rows_of_reply kept → MayReply s (replies.RunLimit rows) h
 closing_limited s rows h (replies.Rows answer) given is closing acked many sum = ends_limited s rows h answer given closing acked many sum
 closing_limited s rows h other given is closing acked many sum = (let x = is in cc)

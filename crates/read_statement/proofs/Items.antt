@@ -45,7 +45,8 @@ quiet_turn s (e ∷ h) nothing = grind (arith, nat_tests, quiet_turn s h, nothin
 
 -- ---- what an item that has only begun has not done
 
-none_such : (test other : Event → Bool) → ((e : Event) → other e ≡ false → test e ≡ false) → (es : List Event) → list_any other es ≡ false → list_any test es ≡ false
+none_such : (test other : Event → Bool) → ((e : Event) → other e ≡ false → test e ≡ false) → (es : List Event) → list_any other es ≡ false
+    → list_any test es ≡ false
 none_such test other so [] none = refl
 none_such test other so (e ∷ es) none = grind (arith, nat_tests, so e, none_such test other so es, none)
 

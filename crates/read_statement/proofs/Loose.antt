@@ -18,7 +18,8 @@ use Rattle.law_past_agreement.proofs.Walk.{rows_are, same_places}
 -- ---- moments
 
 -- what held throughout held at that moment
-at_once : (P Q : List Event → Type 0) (C : Type 0) (s : ℕ) → ((past : List Event) → P past → Q past → C) → (h : List Event) → Throughout P s h → Sometime Q s h → C
+at_once : (P Q : List Event → Type 0) (C : Type 0) (s : ℕ) → ((past : List Event) → P past → Q past → C) → (h : List Event) → Throughout P s h
+    → Sometime Q s h → C
 at_once P Q C s f [] all when = absurd when
 at_once P Q C s f (e ∷ h) all (inl now) = f (e ∷ h) all.0 now
 at_once P Q C s f (e ∷ h) all (inr before) = at_once P Q C s f h (all.1 before.0) before.1
@@ -54,7 +55,8 @@ get_with : (m : RowMap) (es : List (Place × List Value)) (place : Place) → ge
 get_with m [] place = refl
 get_with m (e ∷ es) place =
     get-insert place_cmp_total (with_rows m es) e.0 e.1 place
-    ∙ (ap (cond (eq_by_cmp place_cmp place e.0) (Some e.1)) (get_with m es place) ∙ either_row (eq_by_cmp place_cmp place e.0) e.1 (find place_cmp place es) (get m place))
+    ∙ (ap (cond (eq_by_cmp place_cmp place e.0) (Some e.1)) (get_with m es place) ∙ either_row (eq_by_cmp place_cmp place e.0) e.1 (find place_cmp place es)
+    (get m place))
 
 equal_test : (o : Ordering) → is_eq o ≡ true → o ≡ Equal
 equal_test Less e = cc
@@ -84,14 +86,16 @@ gone_here true row x y = refl
 gone_here false row x y = refl
 
 -- those of the table that are in the list go
-get_here : (table : ℕ) (m : RowMap) (es : List (Place × List Value)) (place : Place) → place.0 ≡ table → get (without table m es) place ≡ cond (is_some (find place_cmp place es)) None (get m place)
+get_here : (table : ℕ) (m : RowMap) (es : List (Place × List Value)) (place : Place) → place.0 ≡ table
+    → get (without table m es) place ≡ cond (is_some (find place_cmp place es)) None (get m place)
 get_here table m [] place is = refl
 get_here table m (e ∷ es) place is =
     elim (eqb_tells e.0.0 table) [
       | inl same ↦
           ap (λ b. get (cond b (remove (without table m es) e.0) (without table m es)) place) same.0
           ∙ (get-remove place_cmp_total (without table m es) e.0 place
-          ∙ (ap (cond (eq_by_cmp place_cmp place e.0) None) (get_here table m es place is) ∙ gone_here (eq_by_cmp place_cmp place e.0) e.1 (find place_cmp place es) (get m place)))
+          ∙ (ap (cond (eq_by_cmp place_cmp place e.0) None) (get_here table m es place is) ∙ gone_here (eq_by_cmp place_cmp place e.0) e.1
+          (find place_cmp place es) (get m place)))
       | inr other ↦
           ap (λ b. get (cond b (remove (without table m es) e.0) (without table m es)) place) other.0
           ∙ (get_here table m es place is
@@ -105,7 +109,8 @@ none_or (Some row) = refl
 -- without all that it has of the table a map has nothing there
 none_left : (table : ℕ) (m : RowMap) (place : Place) → place.0 ≡ table → get (without table m (entries m)) place ≡ None
 none_left table m place is =
-    get_here table m (entries m) place is ∙ (ap (λ x. cond (is_some (find place_cmp place (entries m))) None x) (get-entries m place) ∙ none_or (find place_cmp place (entries m)))
+    get_here table m (entries m) place is ∙ (ap (λ x. cond (is_some (find place_cmp place (entries m))) None x) (get-entries m place) ∙ none_or
+    (find place_cmp place (entries m)))
 
 none_of_rows : (table : ℕ) (place : Place) → place.0 ≢ table → (rows : List (Value × List Value)) → find place_cmp place (at_places table rows) ≡ None
 none_of_rows table place differ [] = refl
@@ -122,7 +127,8 @@ module _ (table : ℕ) (m : RowMap) (rows : List (Value × List Value)) where
   pub replaced_here : (key : Value) → get replaced (table, key) ≡ find place_cmp (table, key) (at_places table rows)
   replaced_here key =
       get_with (without table m (entries m)) (at_places table rows) (table, key)
-      ∙ (ap (or_else (find place_cmp (table, key) (at_places table rows))) (none_left table m (table, key) refl) ∙ or_none (find place_cmp (table, key) (at_places table rows)))
+      ∙ (ap (or_else (find place_cmp (table, key) (at_places table rows))) (none_left table m (table, key) refl) ∙ or_none
+      (find place_cmp (table, key) (at_places table rows)))
 
   pub replaced_elsewhere : (place : Place) → place.0 ≢ table → get replaced place ≡ get m place
   replaced_elsewhere place differ =
@@ -131,15 +137,20 @@ module _ (table : ℕ) (m : RowMap) (rows : List (Value × List Value)) where
 
 -- ---- the database
 
-module _ (h : List Event) (s table : ℕ) (rows : List (Value × List Value)) (some : h ≢ []) (each : (key : Value) → Sometime (λ g. get (newest g).rows (table, key) ≡ find place_cmp (table, key) (at_places table rows)) s h) where
-  still_is : (place : Place) (row : Option (List Value)) → Throughout (λ g. get (newest g).rows place ≡ row) s h → get (replaced table (newest h).rows rows) place ≡ row
+module _ (h : List Event) (s table : ℕ) (rows : List (Value × List Value)) (some : h ≢ [])
+    (each : (key : Value) → Sometime (λ g. get (newest g).rows (table, key) ≡ find place_cmp (table, key) (at_places table rows)) s h) where
+  still_is : (place : Place) (row : Option (List Value)) → Throughout (λ g. get (newest g).rows place ≡ row) s h
+      → get (replaced table (newest h).rows rows) place ≡ row
   still_is place row all =
       elim (eqb_tells place.0 table) [
         | inl here ↦
-            subst (λ t. Throughout (λ g. get (newest g).rows (t, place.1) ≡ row) s h → get (replaced table (newest h).rows rows) (t, place.1) ≡ row) (sym here.1)
+            subst (λ t. Throughout (λ g. get (newest g).rows (t, place.1) ≡ row) s h → get (replaced table (newest h).rows rows) (t, place.1) ≡ row)
+            (sym here.1)
             (λ throughout.
             replaced_here table (newest h).rows rows place.1
-            ∙ at_once (λ g. get (newest g).rows (table, place.1) ≡ row) (λ g. get (newest g).rows (table, place.1) ≡ find place_cmp (table, place.1) (at_places table rows)) (find place_cmp (table, place.1) (at_places table rows) ≡ row) s
+            ∙ at_once (λ g. get (newest g).rows (table, place.1) ≡ row)
+            (λ g. get (newest g).rows (table, place.1) ≡ find place_cmp (table, place.1) (at_places table rows))
+            (find place_cmp (table, place.1) (at_places table rows) ≡ row) s
             (λ g is found. sym found ∙ is) h throughout (each place.1))
             all
         | inr differ ↦ replaced_elsewhere table (newest h).rows rows place differ.1 ∙ now_of (λ g. get (newest g).rows place ≡ row) s h some all
@@ -150,12 +161,16 @@ module _ (h : List Event) (s table : ℕ) (rows : List (Value × List Value)) (s
       elim (eqb_tells place.0 table) [
         | inl here ↦
             subst (λ t. Sometime (λ g. get (newest g).rows (t, place.1) ≡ get (replaced table (newest h).rows rows) (t, place.1)) s h) (sym here.1)
-            (subst (λ row. Sometime (λ g. get (newest g).rows (table, place.1) ≡ row) s h) (sym (replaced_here table (newest h).rows rows place.1)) (each place.1))
-        | inr differ ↦ now_too (λ g. get (newest g).rows place ≡ get (replaced table (newest h).rows rows) place) s h some (sym (replaced_elsewhere table (newest h).rows rows place differ.1))
+            (subst (λ row. Sometime (λ g. get (newest g).rows (table, place.1) ≡ row) s h) (sym (replaced_here table (newest h).rows rows place.1))
+            (each place.1))
+        | inr differ ↦ now_too (λ g. get (newest g).rows place ≡ get (replaced table (newest h).rows rows) place) s h some
+            (sym (replaced_elsewhere table (newest h).rows rows place differ.1))
       ]
 
-  pub table_is : IsTrue (is_sorted place_cmp (at_places table rows)) → rows_of table (record { schemas = (newest h).schemas; rows = replaced table (newest h).rows rows }) ≡ rows_in rows
-  table_is rising = rows_are table (replaced table (newest h).rows rows) rows (record { rising = rising; each = λ key. sym (replaced_here table (newest h).rows rows key) })
+  pub table_is : IsTrue (is_sorted place_cmp (at_places table rows))
+      → rows_of table (record { schemas = (newest h).schemas; rows = replaced table (newest h).rows rows }) ≡ rows_in rows
+  table_is rising =
+      rows_are table (replaced table (newest h).rows rows) rows (record { rising = rising; each = λ key. sym (replaced_here table (newest h).rows rows key) })
 
   pub loose : IsLooseReading s newest (IsQuiet s) (record { schemas = (newest h).schemas; rows = replaced table (newest h).rows rows }) h
   loose = record { tables = refl; still = λ place row all quiet. still_is place row all; moved = λ place. inr (moved_is place) }

@@ -29,7 +29,8 @@ use Rattle.read_statement.proofs.Tables.{grown, same_seen, table_stays}
 -- the tables of a database after changes
 pub schemas_after : (db : Database) (changes : List Change) → (changed db changes).schemas ≡ db.schemas ++ made changes
 schemas_after db [] = sym (append-nil db.schemas)
-schemas_after db (Create schema ∷ changes) = ap (λ (schemas : List Schema). schemas ++ schema ∷ []) (schemas_after db changes) ∙ append_assoc db.schemas (made changes) (schema ∷ [])
+schemas_after db (Create schema ∷ changes) =
+    ap (λ (schemas : List Schema). schemas ++ schema ∷ []) (schemas_after db changes) ∙ append_assoc db.schemas (made changes) (schema ∷ [])
 schemas_after db (Put table row ∷ changes) = schemas_after db changes
 schemas_after db (Remove table key ∷ changes) = schemas_after db changes
 
@@ -41,19 +42,24 @@ module _ (db : Database) where
   over tables = record db { schemas = tables }
 
   -- the key of a row in a table that is there before these changes
-  key_over : (tables schemas more : List Schema) (earlier : List Change) (table : ℕ) (row : List Value) → tables ≡ schemas ++ more → table < length schemas → key_in (changed (over tables) earlier).schemas table row ≡ key_in schemas table row
+  key_over : (tables schemas more : List Schema) (earlier : List Change) (table : ℕ) (row : List Value) → tables ≡ schemas ++ more → table < length schemas
+      → key_in (changed (over tables) earlier).schemas table row ≡ key_in schemas table row
   key_over tables schemas more earlier table row is lt =
-      ap (λ (l : List Schema). key_in l table row) (schemas_after (over tables) earlier ∙ (ap (λ (l : List Schema). l ++ made earlier) is ∙ append_assoc schemas more (made earlier)))
+      ap (λ (l : List Schema). key_in l table row)
+      (schemas_after (over tables) earlier ∙ (ap (λ (l : List Schema). l ++ made earlier) is ∙ append_assoc schemas more (made earlier)))
       ∙ key_stays schemas (more ++ made earlier) table row lt
 
-  put_alike : (tables : List Schema) (earlier : List Change) (table : ℕ) (row : List Value) → (changed (over tables) earlier).rows ≡ (changed db earlier).rows → key_in (changed (over tables) earlier).schemas table row ≡ key_in (changed db earlier).schemas table row
+  put_alike : (tables : List Schema) (earlier : List Change) (table : ℕ) (row : List Value)
+      → (changed (over tables) earlier).rows ≡ (changed db earlier).rows
+      → key_in (changed (over tables) earlier).schemas table row ≡ key_in (changed db earlier).schemas table row
       → (changed (over tables) (Put table row ∷ earlier)).rows ≡ (changed db (Put table row ∷ earlier)).rows
   put_alike tables earlier table row same keys =
       ap (λ (m : RowMap). insert m (table, key_in (changed (over tables) earlier).schemas table row) row) same
       ∙ ap (λ (key : Value). insert (changed db earlier).rows (table, key) row) keys
 
   -- changes of tables that are there before all of them
-  pub rows_beside : (more : List Schema) (changes : List Change) → AllByRecursion (IsTabled (length db.schemas)) changes → (changed (over (db.schemas ++ more)) changes).rows ≡ (changed db changes).rows
+  pub rows_beside : (more : List Schema) (changes : List Change) → AllByRecursion (IsTabled (length db.schemas)) changes
+      → (changed (over (db.schemas ++ more)) changes).rows ≡ (changed db changes).rows
   rows_beside more [] all = refl
   rows_beside more (Create schema ∷ earlier) all = rows_beside more earlier all.1
   rows_beside more (Put table row ∷ earlier) all =
@@ -63,14 +69,18 @@ module _ (db : Database) where
   rows_beside more (Remove table key ∷ earlier) all = ap (λ (m : RowMap). remove m (table, key)) (rows_beside more earlier all.1)
 
   -- changes each of which is of a table that is there before it, over all tables that there are at last
-  pub rows_before : (tables more : List Schema) (changes : List Change) → tables ≡ (db.schemas ++ made changes) ++ more → AreInOrder db.schemas changes → (changed (over tables) changes).rows ≡ (changed db changes).rows
+  pub rows_before : (tables more : List Schema) (changes : List Change) → tables ≡ (db.schemas ++ made changes) ++ more → AreInOrder db.schemas changes
+      → (changed (over tables) changes).rows ≡ (changed db changes).rows
   rows_before tables more [] is in-order = refl
   rows_before tables more (Create schema ∷ earlier) is in-order =
-      let later : tables ≡ (db.schemas ++ made earlier) ++ (schema ∷ more) = is ∙ (ap (λ (l : List Schema). l ++ more) (sym (append_assoc db.schemas (made earlier) (schema ∷ []))) ∙ append_assoc (db.schemas ++ made earlier) (schema ∷ []) more) in
+      let later : tables ≡ (db.schemas ++ made earlier) ++ (schema ∷ more) =
+      is ∙ (ap (λ (l : List Schema). l ++ more) (sym (append_assoc db.schemas (made earlier) (schema ∷ []))) ∙ append_assoc (db.schemas ++ made earlier)
+      (schema ∷ []) more) in
       rows_before tables (schema ∷ more) earlier later in-order.1
   rows_before tables more (Put table row ∷ earlier) is in-order =
       put_alike tables earlier table row (rows_before tables more earlier is in-order.1)
-      (key_over tables (db.schemas ++ made earlier) more earlier table row is in-order.0 ∙ sym (ap (λ (l : List Schema). key_in l table row) (schemas_after db earlier)))
+      (key_over tables (db.schemas ++ made earlier) more earlier table row is in-order.0 ∙ sym
+      (ap (λ (l : List Schema). key_in l table row) (schemas_after db earlier)))
   rows_before tables more (Remove table key ∷ earlier) is in-order = ap (λ (m : RowMap). remove m (table, key)) (rows_before tables more earlier is in-order.1)
 
 -- ---- tables that come later
@@ -80,7 +90,8 @@ got_before [] more n schema is = (let x = is in cc)
 got_before (first ∷ schemas) more zero schema is = is
 got_before (first ∷ schemas) more (suc n) schema is = got_before schemas more n schema is
 
-pub planned_stays : (schemas more : List Schema) (statement : Stmt) (table : ℕ) (plan : Plan) → is_plain_select statement ≡ true → IsPlanned schemas statement table plan → IsPlanned (schemas ++ more) statement table plan
+pub planned_stays : (schemas more : List Schema) (statement : Stmt) (table : ℕ) (plan : Plan) → is_plain_select statement ≡ true
+    → IsPlanned schemas statement table plan → IsPlanned (schemas ++ more) statement table plan
 planned_stays schemas more statement table plan plain p =
     record {
       table_is = table_stays schemas more table statement plain p.table_is;
@@ -91,22 +102,27 @@ planned_stays schemas more statement table plan plain p =
       chosen = p.chosen;
     }
 
-same_schema : (schemas more : List Schema) (n : ℕ) (first other : Schema) → slice_get schemas n ≡ Some first → slice_get (schemas ++ more) n ≡ Some other → slice_get schemas n ≡ Some other
+same_schema : (schemas more : List Schema) (n : ℕ) (first other : Schema) → slice_get schemas n ≡ Some first → slice_get (schemas ++ more) n ≡ Some other
+    → slice_get schemas n ≡ Some other
 same_schema schemas more n first other there now = there ∙ (sym (got_before schemas more n first there) ∙ now)
 
 -- an entry of another session leaves the rows that are seen in a table
-module _ (t s n : ℕ) (e : Event) (h : List Event) (mine : is_of t e ≡ true) (same-own : own s (e ∷ h) ≡ own s h) (within : n ≤ commits h) (all : AllByRecursion (IsTabled (length (created h))) (seen h s n)) where
+module _ (t s n : ℕ) (e : Event) (h : List Event) (mine : is_of t e ≡ true) (same-own : own s (e ∷ h) ≡ own s h) (within : n ≤ commits h)
+    (all : AllByRecursion (IsTabled (length (created h))) (seen h s n)) where
   rows_now : (table : ℕ) → rows_of table (changed (with_all_tables h) (seen h s n)) ≡ rows_of table (changed (with_all_tables (e ∷ h)) (seen (e ∷ h) s n))
   rows_now table =
       let more = grown t e h mine in
       let wide : record (with_all_tables h) { schemas = created h ++ more.0 } ≡ with_all_tables (e ∷ h) =
-      ap (λ (l : List Schema). record (opening h) { schemas = l }) (sym more.1) ∙ ap (λ (db : Database). record db { schemas = created (e ∷ h) }) (sym (opening_stays e h t mine)) in
+      ap (λ (l : List Schema). record (opening h) { schemas = l }) (sym more.1) ∙ ap (λ (db : Database). record db { schemas = created (e ∷ h) })
+      (sym (opening_stays e h t mine)) in
       let one : (changed (with_all_tables h) (seen h s n)).rows ≡ (changed (with_all_tables (e ∷ h)) (seen (e ∷ h) s n)).rows =
       sym (rows_beside (with_all_tables h) more.0 (seen h s n) all)
-      ∙ (ap (λ (db : Database). (changed db (seen h s n)).rows) wide ∙ ap (λ (changes : List Change). (changed (with_all_tables (e ∷ h)) changes).rows) (sym (same_seen t s n e h mine same-own within))) in
+      ∙ (ap (λ (db : Database). (changed db (seen h s n)).rows) wide ∙ ap (λ (changes : List Change). (changed (with_all_tables (e ∷ h)) changes).rows)
+      (sym (same_seen t s n e h mine same-own within))) in
       rows_of_map table (changed (with_all_tables h) (seen h s n)) (changed (with_all_tables (e ∷ h)) (seen (e ∷ h) s n)) one
 
-  pub rows_seen_stay : (table : ℕ) (plan : Plan) (first : Schema) (rows : List (List Value)) → slice_get (created h) table ≡ Some first → AreRowsSeen table plan h s n rows → AreRowsSeen table plan (e ∷ h) s n rows
+  pub rows_seen_stay : (table : ℕ) (plan : Plan) (first : Schema) (rows : List (List Value)) → slice_get (created h) table ≡ Some first
+      → AreRowsSeen table plan h s n rows → AreRowsSeen table plan (e ∷ h) s n rows
   rows_seen_stay table plan first rows there are = λ schema now.
       let more = grown t e h mine in
       are schema (same_schema (created h) more.0 table first schema there (subst (λ (l : List Schema). slice_get l table ≡ Some schema) more.1 now))

@@ -38,7 +38,8 @@ waits_before s by blockers old mid stays waits =
     }
 
 -- a step that leaves all as it was, and another one behind it
-pub steps_then : (s : ℕ) (old mid new : State) (statement : ReadStatement) (answer : Advance) → Stays s old mid → Steps IsRunning s mid new statement answer → Steps IsRunning s old new statement answer
+pub steps_then : (s : ℕ) (old mid new : State) (statement : ReadStatement) (answer : Advance) → Stays s old mid
+    → Steps IsRunning s mid new statement answer → Steps IsRunning s old new statement answer
 steps_then s old mid new statement advance.Went stays steps =
     (moves_then s old mid new stays.past_is (moves_stays s old mid stays) steps.0, steps.1, steps.2 ∙ ap (started s) stays.past_is)
 steps_then s old mid new statement (advance.Waiting by blockers) stays steps =
@@ -61,13 +62,15 @@ below_more a b (n ∷ ns) lt (inl less) = inl (omega arith)
 below_more a b (n ∷ ns) lt (inr same) = (let is = same.0 in inl (omega arith))
 
 -- rows that were found have five phases before them
-pub nears_found : (s : ℕ) (old new : State) (found : Found) (statement : ReadStatement) (answer : Advance) → NearsTo 4 s new statement answer → Nears to_go s old (machine.Found found) new statement answer
+pub nears_found : (s : ℕ) (old new : State) (found : Found) (statement : ReadStatement) (answer : Advance) → NearsTo 4 s new statement answer
+    → Nears to_go s old (machine.Found found) new statement answer
 nears_found s old new found statement advance.Went nears = below_more 4 5 (to_go s new statement) (omega arith) nears
 nears_found s old new found statement (advance.Waiting by blockers) nears = tt
 nears_found s old new found statement advance.NoMemory nears = tt
 nears_found s old new found statement (advance.Done reply) nears = tt
 
-pub nears_open : (s : ℕ) (old new : State) (stmt : _) (alone : _) (statement : ReadStatement) (answer : Advance) → NearsTo 4 s new statement answer → Nears to_go s old (machine.Open stmt alone) new statement answer
+pub nears_open : (s : ℕ) (old new : State) (stmt : _) (alone : _) (statement : ReadStatement) (answer : Advance) → NearsTo 4 s new statement answer
+    → Nears to_go s old (machine.Open stmt alone) new statement answer
 nears_open s old new stmt alone statement advance.Went nears = below_more 4 8 (to_go s new statement) (omega arith) nears
 nears_open s old new stmt alone statement (advance.Waiting by blockers) nears = tt
 nears_open s old new stmt alone statement advance.NoMemory nears = tt

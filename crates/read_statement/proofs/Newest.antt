@@ -58,7 +58,8 @@ module _ (f : ℕ → List Change) (w : ℕ) (others : (u : ℕ) → u ≢ w →
   flat_none (x ∷ xs) none =
       elim (eqb_tells x w) [
         | inl same ↦ absurd (false≢true (sym none ∙ ap (λ b. b || list_any (λ t. t == w) xs) same.0))
-        | inr differ ↦ ap (λ (cs : List Change). cs ++ flat_map f xs) (others x differ.1) ∙ flat_none xs (sym (ap (λ b. b || list_any (λ t. t == w) xs) differ.0) ∙ none)
+        | inr differ ↦ ap (λ (cs : List Change). cs ++ flat_map f xs) (others x differ.1) ∙ flat_none xs
+            (sym (ap (λ b. b || list_any (λ t. t == w) xs) differ.0) ∙ none)
       ]
 
   flat_once : (xs : List ℕ) → IsOnce w xs → list_any (λ t. t == w) xs ≡ true → flat_map f xs ≡ f w
@@ -66,7 +67,8 @@ module _ (f : ℕ → List Change) (w : ℕ) (others : (u : ℕ) → u ≢ w →
   flat_once (x ∷ xs) once-there some =
       elim (eqb_tells x w) [
         | inl same ↦ ap (λ (cs : List Change). f x ++ cs) (flat_none xs (once-there.0 same.1)) ∙ (append-nil (f x) ∙ ap f same.1)
-        | inr differ ↦ ap (λ (cs : List Change). cs ++ flat_map f xs) (others x differ.1) ∙ flat_once xs once-there.1 (sym (ap (λ b. b || list_any (λ t. t == w) xs) differ.0) ∙ some)
+        | inr differ ↦ ap (λ (cs : List Change). cs ++ flat_map f xs) (others x differ.1) ∙ flat_once xs once-there.1
+            (sym (ap (λ b. b || list_any (λ t. t == w) xs) differ.0) ∙ some)
       ]
 
 module _ (h : List Event) (w : ℕ) (ordered : IsOrdered h) (alone : (u : ℕ) → u ≢ w → own u h ≡ []) where

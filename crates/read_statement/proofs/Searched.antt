@@ -31,11 +31,14 @@ use Rattle.read_statement.proofs.Planned.{by_plan}
 -- ---- what fits
 
 -- the rows of a table that a session sees are of the table's columns
-pub rows_seen_fit : (h : List Event) (s n table : ℕ) (schema : Schema) → FitsThen h → IsOrdered h → slice_get (created h) table ≡ Some schema → All (IsRowOf schema.columns) (rows_of table (changed (with_all_tables h) (seen h s n)))
+pub rows_seen_fit : (h : List Event) (s n table : ℕ) (schema : Schema) → FitsThen h → IsOrdered h → slice_get (created h) table ≡ Some schema
+    → All (IsRowOf schema.columns) (rows_of table (changed (with_all_tables h) (seen h s n)))
 rows_seen_fit h s n table schema fits ordered there =
     let db = changed (with_all_tables h) (seen h s n) in
     let coded = seen_coded h s n fits ordered in
-    let there_too : slice_get db.schemas table ≡ Some schema = subst (λ (l : List Schema). slice_get l table ≡ Some schema) (sym (schemas_after (with_all_tables h) (seen h s n))) (got_before (created h) (made (seen h s n)) table schema there) in
+    let there_too : slice_get db.schemas table ≡ Some schema =
+    subst (λ (l : List Schema). slice_get l table ≡ Some schema) (sym (schemas_after (with_all_tables h) (seen h s n)))
+    (got_before (created h) (made (seen h s n)) table schema there) in
     fitting_rows_fit db table schema coded.fitting coded.numbers there_too
 
 -- ---- the search is over
@@ -58,17 +61,22 @@ module _ (h : List Event) (s : ℕ) (standing : AreStanding h) (only : IsOnlyMak
   same_rows n table = ap (λ (l : List Schema). rows_of table (changed (record (opening h) { schemas = l }) (seen h s n))) (sym tables)
 
   pub seen_reply : (found : Found) → HasFound h s found → IsOrdered h → FitsThen h
-      → (answer : Outcome) → ((db : Database) → IsReadFrom (created h) found.rows found.stmt db → answer ≡ outcome found.stmt db) → IsSeen h h s found.stmt answer.reply
+      → (answer : Outcome) → ((db : Database) → IsReadFrom (created h) found.rows found.stmt db → answer ≡ outcome found.stmt db) → IsSeen h h s found.stmt
+      answer.reply
   seen_reply found f ordered fits answer answers =
       let v = f.view in
       let p = f.planned in
       let db = seen_by s v.number h in
       let there : slice_get db.schemas f.table ≡ Some p.schema = subst (λ (l : List Schema). slice_get l f.table ≡ Some p.schema) tables p.there in
-      let fit : All (IsRowOf p.schema.columns) (rows_of f.table db) = subst (All (IsRowOf p.schema.columns)) (sym (same_rows v.number f.table)) (rows_seen_fit h s v.number f.table p.schema fits ordered p.there) in
-      let are : found.rows ≡ rows_in_range f.plan p.schema (rows_of f.table db) = f.rows p.schema p.there ∙ ap (rows_in_range f.plan p.schema) (sym (same_rows v.number f.table)) in
+      let fit : All (IsRowOf p.schema.columns) (rows_of f.table db) =
+      subst (All (IsRowOf p.schema.columns)) (sym (same_rows v.number f.table)) (rows_seen_fit h s v.number f.table p.schema fits ordered p.there) in
+      let are : found.rows ≡ rows_in_range f.plan p.schema (rows_of f.table db) =
+      f.rows p.schema p.there ∙ ap (rows_in_range f.plan p.schema) (sym (same_rows v.number f.table)) in
       let reads : table_read db.schemas found.stmt ≡ Some f.table = subst (λ (l : List Schema). table_read l found.stmt ≡ Some f.table) tables p.table_is in
-      let answers_too : (other : Database) → IsReadFrom db.schemas found.rows found.stmt other → answer ≡ outcome found.stmt other = λ other from. answers other (subst (λ (l : List Schema). IsReadFrom l found.rows found.stmt other) (sym tables) from) in
-      let is : answer ≡ outcome found.stmt db = by_plan db f.table p.schema there p.indexable fit f.plan answer found.rows are found.stmt f.early.plain reads p.chosen answers_too in
+      let answers_too : (other : Database) → IsReadFrom db.schemas found.rows found.stmt other → answer ≡ outcome found.stmt other =
+      λ other from. answers other (subst (λ (l : List Schema). IsReadFrom l found.rows found.stmt other) (sym tables) from) in
+      let is : answer ≡ outcome found.stmt db =
+      by_plan db f.table p.schema there p.indexable fit f.plan answer found.rows are found.stmt f.early.plain reads p.chosen answers_too in
       record {
         found = record {
           l = v.l;
@@ -83,6 +91,8 @@ module _ (h : List Event) (s : ℕ) (standing : AreStanding h) (only : IsOnlyMak
 
   -- the same, of what a call gives that may find no memory
   pub seen_outcome : {E : Type 0} (found : Found) → HasFound h s found → IsOrdered h → FitsThen h → (schemas : List Schema) → schemas ≡ created h
-      → (r : Result Outcome E) → IfOk r (λ answer. (db : Database) → IsReadFrom schemas found.rows found.stmt db → answer ≡ outcome found.stmt db) → IfOk r (λ answer. IsSeen h h s found.stmt answer.reply)
-  seen_outcome found f ordered fits schemas same (Ok answer) is = seen_reply found f ordered fits answer (λ db from. is db (subst (λ l. IsReadFrom l found.rows found.stmt db) (sym same) from))
+      → (r : Result Outcome E) → IfOk r (λ answer. (db : Database) → IsReadFrom schemas found.rows found.stmt db → answer ≡ outcome found.stmt db) → IfOk r
+      (λ answer. IsSeen h h s found.stmt answer.reply)
+  seen_outcome found f ordered fits schemas same (Ok answer) is =
+      seen_reply found f ordered fits answer (λ db from. is db (subst (λ l. IsReadFrom l found.rows found.stmt db) (sym same) from))
   seen_outcome found f ordered fits schemas same (Err e) is = is

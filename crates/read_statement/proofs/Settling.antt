@@ -27,7 +27,8 @@ settled_by h s stmt (replies.Rows rows) kind seen = seen
 settled_by h s stmt (replies.Fail error) kind seen = seen
 settled_by h s stmt other kind seen = (let x = kind in cc)
 
-module _ (h : List Event) (s : ℕ) (stmt : Stmt) (alone : Bool) (early : IsEarly h s stmt alone) (is_open : IsOpen s h) (reply : Reply) (seen : IsSeen h h s stmt reply) where
+module _ (h : List Event) (s : ℕ) (stmt : Stmt) (alone : Bool) (early : IsEarly h s stmt alone) (is_open : IsOpen s h) (reply : Reply)
+    (seen : IsSeen h h s stmt reply) where
   pub settled : answers_rows reply ≡ true → (kept : Reply) → kept ≡ reply → IsAnswered h s alone kept reply
   settled kind kept is = record { same = sym is; stmt = stmt; early = early; is_open = λ a. is_open; settled = rw is (settled_by h s stmt reply kind seen) }
 
@@ -42,22 +43,27 @@ module _ (h : List Event) (s : ℕ) (stmt : Stmt) (alone : Bool) (early : IsEarl
           many = many;
           reply = reply;
           found = seen.found;
-          sum = some_past (λ g. refused_at_once s early.takes.setting stmt g ≡ None) s h early.takes.not_refused (λ g. rows ≡ rows_kept g + rows_of_reply reply) sum;
+          sum =
+              some_past (λ g. refused_at_once s early.takes.setting stmt g ≡ None) s h early.takes.not_refused
+              (λ g. rows ≡ rows_kept g + rows_of_reply reply) sum;
         };
       }
 
 -- ---- the search
 
-pub search_begins : (s table : ℕ) (plan : Plan) (old new : State) (read : Read) → IsEarly old.past s read.stmt read.alone → IsOpen s old.past → HasView old.past s → IsPlanned (created old.past) read.stmt table plan
+pub search_begins : (s table : ℕ) (plan : Plan) (old new : State) (read : Read) → IsEarly old.past s read.stmt read.alone → IsOpen s old.past
+    → HasView old.past s → IsPlanned (created old.past) read.stmt table plan
     → Turns s (Searching table plan View) old new → Moves s old new × IsSearching new.past s (task_of s new) read × (started s new.past ≡ started s old.past)
 search_begins s table plan old new read early is-open view planned turns = (
   moves_turns s (Searching table plan View) old new turns,
-  subst (λ h. IsSearching h s (task_of s new) read) (sym turns.past_is) (record { early = early; is_open = is-open; view = view; table = table; plan = plan; planned = planned; task_is = turns.task_is }),
+  subst (λ h. IsSearching h s (task_of s new) read) (sym turns.past_is)
+      (record { early = early; is_open = is-open; view = view; table = table; plan = plan; planned = planned; task_is = turns.task_is }),
   ap (started s) turns.past_is,
 )
 
 -- it goes on, some steps fewer before it
-pub search_goes_on : (s : ℕ) (old new : State) (read later : Read) → later.stmt ≡ read.stmt → later.alone ≡ read.alone → IsSearching old.past s (task_of s old) read → Turns s (task_of s old) old new
+pub search_goes_on : (s : ℕ) (old new : State) (read later : Read) → later.stmt ≡ read.stmt → later.alone ≡ read.alone
+    → IsSearching old.past s (task_of s old) read → Turns s (task_of s old) old new
     → Moves s old new × IsSearching new.past s (task_of s new) later × (started s new.past ≡ started s old.past)
 search_goes_on s old new read later same-stmt same-alone is turns = (
   moves_turns s (task_of s old) old new turns,
@@ -73,8 +79,10 @@ search_goes_on s old new read later same-stmt same-alone is turns = (
   ap (started s) turns.past_is,
 )
 
-pub search_finds : (s : ℕ) (old new : State) (read : Read) (found : Found) → found.stmt ≡ read.stmt → found.alone ≡ read.alone → IsOrdered old.past → (is : IsSearching old.past s (task_of s old) read) → Turns s Idle old new
-    → AreFoundBy View is.table is.plan old.past s found.rows → Moves s old new × (HasFound new.past s found × (task_of s new ≡ Idle)) × (started s new.past ≡ started s old.past)
+pub search_finds : (s : ℕ) (old new : State) (read : Read) (found : Found) → found.stmt ≡ read.stmt → found.alone ≡ read.alone → IsOrdered old.past
+    → (is : IsSearching old.past s (task_of s old) read) → Turns s Idle old new
+    → AreFoundBy View is.table is.plan old.past s found.rows → Moves s old new × (HasFound new.past s found × (task_of s new ≡ Idle)) ×
+    (started s new.past ≡ started s old.past)
 search_finds s old new read found same-stmt same-alone ordered is turns rows = (
   moves_turns s Idle old new turns,
   (

@@ -14,6 +14,7 @@ use Rattle.sql_history.specs.Waiting.{is_victim}
 use Rattle.sql_history.specs.Readings.{is_plain_select}
 use Rattle.sql_plan.specs.declared.choice.Plan.{Plan}
 use Rattle.sql_lists.specs.Steps.{HasRowsAlone, StaysRunning}
+use Rattle.sql_lists.proofs.Moving.{StaysByOne, stays_running}
 use Rattle.sql_lists.proofs.Staying.{other_of, not_starting, at_work, is_within, before_within, starts_not, within_of_other, point_stays}
 use Rattle.shared_lists.specs.Tasks.{Task}
 use Rattle.shared_lists.specs.State.{task_of}
@@ -31,28 +32,37 @@ use Rattle.read_statement.proofs.Tables.{grown, tabled_stays}
 use Rattle.read_statement.proofs.MoreTables.{planned_stays, rows_seen_stay}
 
 -- what stands behind a reply stays, and its point with it
-seen_on : (s : ℕ) (e : Event) (h before after : List Event) (stmt : Stmt) → did takes_view s (e ∷ h) ≡ did takes_view s h → after ≡ before → (reply : Reply) → IsSeen h before s stmt reply → IsSeen (e ∷ h) after s stmt reply
+seen_on : (s : ℕ) (e : Event) (h before after : List Event) (stmt : Stmt) → did takes_view s (e ∷ h) ≡ did takes_view s h → after ≡ before
+    → (reply : Reply) → IsSeen h before s stmt reply → IsSeen (e ∷ h) after s stmt reply
 seen_on s e h before after stmt same-viewed same reply seen =
     subst (λ p. IsSeen (e ∷ h) p s stmt reply) (sym same) (record { found = seen.found; viewed = λ by-view apart. same-viewed ∙ seen.viewed by-view apart })
 
-pub settled_on : (s : ℕ) (e : Event) (h before after : List Event) (stmt : Stmt) → starts s e ≡ false → did takes_view s (e ∷ h) ≡ did takes_view s h → after ≡ before → (kept : Reply) → IsSettledBy kept h before s stmt → IsSettledBy kept (e ∷ h) after s stmt
-settled_on s e h before after stmt goes same-viewed same (replies.Rows rows) settled = seen_on s e h before after stmt same-viewed same (replies.Rows rows) settled
-settled_on s e h before after stmt goes same-viewed same (replies.Fail error) settled = seen_on s e h before after stmt same-viewed same (replies.Fail error) settled
+pub settled_on : (s : ℕ) (e : Event) (h before after : List Event) (stmt : Stmt) → starts s e ≡ false → did takes_view s (e ∷ h) ≡ did takes_view s h
+    → after ≡ before → (kept : Reply) → IsSettledBy kept h before s stmt → IsSettledBy kept (e ∷ h) after s stmt
+settled_on s e h before after stmt goes same-viewed same (replies.Rows rows) settled =
+    seen_on s e h before after stmt same-viewed same (replies.Rows rows) settled
+settled_on s e h before after stmt goes same-viewed same (replies.Fail error) settled =
+    seen_on s e h before after stmt same-viewed same (replies.Fail error) settled
 settled_on s e h before after stmt goes same-viewed same (replies.RunLimit rows) settled =
-    subst (λ p. IsTooMany rows (e ∷ h) p s stmt) (sym same) (record { many = settled.many; reply = settled.reply; found = settled.found; sum = inr (goes, settled.sum) })
+    subst (λ p. IsTooMany rows (e ∷ h) p s stmt) (sym same)
+    (record { many = settled.many; reply = settled.reply; found = settled.found; sum = inr (goes, settled.sum) })
 settled_on s e h before after stmt goes same-viewed same replies.NoMemory settled = tt
 settled_on s e h before after stmt goes same-viewed same replies.Done settled = elim settled [ ]
 settled_on s e h before after stmt goes same-viewed same (replies.Count n) settled = elim settled [ ]
 settled_on s e h before after stmt goes same-viewed same (replies.NotSignalled n) settled = elim settled [ ]
 settled_on s e h before after stmt goes same-viewed same replies.Stopped settled = elim settled [ ]
 
-pub closed_on : (b : Bool) (s : ℕ) (e : Event) (h : List Event) → did commits_txn s (e ∷ h) ≡ did commits_txn s h → did rolls_back_txn s (e ∷ h) ≡ did rolls_back_txn s h → HasClosed b s h → HasClosed b s (e ∷ h)
+pub closed_on : (b : Bool) (s : ℕ) (e : Event) (h : List Event) → did commits_txn s (e ∷ h) ≡ did commits_txn s h
+    → did rolls_back_txn s (e ∷ h) ≡ did rolls_back_txn s h → HasClosed b s h → HasClosed b s (e ∷ h)
 closed_on true s e h same-commits same-rolls closed = (same-commits ∙ closed.0, same-rolls ∙ closed.1)
 closed_on false s e h same-commits same-rolls closed = (same-rolls ∙ closed.0, same-commits ∙ closed.1)
 
 -- a closed transaction stays closed, and its item over
-module _ (s : ℕ) (e : Event) (h : List Event) (within : is_within s e ≡ true) (still-over : is_over s h ≡ true → is_over s (e ∷ h) ≡ true) (same-level : level s (e ∷ h) ≡ level s h) (same-own : own s (e ∷ h) ≡ own s h)
-    (same-begun : did begins_txn s (e ∷ h) ≡ did begins_txn s h) (same-victim : did is_victim s (e ∷ h) ≡ did is_victim s h) (same-undone : did undoes s (e ∷ h) ≡ did undoes s h) (same-viewed : did takes_view s (e ∷ h) ≡ did takes_view s h) (same-commits : did commits_txn s (e ∷ h) ≡ did commits_txn s h) (same-rolls : did rolls_back_txn s (e ∷ h) ≡ did rolls_back_txn s h) where
+module _ (s : ℕ) (e : Event) (h : List Event) (within : is_within s e ≡ true) (still-over : is_over s h ≡ true → is_over s (e ∷ h) ≡ true)
+    (same-level : level s (e ∷ h) ≡ level s h) (same-own : own s (e ∷ h) ≡ own s h)
+    (same-begun : did begins_txn s (e ∷ h) ≡ did begins_txn s h) (same-victim : did is_victim s (e ∷ h) ≡ did is_victim s h)
+    (same-undone : did undoes s (e ∷ h) ≡ did undoes s h) (same-viewed : did takes_view s (e ∷ h) ≡ did takes_view s h)
+    (same-commits : did commits_txn s (e ∷ h) ≡ did commits_txn s h) (same-rolls : did rolls_back_txn s (e ∷ h) ≡ did rolls_back_txn s h) where
   pub closing_on : (kept given : Reply) → IsClosing h s kept given → IsClosing (e ∷ h) s kept given
   closing_on kept given c =
       let same-point : point s (e ∷ h) ≡ point s h = point_stays e h s c.over (still-over c.over) in
@@ -121,12 +131,22 @@ module _ (t s : ℕ) (e : Event) (h : List Event) (mine : is_of t e ≡ true) (o
       }
 
   abbrev view_on : HasView h s → HasView (e ∷ h) s
-  view_on view = record { l = view.l; level_is = same.level_is ∙ view.level_is; by_view = view.by_view; viewed = λ by-view apart. did_same takes_view ∙ view.viewed by-view apart; number = view.number; view_is = same.view_is ∙ view.view_is }
+  view_on view =
+      record {
+        l = view.l;
+        level_is = same.level_is ∙ view.level_is;
+        by_view = view.by_view;
+        viewed = λ by-view apart. did_same takes_view ∙ view.viewed
+            by-view apart;
+        number = view.number;
+        view_is = same.view_is ∙ view.view_is;
+      }
 
   open_on : is_some (level s h) ≡ true → is_some (level s (e ∷ h)) ≡ true
   open_on is-open = ap is_some same.level_is ∙ is-open
 
-  planned_on : (stmt : Stmt) (table : ℕ) (plan : Plan) → is_plain_select stmt ≡ true → IsPlanned (created h) stmt table plan → IsPlanned (created (e ∷ h)) stmt table plan
+  planned_on : (stmt : Stmt) (table : ℕ) (plan : Plan) → is_plain_select stmt ≡ true → IsPlanned (created h) stmt table plan
+      → IsPlanned (created (e ∷ h)) stmt table plan
   planned_on stmt table plan plain p =
       let more = grown t e h mine in
       subst (λ schemas. IsPlanned schemas stmt table plan) (sym more.1) (planned_stays (created h) more.0 stmt table plan plain p)
@@ -162,7 +182,9 @@ module _ (t s : ℕ) (e : Event) (h : List Event) (mine : is_of t e ≡ true) (o
   over_on over = (at_work e h s other).over ∙ over
 
   closing_other : (kept given : Reply) → IsClosing h s kept given → IsClosing (e ∷ h) s kept given
-  closing_other = closing_on s e h (within_of_other e s other) over_on same.level_is same.own_is (did_same _) (did_same _) (did_same _) (did_same _) (did_same _) (did_same _)
+  closing_other =
+      closing_on s e h (within_of_other e s other) over_on same.level_is same.own_is (did_same _) (did_same _) (did_same _) (did_same _) (did_same _)
+      (did_same _)
 
   pub runs_on : (task : Task) (statement : ReadStatement) → IsAt h task s statement → IsAt (e ∷ h) task s statement
   runs_on task (machine.Opening asked) r = (opening_on asked r.0, r.1)
@@ -174,11 +196,14 @@ module _ (t s : ℕ) (e : Event) (h : List Event) (mine : is_of t e ≡ true) (o
   runs_on task (machine.Ending kept given) r = (closing_other kept given r.0, acks_same ∙ r.1, r.2)
   runs_on task (machine.Failed alone) r = (record { stmt = r.0.stmt; early = early_on r.0.stmt alone r.0.early; is_open = λ is. open_on (r.0.is_open is) }, r.1)
 
-pub stays_running : StaysRunning IsRunning
-stays_running old new t s statement differ adding keeps same-task running =
+stays_by_one : StaysByOne IsRunning
+stays_by_one old new t s statement differ adding keeps same-task running =
     subst (λ task. IsAt new.past task s statement) (sym same-task) (elim adding [
       | inl same ↦ subst (λ h. IsAt h (task_of s old) s statement) (sym same) running
       | inr added ↦
           subst (λ h. IsAt h (task_of s old) s statement) (sym added.2)
           (runs_on t s added.0 old.past added.1 (other_of added.0 t s added.1 (λ is. differ (sym is))) (task_of s old) statement running)
     ])
+
+pub stays : StaysRunning IsRunning
+stays = stays_running IsRunning stays_by_one

@@ -33,7 +33,9 @@ grown t e h mine = ([], sym (append-nil (created h)))
 or_len_stays : {X : Type 0} (p : X → Bool) (xs ys : List X) → position_or_len p xs < length xs → position_or_len p (xs ++ ys) ≡ position_or_len p xs
 or_len_stays p [] ys lt = absurd (omega arith)
 or_len_stays p (x ∷ xs) ys lt = go (p x) lt (or_len_stays p xs ys) where
-  go : (b : Bool) → cond (not b) (1 + position_or_len p xs) 0 < suc (length xs) → (position_or_len p xs < length xs → position_or_len p (xs ++ ys) ≡ position_or_len p xs) → cond (not b) (1 + position_or_len p (xs ++ ys)) 0 ≡ cond (not b) (1 + position_or_len p xs) 0
+  go : (b : Bool) → cond (not b) (1 + position_or_len p xs) 0 < suc (length xs)
+      → (position_or_len p xs < length xs → position_or_len p (xs ++ ys) ≡ position_or_len p xs)
+      → cond (not b) (1 + position_or_len p (xs ++ ys)) 0 ≡ cond (not b) (1 + position_or_len p xs) 0
   go true less later = refl
   go false less later = ap (λ n. 1 + n) (later (omega (arith, less)))
 
@@ -59,8 +61,11 @@ position_lt p xs n is = go (nat_lt (position_or_len p xs) (length xs)) refl is w
 pub table_small : (schemas : List Schema) (table : List ℕ) (n : ℕ) → length schemas ≤ MOST_TABLES → table_place schemas table ≡ Some n → n < 256
 table_small schemas table n few is = omega (arith, few, position_lt (λ (schema : Schema). bytes_eq schema.name table) schemas n is)
 
-pub table_stays : (schemas more : List Schema) (n : ℕ) (statement : Stmt) → is_plain_select statement ≡ true → table_read schemas statement ≡ Some n → table_read (schemas ++ more) statement ≡ Some n
-table_stays schemas more n = of_plain (λ statement. table_read schemas statement ≡ Some n → table_read (schemas ++ more) statement ≡ Some n) (λ selected table condition is. position_stays (λ schema. bytes_eq schema.name table) schemas more n is)
+pub table_stays : (schemas more : List Schema) (n : ℕ) (statement : Stmt) → is_plain_select statement ≡ true → table_read schemas statement ≡ Some n
+    → table_read (schemas ++ more) statement ≡ Some n
+table_stays schemas more n =
+    of_plain (λ statement. table_read schemas statement ≡ Some n → table_read (schemas ++ more) statement ≡ Some n)
+    (λ selected table condition is. position_stays (λ schema. bytes_eq schema.name table) schemas more n is)
 
 -- ---- the rows that were seen
 
@@ -81,4 +86,5 @@ module _ (t s n : ℕ) (e : Event) (h : List Event) (mine : is_of t e ≡ true) 
   tabled_stays all =
       let more = grown t e h mine in
       subst (λ cs. AllByRecursion (IsTabled (length (created (e ∷ h)))) cs) (sym same_seen)
-      (tabled_more (length (created h)) (length (created (e ∷ h))) (subst (λ (l : List Schema). length (created h) ≤ length l) (sym more.1) (omega (arith, length-append (created h) more.0))) (seen h s n) all)
+      (tabled_more (length (created h)) (length (created (e ∷ h)))
+      (subst (λ (l : List Schema). length (created h) ≤ length l) (sym more.1) (omega (arith, length-append (created h) more.0))) (seen h s n) all)

@@ -48,12 +48,15 @@ module _ (h : List Event) (w : ℕ) (alone : (u : ℕ) → u ≢ w → own u h �
   rows_alike : (table : ℕ) → IsInOrder h → rows_of table (newest h) ≡ rows_of table (changed (with_all_tables h) (seen h w (commits h)))
   rows_alike table in-order =
       let changes = seen h w (commits h) in
-      let parts : created h ≡ ((opening h).schemas ++ made changes) ++ [] = tables_seen ∙ (schemas_after (opening h) changes ∙ sym (append-nil ((opening h).schemas ++ made changes))) in
+      let parts : created h ≡ ((opening h).schemas ++ made changes) ++ [] =
+      tables_seen ∙ (schemas_after (opening h) changes ∙ sym (append-nil ((opening h).schemas ++ made changes))) in
       ap (λ db. rows_of table db) now_is
-      ∙ sym (rows_of_map table (changed (with_all_tables h) changes) (changed (opening h) changes) (rows_before (opening h) (created h) [] changes parts (in-order w)))
+      ∙ sym (rows_of_map table (changed (with_all_tables h) changes) (changed (opening h) changes)
+      (rows_before (opening h) (created h) [] changes parts (in-order w)))
 
   -- what a statement answers by the rows that were read is what it answers over it
-  module _ (stmt : Stmt) (plain : is_plain_select stmt ≡ true) (rows : List (List Value)) (read : AreRead h stmt rows) (in-order : IsInOrder h) (fits : FitsThen h) (answer : Outcome)
+  module _ (stmt : Stmt) (plain : is_plain_select stmt ≡ true) (rows : List (List Value)) (read : AreRead h stmt rows) (in-order : IsInOrder h)
+      (fits : FitsThen h) (answer : Outcome)
       (answers : (db : Database) → IsReadFrom (created h) rows stmt db → answer ≡ outcome stmt db) where
     abbrev p : IsPlanned (created h) stmt read.table read.plan
     p = read.planned
@@ -75,8 +78,10 @@ module _ (h : List Event) (w : ℕ) (alone : (u : ℕ) → u ≢ w → own u h �
 
     pub answer_now : answer ≡ outcome stmt (newest h)
     answer_now = elim (read.newest w alone) [
-      | inl ranged ↦ by_plan (newest h) read.table p.schema there p.indexable fit read.plan answer rows (are_by read.plan ranged) stmt plain reads p.chosen answers_now
-      | inr all ↦ by_all (newest h) read.table p.schema there p.indexable fit read.plan answer stmt rows reads (are_by whole_index all ∙ whole_range p.schema (rows_of read.table (newest h))) answers_now
+      | inl ranged ↦ by_plan (newest h) read.table p.schema there p.indexable fit read.plan answer rows (are_by read.plan ranged) stmt plain reads p.chosen
+          answers_now
+      | inr all ↦ by_all (newest h) read.table p.schema there p.indexable fit read.plan answer stmt rows reads
+          (are_by whole_index all ∙ whole_range p.schema (rows_of read.table (newest h))) answers_now
     ]
 
 loose_now : (s : ℕ) (e : Event) (h : List Event) → IsLooseReading s newest (IsQuiet s) (newest (e ∷ h)) (e ∷ h)
@@ -91,7 +96,8 @@ has_past [] s dirty none = (let x = dirty in cc)
 has_past (e ∷ h) s dirty none = cc
 
 -- what a statement answers over it
-seen_now : (h : List Event) (s : ℕ) (stmt : Stmt) (answer : Outcome) → h ≢ [] → level s h ≡ Some ReadUncommitted → answer ≡ outcome stmt (newest h) → IsSeen h h s stmt answer.reply
+seen_now : (h : List Event) (s : ℕ) (stmt : Stmt) (answer : Outcome) → h ≢ [] → level s h ≡ Some ReadUncommitted → answer ≡ outcome stmt (newest h)
+    → IsSeen h h s stmt answer.reply
 seen_now h s stmt answer some dirty is =
     record {
       found = record {
@@ -106,9 +112,12 @@ seen_now h s stmt answer some dirty is =
     }
 
 -- of what a call gives that may find no memory
-pub newest_outcome : {E : Type 0} (h : List Event) (w s : ℕ) (stmt : Stmt) (rows : List (List Value)) → ((u : ℕ) → u ≢ w → own u h ≡ []) → IsOrdered h → AreStanding h → IsInOrder h → FitsThen h → level s h ≡ Some ReadUncommitted → is_plain_select stmt ≡ true → AreRead h stmt rows
-    → (schemas : List Schema) → schemas ≡ created h → (r : Result Outcome E) → IfOk r (λ answer. (db : Database) → IsReadFrom schemas rows stmt db → answer ≡ outcome stmt db) → IfOk r (λ answer. IsSeen h h s stmt answer.reply)
+pub newest_outcome : {E : Type 0} (h : List Event) (w s : ℕ) (stmt : Stmt) (rows : List (List Value)) → ((u : ℕ) → u ≢ w → own u h ≡ []) → IsOrdered h
+    → AreStanding h → IsInOrder h → FitsThen h → level s h ≡ Some ReadUncommitted → is_plain_select stmt ≡ true → AreRead h stmt rows
+    → (schemas : List Schema) → schemas ≡ created h → (r : Result Outcome E) → IfOk r
+    (λ answer. (db : Database) → IsReadFrom schemas rows stmt db → answer ≡ outcome stmt db) → IfOk r (λ answer. IsSeen h h s stmt answer.reply)
 newest_outcome h w s stmt rows alone ordered stands in-order fits dirty plain read schemas same (Err e) answers = answers
 newest_outcome h w s stmt rows alone ordered stands in-order fits dirty plain read schemas same (Ok answer) answers =
     seen_now h s stmt answer (has_past h s dirty) dirty
-    (answer_now h w alone ordered stands stmt plain rows read in-order fits answer (λ db from. answers db (subst (λ (l : List Schema). IsReadFrom l rows stmt db) (sym same) from)))
+    (answer_now h w alone ordered stands stmt plain rows read in-order fits answer
+    (λ db from. answers db (subst (λ (l : List Schema). IsReadFrom l rows stmt db) (sym same) from)))

@@ -211,5 +211,15 @@ IsAt h task s (machine.Unacked kept given) = IsClosing h s kept given × (is_row
 IsAt h task s (machine.Ending kept given) = IsClosing h s kept given × (awaits_ack (of_item s h) ≡ false) × (task ≡ Idle)
 IsAt h task s (machine.Failed alone) = IsFailing h s alone × (task ≡ Idle)
 
+-- its commit is yet to be acknowledged
+abbrev pub owes_ack : ReadStatement → Bool
+owes_ack (machine.Unacked kept given) = true
+owes_ack other = false
+
+-- the statement behind that
+abbrev pub acked : ReadStatement → ReadStatement
+acked (machine.Unacked kept given) = machine.Ending kept given
+acked other = other
+
 abbrev pub IsRunning : State → ℕ → ReadStatement → Type 0
 IsRunning state s statement = IsAt state.past (task_of s state) s statement

@@ -86,22 +86,6 @@ fn give_up<L: SharedLists>(
     (ReadStatement::Ending { kept, given }, Advance::Went)
 }
 
-/// Acknowledges the commit.
-pub fn step_unacked<L: SharedLists>(
-    kept: Reply,
-    given: Reply,
-    session: u32,
-    lists: &mut SqlLists<L>,
-) -> (ReadStatement, Advance)
-    requires joined { session < length lists.old.names }
-    requires running { IsRunning lists.old session (ReadStatement.Unacked kept given) }
-    ensures steps { Steps IsRunning session lists.old lists.new result.0 result.1 }
-    ensures nears { Nears to_go session lists.old (ReadStatement.Unacked kept given) lists.new result.0 result.1 }
-{
-    lists.ack(session);
-    (ReadStatement::Ending { kept, given }, Advance::Went)
-}
-
 /// Ends the item, with its reply or, where others have filled the history meanwhile, without.
 pub fn step_ending<L: SharedLists>(
     kept: Reply,

@@ -12,4 +12,4 @@ mod planning;
 mod searching;
 
 pub use laws::{rows_of_moments_are_a_loose_reading, the_newest_is_what_the_writer_sees};
-pub use machine::{ReadStatement, others_leave_it};
+pub use machine::{ReadStatement, an_acknowledgement_moves_it_on, others_leave_it};

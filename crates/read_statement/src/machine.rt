@@ -1,17 +1,18 @@
 //! The states of a SELECT, and its step by each.
 
-ghost use Rattle.std.specs.Prelude.{◌≡◌, ◌<◌, length, true};
+ghost use Rattle.std.specs.Prelude.{◌≡◌, ◌<◌, ℕ, length, true, false};
 ghost use Rattle.sql_history.specs.Readings.{is_plain_select};
 ghost use Rattle.sql_history.specs.Statements.{is_select};
 ghost use Rattle.shared_lists.specs.Tasks.{Idle};
-ghost use Rattle.shared_lists.specs.State.{task_of};
-ghost use Rattle.sql_lists.specs.Going.{Nears};
-ghost use Rattle.sql_lists.specs.Steps.{Steps, StaysRunning};
+ghost use Rattle.shared_lists.specs.State.{State, task_of};
+ghost use Rattle.sql_lists.specs.Going.{Nears, NearsAcked};
+ghost use Rattle.sql_lists.specs.Kept.{OwesAck};
+ghost use Rattle.sql_lists.specs.Steps.{Steps, StaysRunning, GoesOnAcked};
 ghost use Rattle.read_statement.specs.Going.{to_go};
-ghost use Rattle.read_statement.specs.Running.{IsRunning, IsTakenWith};
+ghost use Rattle.read_statement.specs.Running.{IsRunning, IsTakenWith, owes_ack, acked};
 
 use crate::answering::step_found;
-use crate::closing::{step_ending, step_failed, step_unacked};
+use crate::closing::{step_ending, step_failed};
 use crate::opening::{step_open, step_opening, step_viewed};
 use crate::searching::step_searching;
 use inno_types::{Level, Reply, Rows, Stmt};
@@ -89,6 +90,23 @@ impl ReadStatement {
         ReadStatement::Opening(asked)
     }
 
+    /// Whether the statement's commit is yet to be acknowledged. It makes no step before that.
+    pub fn owes_ack(&self) -> bool
+        ensures { result ≡ owes_ack self.now }
+    {
+        matches!(self, ReadStatement::Unacked { .. })
+    }
+
+    /// The statement after the acknowledgement of its commit.
+    pub fn acked(self) -> Self
+        ensures { result ≡ acked self }
+    {
+        match self {
+            ReadStatement::Unacked { kept, given } => ReadStatement::Ending { kept, given },
+            other => other,
+        }
+    }
+
     /// One step of the session's SELECT.
     pub fn step<L: SharedLists>(
         self,
@@ -98,6 +116,7 @@ impl ReadStatement {
     ) -> (Self, Advance)
         requires joined { session < length lists.old.names }
         requires running { IsRunning lists.old session self }
+        requires acked { owes_ack self ≡ false }
         ensures steps { Steps IsRunning session lists.old lists.new result.0 result.1 }
         ensures nears { Nears to_go session lists.old self lists.new result.0 result.1 }
     {
@@ -109,12 +128,19 @@ impl ReadStatement {
             ),
             ReadStatement::Searching(read) => step_searching(read, session, lists),
             ReadStatement::Found(found) => step_found(alloc, found, session, lists),
-            ReadStatement::Unacked { kept, given } => step_unacked(kept, given, session, lists),
+            ReadStatement::Unacked { .. } => unreachable!(),
             ReadStatement::Ending { kept, given } => step_ending(kept, given, session, lists),
             ReadStatement::Failed { alone } => step_failed(alone, session, lists),
         }
     }
 }
+
+/// A commit that is owed stands in the past, and its acknowledgement brings the statement nearer to its end.
+pub fn an_acknowledgement_moves_it_on()
+    ensures owed { (state : State) (s : ℕ) (m : ReadStatement) → owes_ack m ≡ true → IsRunning state s m → OwesAck s state.past }
+    ensures runs { (m : ReadStatement) → owes_ack m ≡ true → GoesOnAcked IsRunning m (acked m) }
+    ensures nears { (m : ReadStatement) → owes_ack m ≡ true → NearsAcked to_go m (acked m) }
+{}
 
 /// A step of another session leaves what a SELECT knows.
 pub fn others_leave_it()

@@ -15,7 +15,8 @@ use Rattle.redo_log.specs.View.{LogView}
 use Rattle.redo_log.specs.Logged.{WritesFront, IsLogged}
 use Rattle.redo_log.proofs.Crash.{length-pending}
 
-module _ (first : ℕ) (groups : List Group) (log : LogView) (c : Contents) (is : IsLogged first groups log c) (g : Group) (is_group : IsGroup g) (number : g.lsn ≡ log.next) (n : ℕ) (blocks : List ℕ) (put : AreBlocks log.run (log.block + log.count) (group_bytes g) n blocks) where
+module _ (first : ℕ) (groups : List Group) (log : LogView) (c : Contents) (is : IsLogged first groups log c) (g : Group) (is_group : IsGroup g)
+    (number : g.lsn ≡ log.next) (n : ℕ) (blocks : List ℕ) (put : AreBlocks log.run (log.block + log.count) (group_bytes g) n blocks) where
   -- a front of what waited is a front of what waits now
   front_more : (w : Write) → WritesFront log.block log.pending w → WritesFront log.block (log.pending ++ blocks) w
   front_more w front =
@@ -33,7 +34,17 @@ module _ (first : ℕ) (groups : List Group) (log : LogView) (c : Contents) (is 
         }
       ]
 
-  pub appended : (spare : ℕ) → IsLogged first (groups ++ g ∷ []) (record { run = log.run; block = log.block; pending = log.pending ++ blocks; count = log.count + n; next = log.next + 1; flushed = log.flushed; spare = spare }) c
+  pub appended : (spare : ℕ)
+      → IsLogged first (groups ++ g ∷ []) (record {
+        run = log.run;
+        block = log.block;
+        pending = log.pending ++ blocks;
+        count = log.count + n;
+        next = log.next + 1;
+        flushed = log.flushed;
+        spare =
+            spare;
+      }) c
   appended spare = record {
     durable = is.durable;
     waiting = is.waiting ++ g ∷ [];

@@ -11,8 +11,11 @@ use Rattle.redo_log.proofs.Crash.{holds_prefix}
 use Rattle.redo_log.proofs.Written.{written, sync_failed, flushed, flushed_log}
 
 -- the write, as it is meant
-pub meant : (log : LogView) (at : ℕ) (bytes : List ℕ) (ok : Bool) (p0 p1 : Past) → at ≡ 512 * log.block → bytes ≡ log.pending → Goes (Within Log (Wrote at bytes ok)) p0 p1 → Goes (Within Log (Wrote (512 * log.block) log.pending ok)) p0 p1
-meant log at bytes ok p0 p1 is_at is_bytes goes = subst (λ (l : List ℕ). Goes (Within Log (Wrote (512 * log.block) l ok)) p0 p1) is_bytes (subst (λ (n : ℕ). Goes (Within Log (Wrote n bytes ok)) p0 p1) is_at goes)
+pub meant : (log : LogView) (at : ℕ) (bytes : List ℕ) (ok : Bool) (p0 p1 : Past) → at ≡ 512 * log.block → bytes ≡ log.pending
+    → Goes (Within Log (Wrote at bytes ok)) p0 p1 → Goes (Within Log (Wrote (512 * log.block) log.pending ok)) p0 p1
+meant log at bytes ok p0 p1 is_at is_bytes goes =
+    subst (λ (l : List ℕ). Goes (Within Log (Wrote (512 * log.block) l ok)) p0 p1) is_bytes
+    (subst (λ (n : ℕ). Goes (Within Log (Wrote n bytes ok)) p0 p1) is_at goes)
 
 module _ (first : ℕ) (groups : List Group) (log : LogView) (double pages : Contents) where
   meanwhile : (s : State) → Stands first groups log double pages s → StandsMeanwhile log.run first groups log.flushed double pages s
@@ -63,14 +66,18 @@ module _ (first : ℕ) (groups : List Group) (log : LogView) (double pages : Con
   module _ (run_fits : log.run < 2 ^ 64) (end_fits : log.block + log.count < 2 ^ 64) (some : 0 < log.next) (spare : ℕ) where
     syncs : (b s : State) → IsWritten true b → Within Log (Synced true) b s → Stands first groups (flushed_log log spare) double pages s
     syncs b s is within = record {
-      logged = flushed first groups log is.before.log is.ready.stands.logged is.ready.seen run_fits end_fits some spare b.log is.wrote s.log (within.here.done refl);
+      logged =
+          flushed first groups log is.before.log is.ready.stands.logged is.ready.seen run_fits end_fits some spare b.log is.wrote s.log (within.here.done refl);
       double_is = within.elsewhere Double (λ same. cc) ∙ is.double_is;
       pages_is = within.elsewhere Pages (λ same. cc) ∙ is.pages_is;
     }
 
-  module _ (p0 p1 : Past) (law : (m : ℕ) (s : State) → p0.state_at m ≡ Some s → IsImage s (seen_image s)) (known : Now (Stands first groups log double pages) p0) (ok : Bool) (write : Goes (Within Log (Wrote (512 * log.block) log.pending ok)) p0 p1) where
+  module _ (p0 p1 : Past) (law : (m : ℕ) (s : State) → p0.state_at m ≡ Some s → IsImage s (seen_image s))
+      (known : Now (Stands first groups log double pages) p0) (ok : Bool) (write : Goes (Within Log (Wrote (512 * log.block) log.pending ok)) p0 p1) where
     is_written : Now (IsWritten ok) p1
-    is_written = Now-goes IsReady (IsWritten ok) (Within Log (Wrote (512 * log.block) log.pending ok)) p0 p1 (λ s ticks is. record { stands = known s ticks is; seen = (law p0.moment s is).log }) write (writes ok)
+    is_written =
+        Now-goes IsReady (IsWritten ok) (Within Log (Wrote (512 * log.block) log.pending ok)) p0 p1
+        (λ s ticks is. record { stands = known s ticks is; seen = (law p0.moment s is).log }) write (writes ok)
 
     pub after_write : Now (Stands first groups log double pages) p1
     after_write = Now-weaker (IsWritten ok) (Stands first groups log double pages) p1 is_written (still_stands ok)
@@ -110,4 +117,5 @@ module _ (first : ℕ) (groups : List Group) (log : LogView) (double pages : Con
     pub during_sync : Meanwhile (StandsMeanwhile log.run first groups log.flushed double pages) p0 p2
     during_sync =
         let During = StandsMeanwhile log.run first groups log.flushed double pages in
-        Meanwhile-goes During _ p0 p1 p2 (during_write p0 p1 law known true write) sync (Now-weaker (Stands first groups (flushed_log log spare) double pages) During p2 after_sync flushed_more)
+        Meanwhile-goes During _ p0 p1 p2 (during_write p0 p1 law known true write) sync
+        (Now-weaker (Stands first groups (flushed_log log spare) double pages) During p2 after_sync flushed_more)

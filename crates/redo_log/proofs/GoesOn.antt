@@ -40,7 +40,16 @@ module _ (run first n : ℕ) (groups : List Group) (area : List ℕ) (c : Conten
 
   length-synced : length c.synced ≡ length area
   unfolding front zeros
-  length-synced = omega (arith, ap length zeroed, length-append (take (512 * n) area) (replicate (length area - 512 * n) 0), length-front, length-replicate {A = ℕ} (length area - 512 * n) 0, reach)
+  length-synced =
+      omega (
+        arith,
+        ap length zeroed,
+        length-append (take (512 * n) area) (replicate (length area - 512 * n) 0),
+        length-front,
+        length-replicate {A = ℕ}
+            (length area - 512 * n) 0,
+        reach,
+      )
 
   same_front : take (512 * n) c.synced ≡ take (512 * n) area
   unfolding front
@@ -48,7 +57,8 @@ module _ (run first n : ℕ) (groups : List Group) (area : List ℕ) (c : Conten
 
   good_before : (k : ℕ) → k < n → IsGood run k c.synced
   good_before k below =
-      IsGood-same run k area c.synced (omega (arith, length-synced, (ends.good k below).inside)) (piece_front 512 n k area c.synced below (sym same_front)) (ends.good k below)
+      IsGood-same run k area c.synced (omega (arith, length-synced, (ends.good k below).inside)) (piece_front 512 n k area c.synced below (sym same_front))
+      (ends.good k below)
 
   bad_behind : (k : ℕ) → n ≤ k → IsGood run k c.synced → ⊥
   unfolding front

@@ -18,7 +18,8 @@ pub some_block : (n : ℕ) → 0 < n → 512 ≤ 512 * blocks_for n
 some_block n some = omega arith
 
 -- a group that didn't fit is longer than the spare
-pub too_long : (g : Group) (room pending block next : ℕ) → spare_of room pending block next < length (group_bytes g) → room_of g.records ≤ spare_of room pending block next → ⊥
+pub too_long : (g : Group) (room pending block next : ℕ) → spare_of room pending block next < length (group_bytes g)
+    → room_of g.records ≤ spare_of room pending block next → ⊥
 too_long g room pending block next short enough = absurd (omega (arith, length_is g, blocks_hold (14 + length (flat_map record_bytes g.records))))
 
 -- where the spare suffices, there are numbers and there is room
@@ -35,5 +36,6 @@ pub next_more : (need block next : ℕ) → need ≤ numbers_left block next →
 next_more need block next enough some fits = omega (arith, enough, some, fits)
 
 -- the spare is less by no more than what was appended
-pub spare_after : (need room pending block next n : ℕ) → need ≡ 512 * n → 512 ≤ need → spare_of room pending block next ≤ spare_of (max room (pending + need)) (pending + need) (block + n) (next + 1) + need
+pub spare_after : (need room pending block next n : ℕ) → need ≡ 512 * n → 512 ≤ need
+    → spare_of room pending block next ≤ spare_of (max room (pending + need)) (pending + need) (block + n) (next + 1) + need
 spare_after need room pending block next n is some = omega (arith, is, some)

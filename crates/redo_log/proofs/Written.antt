@@ -24,7 +24,8 @@ abbrev pub flushed_log : LogView → ℕ → LogView
 flushed_log log spare = record { run = log.run; block = log.block + log.count; pending = []; count = 0; next = log.next; flushed = log.next - 1; spare = spare }
 
 -- only what is on the disk and what was written since matters
-pub IsLogged-same : (first : ℕ) (groups : List Group) (log : LogView) (c d : Contents) → IsLogged first groups log c → d.synced ≡ c.synced → All (WritesFront log.block log.pending) d.writes → IsLogged first groups log d
+pub IsLogged-same : (first : ℕ) (groups : List Group) (log : LogView) (c d : Contents) → IsLogged first groups log c → d.synced ≡ c.synced
+    → All (WritesFront log.block log.pending) d.writes → IsLogged first groups log d
 IsLogged-same first groups log c d is same writes = record {
   durable = is.durable;
   waiting = is.waiting;
@@ -39,8 +40,10 @@ IsLogged-same first groups log c d is same writes = record {
   writes = writes;
 }
 
-pub sync_failed : (first : ℕ) (groups : List Group) (log : LogView) (c d : Contents) → IsLogged first groups log c → d.synced ≡ c.synced → d.writes ≡ c.writes → IsLogged first groups log d
-sync_failed first groups log c d is same writes = IsLogged-same first groups log c d is same (subst (All (WritesFront log.block log.pending)) (sym writes) is.writes)
+pub sync_failed : (first : ℕ) (groups : List Group) (log : LogView) (c d : Contents) → IsLogged first groups log c → d.synced ≡ c.synced
+    → d.writes ≡ c.writes → IsLogged first groups log d
+sync_failed first groups log c d is same writes =
+    IsLogged-same first groups log c d is same (subst (All (WritesFront log.block log.pending)) (sym writes) is.writes)
 
 module _ (first : ℕ) (groups : List Group) (log : LogView) (c : Contents) (is : IsLogged first groups log c) (seen : MayLeave c c.seen) where
   -- the write goes where it is meant to go
@@ -84,7 +87,15 @@ module _ (first : ℕ) (groups : List Group) (log : LogView) (c : Contents) (is 
   length-after : length after ≡ 512 * (log.block + log.count) + (length c.seen - 512 * (log.block + log.count))
   unfolding after
   length-after =
-      omega (arith, length-append (take (512 * log.block) c.seen) (log.pending ++ behind), length-append log.pending behind, length-front, length-pending first groups log c is, length-drop (512 * (log.block + log.count)) c.seen)
+      omega (
+        arith,
+        length-append (take (512 * log.block) c.seen) (log.pending ++ behind),
+        length-append log.pending behind,
+        length-front,
+        length-pending
+            first groups log c is,
+        length-drop (512 * (log.block + log.count)) c.seen,
+      )
 
   same_before : take (512 * log.block) after ≡ take (512 * log.block) c.synced
   unfolding after
@@ -99,7 +110,8 @@ module _ (first : ℕ) (groups : List Group) (log : LogView) (c : Contents) (is 
       (take_at log.pending behind (512 * log.count) long ∙ sym (take_all (512 * log.count) log.pending (omega (arith, long))))
       ∙ piece-pending first groups log c is j below
 
-  same_behind : (j : ℕ) → 512 * (log.block + log.count + j + 1) ≤ length c.synced → piece 512 (log.block + log.count + j) after ≡ piece 512 (log.block + log.count + j) c.synced
+  same_behind : (j : ℕ) → 512 * (log.block + log.count + j + 1) ≤ length c.synced
+      → piece 512 (log.block + log.count + j) after ≡ piece 512 (log.block + log.count + j) c.synced
   unfolding after
   same_behind j within =
       let n = log.block + log.count in
@@ -107,7 +119,9 @@ module _ (first : ℕ) (groups : List Group) (log : LogView) (c : Contents) (is 
       let long = length-pending first groups log c is in
       let both : length (front ++ log.pending) ≡ 512 * n = omega (arith, length-append front log.pending, length-front, long) in
       let seen_long : length (take (512 * n) c.seen) ≡ 512 * n = length-take-le (512 * n) c.seen (omega (arith, within, seen.no_shorter)) in
-      let ends = All-weaker (WritesFront log.block log.pending) (λ (w : Write). end_of w ≤ 512 * (n + j)) (λ (w : Write) put. omega (arith, put.place, ap length put.front, length-take (512 * put.blocks) log.pending, long)) c.writes is.writes in
+      let ends =
+      All-weaker (WritesFront log.block log.pending) (λ (w : Write). end_of w ≤ 512 * (n + j))
+      (λ (w : Write) put. omega (arith, put.place, ap length put.front, length-take (512 * put.blocks) log.pending, long)) c.writes is.writes in
       ap (λ (l : List ℕ). piece 512 (n + j) l) (sym (append_assoc front log.pending behind))
       ∙ piece_behind 512 n j (front ++ log.pending) behind both
       ∙ sym (piece_behind 512 n j (take (512 * n) c.seen) behind seen_long)
@@ -117,7 +131,8 @@ module _ (first : ℕ) (groups : List Group) (log : LogView) (c : Contents) (is 
   no_longer : length c.seen ≤ max (length c.synced) (512 * (log.block + log.count))
   no_longer =
       let ends = All-weaker (WritesFront log.block log.pending) (λ (w : Write). end_of w ≤ 512 * (log.block + log.count))
-      (λ (w : Write) put. omega (arith, put.place, ap length put.front, length-take (512 * put.blocks) log.pending, length-pending first groups log c is)) c.writes is.writes in
+      (λ (w : Write) put. omega (arith, put.place, ap length put.front, length-take (512 * put.blocks) log.pending, length-pending first groups log c is))
+      c.writes is.writes in
       omega (arith, seen.no_longer, ends_by c.writes (length c.synced) (512 * (log.block + log.count)) ends)
 
   bad_behind : (k : ℕ) → log.block + log.count ≤ k → IsGood log.run k after → ⊥
@@ -126,14 +141,16 @@ module _ (first : ℕ) (groups : List Group) (log : LogView) (c : Contents) (is 
       let j = k - n in
       let number : n + j ≡ k = omega (arith, from) in
       let inside : 512 * (k + 1) ≤ length c.synced = omega (arith, good.inside, length-after, no_longer, from) in
-      let same : piece 512 k after ≡ piece 512 k c.synced = subst (λ (m : ℕ). piece 512 m after ≡ piece 512 m c.synced) number (same_behind j (omega (arith, inside, number))) in
+      let same : piece 512 k after ≡ piece 512 k c.synced =
+      subst (λ (m : ℕ). piece 512 m after ≡ piece 512 m c.synced) number (same_behind j (omega (arith, inside, number))) in
       is.bad k (omega (arith, from)) (IsGood-same log.run k after c.synced inside same good)
 
   module _ (run_fits : log.run < 2 ^ 64) (end_fits : log.block + log.count < 2 ^ 64) (some : 0 < log.next) (spare : ℕ) where
     good_now : (k : ℕ) → k < log.block + log.count → IsGood log.run k after
     good_now k below = elim (cases_lt k log.block) [
       | inl before ↦
-          IsGood-same log.run k c.synced after (omega (arith, length-after, below)) (sym (piece_front 512 log.block k after c.synced before same_before)) (is.good k before)
+          IsGood-same log.run k c.synced after (omega (arith, length-after, below)) (sym (piece_front 512 log.block k after c.synced before same_before))
+          (is.good k before)
       | inr from ↦
           let j = k - log.block in
           let number : log.block + j ≡ k = omega (arith, from) in
@@ -146,7 +163,8 @@ module _ (first : ℕ) (groups : List Group) (log : LogView) (c : Contents) (is 
         let parts = is.blocks.parts in
         let taken : take log.count parts ≡ parts = take_all log.count parts (omega (arith, is.blocks.count)) in
         payloads-put log.run log.block log.count parts after is.blocks.small (omega (arith, is.blocks.count)) put_behind
-        ∙ ap (λ (l : List ℕ). l ++ flat_map (λ (p : List ℕ). p) (take log.count parts)) (payloads-same log.block after c.synced (λ k below. piece_front 512 log.block k after c.synced below same_before) ∙ is.stored)
+        ∙ ap (λ (l : List ℕ). l ++ flat_map (λ (p : List ℕ). p) (take log.count parts))
+        (payloads-same log.block after c.synced (λ k below. piece_front 512 log.block k after c.synced below same_before) ∙ is.stored)
         ∙ ap (λ (l : List (List ℕ)). stream_of is.durable ++ flat_map (λ (p : List ℕ). p) l) taken
         ∙ ap (λ (l : List ℕ). stream_of is.durable ++ l) is.blocks.whole
         ∙ sym (flat_map-append group_bytes is.durable is.waiting)
@@ -168,5 +186,7 @@ module _ (first : ℕ) (groups : List Group) (log : LogView) (c : Contents) (is 
     })
 
     -- all groups are on the disk
-    pub flushed : (written : Contents) → Wrote (512 * log.block) log.pending true c written → (d : Contents) → d ≡ record { seen = written.seen; synced = written.seen; writes = [] } → IsLogged first groups (flushed_log log spare) d
-    flushed written wrote d is_now = all_flushed d (is_now ∙ ap (λ (l : List ℕ). record { seen = l; synced = l; writes = [] }) (wrote.seen refl ∙ overwritten_is))
+    pub flushed : (written : Contents) → Wrote (512 * log.block) log.pending true c written → (d : Contents)
+        → d ≡ record { seen = written.seen; synced = written.seen; writes = [] } → IsLogged first groups (flushed_log log spare) d
+    flushed written wrote d is_now =
+        all_flushed d (is_now ∙ ap (λ (l : List ℕ). record { seen = l; synced = l; writes = [] }) (wrote.seen refl ∙ overwritten_is))

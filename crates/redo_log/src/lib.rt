@@ -2,6 +2,7 @@
 //! Whoever changes pages or rows appends here first; only a flush of this log writes to the log area.
 #![tactic(auto)]
 
+mod body;
 mod log;
 mod room;
 

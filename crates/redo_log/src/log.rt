@@ -4,14 +4,17 @@ ghost use Rattle.std.specs.Prelude.{◌≡◌, ◌+◌, ◌-◌, ◌*◌, ◌^�
 ghost use Rattle.store_api.specs.Areas.{Contents};
 ghost use Rattle.store_api.specs.Causes.{HasCause};
 ghost use Rattle.store_api.specs.Past.{Now, Meanwhile};
-ghost use Rattle.log_format.specs.Group.{AreRecords};
+ghost use Rattle.log_format.specs.Group.{AreRecords, IsSpelled};
+ghost use Rattle.log_format.specs.declared.group.Record.{Record as RecordValue};
 ghost use Rattle.log_format.specs.declared.group.Group.{Group as GroupValue};
 ghost use Rattle.log_format.specs.Scan.{IsScan, EndsAt};
+ghost use Rattle.redo_log.specs.Bodies.{IsOf};
 ghost use Rattle.redo_log.specs.View.{LogView, room_of, numbers_left};
 ghost use Rattle.redo_log.specs.Logged.{GoesOnAt, IsLogged, LeavesPrefix, Stands, StandsMeanwhile};
 
+use crate::body::{Body, put_body_as};
 use crate::room::{numbers_from, widened};
-use log_format::{Group, put_blocks, put_group_as};
+use log_format::{Group, put_blocks};
 use std::alloc::Global;
 use std::marker::Model;
 use store_api::{Area, Disk, Failed, NoMemory};
@@ -37,6 +40,7 @@ pub struct Log {
 
 impl Model for Log {
     ghost use Rattle.std.specs.Prelude.{◌+◌, length, vec_capacity};
+    ghost use Rattle.redo_log.specs.Bodies.{IsOf};
     ghost use Rattle.redo_log.specs.View.{LogView, IsBounded, spare_of};
 
     ghost Value = { LogView };
@@ -79,6 +83,13 @@ impl Log {
         self.flushed
     }
 
+    /// The LSN of the last group that was appended. Once it is flushed, all that were appended so far are.
+    pub fn last(&self) -> u64
+        ensures { result + 1 ≡ self.now.next }
+    {
+        self.next - 1
+    }
+
     /// Makes the spare at least so large.
     pub fn reserve(&mut self, bytes: u32) -> Result<(), NoMemory>
         ensures ok { OnOk result (bytes ≤ self.new.spare) }
@@ -110,8 +121,45 @@ impl Log {
         ensures spare { OnOk result (self.old.spare ≤ self.new.spare + room_of group.now.records) }
         ensures err { OnErr result (self.new ≡ self.old) }
     {
+        self.append_body(Body::Records(&group.records))
+    }
+
+    /// Takes a group whose records are spelled already, so many one behind the other. As `append` it gives the group the
+    /// next LSN.
+    pub fn append_spelled(&mut self, count: u16, records: &[u8]) -> Result<u64, NoMemory>
+        requires { (rs : List RecordValue) × IsSpelled rs count records.now }
+        ensures lsn { IfOk result (λ lsn. lsn ≡ self.old.next) }
+        ensures run { self.new.run ≡ self.old.run }
+        ensures flushed { self.new.flushed ≡ self.old.flushed }
+        ensures next { OnOk result (self.new.next ≡ self.old.next + 1) }
+        ensures ok { OnOk result ((rs : List RecordValue) → IsSpelled rs count records.now
+            → (first : ℕ) (groups : List GroupValue) (c : Contents) → IsLogged first groups self.old c
+            → IsLogged first (groups ++ record { lsn = self.old.next; records = rs } ∷ []) self.new c) }
+
+        // It is never refused where the spare suffices.
+        ensures suffices { (rs : List RecordValue) → IsSpelled rs count records.now → room_of rs ≤ self.old.spare → IsOk result }
+        ensures spare { OnOk result ((rs : List RecordValue) → IsSpelled rs count records.now → self.old.spare ≤ self.new.spare + room_of rs) }
+        ensures err { OnErr result (self.new ≡ self.old) }
+    {
+        self.append_body(Body::Spelled(count, records))
+    }
+
+    /// Takes a group, which gets the next LSN, as `append` and `append_spelled` do.
+    fn append_body(&mut self, body: Body<'_>) -> Result<u64, NoMemory>
+        requires { (rs : List RecordValue) × IsOf rs body }
+        ensures lsn { IfOk result (λ lsn. lsn ≡ self.old.next) }
+        ensures run { self.new.run ≡ self.old.run }
+        ensures flushed { self.new.flushed ≡ self.old.flushed }
+        ensures next { OnOk result (self.new.next ≡ self.old.next + 1) }
+        ensures ok { OnOk result ((rs : List RecordValue) → IsOf rs body.entry
+            → (first : ℕ) (groups : List GroupValue) (c : Contents) → IsLogged first groups self.old c
+            → IsLogged first (groups ++ record { lsn = self.old.next; records = rs } ∷ []) self.new c) }
+        ensures suffices { (rs : List RecordValue) → IsOf rs body.entry → room_of rs ≤ self.old.spare → IsOk result }
+        ensures spare { OnOk result ((rs : List RecordValue) → IsOf rs body.entry → self.old.spare ≤ self.new.spare + room_of rs) }
+        ensures err { OnErr result (self.new ≡ self.old) }
+    {
         self.work.clear();
-        put_group_as(self.next, &group.records, &mut self.work)?;
+        put_body_as(self.next, body, &mut self.work)?;
         let need = 512 * ((self.work.len() + 483) / 484);
         if numbers_from(self.block + self.count, self.next) < need as u64 {
             return Err(NoMemory);
@@ -138,8 +186,9 @@ impl Log {
         ensures flushed { OnOk result (self.new.flushed + 1 ≡ self.old.next) }
         ensures err { OnErr result (self.new ≡ self.old) }
 
-        // What was flushed is given back to the spare, as far as numbers are left.
+        // The spare gets no smaller. What was flushed is given back to the spare, as far as numbers are left.
         ensures spare { OnOk result (min (self.old.spare + length self.old.pending) (numbers_left (self.old.block + self.old.count) self.old.next) ≤ self.new.spare) }
+        ensures kept { self.old.spare ≤ self.new.spare }
         ensures cause { HasCause (D.past disk.old).faults (D.past disk.new).faults result }
 
         // The log and the disk stand for the same groups as before,

@@ -31,33 +31,43 @@ id_given own next differs = go (own == 0) (⊎_elim (λ t. absurd (differs t.1))
 pub id_new : (own next : ℕ) → own ≡ 0 → id_for own next ≡ next
 id_new own next is = ap (λ (b : Bool). cond b next own) (eq-eqb own 0 is)
 
-pub txns_new : (work : Work) (txns : Txns) → work.id ≡ 0 → txns_with_id work txns ≡ record txns { open_txns = with_id work.txn txns.next txns.open_txns; next = txns.next + 1 }
-txns_new work txns is = ap (λ (b : Bool). cond b (record txns { open_txns = with_id work.txn txns.next txns.open_txns; next = txns.next + 1 }) txns) (eq-eqb work.id 0 is)
+pub txns_new : (work : Work) (txns : Txns) → work.id ≡ 0
+    → txns_with_id work txns ≡ record txns { open_txns = with_id work.txn txns.next txns.open_txns; next = txns.next + 1 }
+txns_new work txns is =
+    ap (λ (b : Bool). cond b (record txns { open_txns = with_id work.txn txns.next txns.open_txns; next = txns.next + 1 }) txns) (eq-eqb work.id 0 is)
 
 pub txns_same : (work : Work) (txns : Txns) → work.id ≢ 0 → txns_with_id work txns ≡ txns
-txns_same work txns differs = ap (λ (b : Bool). cond b (record txns { open_txns = with_id work.txn txns.next txns.open_txns; next = txns.next + 1 }) txns) (⊎_elim (λ t. absurd (differs t.1)) (λ f. f.0) (eqb_tells work.id 0))
+txns_same work txns differs =
+    ap (λ (b : Bool). cond b (record txns { open_txns = with_id work.txn txns.next txns.open_txns; next = txns.next + 1 }) txns)
+    (⊎_elim (λ t. absurd (differs t.1)) (λ f. f.0) (eqb_tells work.id 0))
 
 -- ---- sessions of which one's transaction is changed
 
 -- another's
-other_kept : (txn : ℕ) (f : Session → Session) (session : Session) (work : Option Work) → session.work ≡ work → ((other : Work) → work ≡ Some other → other.txn ≢ txn) → of_txn txn f session work ≡ session
+other_kept : (txn : ℕ) (f : Session → Session) (session : Session) (work : Option Work) → session.work ≡ work
+    → ((other : Work) → work ≡ Some other → other.txn ≢ txn) → of_txn txn f session work ≡ session
 other_kept txn f session None is differs = refl
-other_kept txn f session (Some other) is differs = ap (λ (b : Bool). cond b (f session) session) (⊎_elim (λ t. absurd (differs other refl t.1)) (λ k. k.0) (eqb_tells other.txn txn))
+other_kept txn f session (Some other) is differs =
+    ap (λ (b : Bool). cond b (f session) session) (⊎_elim (λ t. absurd (differs other refl t.1)) (λ k. k.0) (eqb_tells other.txn txn))
 
-mine_changed : (txn : ℕ) (f : Session → Session) (session : Session) (work : Work) → session.work ≡ Some work → work.txn ≡ txn → of_txn txn f session session.work ≡ f session
+mine_changed : (txn : ℕ) (f : Session → Session) (session : Session) (work : Work) → session.work ≡ Some work → work.txn ≡ txn
+    → of_txn txn f session session.work ≡ f session
 mine_changed txn f session work is same = ap (λ w. of_txn txn f session w) is ∙ ap (λ (b : Bool). cond b (f session) session) (eq-eqb work.txn txn same)
 
 found_kept : (g : Session → Session) (found : Option Session) → ((session : Session) → found ≡ Some session → g session ≡ session) → option_map g found ≡ found
 found_kept g None same = refl
 found_kept g (Some session) same = ap Some (same session refl)
 
-pub changed_elsewhere : (s t : ℕ) (work : Work) (f : Session → Session) (state : WorldState) → IsListed s work state → t ≢ s → slice_get (change_txn work.txn f state.sessions) t ≡ slice_get state.sessions t
+pub changed_elsewhere : (s t : ℕ) (work : Work) (f : Session → Session) (state : WorldState) → IsListed s work state → t ≢ s
+    → slice_get (change_txn work.txn f state.sessions) t ≡ slice_get state.sessions t
 changed_elsewhere s t work f state listed differs =
     slice_get-map (λ session. of_txn work.txn f session session.work) state.sessions t
     ∙ found_kept (λ session. of_txn work.txn f session session.work) (slice_get state.sessions t)
-    (λ session is. other_kept work.txn f session session.work refl (λ other has same. differs (listed.alone t session other (record { session_is = is; work_is = has }) same)))
+    (λ session is. other_kept work.txn f session session.work refl
+    (λ other has same. differs (listed.alone t session other (record { session_is = is; work_is = has }) same)))
 
-pub changed_here : (s : ℕ) (session : Session) (work : Work) (f : Session → Session) (state : WorldState) → HasWork s session work state → slice_get (change_txn work.txn f state.sessions) s ≡ Some (f session)
+pub changed_here : (s : ℕ) (session : Session) (work : Work) (f : Session → Session) (state : WorldState) → HasWork s session work state
+    → slice_get (change_txn work.txn f state.sessions) s ≡ Some (f session)
 changed_here s session work f state has =
     slice_get-map (λ x. of_txn work.txn f x x.work) state.sessions s
     ∙ ap (option_map (λ x. of_txn work.txn f x x.work)) has.session_is
@@ -65,23 +75,30 @@ changed_here s session work f state has =
 
 -- ---- the id
 
-pub gives_new_id : (s : ℕ) (session : Session) (work : Work) (old new : WorldState) → HasWork s session work old → IsListed s work old → work.id ≡ 0 → new ≡ identified work.txn old → GivesId s session work old new
+pub gives_new_id : (s : ℕ) (session : Session) (work : Work) (old new : WorldState) → HasWork s session work old → IsListed s work old → work.id ≡ 0
+    → new ≡ identified work.txn old → GivesId s session work old new
 gives_new_id s session work old new has listed none is =
     let f = λ (x : Session). record x { work = work_with_id old.txns.next x.work } in
     let sessions = ap (λ (state : WorldState). state.sessions) is in
     record {
       now = ap (λ (xs : List Session). slice_get xs s) sessions ∙ changed_here s session work f old has
-          ∙ ap (λ w. Some (record session { work = w })) (ap (work_with_id old.txns.next) has.work_is ∙ ap (λ id. Some (record work { id = id })) (sym (id_new work.id old.txns.next none)));
+          ∙ ap (λ w. Some (record session { work = w }))
+          (ap (work_with_id old.txns.next) has.work_is ∙ ap (λ id. Some (record work { id = id })) (sym (id_new work.id old.txns.next none)));
       others = λ t differs. ap (λ (xs : List Session). slice_get xs t) sessions ∙ changed_elsewhere s t work f old listed differs;
       count = ap length sessions ∙ length-map old.sessions (λ session. of_txn work.txn f session session.work);
-      rest = is ∙ ap (λ (xs : List Session). record old { sessions = xs; txns = record old.txns { open_txns = with_id work.txn old.txns.next old.txns.open_txns; next = old.txns.next + 1 } }) (sym sessions)
+      rest =
+          is ∙ ap (λ (xs : List Session). record old
+          { sessions = xs; txns = record old.txns { open_txns = with_id work.txn old.txns.next old.txns.open_txns; next = old.txns.next + 1 } })
+          (sym sessions)
           ∙ ap (λ (txns : Txns). record old { sessions = new.sessions; txns = txns }) (sym (txns_new work old.txns none));
     }
 
 pub keeps_id : (s : ℕ) (session : Session) (work : Work) (state : WorldState) → HasWork s session work state → work.id ≢ 0 → GivesId s session work state state
 keeps_id s session work state has given =
     record {
-      now = has.session_is ∙ ap (λ w. Some (record session { work = w })) (has.work_is ∙ ap (λ id. Some (record work { id = id })) (sym (id_given work.id state.txns.next given)));
+      now =
+          has.session_is ∙ ap (λ w. Some (record session { work = w }))
+          (has.work_is ∙ ap (λ id. Some (record work { id = id })) (sym (id_given work.id state.txns.next given)));
       others = λ t differs. refl;
       count = refl;
       rest = ap (λ txns. record state { txns = txns }) (sym (txns_same work state.txns given));
@@ -89,7 +106,8 @@ keeps_id s session work state has given =
 
 -- ---- the entry
 
-pub entered_change : (s : ℕ) (change : Change) (rows : ℕ) (session : Session) (work : Work) (old mid new : WorldState) → (gives : GivesId s session work old mid)
+pub entered_change : (s : ℕ) (change : Change) (rows : ℕ) (session : Session) (work : Work) (old mid new : WorldState)
+    → (gives : GivesId s session work old mid)
     → ((x : Session) (w : Work) → HasWork s x w mid → new ≡ change_added s change rows x w mid) → Enters s change rows session work old new
 entered_change s change rows session work old mid new gives added =
     let work1 = record work { id = id_for work.id old.txns.next } in
@@ -109,20 +127,24 @@ entered_change s change rows session work old mid new gives added =
 pub one_work : (s : ℕ) (a b : Session) (v w : Work) (state : WorldState) → HasWork s a v state → HasWork s b w state → v ≡ w
 one_work s a b v w state first second = cc
 
-pub now_has : (s : ℕ) (session : Session) (work : Work) (old new : WorldState) → GivesId s session work old new → HasWork s (record session { work = Some (record work { id = id_for work.id old.txns.next }) }) (record work { id = id_for work.id old.txns.next }) new
+pub now_has : (s : ℕ) (session : Session) (work : Work) (old new : WorldState) → GivesId s session work old new
+    → HasWork s (record session { work = Some (record work { id = id_for work.id old.txns.next }) }) (record work { id = id_for work.id old.txns.next }) new
 now_has s session work old new gives = record { session_is = gives.now; work_is = refl }
 
 one_some : (a b : ℕ) → Some a ≡ Some b → a ≡ b
 one_some a b h = cc
 
-pub told_txn : (s : ℕ) (session : Session) (work : Work) (state : WorldState) (standing : Standing) (txn : ℕ) → HasWork s session work state → standing ≡ standing_of session → standing.txn ≡ Some txn → txn ≡ work.txn
+pub told_txn : (s : ℕ) (session : Session) (work : Work) (state : WorldState) (standing : Standing) (txn : ℕ) → HasWork s session work state
+    → standing ≡ standing_of session → standing.txn ≡ Some txn → txn ≡ work.txn
 told_txn s session work state standing txn has is told = one_some txn work.txn (sym told ∙ ap (λ (x : Standing). x.txn) is ∙ tells_txn s session work state has)
 
-pub told_id : (s : ℕ) (session : Session) (work : Work) (state : WorldState) (standing : Standing) → HasWork s session work state → standing ≡ standing_of session → standing.id ≡ work.id
+pub told_id : (s : ℕ) (session : Session) (work : Work) (state : WorldState) (standing : Standing) → HasWork s session work state
+    → standing ≡ standing_of session → standing.id ≡ work.id
 told_id s session work state standing has is = ap (λ (x : Standing). x.id) is ∙ tells_id s session work state has
 
 -- the transaction that was told of is given its id
-pub gives_told : (s : ℕ) (x session : Session) (w work : Work) (old new : WorldState) (standing : Standing) (txn : ℕ) → HasWork s x w old → IsListed s w old → HasWork s session work old → standing ≡ standing_of x → standing.txn ≡ Some txn → standing.id ≡ 0
+pub gives_told : (s : ℕ) (x session : Session) (w work : Work) (old new : WorldState) (standing : Standing) (txn : ℕ) → HasWork s x w old
+    → IsListed s w old → HasWork s session work old → standing ≡ standing_of x → standing.txn ≡ Some txn → standing.id ≡ 0
     → new ≡ identified txn old → GivesId s session work old new
 gives_told s x session w work old new standing txn has listed also is told none given =
     let same = one_work s x session w work old has also in

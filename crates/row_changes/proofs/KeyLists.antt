@@ -24,23 +24,29 @@ one_key found a b is also = cc
 before_or_at : (a b : ℕ) → a < b + 1 → a ≢ b → a < b
 before_or_at a b below differs = omega arith
 
-pub more_stay : (schema : Schema) (from which : ℕ) (before after : Option (List Value)) (key : Key) → StayBetween schema from which before after → slice_get schema.keys which ≡ Some key → value_stays key.column before after ≡ true → StayBetween schema from (which + 1) before after
+pub more_stay : (schema : Schema) (from which : ℕ) (before after : Option (List Value)) (key : Key) → StayBetween schema from which before after
+    → slice_get schema.keys which ≡ Some key → value_stays key.column before after ≡ true → StayBetween schema from (which + 1) before after
 more_stay schema from which before after key stay there stays w k from_there below is =
-    ⊎_elim (λ e. ap (λ (x : Key). value_stays x.column before after) (one_key (slice_get schema.keys which) k key (ap (slice_get schema.keys) (sym e) ∙ is) there) ∙ stays)
+    ⊎_elim (λ e. ap (λ (x : Key). value_stays x.column before after)
+    (one_key (slice_get schema.keys which) k key (ap (slice_get schema.keys) (sym e) ∙ is) there) ∙ stays)
     (λ differs. stay w k from_there (before_or_at w which below differs) is) (cases_eq w which)
 
-pub stay_to_end : (schema : Schema) (from which to : ℕ) (before after : Option (List Value)) → StayBetween schema from which before after → to ≤ which → StayBetween schema from to before after
+pub stay_to_end : (schema : Schema) (from which to : ℕ) (before after : Option (List Value)) → StayBetween schema from which before after → to ≤ which
+    → StayBetween schema from to before after
 stay_to_end schema from which to before after stay ends w k from_there below is = stay w k from_there (omega arith) is
 
-pub none_at_end : (schema : Schema) (to : ℕ) (before after : Option (List Value)) → to ≡ length schema.keys → (key : Key) → slice_get schema.keys to ≡ Some key → value_stays key.column before after ≡ false
+pub none_at_end : (schema : Schema) (to : ℕ) (before after : Option (List Value)) → to ≡ length schema.keys → (key : Key)
+    → slice_get schema.keys to ≡ Some key → value_stays key.column before after ≡ false
 none_at_end schema to before after ends key is = let within : to < length schema.keys = slice_get_within schema.keys to key is in absurd (omega arith)
 
 -- ---- the entry of a row
 
-pub of_kind : (columns : List Column) (row : List Value) (place at : ℕ) (column : Column) (value : Value) → IsRowOf columns row → slice_get columns place ≡ Some column → value ≡ value_in place row → IsOfKindOrNull column.kind value
+pub of_kind : (columns : List Column) (row : List Value) (place at : ℕ) (column : Column) (value : Value) → IsRowOf columns row
+    → slice_get columns place ≡ Some column → value ≡ value_in place row → IsOfKindOrNull column.kind value
 of_kind columns row place at column value fits there is = subst (λ v. IsOfKindOrNull column.kind v) (sym is) (value_in-kind columns row place column fits there)
 
-pub entry_in : (schema : Schema) (which place : ℕ) (row : List Value) (primary start out : List ℕ) (key : Key) (column : Column) (value : Value) → slice_get schema.keys which ≡ Some key → place ≡ key.column → slice_get schema.columns place ≡ Some column → value ≡ value_in place row
+pub entry_in : (schema : Schema) (which place : ℕ) (row : List Value) (primary start out : List ℕ) (key : Key) (column : Column) (value : Value)
+    → slice_get schema.keys which ≡ Some key → place ≡ key.column → slice_get schema.columns place ≡ Some column → value ≡ value_in place row
     → start ≡ [] → out ≡ start ++ entry_code column.kind value primary → IsEntryIn schema which row primary out
 entry_in schema which place row primary start out key column value key_is place_is column_is value_is empty out_is =
     record {
@@ -48,5 +54,7 @@ entry_in schema which place row primary start out key column value key_is place_
       key_is = key_is;
       indexed = column;
       indexed_is = ap (slice_get schema.columns) (sym place_is) ∙ column_is;
-      spelled = out_is ∙ ap (λ s. s ++ entry_code column.kind value primary) empty ∙ ap (λ v. entry_code column.kind v primary) (value_is ∙ ap (λ p. value_in p row) place_is);
+      spelled =
+          out_is ∙ ap (λ s. s ++ entry_code column.kind value primary) empty ∙ ap (λ v. entry_code column.kind v primary)
+          (value_is ∙ ap (λ p. value_in p row) place_is);
     }

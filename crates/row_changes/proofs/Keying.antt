@@ -44,18 +44,25 @@ use Rattle.row_changes.proofs.Telling.{stays_told, rows_again, coded_again, put_
 
 -- ---- rows, where told
 
-pub so_far_kept : (chains : Chains) (place : Place) (done : ℕ) (next older : List Version) (old new : WorldState) → RowsStay old new → HasRowsSoFar chains place done next older old → HasRowsSoFar chains place done next older new
+pub so_far_kept : (chains : Chains) (place : Place) (done : ℕ) (next older : List Version) (old new : WorldState) → RowsStay old new
+    → HasRowsSoFar chains place done next older old → HasRowsSoFar chains place done next older new
 so_far_kept chains place done next older old new stay rows told =
     let was = rows (stays_told old new stay told) in
     (was.0, rows_again old new chains was.0 stay told was.1, was.2)
 
 -- a pair has changed: what it makes of what keys say, where told
-pub so_far_put : (chains : Chains) (place : Place) (done done' : ℕ) (next next' older : List Version) (index : ℕ) (key : List ℕ) (value : Option (List ℕ)) (old new : WorldState) → (puts : PutsPair index key value old new)
-    → ((told : IsTold new) → Says old.schemas old.versions.kept_at chains place older (pairs_of old) done next → Says old.schemas old.versions.kept_at chains place older (pairs_of new) done' next')
+pub so_far_put : (chains : Chains) (place : Place) (done done' : ℕ) (next next' older : List Version) (index : ℕ) (key : List ℕ) (value : Option (List ℕ))
+    (old new : WorldState) → (puts : PutsPair index key value old new)
+    → ((told : IsTold new) → Says old.schemas old.versions.kept_at chains place older (pairs_of old) done next → Says old.schemas old.versions.kept_at chains
+    place older (pairs_of new) done' next')
     → HasRowsSoFar chains place done next older old → HasRowsSoFar chains place done' next' older new
 so_far_put chains place done done' next next' older index key value old new puts step rows told =
-    let now = step told (rows (put_told index key value old new puts told)) in
-    (now.0, coded_again old.schemas new.schemas (pairs_of new) (pairs_of new) old.versions.kept_at new.versions.kept_at chains now.0 (ap (λ (state : WorldState). state.schemas) puts.rest) refl (puts.versions.kept told.versions) now.1, now.2)
+    let now = step told (rows (put_told index key value old new puts told)) in (
+      now.0,
+      coded_again old.schemas new.schemas (pairs_of new) (pairs_of new) old.versions.kept_at new.versions.kept_at chains now.0
+          (ap (λ (state : WorldState). state.schemas) puts.rest) refl (puts.versions.kept told.versions) now.1,
+      now.2,
+    )
 
 -- ---- the change
 
@@ -63,8 +70,10 @@ pub table_kept : (table : ℕ) (schema : Schema) (old new : WorldState) → new.
 table_kept table schema old new same is = record { there = ap (λ (s : List Schema). slice_get s table) same ∙ is.there; storable = is.storable }
 
 -- what is known of the change at its next step
-pub changing_next : (chains : Chains) (old new : WorldState) (change : KeysChange) (which : ℕ) (put : Option EntryPut) (p : IsChangingKeys chains old change) → new.schemas ≡ old.schemas → (IsTold new → IsTold old) → which ≤ length p.schema.keys
-    → IfSome put (IsEntering p.schema change.table which change.after change.key new) → HasRowsSoFar chains (record { table = change.table; key = p.value }) which (said_next put change.before p.older) p.older new
+pub changing_next : (chains : Chains) (old new : WorldState) (change : KeysChange) (which : ℕ) (put : Option EntryPut) (p : IsChangingKeys chains old change)
+    → new.schemas ≡ old.schemas → (IsTold new → IsTold old) → which ≤ length p.schema.keys
+    → IfSome put (IsEntering p.schema change.table which change.after change.key new) → HasRowsSoFar chains (record { table = change.table; key = p.value })
+    which (said_next put change.before p.older) p.older new
     → IsChangingKeys chains new (record change { which = which; put = put })
 changing_next chains old new change which put p same back within entering rows =
     record {
@@ -86,8 +95,10 @@ one_schema : (found : Option Schema) (a b : Schema) → found ≡ Some a → fou
 one_schema found a b is also = cc
 
 -- the next step, some steps nearer
-pub goes_on : (chains : Chains) (old new : WorldState) (change : KeysChange) (which : ℕ) (put : Option EntryPut) (p : IsChangingKeys chains old change) → StaysBesideKeys old new → IsChangingKeys chains new (record change { which = which; put = put })
-    → keys_steps (length p.schema.keys - which) put < keys_steps (length p.schema.keys - change.which) change.put → GoesOnWithKeys chains old new change (record change { which = which; put = put })
+pub goes_on : (chains : Chains) (old new : WorldState) (change : KeysChange) (which : ℕ) (put : Option EntryPut) (p : IsChangingKeys chains old change)
+    → StaysBesideKeys old new → IsChangingKeys chains new (record change { which = which; put = put })
+    → keys_steps (length p.schema.keys - which) put < keys_steps (length p.schema.keys - change.which) change.put → GoesOnWithKeys chains old new change
+    (record change { which = which; put = put })
 goes_on chains old new change which put p stays holds nears =
     record {
       stays = stays;
@@ -96,12 +107,16 @@ goes_on chains old new change which put p stays holds nears =
       before_is = refl;
       after_is = refl;
       holds = holds;
-      nears = λ schema there. subst (λ (s : Schema). keys_steps (length s.keys - which) put < keys_steps (length s.keys - change.which) change.put) (one_schema (slice_get old.schemas change.table) p.schema schema p.table.there there) nears;
+      nears =
+          λ schema there. subst (λ (s : Schema). keys_steps (length s.keys - which) put < keys_steps (length s.keys - change.which) change.put)
+          (one_schema (slice_get old.schemas change.table) p.schema schema p.table.there there) nears;
     }
 
-pub changing_kept : (chains : Chains) (old new : WorldState) (change : KeysChange) (p : IsChangingKeys chains old change) → RowsStay old new → IfSome change.put (IsEntering p.schema change.table change.which change.after change.key new) → IsChangingKeys chains new change
+pub changing_kept : (chains : Chains) (old new : WorldState) (change : KeysChange) (p : IsChangingKeys chains old change) → RowsStay old new
+    → IfSome change.put (IsEntering p.schema change.table change.which change.after change.key new) → IsChangingKeys chains new change
 changing_kept chains old new change p stay entering =
-    changing_next chains old new change change.which change.put p (ap (λ (state : WorldState). state.schemas) stay.rest) (stays_told old new stay) p.within entering
+    changing_next chains old new change change.which change.put p (ap (λ (state : WorldState). state.schemas) stay.rest) (stays_told old new stay) p.within
+    entering
     (so_far_kept chains (record { table = change.table; key = p.value }) change.which (said_next change.put change.before p.older) p.older old new stay p.rows)
 
 pub beside_stay : (old new : WorldState) → RowsStay old new → StaysBesideKeys old new
@@ -113,7 +128,8 @@ beside_stay old new stay = record {
   rest = stay.rest;
 }
 
-beside_put : (index : ℕ) (key : List ℕ) (value : Option (List ℕ)) (old new : WorldState) → ((table : ℕ) → clustered_index table ≢ index) → PutsPair index key value old new → StaysBesideKeys old new
+beside_put : (index : ℕ) (key : List ℕ) (value : Option (List ℕ)) (old new : WorldState) → ((table : ℕ) → clustered_index table ≢ index)
+    → PutsPair index key value old new → StaysBesideKeys old new
 beside_put index key value old new no_rows puts = record {
   told = put_told index key value old new puts;
   records = λ table. puts.elsewhere (clustered_index table) (no_rows table);
@@ -131,34 +147,44 @@ pub none_put : (P : EntryPut → Type 0) (put : Option EntryPut) → put ≡ Non
 none_put P put is = subst (λ (p : Option EntryPut). IfSome p P) (sym is) (record {})
 
 -- what the keys say while no entry is being put
-pub rows_waiting : (chains : Chains) (state : WorldState) (change : KeysChange) (p : IsChangingKeys chains state change) → change.put ≡ None → HasRowsSoFar chains (record { table = change.table; key = p.value }) change.which p.older p.older state
-rows_waiting chains state change p none = subst (λ (put : Option EntryPut). HasRowsSoFar chains (record { table = change.table; key = p.value }) change.which (said_next put change.before p.older) p.older state) none p.rows
+pub rows_waiting : (chains : Chains) (state : WorldState) (change : KeysChange) (p : IsChangingKeys chains state change) → change.put ≡ None
+    → HasRowsSoFar chains (record { table = change.table; key = p.value }) change.which p.older p.older state
+rows_waiting chains state change p none =
+    subst (λ (put : Option EntryPut). HasRowsSoFar chains (record { table = change.table; key = p.value }) change.which (said_next put change.before p.older)
+    p.older state) none p.rows
 
 -- the keys from this one up to the other are passed over
-pub rows_passed : (chains : Chains) (state : WorldState) (change : KeysChange) (p : IsChangingKeys chains state change) (to : ℕ) → change.put ≡ None → change.which ≤ to → StayBetween p.schema change.which to change.before change.after
+pub rows_passed : (chains : Chains) (state : WorldState) (change : KeysChange) (p : IsChangingKeys chains state change) (to : ℕ) → change.put ≡ None
+    → change.which ≤ to → StayBetween p.schema change.which to change.before change.after
     → HasRowsSoFar chains (record { table = change.table; key = p.value }) to p.older p.older state
 rows_passed chains state change p to none from stay told =
     let same : change.which + (to - change.which) ≡ to = omega arith in
     subst (λ (d : ℕ). Says state.schemas state.versions.kept_at chains (record { table = change.table; key = p.value }) p.older (pairs_of state) d p.older) same
-    (pass state.schemas state.versions.kept_at chains (record { table = change.table; key = p.value }) p.older p.schema p.table.there (pairs_of state) (to - change.which) change.which p.pushed.version p.pushed.versions
-    (λ which key from' below is. stays_alike key.column change.before change.after p.pushed.version p.older (p.was told) p.pushed.is (stay which key from' (subst (λ (d : ℕ). which < d) same below) is))
+    (pass state.schemas state.versions.kept_at chains (record { table = change.table; key = p.value }) p.older p.schema p.table.there (pairs_of state)
+    (to - change.which) change.which p.pushed.version p.pushed.versions
+    (λ which key from' below is. stays_alike key.column change.before change.after p.pushed.version p.older (p.was told) p.pushed.is
+    (stay which key from' (subst (λ (d : ℕ). which < d) same below) is))
     (rows_waiting chains state change p none told))
 
 -- ---- the end
 
-pub all_passed : (actor : ℕ) (chains : Chains) (state : WorldState) (change : KeysChange) (p : IsChangingKeys chains state change) → change.put ≡ None → StayBetween p.schema change.which (length p.schema.keys) change.before change.after → ChangesKeys actor chains state state change Done
+pub all_passed : (actor : ℕ) (chains : Chains) (state : WorldState) (change : KeysChange) (p : IsChangingKeys chains state change) → change.put ≡ None
+    → StayBetween p.schema change.which (length p.schema.keys) change.before change.after → ChangesKeys actor chains state state change Done
 all_passed actor chains state change p none stay = (
   same_rows state,
-  λ told. over state.schemas state.versions.kept_at chains (record { table = change.table; key = p.value }) p.older p.schema p.table.there (pairs_of state) (length p.schema.keys) p.older (omega arith)
+  λ told. over state.schemas state.versions.kept_at chains (record { table = change.table; key = p.value }) p.older p.schema p.table.there (pairs_of state)
+      (length p.schema.keys) p.older (omega arith)
       (rows_passed chains state change p (length p.schema.keys) none p.within stay told),
 )
 
 -- ---- hindered
 
-pub no_memory : (actor : ℕ) (chains : Chains) (state : WorldState) (change : KeysChange) → IsChangingKeys chains state change → ChangesKeys actor chains state state change (Hindered change moves.NoMemory)
+pub no_memory : (actor : ℕ) (chains : Chains) (state : WorldState) (change : KeysChange) → IsChangingKeys chains state change
+    → ChangesKeys actor chains state state change (Hindered change moves.NoMemory)
 no_memory actor chains state change p = (refl, same_rows state, p, record { which = change.which; from = omega arith; entry = []; cause = record {} })
 
-pub mark_hindered : (actor : ℕ) (chains : Chains) (old new : WorldState) (change : KeysChange) (p : IsChangingKeys chains old change) (index which : ℕ) (entry : List ℕ) (why : Move) → change.put ≡ None → change.which ≤ which → index ≡ key_index change.table which → RowsStay old new
+pub mark_hindered : (actor : ℕ) (chains : Chains) (old new : WorldState) (change : KeysChange) (p : IsChangingKeys chains old change) (index which : ℕ)
+    (entry : List ℕ) (why : Move) → change.put ≡ None → change.which ≤ which → index ≡ key_index change.table which → RowsStay old new
     → HindersEntry actor entry (old.indexes index) (new.indexes index) why → ChangesKeys actor chains old new change (Hindered change why)
 mark_hindered actor chains old new change p index which entry why none from is stay because = (
   refl,
@@ -192,27 +218,32 @@ few_keys schema which storable within = let few = storable.few in omega arith
 some_key : (schema : Schema) (which : ℕ) → which < length schema.keys → (key : Key) × (slice_get schema.keys which ≡ Some key)
 some_key schema which within = inside (slice_get_cases schema.keys which).1
   where
-    inside : ((key : Key) × (which < length schema.keys) × (slice_get schema.keys which ≡ Some key) × (get_or schema.keys which key ≡ key)) ⊎ ((length schema.keys ≤ which) × (slice_get schema.keys which ≡ None)) → (key : Key) × (slice_get schema.keys which ≡ Some key)
+    inside : ((key : Key) × (which < length schema.keys) × (slice_get schema.keys which ≡ Some key) × (get_or schema.keys which key ≡ key)) ⊎
+        ((length schema.keys ≤ which) × (slice_get schema.keys which ≡ None)) → (key : Key) × (slice_get schema.keys which ≡ Some key)
     inside (inl found) = (found.0, found.2)
     inside (inr none) = let out = none.0 in absurd (omega arith)
 
 one_column : (found : Option Column) (a b : Column) → found ≡ Some a → found ≡ Some b → a ≡ b
 one_column found a b is also = cc
 
-fewer_next : (keys from which : ℕ) (put : Option EntryPut) → keys_steps (keys - from) put ≡ 4 * (keys - from) → from ≤ which → which < keys → 4 * (keys - (which + 1)) < keys_steps (keys - from) put
+fewer_next : (keys from which : ℕ) (put : Option EntryPut) → keys_steps (keys - from) put ≡ 4 * (keys - from) → from ≤ which → which < keys
+    → 4 * (keys - (which + 1)) < keys_steps (keys - from) put
 fewer_next keys from which put is above within = omega (arith, is)
 
-fewer_put : (keys from which : ℕ) (put : Option EntryPut) → keys_steps (keys - from) put ≡ 4 * (keys - from) → from ≤ which → which < keys → 4 * ((keys - which) - 1) + 3 < keys_steps (keys - from) put
+fewer_put : (keys from which : ℕ) (put : Option EntryPut) → keys_steps (keys - from) put ≡ 4 * (keys - from) → from ≤ which → which < keys
+    → 4 * ((keys - which) - 1) + 3 < keys_steps (keys - from) put
 fewer_put keys from which put is above within = omega (arith, is)
 
 -- its row is one of the table's at the place
-key_of_row : (schema : Schema) (value : Value) (row : List Value) (key : List ℕ) → IsKeyAt schema value key → IsRowFor schema row key → key_of schema row ≡ value
+key_of_row : (schema : Schema) (value : Value) (row : List Value) (key : List ℕ) → IsKeyAt schema value key → IsRowFor schema row key
+    → key_of schema row ≡ value
 key_of_row schema value row key at fits =
     let there = key_there schema key (version_code schema (plain row 0)) (plain row 0) at.column at.primary (code_of schema row key 0 (omega arith) fits) in
     one_key at.column.kind (key_of schema row) value there.0 at.has_key (sym there.1 ∙ at.spelled)
 
 -- an entry of a row is short
-short_entry : (schema : Schema) (which : ℕ) (row : Option (List Value)) (primary entry : List ℕ) → IsStorable schema → IfSome row (λ r. IsRowFor schema r primary) → IsEntryFor schema which row primary (Some entry) → length entry ≤ 67
+short_entry : (schema : Schema) (which : ℕ) (row : Option (List Value)) (primary entry : List ℕ) → IsStorable schema
+    → IfSome row (λ r. IsRowFor schema r primary) → IsEntryFor schema which row primary (Some entry) → length entry ≤ 67
 short_entry schema which None primary entry storable fits is = absurd is
 short_entry schema which (Some row) primary entry storable fits is =
     let within : which < length schema.keys = slice_get_within schema.keys which is.key is.key_is in
@@ -220,23 +251,61 @@ short_entry schema which (Some row) primary entry storable fits is =
     let same : get_or schema.keys which is.key ≡ is.key = get_or_from_slice_get schema.keys which is.key is.key is.key_is in
     let ShortFor : Key → Type 0 = λ k. (r : List Value) (bytes : List ℕ) → IsEntryOf schema k r bytes → length bytes ≤ 67 in
     let short : ShortFor is.key = subst ShortFor same all in
-    short row entry (record { column = is.indexed; there = is.indexed_is; of_kind = value_in-kind schema.columns row is.key.column is.indexed fits.fits.columns is.indexed_is; primary = primary; primary_is = fits.key_is; spelled = is.spelled })
+    short row entry (record {
+      column = is.indexed;
+      there = is.indexed_is;
+      of_kind = value_in-kind schema.columns row is.key.column is.indexed
+          fits.fits.columns is.indexed_is;
+      primary = primary;
+      primary_is = fits.key_is;
+      spelled = is.spelled;
+    })
 
 -- the new row's entry is put next
-put_next : (chains : Chains) (old new : WorldState) (change : KeysChange) (p : IsChangingKeys chains old change) (index : ℕ) (entries : KeyEntries) (entry : List ℕ) → change.put ≡ None → index ≡ key_index change.table entries.which
-    → (all : AreEntries p.schema change.which change.before change.after change.key entries) → entries.new ≡ Some entry → new.schemas ≡ old.schemas → (IsTold new → IsTold old) → StaysBesideKeys old new
-    → HasRowsSoFar chains (record { table = change.table; key = p.value }) entries.which (without_row change.before p.older) p.older new → GoesOnWithKeys chains old new change (keys_next change index entries.which (Some entry))
+put_next : (chains : Chains) (old new : WorldState) (change : KeysChange) (p : IsChangingKeys chains old change) (index : ℕ) (entries : KeyEntries)
+    (entry : List ℕ) → change.put ≡ None → index ≡ key_index change.table entries.which
+    → (all : AreEntries p.schema change.which change.before change.after change.key entries) → entries.new ≡ Some entry → new.schemas ≡ old.schemas →
+    (IsTold new → IsTold old) → StaysBesideKeys old new
+    → HasRowsSoFar chains (record { table = change.table; key = p.value }) entries.which (without_row change.before p.older) p.older new → GoesOnWithKeys
+    chains old new change (keys_next change index entries.which (Some entry))
 put_next chains old new change p index entries entry none is all new_is same back stays rows =
-    let new_entry : IsEntryFor p.schema entries.which change.after change.key (Some entry) = subst (λ (e : Option (List ℕ)). IsEntryFor p.schema entries.which change.after change.key e) new_is all.new_is in
+    let new_entry : IsEntryFor p.schema entries.which change.after change.key (Some entry) =
+    subst (λ (e : Option (List ℕ)). IsEntryFor p.schema entries.which change.after change.key e) new_is all.new_is in
     let first : EntryPut = record { index = index; entry = entry; phase = Look } in
-    let number : IsIndex new.schemas index = record { table = change.table; which = 1 + entries.which; number = is; schema = p.schema; there = ap (λ (s : List Schema). slice_get s change.table) same ∙ p.table.there; key = (let w = all.within in omega arith); few = (let f = few_keys p.schema entries.which p.table.storable all.within in omega arith) } in
-    let entering : IsEntering p.schema change.table entries.which change.after change.key new first = record { index_is = is; entry_is = new_entry; within = all.within; putting = record { index_is = number; short = short_entry p.schema entries.which change.after change.key entry p.table.storable p.after new_entry; phase = record {} } } in
-    goes_on chains old new change entries.which (Some first) p stays (changing_next chains old new change entries.which (Some first) p same back (let w = all.within in omega arith) entering rows)
-    (fewer_put (length p.schema.keys) change.which entries.which change.put (ap (keys_steps (length p.schema.keys - change.which)) none) all.first.from_there all.within)
+    let number : IsIndex new.schemas index =
+    record {
+      table = change.table;
+      which = 1 + entries.which;
+      number = is;
+      schema = p.schema;
+      there = ap (λ (s : List Schema). slice_get s change.table)
+          same ∙ p.table.there;
+      key = (let w = all.within in omega arith);
+      few =
+          (let f = few_keys p.schema entries.which p.table.storable all.within in omega arith);
+    } in
+    let entering : IsEntering p.schema change.table entries.which change.after change.key new first =
+    record {
+      index_is = is;
+      entry_is = new_entry;
+      within = all.within;
+      putting = record {
+        index_is = number;
+        short = short_entry p.schema entries.which change.after change.key entry p.table.storable p.after new_entry;
+        phase = record
+            {};
+      };
+    } in
+    goes_on chains old new change entries.which (Some first) p stays
+    (changing_next chains old new change entries.which (Some first) p same back (let w = all.within in omega arith) entering rows)
+    (fewer_put (length p.schema.keys) change.which entries.which change.put (ap (keys_steps (length p.schema.keys - change.which)) none) all.first.from_there
+    all.within)
 
 -- nothing else is left to do in a key where no row is any more
-pub marked_on : (chains : Chains) (old new : WorldState) (change : KeysChange) (p : IsChangingKeys chains old change) (index : ℕ) (entries : KeyEntries) (entry : List ℕ) → change.put ≡ None → index ≡ key_index change.table entries.which
-    → AreEntries p.schema change.which change.before change.after change.key entries → entries.old ≡ Some entry → PutsPair index entry (Some marked) old new → GoesOnWithKeys chains old new change (keys_next change index entries.which entries.new)
+pub marked_on : (chains : Chains) (old new : WorldState) (change : KeysChange) (p : IsChangingKeys chains old change) (index : ℕ) (entries : KeyEntries)
+    (entry : List ℕ) → change.put ≡ None → index ≡ key_index change.table entries.which
+    → AreEntries p.schema change.which change.before change.after change.key entries → entries.old ≡ Some entry → PutsPair index entry (Some marked) old new
+    → GoesOnWithKeys chains old new change (keys_next change index entries.which entries.new)
 marked_on chains old new change p index entries entry none is all old_is puts =
     go change.before change.after entries.new refl refl refl
   where
@@ -253,40 +322,58 @@ marked_on chains old new change p index entries entry none is all old_is puts =
     old_entry = subst (λ (e : Option (List ℕ)). IsEntryFor p.schema entries.which change.before change.key e) old_is all.old_is
 
     -- once the old row's entry is marked
-    gone_now : (row : List Value) → change.before ≡ Some row → (version : Version) → version.row ≡ None → HasRowsSoFar chains (record { table = change.table; key = p.value }) entries.which (version ∷ p.older) p.older new
+    gone_now : (row : List Value) → change.before ≡ Some row → (version : Version) → version.row ≡ None
+        → HasRowsSoFar chains (record { table = change.table; key = p.value }) entries.which (version ∷ p.older) p.older new
     gone_now row was version no_row =
-        so_far_put chains (record { table = change.table; key = p.value }) entries.which entries.which p.older (version ∷ p.older) p.older (key_index change.table entries.which) entry (Some marked) old new here
+        so_far_put chains (record { table = change.table; key = p.value }) entries.which entries.which p.older (version ∷ p.older) p.older
+        (key_index change.table entries.which) entry (Some marked) old new here
         (λ told says.
         let fits : IsRowFor p.schema row change.key = subst (λ (o : Option (List Value)). IfSome o (λ r. IsRowFor p.schema r change.key)) was p.before in
-        let e : IsEntryIn p.schema entries.which row change.key entry = subst (λ (o : Option (List Value)). IsEntryFor p.schema entries.which o change.key (Some entry)) was old_entry in
-        mark old.schemas old.versions.kept_at chains (record { table = change.table; key = p.value }) p.older p.schema p.table.there (pairs_of old) (pairs_of new) entries.which e.key.column (plain row 0) version
-        (puts_entry old.schemas (pairs_of old) (pairs_of new) change.table entries.which p.schema row 0 change.key entry (Some marked) p.table.there (omega arith) fits e (put_pairs (key_index change.table entries.which) entry (Some marked) old new here told))
-        (key_of_row p.schema p.value row change.key p.at fits) (p.was (put_told (key_index change.table entries.which) entry (Some marked) old new here told) ∙ was) no_row says)
+        let e : IsEntryIn p.schema entries.which row change.key entry =
+        subst (λ (o : Option (List Value)). IsEntryFor p.schema entries.which o change.key (Some entry)) was old_entry in
+        mark old.schemas old.versions.kept_at chains (record { table = change.table; key = p.value }) p.older p.schema p.table.there (pairs_of old)
+        (pairs_of new) entries.which e.key.column (plain row 0) version
+        (puts_entry old.schemas (pairs_of old) (pairs_of new) change.table entries.which p.schema row 0 change.key entry (Some marked) p.table.there
+        (omega arith) fits e (put_pairs (key_index change.table entries.which) entry (Some marked) old new here told))
+        (key_of_row p.schema p.value row change.key p.at fits)
+        (p.was (put_told (key_index change.table entries.which) entry (Some marked) old new here told) ∙ was) no_row says)
         (rows_passed chains old change p entries.which none all.first.from_there all.first.stay)
 
     waiting : keys_steps (length p.schema.keys - change.which) change.put ≡ 4 * (length p.schema.keys - change.which)
     waiting = ap (keys_steps (length p.schema.keys - change.which)) none
 
-    go : (before after : Option (List Value)) (next : Option (List ℕ)) → change.before ≡ before → change.after ≡ after → entries.new ≡ next → GoesOnWithKeys chains old new change (keys_next change index entries.which next)
+    go : (before after : Option (List Value)) (next : Option (List ℕ)) → change.before ≡ before → change.after ≡ after → entries.new ≡ next
+        → GoesOnWithKeys chains old new change (keys_next change index entries.which next)
     go None after next was now next_is = absurd (subst (λ (o : Option (List Value)). IsEntryFor p.schema entries.which o change.key (Some entry)) was old_entry)
     go (Some row) None None was now next_is =
         let version_gone : p.pushed.version.row ≡ None = p.pushed.is ∙ now in
         let rows = gone_now row was p.pushed.version version_gone in
-        let done : HasRowsSoFar chains (record { table = change.table; key = p.value }) (entries.which + 1) p.older p.older new = λ told. key_done new.schemas new.versions.kept_at chains (record { table = change.table; key = p.value }) p.older p.schema (ap (λ (s : List Schema). slice_get s change.table) same ∙ p.table.there) (pairs_of new) entries.which (p.pushed.version ∷ p.older) (sym p.pushed.versions) (rows told) in
+        let done : HasRowsSoFar chains (record { table = change.table; key = p.value }) (entries.which + 1) p.older p.older new = λ told. key_done
+        new.schemas new.versions.kept_at chains (record { table = change.table; key = p.value }) p.older p.schema
+        (ap (λ (s : List Schema). slice_get s change.table) same ∙ p.table.there) (pairs_of new) entries.which (p.pushed.version ∷ p.older)
+        (sym p.pushed.versions) (rows told) in
         let within = all.within in
         let from = all.first.from_there in
         goes_on chains old new change (entries.which + 1) None p (beside_put index entry (Some marked) old new no_rows puts)
         (changing_next chains old new change (entries.which + 1) None p same (put_told index entry (Some marked) old new puts) (omega arith) (record {}) done)
         (fewer_next (length p.schema.keys) change.which entries.which change.put waiting from within)
-    go (Some row) None (Some e) was now next_is = absurd (subst (λ (o : Option (List Value)). IsEntryFor p.schema entries.which o change.key (Some e)) now (subst (λ (x : Option (List ℕ)). IsEntryFor p.schema entries.which change.after change.key x) next_is all.new_is))
-    go (Some row) (Some later) None was now next_is = absurd (subst (λ (o : Option (List Value)). IsEntryFor p.schema entries.which o change.key None) now (subst (λ (x : Option (List ℕ)). IsEntryFor p.schema entries.which change.after change.key x) next_is all.new_is))
+    go (Some row) None (Some e) was now next_is =
+        absurd (subst (λ (o : Option (List Value)). IsEntryFor p.schema entries.which o change.key (Some e)) now
+        (subst (λ (x : Option (List ℕ)). IsEntryFor p.schema entries.which change.after change.key x) next_is all.new_is))
+    go (Some row) (Some later) None was now next_is =
+        absurd (subst (λ (o : Option (List Value)). IsEntryFor p.schema entries.which o change.key None) now
+        (subst (λ (x : Option (List ℕ)). IsEntryFor p.schema entries.which change.after change.key x) next_is all.new_is))
     go (Some row) (Some later) (Some e) was now next_is =
-        put_next chains old new change p index entries e none is all next_is same (put_told index entry (Some marked) old new puts) (beside_put index entry (Some marked) old new no_rows puts)
-        (subst (λ (o : Option (List Value)). HasRowsSoFar chains (record { table = change.table; key = p.value }) entries.which (without_row o p.older) p.older new) (sym was) (gone_now row was gone refl))
+        put_next chains old new change p index entries e none is all next_is same (put_told index entry (Some marked) old new puts)
+        (beside_put index entry (Some marked) old new no_rows puts)
+        (subst (λ (o : Option (List Value)). HasRowsSoFar chains (record { table = change.table; key = p.value }) entries.which (without_row o p.older)
+        p.older new) (sym was) (gone_now row was gone refl))
 
 -- there is no old entry
-pub nothing_marked : (chains : Chains) (state : WorldState) (change : KeysChange) (p : IsChangingKeys chains state change) (index : ℕ) (entries : KeyEntries) → change.put ≡ None → index ≡ key_index change.table entries.which
-    → AreEntries p.schema change.which change.before change.after change.key entries → entries.old ≡ None → GoesOnWithKeys chains state state change (keys_next change index entries.which entries.new)
+pub nothing_marked : (chains : Chains) (state : WorldState) (change : KeysChange) (p : IsChangingKeys chains state change) (index : ℕ) (entries : KeyEntries)
+    → change.put ≡ None → index ≡ key_index change.table entries.which
+    → AreEntries p.schema change.which change.before change.after change.key entries → entries.old ≡ None → GoesOnWithKeys chains state state change
+    (keys_next change index entries.which entries.new)
 nothing_marked chains state change p index entries none is all old_is = go change.before entries.new refl refl
   where
     old_entry : IsEntryFor p.schema entries.which change.before change.key None
@@ -295,20 +382,26 @@ nothing_marked chains state change p index entries none is all old_is = go chang
     after_none : (after : Option (List Value)) → change.before ≡ None → change.after ≡ after → IsEntryFor p.schema entries.which after change.key None → ⊥
     after_none None was now h =
         let key = some_key p.schema entries.which all.within in
-        let differs : value_stays key.0.column None None ≡ false = ap (λ o. value_stays key.0.column None o) (sym now) ∙ ap (λ o. value_stays key.0.column o change.after) (sym was) ∙ all.first.changes key.0 key.1 in
+        let differs : value_stays key.0.column None None ≡ false =
+        ap (λ o. value_stays key.0.column None o) (sym now) ∙ ap (λ o. value_stays key.0.column o change.after) (sym was) ∙ all.first.changes key.0 key.1 in
         cc
     after_none (Some later) was now h = h
 
-    go : (before : Option (List Value)) (next : Option (List ℕ)) → change.before ≡ before → entries.new ≡ next → GoesOnWithKeys chains state state change (keys_next change index entries.which next)
+    go : (before : Option (List Value)) (next : Option (List ℕ)) → change.before ≡ before → entries.new ≡ next
+        → GoesOnWithKeys chains state state change (keys_next change index entries.which next)
     go (Some row) next was next_is = absurd (subst (λ (o : Option (List Value)). IsEntryFor p.schema entries.which o change.key None) was old_entry)
-    go None None was next_is = absurd (after_none change.after was refl (subst (λ (x : Option (List ℕ)). IsEntryFor p.schema entries.which change.after change.key x) next_is all.new_is))
+    go None None was next_is =
+        absurd (after_none change.after was refl (subst (λ (x : Option (List ℕ)). IsEntryFor p.schema entries.which change.after change.key x) next_is
+        all.new_is))
     go None (Some e) was next_is =
         put_next chains state state change p index entries e none is all next_is refl (λ told. told) (beside_stay state state (same_rows state))
-        (subst (λ (o : Option (List Value)). HasRowsSoFar chains (record { table = change.table; key = p.value }) entries.which (without_row o p.older) p.older state) (sym was) (rows_passed chains state change p entries.which none all.first.from_there all.first.stay))
+        (subst (λ (o : Option (List Value)). HasRowsSoFar chains (record { table = change.table; key = p.value }) entries.which (without_row o p.older)
+        p.older state) (sym was) (rows_passed chains state change p entries.which none all.first.from_there all.first.stay))
 
 -- ---- the new entry
 
-pub entering_on : (chains : Chains) (old new : WorldState) (change : KeysChange) (put next : EntryPut) (p : IsChangingKeys chains old (record change { put = Some put })) → GoesOnPutting old new put next
+pub entering_on : (chains : Chains) (old new : WorldState) (change : KeysChange) (put next : EntryPut)
+    (p : IsChangingKeys chains old (record change { put = Some put })) → GoesOnPutting old new put next
     → GoesOnWithKeys chains old new (record change { put = Some put }) (record change { put = Some next })
 entering_on chains old new change put next p g =
     let e = p.put in
@@ -319,7 +412,8 @@ entering_on chains old new change put next p g =
       putting = g.holds;
     } in
     goes_on chains old new (record change { put = Some put }) change.which (Some next) p (beside_stay old new g.stays)
-    (changing_next chains old new (record change { put = Some put }) change.which (Some next) p (ap (λ (state : WorldState). state.schemas) g.stays.rest) (stays_told old new g.stays) p.within entering
+    (changing_next chains old new (record change { put = Some put }) change.which (Some next) p (ap (λ (state : WorldState). state.schemas) g.stays.rest)
+    (stays_told old new g.stays) p.within entering
     (so_far_kept chains (record { table = change.table; key = p.value }) change.which (without_row change.before p.older) p.older old new g.stays p.rows))
     (let nearer = g.nears in omega arith)
 
@@ -332,26 +426,34 @@ some_step Insert = omega arith
 fewer_done : (keys from steps : ℕ) → from < keys → 0 < steps → 4 * (keys - (from + 1)) < 4 * ((keys - from) - 1) + steps
 fewer_done keys from steps within some = omega arith
 
-pub entered_key : (chains : Chains) (old new : WorldState) (change : KeysChange) (put : EntryPut) (p : IsChangingKeys chains old (record change { put = Some put })) → PutsPair put.index put.entry (Some unmarked) old new
+pub entered_key : (chains : Chains) (old new : WorldState) (change : KeysChange) (put : EntryPut)
+    (p : IsChangingKeys chains old (record change { put = Some put })) → PutsPair put.index put.entry (Some unmarked) old new
     → GoesOnWithKeys chains old new (record change { put = Some put }) (record change { which = change.which + 1; put = None })
 entered_key chains old new change put p puts =
     let e = p.put in
     let within = e.within in
     let same : new.schemas ≡ old.schemas = ap (λ (state : WorldState). state.schemas) puts.rest in
-    goes_on chains old new (record change { put = Some put }) (change.which + 1) None p (beside_put put.index put.entry (Some unmarked) old new (no_rows_in change.table change.which put.index (let f = few_keys p.schema change.which p.table.storable within in omega arith) e.index_is) puts)
-    (changing_next chains old new (record change { put = Some put }) (change.which + 1) None p same (put_told put.index put.entry (Some unmarked) old new puts) (omega arith) (record {}) (rows change.before change.after refl refl))
+    goes_on chains old new (record change { put = Some put }) (change.which + 1) None p
+    (beside_put put.index put.entry (Some unmarked) old new
+    (no_rows_in change.table change.which put.index (let f = few_keys p.schema change.which p.table.storable within in omega arith) e.index_is) puts)
+    (changing_next chains old new (record change { put = Some put }) (change.which + 1) None p same
+    (put_told put.index put.entry (Some unmarked) old new puts) (omega arith) (record {}) (rows change.before change.after refl refl))
     (fewer_done (length p.schema.keys) change.which (put_steps put.phase) within (some_step put.phase))
   where
     here : PutsPair (key_index change.table change.which) put.entry (Some unmarked) old new
     here = subst (λ (i : ℕ). PutsPair i put.entry (Some unmarked) old new) p.put.index_is puts
 
-    rows : (before after : Option (List Value)) → change.before ≡ before → change.after ≡ after → HasRowsSoFar chains (record { table = change.table; key = p.value }) (change.which + 1) p.older p.older new
+    rows : (before after : Option (List Value)) → change.before ≡ before → change.after ≡ after
+        → HasRowsSoFar chains (record { table = change.table; key = p.value }) (change.which + 1) p.older p.older new
     rows before None was now = absurd (subst (λ (o : Option (List Value)). IsEntryFor p.schema change.which o change.key (Some put.entry)) now p.put.entry_is)
     rows before (Some row) was now =
-        so_far_put chains (record { table = change.table; key = p.value }) change.which (change.which + 1) (without_row before p.older) p.older p.older (key_index change.table change.which) put.entry (Some unmarked) old new here
-        (λ told says. key_done old.schemas old.versions.kept_at chains (record { table = change.table; key = p.value }) p.older p.schema p.table.there (pairs_of new) change.which (shown (plain row p.pushed.version.writer) ∷ p.older)
+        so_far_put chains (record { table = change.table; key = p.value }) change.which (change.which + 1) (without_row before p.older) p.older p.older
+        (key_index change.table change.which) put.entry (Some unmarked) old new here
+        (λ told says. key_done old.schemas old.versions.kept_at chains (record { table = change.table; key = p.value }) p.older p.schema p.table.there
+        (pairs_of new) change.which (shown (plain row p.pushed.version.writer) ∷ p.older)
         (ap (λ (v : Version). v ∷ p.older) shown_is ∙ sym p.pushed.versions) (step before was told says))
-        (subst (λ (o : Option (List Value)). HasRowsSoFar chains (record { table = change.table; key = p.value }) change.which (without_row o p.older) p.older old) was p.rows)
+        (subst (λ (o : Option (List Value)). HasRowsSoFar chains (record { table = change.table; key = p.value }) change.which (without_row o p.older)
+        p.older old) was p.rows)
       where
         shown_is : shown (plain row p.pushed.version.writer) ≡ p.pushed.version
         shown_is = ap (λ (r : Option (List Value)). let v : Version = record { writer = p.pushed.version.writer; row = r } in v) (sym (p.pushed.is ∙ now))
@@ -362,22 +464,34 @@ entered_key chains old new change put p puts =
         entry : IsEntryIn p.schema change.which row change.key put.entry
         entry = subst (λ (o : Option (List Value)). IsEntryFor p.schema change.which o change.key (Some put.entry)) now p.put.entry_is
 
-        step : (before : Option (List Value)) → change.before ≡ before → IsTold new → Says old.schemas old.versions.kept_at chains (record { table = change.table; key = p.value }) p.older (pairs_of old) change.which (without_row before p.older)
-            → Says old.schemas old.versions.kept_at chains (record { table = change.table; key = p.value }) p.older (pairs_of new) change.which (shown (plain row p.pushed.version.writer) ∷ p.older)
+        step : (before : Option (List Value)) → change.before ≡ before → IsTold new
+            → Says old.schemas old.versions.kept_at chains (record { table = change.table; key = p.value }) p.older (pairs_of old) change.which
+            (without_row before p.older)
+            → Says old.schemas old.versions.kept_at chains (record { table = change.table; key = p.value }) p.older (pairs_of new) change.which
+            (shown (plain row p.pushed.version.writer) ∷ p.older)
         step None was told says =
-            put_first old.schemas old.versions.kept_at chains (record { table = change.table; key = p.value }) p.older p.schema p.table.there (pairs_of old) (pairs_of new) change.which entry.key.column (plain row p.pushed.version.writer)
-            (puts_entry old.schemas (pairs_of old) (pairs_of new) change.table change.which p.schema row p.pushed.version.writer change.key put.entry (Some unmarked) p.table.there p.pushed.small fits entry (put_pairs (key_index change.table change.which) put.entry (Some unmarked) old new here told))
-            (key_of_row p.schema p.value row change.key p.at fits) refl (p.was (put_told (key_index change.table change.which) put.entry (Some unmarked) old new here told) ∙ was) says
+            put_first old.schemas old.versions.kept_at chains (record { table = change.table; key = p.value }) p.older p.schema p.table.there (pairs_of old)
+            (pairs_of new) change.which entry.key.column (plain row p.pushed.version.writer)
+            (puts_entry old.schemas (pairs_of old) (pairs_of new) change.table change.which p.schema row p.pushed.version.writer change.key put.entry
+            (Some unmarked) p.table.there p.pushed.small fits entry
+            (put_pairs (key_index change.table change.which) put.entry (Some unmarked) old new here told))
+            (key_of_row p.schema p.value row change.key p.at fits) refl
+            (p.was (put_told (key_index change.table change.which) put.entry (Some unmarked) old new here told) ∙ was) says
         step (Some was_row) was told says =
-            put_after old.schemas old.versions.kept_at chains (record { table = change.table; key = p.value }) p.older p.schema p.table.there (pairs_of old) (pairs_of new) change.which entry.key.column (plain row p.pushed.version.writer) gone
-            (puts_entry old.schemas (pairs_of old) (pairs_of new) change.table change.which p.schema row p.pushed.version.writer change.key put.entry (Some unmarked) p.table.there p.pushed.small fits entry (put_pairs (key_index change.table change.which) put.entry (Some unmarked) old new here told))
+            put_after old.schemas old.versions.kept_at chains (record { table = change.table; key = p.value }) p.older p.schema p.table.there (pairs_of old)
+            (pairs_of new) change.which entry.key.column (plain row p.pushed.version.writer) gone
+            (puts_entry old.schemas (pairs_of old) (pairs_of new) change.table change.which p.schema row p.pushed.version.writer change.key put.entry
+            (Some unmarked) p.table.there p.pushed.small fits entry
+            (put_pairs (key_index change.table change.which) put.entry (Some unmarked) old new here told))
             (key_of_row p.schema p.value row change.key p.at fits) refl refl says
 
-pub put_hindered : (actor : ℕ) (chains : Chains) (old new : WorldState) (change : KeysChange) (put same : EntryPut) (why : Move) (p : IsChangingKeys chains old (record change { put = Some put })) → PutsEntry actor old new put (Hindered same why)
+pub put_hindered : (actor : ℕ) (chains : Chains) (old new : WorldState) (change : KeysChange) (put same : EntryPut) (why : Move)
+    (p : IsChangingKeys chains old (record change { put = Some put })) → PutsEntry actor old new put (Hindered same why)
     → ChangesKeys actor chains old new (record change { put = Some put }) (Hindered (record change { put = Some same }) why)
 put_hindered actor chains old new change put same why p h =
     let e = p.put in
-    let entering : IsEntering p.schema change.table change.which change.after change.key new put = record { index_is = e.index_is; entry_is = e.entry_is; within = e.within; putting = h.2 } in (
+    let entering : IsEntering p.schema change.table change.which change.after change.key new put =
+    record { index_is = e.index_is; entry_is = e.entry_is; within = e.within; putting = h.2 } in (
       ap (λ (x : EntryPut). let c : KeysChange = record change { put = Some x } in c) h.0,
       h.1,
       changing_kept chains old new (record change { put = Some put }) p h.1 entering,
@@ -392,6 +506,7 @@ put_hindered actor chains old new change put same why p h =
 
 -- ---- what was looked up
 
-pub for_its_schema : (result : Result (Option KeyEntries) NoMemory) (P : Schema → Option KeyEntries → Type 0) (found : Option Schema) (schema : Schema) → found ≡ Some schema → IfOk result (P schema) → IfOk result (λ r. (s : Schema) → found ≡ Some s → P s r)
+pub for_its_schema : (result : Result (Option KeyEntries) NoMemory) (P : Schema → Option KeyEntries → Type 0) (found : Option Schema) (schema : Schema)
+    → found ≡ Some schema → IfOk result (P schema) → IfOk result (λ r. (s : Schema) → found ≡ Some s → P s r)
 for_its_schema (Ok r) P found schema is holds = λ s also. subst (λ (x : Schema). P x r) (one_schema found schema s is also) holds
 for_its_schema (Err e) P found schema is holds = record {}

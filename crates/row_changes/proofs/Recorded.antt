@@ -66,18 +66,21 @@ pub first_fits : (schema : Schema) (edit : RowEdit) (key : List ℕ) → FitsEdi
 first_fits schema (Put row) key fits is row' writer pointer = (fits.fits.columns, fits.key_is)
 first_fits schema (Remove value) key fits is row' writer pointer = absurd is
 
-pub next_fits : (schema : Schema) (edit : RowEdit) (key bytes : List ℕ) (before : Version) → FitsEdit schema edit key → IsRecordOf schema before key bytes → (writer pointer : ℕ)
+pub next_fits : (schema : Schema) (edit : RowEdit) (key bytes : List ℕ) (before : Version) → FitsEdit schema edit key → IsRecordOf schema before key bytes
+    → (writer pointer : ℕ)
     → IsRowOf schema.columns (version_by edit before.row writer pointer).row × IsKeyOf schema (version_by edit before.row writer pointer).row key
 next_fits schema (Put row) key bytes before fits is writer pointer = (fits.fits.columns, fits.key_is)
 next_fits schema (Remove value) key bytes before fits is writer pointer = (is.fits, is.key_is)
 
-pub value_short : (schema : Schema) (version : Version) (key value : List ℕ) → IsStorable schema → IsRowOf schema.columns version.row × IsKeyOf schema version.row key → value ≡ version_code schema version → length value ≤ 1024
+pub value_short : (schema : Schema) (version : Version) (key value : List ℕ) → IsStorable schema
+    → IsRowOf schema.columns version.row × IsKeyOf schema version.row key → value ≡ version_code schema version → length value ≤ 1024
 value_short schema version key value storable fits is = short_value schema version key value storable (record { fits = fits.0; key_is = fits.1; value_is = is })
 
 fits_room : (key room : ℕ) → key ≤ 33 → 1098 ≤ room → 7 + key + 0 ≤ room
 fits_room key room short enough = omega arith
 
-pub may_log_new : (s : ℕ) (state : WorldState) (change : RecordChange) (p : IsChangingRecord s state change) (undo : Undo) → HasRoom p.session → undo ≡ undo_of_new change.table change.key → MayLog s undo state
+pub may_log_new : (s : ℕ) (state : WorldState) (change : RecordChange) (p : IsChangingRecord s state change) (undo : Undo) → HasRoom p.session
+    → undo ≡ undo_of_new change.table change.key → MayLog s undo state
 may_log_new s state change p undo room is =
     let short = key_fits p.schema change.edit change.key p.table.storable p.fits in
     subst (λ u. MayLog s u state) (sym is) (record {
@@ -96,19 +99,25 @@ logged_work session work undo = record work { log = record { pointer = session.n
 abbrev pub logged_session : ℕ → Session → Work → Undo → Session
 logged_session next session work undo = record session { undo_room = 0; next_pointer = next; work = Some (logged_work session work undo) }
 
-pub logged_here : (s : ℕ) (undo : Undo) (old mid : WorldState) → (logged : IsLogged s undo old mid) → HasWork s (logged_session logged.next logged.session logged.work undo) (logged_work logged.session logged.work undo) mid
+pub logged_here : (s : ℕ) (undo : Undo) (old mid : WorldState) → (logged : IsLogged s undo old mid)
+    → HasWork s (logged_session logged.next logged.session logged.work undo) (logged_work logged.session logged.work undo) mid
 logged_here s undo old mid logged =
     record {
-      session_is = ap (λ (state : WorldState). slice_get state.sessions s) logged.rest ∙ set_here old.sessions s logged.session (logged_session logged.next logged.session logged.work undo) logged.has_work.session_is;
+      session_is =
+          ap (λ (state : WorldState). slice_get state.sessions s) logged.rest ∙ set_here old.sessions s logged.session
+          (logged_session logged.next logged.session logged.work undo) logged.has_work.session_is;
       work_is = refl;
     }
 
-pub logged_elsewhere : (s t : ℕ) (undo : Undo) (old mid : WorldState) → (logged : IsLogged s undo old mid) → t ≢ s → slice_get mid.sessions t ≡ slice_get old.sessions t
+pub logged_elsewhere : (s t : ℕ) (undo : Undo) (old mid : WorldState) → (logged : IsLogged s undo old mid) → t ≢ s
+    → slice_get mid.sessions t ≡ slice_get old.sessions t
 logged_elsewhere s t undo old mid logged differs =
-    ap (λ (state : WorldState). slice_get state.sessions t) logged.rest ∙ set_other old.sessions s t (logged_session logged.next logged.session logged.work undo) differs
+    ap (λ (state : WorldState). slice_get state.sessions t) logged.rest ∙ set_other old.sessions s t
+    (logged_session logged.next logged.session logged.work undo) differs
 
 pub works_changed : (s : ℕ) (change : Change) (rows : ℕ) (undo : Undo) (old mid new : WorldState) → (logged : IsLogged s undo old mid)
-    → Enters s change rows (logged_session logged.next logged.session logged.work undo) (logged_work logged.session logged.work undo) mid new → ChangesWork s undo old new
+    → Enters s change rows (logged_session logged.next logged.session logged.work undo) (logged_work logged.session logged.work undo) mid new → ChangesWork s
+    undo old new
 works_changed s change rows undo old mid new logged enters =
     let txns = ap (λ (state : WorldState). state.txns) logged.rest in
     let versions = ap (λ (state : WorldState). state.versions) enters.rest in
@@ -116,22 +125,49 @@ works_changed s change rows undo old mid new logged enters =
       session = logged.session;
       work = logged.work;
       had = logged.has_work;
-      session_now = record (logged_session logged.next logged.session logged.work undo) { can_change = false; work = Some (record (logged_work logged.session logged.work undo) { id = id_for logged.work.id mid.txns.next; own = logged.work.own + 1 }) };
+      session_now =
+          record (logged_session logged.next logged.session logged.work undo) {
+            can_change = false;
+            work = Some (record (logged_work logged.session logged.work undo)
+                { id = id_for logged.work.id mid.txns.next; own = logged.work.own + 1 });
+          };
       work_now = record (logged_work logged.session logged.work undo) { id = id_for logged.work.id mid.txns.next; own = logged.work.own + 1 };
       has = record { session_is = enters.now; work_is = refl };
-      changed = record { txn = refl; level = refl; view = refl; can_end = refl; own = refl; id_is = ap (λ (t : Txns). id_for logged.work.id t.next) txns; log = refl };
+      changed =
+          record {
+            txn = refl;
+            level = refl;
+            view = refl;
+            can_end = refl;
+            own = refl;
+            id_is = ap (λ (t : Txns). id_for logged.work.id t.next) txns;
+            log =
+                refl;
+          };
       setting = refl;
       can_reply = refl;
       can_ack = refl;
       others = λ t differs. enters.others t differs ∙ logged_elsewhere s t undo old mid logged differs;
-      count = enters.count ∙ ap (λ (state : WorldState). length state.sessions) logged.rest ∙ length-set old.sessions s (logged_session logged.next logged.session logged.work undo);
+      count =
+          enters.count ∙ ap (λ (state : WorldState). length state.sessions) logged.rest ∙ length-set old.sessions s
+          (logged_session logged.next logged.session logged.work undo);
       txns = ap (λ (state : WorldState). state.txns) enters.rest ∙ ap (txns_with_id (logged_work logged.session logged.work undo)) txns;
       versions = subst (λ v. KeepsIf (undo.kind == 2) old.schemas logged.session.next_pointer undo old.versions v) (sym versions) logged.kept;
     }
 
 -- what is known of all fields but those that have gone on
-join_rests : (old new : WorldState) (event : Event) (rows : ℕ) → new.names ≡ old.names → new.past ≡ event ∷ old.past → new.rows ≡ old.rows + rows → new.schemas ≡ old.schemas
-    → new ≡ record old { past = event ∷ old.past; rows = old.rows + rows; indexes = new.indexes; versions = new.versions; paged = new.paged; sessions = new.sessions; txns = new.txns }
+join_rests : (old new : WorldState) (event : Event) (rows : ℕ) → new.names ≡ old.names → new.past ≡ event ∷ old.past → new.rows ≡ old.rows + rows
+    → new.schemas ≡ old.schemas
+    → new ≡ record old {
+      past = event ∷ old.past;
+      rows = old.rows + rows;
+      indexes = new.indexes;
+      versions = new.versions;
+      paged = new.paged;
+      sessions =
+          new.sessions;
+      txns = new.txns;
+    }
 join_rests old new event rows names past rows_are schemas =
     ap (λ x. record new { names = x }) names
     ∙ ap (λ x. record new { names = old.names; past = x }) past
@@ -147,7 +183,9 @@ pub recorded : (s : ℕ) (change : Change) (rows table : ℕ) (key bytes : List 
 recorded s change rows table key bytes undo old mid new logged enters here elsewhere places =
     let indexes = ap (λ (state : WorldState). state.indexes) enters.rest in
     record {
-      here = subst (λ i. Goes (λ before after. after ≡ with_value key (Some bytes) before) (old.indexes (clustered_index table)).pairs (i (clustered_index table)).pairs) (sym indexes) here;
+      here =
+          subst (λ i. Goes (λ before after. after ≡ with_value key (Some bytes) before) (old.indexes (clustered_index table)).pairs
+          (i (clustered_index table)).pairs) (sym indexes) here;
       elsewhere = λ other differs. subst (λ i. AreKept (old.indexes other).pairs (i other).pairs) (sym indexes) (elsewhere other differs);
       places = λ index. ap (λ (i : ℕ → Index). (i index).place) indexes ∙ places index;
       work = works_changed s change rows undo old mid new logged enters;
@@ -161,22 +199,31 @@ recorded s change rows table key bytes undo old mid new logged enters here elsew
 -- ---- the step behind the call
 
 -- the log's session and transaction are those that were known
-logged_same : (s : ℕ) (undo : Undo) (old mid : WorldState) (change : RecordChange) (p : IsChangingRecord s old change) → (logged : IsLogged s undo old mid) → (logged.session ≡ p.session) × (logged.work ≡ p.work)
-logged_same s undo old mid change p logged =
-    (one_session old s logged.session p.session logged.has_work.session_is p.has_work.session_is, one_work s logged.session p.session logged.work p.work old logged.has_work p.has_work)
+logged_same : (s : ℕ) (undo : Undo) (old mid : WorldState) (change : RecordChange) (p : IsChangingRecord s old change) → (logged : IsLogged s undo old mid)
+    → (logged.session ≡ p.session) × (logged.work ≡ p.work)
+logged_same s undo old mid change p logged = (
+  one_session old s logged.session p.session logged.has_work.session_is p.has_work.session_is,
+  one_work s logged.session p.session logged.work p.work old
+      logged.has_work p.has_work,
+)
 
-listed_logged : (s : ℕ) (undo : Undo) (old mid : WorldState) (logged : IsLogged s undo old mid) → IsListed s logged.work old → IsListed s (logged_work logged.session logged.work undo) mid
+listed_logged : (s : ℕ) (undo : Undo) (old mid : WorldState) (logged : IsLogged s undo old mid) → IsListed s logged.work old
+    → IsListed s (logged_work logged.session logged.work undo) mid
 listed_logged s undo old mid logged listed =
     let txns = ap (λ (state : WorldState). state.txns) logged.rest in
     record {
       there = subst (λ (t : Txns). is_there logged.work.txn t.open_txns) (sym txns) listed.there;
       id = ap (λ (t : Txns). id_at logged.work.txn t.open_txns) txns ∙ listed.id;
       few = subst (λ (t : Txns). t.next < 18446744073709551615) (sym txns) listed.few;
-      alone = λ t session other has same. ⊎_elim (λ e. e) (λ differs. listed.alone t session other (record { session_is = sym (logged_elsewhere s t undo old mid logged differs) ∙ has.session_is; work_is = has.work_is }) same) (cases_eq t s);
+      alone =
+          λ t session other has same. ⊎_elim (λ e. e)
+          (λ differs. listed.alone t session other (record
+          { session_is = sym (logged_elsewhere s t undo old mid logged differs) ∙ has.session_is; work_is = has.work_is }) same) (cases_eq t s);
     }
 
 -- what entering the change asks
-pub may_enter : (s : ℕ) (undo : Undo) (old mid : WorldState) (change : RecordChange) (p : IsChangingRecord s old change) → HasRoom p.session → IsLogged s undo old mid
+pub may_enter : (s : ℕ) (undo : Undo) (old mid : WorldState) (change : RecordChange) (p : IsChangingRecord s old change) → HasRoom p.session
+    → IsLogged s undo old mid
     → (session : Session) × (work : Work) × HasWork s session work mid × IsListed s work mid × (session.can_change ≡ true)
 may_enter s undo old mid change p room logged =
     let same = logged_same s undo old mid change p logged in (
@@ -187,17 +234,24 @@ may_enter s undo old mid change p room logged =
       ap (λ (x : Session). x.can_change) same.0 ∙ room.entry,
     )
 
-pub inserted_logs : (s index : ℕ) (key value : List ℕ) (undo : Undo) (old mid : WorldState) → Changes index s (Some undo) (λ before after answer. InsertsWith (Some undo) s key value before after answer) old mid moves.Done → IsLogged s undo old mid
+pub inserted_logs : (s index : ℕ) (key value : List ℕ) (undo : Undo) (old mid : WorldState)
+    → Changes index s (Some undo) (λ before after answer. InsertsWith (Some undo) s key value before after answer) old mid moves.Done → IsLogged s undo old mid
 inserted_logs s index key value undo old mid c = c.beside
 
-pub inserted : (s : ℕ) (old mid new : WorldState) (change : RecordChange) (p : IsChangingRecord s old change) (value : List ℕ) (undo : Undo) → change.stage ≡ Insert
+pub inserted : (s : ℕ) (old mid new : WorldState) (change : RecordChange) (p : IsChangingRecord s old change) (value : List ℕ) (undo : Undo)
+    → change.stage ≡ Insert
     → value ≡ version_code p.schema (version_by change.edit [] (id_for p.work.id old.txns.next) 0) → undo ≡ undo_of_new change.table change.key
-    → (c : Changes (clustered_index change.table) s (Some undo) (λ before after answer. InsertsWith (Some undo) s change.key value before after answer) old mid moves.Done)
-    → ((session : Session) (work : Work) → HasWork s session work mid → Enters s (change_of change.table change.edit) (rows_put change.edit) session work mid new)
+    → (c : Changes (clustered_index change.table) s (Some undo) (λ before after answer. InsertsWith (Some undo) s change.key value before after answer) old
+    mid moves.Done)
+    → ((session : Session) (work : Work) → HasWork s session work mid → Enters s (change_of change.table change.edit) (rows_put change.edit) session work mid
+    new)
     → ChangesRecord s old new change (Recorded None)
 inserted s old mid new change p value undo at value_is undo_is c enters =
     let logged = inserted_logs s (clustered_index change.table) change.key value undo old mid c in
-    let all = recorded s (change_of change.table change.edit) (rows_put change.edit) change.table change.key value undo old mid new logged (enters _ _ (logged_here s undo old mid logged)) c.index_is.here.2.pairs (λ other differs. (c.index_is.elsewhere other differs).pairs) (places_if c.index_is c.index_is.here.2.place) in (
+    let all =
+    recorded s (change_of change.table change.edit) (rows_put change.edit) change.table change.key value undo old mid new logged
+    (enters _ _ (logged_here s undo old mid logged)) c.index_is.here.2.pairs (λ other differs. (c.index_is.elsewhere other differs).pairs)
+    (places_if c.index_is c.index_is.here.2.place) in (
       p.schema,
       p.table,
       inl (
@@ -215,7 +269,8 @@ inserted s old mid new change p value undo at value_is undo_is c enters =
     )
 
 -- where the pair was not put, no undo record has come
-not_brought : (actor : ℕ) (undo : Undo) (answer : Move) (old new : WorldState) → answer ≢ moves.Done → Brings actor (Some undo) (is_done answer) old new → StaysBeside old new
+not_brought : (actor : ℕ) (undo : Undo) (answer : Move) (old new : WorldState) → answer ≢ moves.Done → Brings actor (Some undo) (is_done answer) old new
+    → StaysBeside old new
 not_brought actor undo moves.Done old new differs h = absurd (differs refl)
 not_brought actor undo (moves.At key value) old new differs h = h
 not_brought actor undo moves.End old new differs h = h
@@ -228,7 +283,8 @@ not_brought actor undo moves.Failed old new differs h = h
 not_brought actor undo (moves.Bad page rule) old new differs h = h
 not_brought actor undo moves.NoMemory old new differs h = h
 
-insert_with_keeps : (undo : Undo) (s : ℕ) (key value : List ℕ) (old new : Index) (move : Move) → InsertsWith (Some undo) s key value old new move → move ≢ moves.Done → HasStayed old new
+insert_with_keeps : (undo : Undo) (s : ℕ) (key value : List ℕ) (old new : Index) (move : Move) → InsertsWith (Some undo) s key value old new move
+    → move ≢ moves.Done → HasStayed old new
 insert_with_keeps undo s key value old new moves.NoMemory h differs = (h.pairs, h.place)
 insert_with_keeps undo s key value old new moves.Done h differs = insert_keeps s key value old new moves.Done h differs
 insert_with_keeps undo s key value old new (moves.At there kept) h differs = insert_keeps s key value old new (moves.At there kept) h differs
@@ -241,12 +297,14 @@ insert_with_keeps undo s key value old new moves.Failed h differs = insert_keeps
 insert_with_keeps undo s key value old new (moves.Bad page rule) h differs = insert_keeps s key value old new (moves.Bad page rule) h differs
 insert_with_keeps undo s key value old new moves.End h differs = insert_keeps s key value old new moves.End h differs
 
-insert_with_hinders : (undo : Undo) (s : ℕ) (key value : List ℕ) (old new : Index) (move : Move) → IsThere false key old → InsertsWith (Some undo) s key value old new move → move ≢ moves.Done → Hinders s old new move
+insert_with_hinders : (undo : Undo) (s : ℕ) (key value : List ℕ) (old new : Index) (move : Move) → IsThere false key old
+    → InsertsWith (Some undo) s key value old new move → move ≢ moves.Done → Hinders s old new move
 insert_with_hinders undo s key value old new moves.NoMemory absent h differs = record {}
 insert_with_hinders undo s key value old new moves.Done absent h differs = insert_hinders s key value old new moves.Done absent h differs
 insert_with_hinders undo s key value old new (moves.At there kept) absent h differs = insert_hinders s key value old new (moves.At there kept) absent h differs
 insert_with_hinders undo s key value old new (moves.Latch by) absent h differs = insert_hinders s key value old new (moves.Latch by) absent h differs
-insert_with_hinders undo s key value old new (moves.Full need free) absent h differs = insert_hinders s key value old new (moves.Full need free) absent h differs
+insert_with_hinders undo s key value old new (moves.Full need free) absent h differs =
+    insert_hinders s key value old new (moves.Full need free) absent h differs
 insert_with_hinders undo s key value old new moves.TooDeep absent h differs = insert_hinders s key value old new moves.TooDeep absent h differs
 insert_with_hinders undo s key value old new moves.Step absent h differs = insert_hinders s key value old new moves.Step absent h differs
 insert_with_hinders undo s key value old new moves.Again absent h differs = insert_hinders s key value old new moves.Again absent h differs
@@ -254,20 +312,26 @@ insert_with_hinders undo s key value old new moves.Failed absent h differs = ins
 insert_with_hinders undo s key value old new (moves.Bad page rule) absent h differs = insert_hinders s key value old new (moves.Bad page rule) absent h differs
 insert_with_hinders undo s key value old new moves.End absent h differs = insert_hinders s key value old new moves.End absent h differs
 
-pub insert_hindered : (s : ℕ) (old new : WorldState) (change : RecordChange) (p : IsChangingRecord s old change) (value : List ℕ) (undo : Undo) (answer : Move) → change.stage ≡ Insert
-    → Changes (clustered_index change.table) s (Some undo) (λ before after answer. InsertsWith (Some undo) s change.key value before after answer) old new answer → answer ≢ moves.Done → ChangesRecord s old new change (Hindered change answer)
+pub insert_hindered : (s : ℕ) (old new : WorldState) (change : RecordChange) (p : IsChangingRecord s old change) (value : List ℕ) (undo : Undo)
+    (answer : Move) → change.stage ≡ Insert
+    → Changes (clustered_index change.table) s (Some undo) (λ before after answer. InsertsWith (Some undo) s change.key value before after answer) old new
+    answer → answer ≢ moves.Done → ChangesRecord s old new change (Hindered change answer)
 insert_hindered s old new change p value undo answer at c differs =
     let i = clustered_index change.table in
     let here = c.index_is.here in
-    let stay = stays_if (record { index_is = c.index_is; beside = not_brought s undo answer old new differs c.beside }) (insert_with_keeps undo s change.key value (old.indexes i) (new.indexes i) answer here differs) in
-    hindered s old new change change answer p refl stay (inl (insert_with_hinders undo s change.key value (old.indexes i) (new.indexes i) answer (stage_at s old change Insert p at).2 here differs))
+    let stay =
+    stays_if (record { index_is = c.index_is; beside = not_brought s undo answer old new differs c.beside })
+    (insert_with_keeps undo s change.key value (old.indexes i) (new.indexes i) answer here differs) in
+    hindered s old new change change answer p refl stay
+    (inl (insert_with_hinders undo s change.key value (old.indexes i) (new.indexes i) answer (stage_at s old change Insert p at).2 here differs))
 
 -- ---- over another record
 
 former_room : (key value room : ℕ) → key ≤ 33 → value ≤ 1024 → 1098 ≤ room → 7 + key + value ≤ room
 former_room key value room short_key short_value enough = omega arith
 
-pub may_log_former : (s : ℕ) (state : WorldState) (change : RecordChange) (p : IsChangingRecord s state change) (before : Version) (bytes : List ℕ) (undo : Undo) → change.stage ≡ Replace before bytes → undo ≡ undo_of_former change.table change.key bytes → MayLog s undo state
+pub may_log_former : (s : ℕ) (state : WorldState) (change : RecordChange) (p : IsChangingRecord s state change) (before : Version) (bytes : List ℕ)
+    (undo : Undo) → change.stage ≡ Replace before bytes → undo ≡ undo_of_former change.table change.key bytes → MayLog s undo state
 may_log_former s state change p before bytes undo at is =
     let holds = stage_at s state change (Replace before bytes) p at in
     let short = key_fits p.schema change.edit change.key p.table.storable p.fits in
@@ -284,17 +348,24 @@ may_log_former s state change p before bytes undo at is =
       room = former_room (length change.key) (length bytes) p.session.undo_room short small holds.0.undo;
     })
 
-pub replaced_logs : (s index : ℕ) (key value : List ℕ) (undo : Undo) (old mid : WorldState) → Changes index s (Some undo) (λ before after answer. ReplacesWith (Some undo) s key value before after answer) old mid moves.Done → IsLogged s undo old mid
+pub replaced_logs : (s index : ℕ) (key value : List ℕ) (undo : Undo) (old mid : WorldState)
+    → Changes index s (Some undo) (λ before after answer. ReplacesWith (Some undo) s key value before after answer) old mid moves.Done → IsLogged s undo old mid
 replaced_logs s index key value undo old mid c = c.beside
 
-pub replaced : (s : ℕ) (old mid new : WorldState) (change : RecordChange) (p : IsChangingRecord s old change) (before : Version) (bytes value : List ℕ) (undo : Undo) (found : Option (List Value)) → change.stage ≡ Replace before bytes
-    → value ≡ version_code p.schema (version_by change.edit before.row (id_for p.work.id old.txns.next) p.session.next_pointer) → undo ≡ undo_of_former change.table change.key bytes → found ≡ row_shown before.marked before.row → p.session.next_pointer < 2 ^ 64
+pub replaced : (s : ℕ) (old mid new : WorldState) (change : RecordChange) (p : IsChangingRecord s old change) (before : Version) (bytes value : List ℕ)
+    (undo : Undo) (found : Option (List Value)) → change.stage ≡ Replace before bytes
+    → value ≡ version_code p.schema (version_by change.edit before.row (id_for p.work.id old.txns.next) p.session.next_pointer) → undo ≡ undo_of_former
+    change.table change.key bytes → found ≡ row_shown before.marked before.row → p.session.next_pointer < 2 ^ 64
     → (c : Changes (clustered_index change.table) s (Some undo) (λ b a answer. ReplacesWith (Some undo) s change.key value b a answer) old mid moves.Done)
-    → ((session : Session) (work : Work) → HasWork s session work mid → Enters s (change_of change.table change.edit) (rows_put change.edit) session work mid new)
+    → ((session : Session) (work : Work) → HasWork s session work mid → Enters s (change_of change.table change.edit) (rows_put change.edit) session work mid
+    new)
     → ChangesRecord s old new change (Recorded found)
 replaced s old mid new change p before bytes value undo found at value_is undo_is found_is small c enters =
     let logged = replaced_logs s (clustered_index change.table) change.key value undo old mid c in
-    let all = recorded s (change_of change.table change.edit) (rows_put change.edit) change.table change.key value undo old mid new logged (enters _ _ (logged_here s undo old mid logged)) c.index_is.here.1.pairs (λ other differs. (c.index_is.elsewhere other differs).pairs) (places_if c.index_is c.index_is.here.1.place) in (
+    let all =
+    recorded s (change_of change.table change.edit) (rows_put change.edit) change.table change.key value undo old mid new logged
+    (enters _ _ (logged_here s undo old mid logged)) c.index_is.here.1.pairs (λ other differs. (c.index_is.elsewhere other differs).pairs)
+    (places_if c.index_is c.index_is.here.1.place) in (
       p.schema,
       p.table,
       inr (
@@ -315,7 +386,8 @@ replaced s old mid new change p before bytes value undo found at value_is undo_i
       ),
     )
 
-replace_with_keeps : (undo : Undo) (s : ℕ) (key value : List ℕ) (old new : Index) (move : Move) → ReplacesWith (Some undo) s key value old new move → move ≢ moves.Done → HasStayed old new
+replace_with_keeps : (undo : Undo) (s : ℕ) (key value : List ℕ) (old new : Index) (move : Move) → ReplacesWith (Some undo) s key value old new move
+    → move ≢ moves.Done → HasStayed old new
 replace_with_keeps undo s key value old new moves.NoMemory h differs = (h.pairs, h.place)
 replace_with_keeps undo s key value old new moves.Done h differs = absurd (differs refl)
 replace_with_keeps undo s key value old new moves.End h differs = replace_keeps s key value old new moves.End h differs
@@ -328,39 +400,53 @@ replace_with_keeps undo s key value old new moves.Failed h differs = replace_kee
 replace_with_keeps undo s key value old new (moves.Bad page rule) h differs = replace_keeps s key value old new (moves.Bad page rule) h differs
 replace_with_keeps undo s key value old new (moves.At k v) h differs = replace_keeps s key value old new (moves.At k v) h differs
 
-replace_with_hinders : (undo : Undo) (s : ℕ) (key value : List ℕ) (old new : Index) (move : Move) → IsThere true key old → ReplacesWith (Some undo) s key value old new move → move ≢ moves.Done → Hinders s old new move
+replace_with_hinders : (undo : Undo) (s : ℕ) (key value : List ℕ) (old new : Index) (move : Move) → IsThere true key old
+    → ReplacesWith (Some undo) s key value old new move → move ≢ moves.Done → Hinders s old new move
 replace_with_hinders undo s key value old new moves.NoMemory there h differs = record {}
 replace_with_hinders undo s key value old new moves.Done there h differs = absurd (differs refl)
 replace_with_hinders undo s key value old new moves.End there h differs = replace_hinders s key value old new moves.End there h differs
 replace_with_hinders undo s key value old new moves.Step there h differs = replace_hinders s key value old new moves.Step there h differs
 replace_with_hinders undo s key value old new (moves.Latch by) there h differs = replace_hinders s key value old new (moves.Latch by) there h differs
 replace_with_hinders undo s key value old new moves.Again there h differs = replace_hinders s key value old new moves.Again there h differs
-replace_with_hinders undo s key value old new (moves.Full need free) there h differs = replace_hinders s key value old new (moves.Full need free) there h differs
+replace_with_hinders undo s key value old new (moves.Full need free) there h differs =
+    replace_hinders s key value old new (moves.Full need free) there h differs
 replace_with_hinders undo s key value old new moves.TooDeep there h differs = replace_hinders s key value old new moves.TooDeep there h differs
 replace_with_hinders undo s key value old new moves.Failed there h differs = replace_hinders s key value old new moves.Failed there h differs
 replace_with_hinders undo s key value old new (moves.Bad page rule) there h differs = replace_hinders s key value old new (moves.Bad page rule) there h differs
 replace_with_hinders undo s key value old new (moves.At k v) there h differs = replace_hinders s key value old new (moves.At k v) there h differs
 
-pub replace_hindered : (s : ℕ) (old new : WorldState) (change : RecordChange) (p : IsChangingRecord s old change) (before : Version) (bytes value : List ℕ) (undo : Undo) (answer : Move) → change.stage ≡ Replace before bytes
-    → Changes (clustered_index change.table) s (Some undo) (λ b a answer. ReplacesWith (Some undo) s change.key value b a answer) old new answer → answer ≢ moves.Done → ChangesRecord s old new change (Hindered change answer)
+pub replace_hindered : (s : ℕ) (old new : WorldState) (change : RecordChange) (p : IsChangingRecord s old change) (before : Version) (bytes value : List ℕ)
+    (undo : Undo) (answer : Move) → change.stage ≡ Replace before bytes
+    → Changes (clustered_index change.table) s (Some undo) (λ b a answer. ReplacesWith (Some undo) s change.key value b a answer) old new answer → answer ≢
+    moves.Done → ChangesRecord s old new change (Hindered change answer)
 replace_hindered s old new change p before bytes value undo answer at c differs =
     let i = clustered_index change.table in
     let here = c.index_is.here in
-    let there = told_only (λ pairs. value_of change.key pairs ≡ Some bytes) (λ pairs. is_some (value_of change.key pairs) ≡ true) (old.indexes i) (stage_at s old change (Replace before bytes) p at).2.there (λ pairs is. ap is_some is) in
-    let stay = stays_if (record { index_is = c.index_is; beside = not_brought s undo answer old new differs c.beside }) (replace_with_keeps undo s change.key value (old.indexes i) (new.indexes i) answer here differs) in
-    hindered s old new change change answer p refl stay (inl (replace_with_hinders undo s change.key value (old.indexes i) (new.indexes i) answer there here differs))
+    let there =
+    told_only (λ pairs. value_of change.key pairs ≡ Some bytes) (λ pairs. is_some (value_of change.key pairs) ≡ true) (old.indexes i)
+    (stage_at s old change (Replace before bytes) p at).2.there (λ pairs is. ap is_some is) in
+    let stay =
+    stays_if (record { index_is = c.index_is; beside = not_brought s undo answer old new differs c.beside })
+    (replace_with_keeps undo s change.key value (old.indexes i) (new.indexes i) answer here differs) in
+    hindered s old new change change answer p refl stay
+    (inl (replace_with_hinders undo s change.key value (old.indexes i) (new.indexes i) answer there here differs))
 
-pub rows_index : (s : ℕ) (state : WorldState) (change : RecordChange) (p : IsChangingRecord s state change) (index : ℕ) → index ≡ clustered_index change.table → IsIndex state.schemas index
-rows_index s state change p index is = record { table = change.table; which = 0; number = omega (arith, is); schema = p.schema; there = p.table.there; key = omega arith; few = omega arith }
+pub rows_index : (s : ℕ) (state : WorldState) (change : RecordChange) (p : IsChangingRecord s state change) (index : ℕ)
+    → index ≡ clustered_index change.table → IsIndex state.schemas index
+rows_index s state change p index is =
+    record { table = change.table; which = 0; number = omega (arith, is); schema = p.schema; there = p.table.there; key = omega arith; few = omega arith }
 
-pub may_enter_over : (s : ℕ) (undo : Undo) (old mid : WorldState) (change : RecordChange) (p : IsChangingRecord s old change) (before : Version) (bytes : List ℕ) → change.stage ≡ Replace before bytes → IsLogged s undo old mid
+pub may_enter_over : (s : ℕ) (undo : Undo) (old mid : WorldState) (change : RecordChange) (p : IsChangingRecord s old change) (before : Version)
+    (bytes : List ℕ) → change.stage ≡ Replace before bytes → IsLogged s undo old mid
     → (session : Session) × (work : Work) × HasWork s session work mid × IsListed s work mid × (session.can_change ≡ true)
 may_enter_over s undo old mid change p before bytes at logged = may_enter s undo old mid change p (stage_at s old change (Replace before bytes) p at).0 logged
 
-pub value_of_row : (schema : Schema) (edit : RowEdit) (row row' : List Value) (version : Version) (value : List ℕ) (writer writer' pointer pointer' : ℕ) → value ≡ version_code schema version → version ≡ version_by edit row writer pointer → row ≡ row' → writer ≡ writer' → pointer ≡ pointer'
+pub value_of_row : (schema : Schema) (edit : RowEdit) (row row' : List Value) (version : Version) (value : List ℕ) (writer writer' pointer pointer' : ℕ)
+    → value ≡ version_code schema version → version ≡ version_by edit row writer pointer → row ≡ row' → writer ≡ writer' → pointer ≡ pointer'
     → value ≡ version_code schema (version_by edit row' writer' pointer')
 value_of_row schema edit row row' version value writer writer' pointer pointer' is version_is rows writers pointers =
-    is ∙ ap (version_code schema) (version_is ∙ ap (λ r. version_by edit r writer pointer) rows ∙ ap (λ w. version_by edit row' w pointer) writers ∙ ap (λ k. version_by edit row' writer' k) pointers)
+    is ∙ ap (version_code schema) (version_is ∙ ap (λ r. version_by edit r writer pointer) rows ∙ ap (λ w. version_by edit row' w pointer) writers ∙ ap
+    (λ k. version_by edit row' writer' k) pointers)
 
 -- the row that was found at this stage
 pub found_at : (stage : RecordStage) (before : Version) (bytes : List ℕ) → stage ≡ Replace before bytes → row_found stage ≡ before.row
@@ -370,15 +456,18 @@ pub found_first : (stage : RecordStage) → stage ≡ Insert → row_found stage
 found_first stage at = ap row_found at
 
 -- the version that is put where there is none, or over the one that was found
-pub version_first : (s : ℕ) (state : WorldState) (change : RecordChange) (p : IsChangingRecord s state change) → change.stage ≡ Insert → (version : Version) (writer pointer : ℕ) → version ≡ version_by change.edit (row_found change.stage) writer pointer
+pub version_first : (s : ℕ) (state : WorldState) (change : RecordChange) (p : IsChangingRecord s state change) → change.stage ≡ Insert
+    → (version : Version) (writer pointer : ℕ) → version ≡ version_by change.edit (row_found change.stage) writer pointer
     → IsRowOf p.schema.columns version.row × IsKeyOf p.schema version.row change.key
 version_first s state change p at version writer pointer is =
     subst (λ (v : Version). IsRowOf p.schema.columns v.row × IsKeyOf p.schema v.row change.key) (sym is)
     (first_fits p.schema change.edit change.key p.fits (stage_at s state change Insert p at).1 (row_found change.stage) writer pointer)
 
-pub version_next : (s : ℕ) (state : WorldState) (change : RecordChange) (p : IsChangingRecord s state change) (before : Version) (bytes : List ℕ) → change.stage ≡ Replace before bytes → (version : Version) (writer pointer : ℕ) → version ≡ version_by change.edit (row_found change.stage) writer pointer
+pub version_next : (s : ℕ) (state : WorldState) (change : RecordChange) (p : IsChangingRecord s state change) (before : Version) (bytes : List ℕ)
+    → change.stage ≡ Replace before bytes → (version : Version) (writer pointer : ℕ) → version ≡ version_by change.edit (row_found change.stage) writer pointer
     → IsRowOf p.schema.columns version.row × IsKeyOf p.schema version.row change.key
 version_next s state change p before bytes at version writer pointer is =
     let row = found_at change.stage before bytes at in
-    subst (λ (v : Version). IsRowOf p.schema.columns v.row × IsKeyOf p.schema v.row change.key) (sym (is ∙ ap (λ r. version_by change.edit r writer pointer) row))
+    subst (λ (v : Version). IsRowOf p.schema.columns v.row × IsKeyOf p.schema v.row change.key)
+    (sym (is ∙ ap (λ r. version_by change.edit r writer pointer) row))
     (next_fits p.schema change.edit change.key bytes before p.fits (stage_at s state change (Replace before bytes) p at).2.code_is.record_is writer pointer)

@@ -33,7 +33,8 @@ pub same_versions : (versions : Versions) → Stays versions versions
 same_versions versions = record { told = λ h. h; kept = λ h. refl }
 
 -- the session alone has other rooms
-abbrev pub readied_alone : (s : ℕ) (before after : Session) (old : WorldState) → IsSession s before old → IsReadied before after → StepsAside s old (with_session s after old)
+abbrev pub readied_alone : (s : ℕ) (before after : Session) (old : WorldState) → IsSession s before old → IsReadied before after
+    → StepsAside s old (with_session s after old)
 readied_alone s before after old there readied =
     record {
       pairs = λ index. same_pairs (old.indexes index).pairs;
@@ -63,5 +64,7 @@ aside_of_stay {s} {session} {old} {new} there stay =
       readied = record { setting = refl; work = refl; can_reply = refl; can_ack = refl };
       others = λ t differs. ap (λ (state : WorldState). slice_get state.sessions t) stay.rest;
       count = ap (λ (state : WorldState). length state.sessions) stay.rest;
-      rest = stay.rest ∙ ap (λ (sessions : List Session). record old { indexes = new.indexes; versions = new.versions; paged = new.paged; sessions = sessions }) (sym (ap (λ (state : WorldState). state.sessions) stay.rest));
+      rest =
+          stay.rest ∙ ap (λ (sessions : List Session). record old { indexes = new.indexes; versions = new.versions; paged = new.paged; sessions = sessions })
+          (sym (ap (λ (state : WorldState). state.sessions) stay.rest));
     }

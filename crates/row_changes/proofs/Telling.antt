@@ -21,7 +21,8 @@ told_before step old None goes told = absurd (cc)
 told_before step None (Some new) goes told = absurd goes
 told_before step (Some old) (Some new) goes told = refl
 
-pub went : (f : List Pair → List Pair) (old new : Option (List Pair)) → Goes (λ before after. after ≡ f before) old new → IsSome new → pairs_in new ≡ f (pairs_in old)
+pub went : (f : List Pair → List Pair) (old new : Option (List Pair)) → Goes (λ before after. after ≡ f before) old new → IsSome new
+    → pairs_in new ≡ f (pairs_in old)
 went f old None goes told = absurd (cc)
 went f None (Some new) goes told = absurd goes
 went f (Some old) (Some new) goes told = goes
@@ -29,14 +30,21 @@ went f (Some old) (Some new) goes told = goes
 -- ---- while no pair changes
 
 pub stays_told : (old new : WorldState) → RowsStay old new → IsTold new → IsTold old
-stays_told old new stay told = record { pairs = λ i. told_before (λ before after. after ≡ before) (old.indexes i).pairs (new.indexes i).pairs (stay.pairs i) (told.pairs i); versions = stay.versions.told told.versions }
+stays_told old new stay told =
+    record {
+      pairs = λ i. told_before (λ before after. after ≡ before) (old.indexes i).pairs (new.indexes i).pairs (stay.pairs i) (told.pairs i);
+      versions =
+          stay.versions.told told.versions;
+    }
 
 pub same_pairs_of : (old new : WorldState) → RowsStay old new → IsTold new → pairs_of new ≡ pairs_of old
 same_pairs_of old new stay told = λ d i. went (λ pairs. pairs) (old.indexes i).pairs (new.indexes i).pairs (stay.pairs i) (told.pairs i) d
 
-pub coded_again : (schemas others : List Schema) (pairs now : ℕ → List Pair) (kept found : ℕ → Option Kept) (chains : Chains) (said : Said) → others ≡ schemas → now ≡ pairs → found ≡ kept → AreCodedAs schemas pairs kept chains said → AreCodedAs others now found chains said
+pub coded_again : (schemas others : List Schema) (pairs now : ℕ → List Pair) (kept found : ℕ → Option Kept) (chains : Chains) (said : Said)
+    → others ≡ schemas → now ≡ pairs → found ≡ kept → AreCodedAs schemas pairs kept chains said → AreCodedAs others now found chains said
 coded_again schemas others pairs now kept found chains said tables rows versions is =
-    subst (λ s. AreCodedAs s now found chains said) (sym tables) (subst (λ p. AreCodedAs schemas p found chains said) (sym rows) (subst (λ k. AreCodedAs schemas pairs k chains said) (sym versions) is))
+    subst (λ s. AreCodedAs s now found chains said) (sym tables)
+    (subst (λ p. AreCodedAs schemas p found chains said) (sym rows) (subst (λ k. AreCodedAs schemas pairs k chains said) (sym versions) is))
 
 pub rows_again : (old new : WorldState) (chains : Chains) (said : Said) → RowsStay old new → IsTold new → AreRowsAs chains said old → AreRowsAs chains said new
 rows_again old new chains said stay told is =
@@ -48,11 +56,14 @@ rows_again old new chains said stay told is =
 -- at one index the key has another value, and no other pair has changed
 abbrev pub HasPut : ℕ → List ℕ → Option (List ℕ) → WorldState → WorldState → Type 0
 HasPut index key value old new =
-    Goes (λ before after. after ≡ with_value key value before) (old.indexes index).pairs (new.indexes index).pairs × ((other : ℕ) → other ≢ index → AreKept (old.indexes other).pairs (new.indexes other).pairs)
+    Goes (λ before after. after ≡ with_value key value before) (old.indexes index).pairs (new.indexes index).pairs ×
+    ((other : ℕ) → other ≢ index → AreKept (old.indexes other).pairs (new.indexes other).pairs)
 
-pub pairs_told : (index : ℕ) (key : List ℕ) (value : Option (List ℕ)) (old new : WorldState) → HasPut index key value old new → IsTold new → (i : ℕ) → IsSome (old.indexes i).pairs
+pub pairs_told : (index : ℕ) (key : List ℕ) (value : Option (List ℕ)) (old new : WorldState) → HasPut index key value old new → IsTold new → (i : ℕ)
+    → IsSome (old.indexes i).pairs
 pairs_told index key value old new puts told i =
-    ⊎_elim (λ e. subst (λ k. IsSome (old.indexes k).pairs) (sym e) (told_before (λ before after. after ≡ with_value key value before) (old.indexes index).pairs (new.indexes index).pairs puts.0 (told.pairs index)))
+    ⊎_elim (λ e. subst (λ k. IsSome (old.indexes k).pairs) (sym e)
+    (told_before (λ before after. after ≡ with_value key value before) (old.indexes index).pairs (new.indexes index).pairs puts.0 (told.pairs index)))
     (λ differs. told_before (λ before after. after ≡ before) (old.indexes i).pairs (new.indexes i).pairs (puts.1 i differs) (told.pairs i)) (cases_eq i index)
 
 if_true : (b : Bool) (a c x : List Pair) → b ≡ true → x ≡ a → x ≡ cond b a c
@@ -61,17 +72,22 @@ if_true b a c x is same = same ∙ sym (ap (λ (t : Bool). cond t a c) is)
 if_false : (b : Bool) (a c x : List Pair) → b ≡ false → x ≡ c → x ≡ cond b a c
 if_false b a c x is same = same ∙ sym (ap (λ (t : Bool). cond t a c) is)
 
-pub puts_pairs : (index : ℕ) (key : List ℕ) (value : Option (List ℕ)) (old new : WorldState) → HasPut index key value old new → IsTold new → Puts (pairs_of old) (pairs_of new) index key value
+pub puts_pairs : (index : ℕ) (key : List ℕ) (value : Option (List ℕ)) (old new : WorldState) → HasPut index key value old new → IsTold new
+    → Puts (pairs_of old) (pairs_of new) index key value
 puts_pairs index key value old new puts told i =
     ⊎_elim
-    (λ t. if_true (i == index) (with_value key value (pairs_of old index)) (pairs_of old i) (pairs_of new i) t.0 (ap (pairs_of new) t.1 ∙ went (with_value key value) (old.indexes index).pairs (new.indexes index).pairs puts.0 (told.pairs index)))
-    (λ f. if_false (i == index) (with_value key value (pairs_of old index)) (pairs_of old i) (pairs_of new i) f.0 (went (λ pairs. pairs) (old.indexes i).pairs (new.indexes i).pairs (puts.1 i f.1) (told.pairs i)))
+    (λ t. if_true (i == index) (with_value key value (pairs_of old index)) (pairs_of old i) (pairs_of new i) t.0
+    (ap (pairs_of new) t.1 ∙ went (with_value key value) (old.indexes index).pairs (new.indexes index).pairs puts.0 (told.pairs index)))
+    (λ f. if_false (i == index) (with_value key value (pairs_of old index)) (pairs_of old i) (pairs_of new i) f.0
+    (went (λ pairs. pairs) (old.indexes i).pairs (new.indexes i).pairs (puts.1 i f.1) (told.pairs i)))
     (eqb_tells i index)
 
 pub put_told : (index : ℕ) (key : List ℕ) (value : Option (List ℕ)) (old new : WorldState) → PutsPair index key value old new → IsTold new → IsTold old
-put_told index key value old new puts told = record { pairs = pairs_told index key value old new (puts.here, puts.elsewhere) told; versions = puts.versions.told told.versions }
+put_told index key value old new puts told =
+    record { pairs = pairs_told index key value old new (puts.here, puts.elsewhere) told; versions = puts.versions.told told.versions }
 
-pub put_pairs : (index : ℕ) (key : List ℕ) (value : Option (List ℕ)) (old new : WorldState) → PutsPair index key value old new → IsTold new → Puts (pairs_of old) (pairs_of new) index key value
+pub put_pairs : (index : ℕ) (key : List ℕ) (value : Option (List ℕ)) (old new : WorldState) → PutsPair index key value old new → IsTold new
+    → Puts (pairs_of old) (pairs_of new) index key value
 put_pairs index key value old new puts told = puts_pairs index key value old new (puts.here, puts.elsewhere) told
 
 -- what an index tells

@@ -43,17 +43,28 @@ use Rattle.row_changes.proofs.Pushed.{key_at, at_primary, shown_fits, after_fits
 -- ---- while the record is not there yet
 
 aside_told : (s : ℕ) (old new : WorldState) → StepsAside s old new → IsTold new → IsTold old
-aside_told s old new aside told = record { pairs = λ i. told_before (λ before after. after ≡ before) (old.indexes i).pairs (new.indexes i).pairs (aside.pairs i) (told.pairs i); versions = aside.versions.told told.versions }
+aside_told s old new aside told =
+    record {
+      pairs = λ i. told_before (λ before after. after ≡ before) (old.indexes i).pairs (new.indexes i).pairs (aside.pairs i) (told.pairs i);
+      versions =
+          aside.versions.told told.versions;
+    }
 
 pub rows_aside : (s : ℕ) (chains : Chains) (old new : WorldState) → StepsAside s old new → HasRows chains old → HasRows chains new
 rows_aside s chains old new aside rows told =
-    coded_again old.schemas new.schemas (pairs_of old) (pairs_of new) old.versions.kept_at new.versions.kept_at chains (what_is_there chains) (ap (λ (state : WorldState). state.schemas) aside.rest)
-    (λ d i. went (λ pairs. pairs) (old.indexes i).pairs (new.indexes i).pairs (aside.pairs i) (told.pairs i) d) (aside.versions.kept told.versions) (rows (aside_told s old new aside told))
+    coded_again old.schemas new.schemas (pairs_of old) (pairs_of new) old.versions.kept_at new.versions.kept_at chains (what_is_there chains)
+    (ap (λ (state : WorldState). state.schemas) aside.rest)
+    (λ d i. went (λ pairs. pairs) (old.indexes i).pairs (new.indexes i).pairs (aside.pairs i) (told.pairs i) d) (aside.versions.kept told.versions)
+    (rows (aside_told s old new aside told))
 
-pub record_on : (s : ℕ) (chains : Chains) (old new : WorldState) (change next : RecordChange) (key : List ℕ) (after : Option (List Value)) → IsChangingRow s chains old (Record change key after) → GoesOnWithRecord s old new change next
+pub record_on : (s : ℕ) (chains : Chains) (old new : WorldState) (change next : RecordChange) (key : List ℕ) (after : Option (List Value))
+    → IsChangingRow s chains old (Record change key after) → GoesOnWithRecord s old new change next
     → ChangesRow s chains old new (Record change key after) (Went (Record next key after))
-record_on s chains old new change next key after p g =
-    ((g, (g.holds, rows_aside s chains old new g.aside p.1, p.2 ∙ sym g.key_is, p.3 ∙ ap row_after (sym g.edit_is))), λ schema there. let nearer = g.nears in omega arith)
+record_on s chains old new change next key after p g = (
+  (g, (g.holds, rows_aside s chains old new g.aside p.1, p.2 ∙ sym g.key_is, p.3 ∙ ap row_after (sym g.edit_is))),
+  λ schema there. let nearer = g.nears in
+      omega arith,
+)
 
 -- ---- the record stands
 
@@ -72,17 +83,23 @@ some_record_step Next = omega arith
 some_record_step Insert = omega arith
 some_record_step (Replace before bytes) = omega arith
 
-kept_more : (schemas : List Schema) (pointer : ℕ) (undo : Undo) (old new : Versions) → KeepsVersion schemas pointer undo old new → IsTrue new.told → KeepsMore old.kept_at new.kept_at
+kept_more : (schemas : List Schema) (pointer : ℕ) (undo : Undo) (old new : Versions) → KeepsVersion schemas pointer undo old new → IsTrue new.told
+    → KeepsMore old.kept_at new.kept_at
 kept_more schemas pointer undo old new k told other found is =
-    ⊎_elim (λ e. let none : old.kept_at pointer ≡ None = k.fresh told in let some : old.kept_at pointer ≡ Some found = ap old.kept_at (sym e) ∙ is in absurd (cc)) (λ differs. k.elsewhere other differs told ∙ is) (cases_eq other pointer)
+    ⊎_elim (λ e. let none : old.kept_at pointer ≡ None = k.fresh told in let some : old.kept_at pointer ≡ Some found = ap old.kept_at (sym e) ∙ is in absurd
+    (cc)) (λ differs. k.elsewhere other differs told ∙ is) (cases_eq other pointer)
 
-module _ (s : ℕ) (chains pushed : Chains) (old new : WorldState) (change : RecordChange) (p : IsChangingRecord s old change) (rows : HasRows chains old) (push : PushesEdit s change old chains pushed) where
-  pushes : Pushes chains pushed (record { table = change.table; key = primary_of p.schema change.edit }) (record { writer = id_for p.work.id old.txns.next; row = row_after change.edit })
+module _ (s : ℕ) (chains pushed : Chains) (old new : WorldState) (change : RecordChange) (p : IsChangingRecord s old change) (rows : HasRows chains old)
+    (push : PushesEdit s change old chains pushed) where
+  pushes : Pushes chains pushed (record { table = change.table; key = primary_of p.schema change.edit })
+      (record { writer = id_for p.work.id old.txns.next; row = row_after change.edit })
   pushes =
       let schema = one_schema (slice_get old.schemas change.table) push.schema p.schema push.there p.table.there in
       let work = one_work s push.session p.session push.work p.work old push.has_work p.has_work in
-      subst (λ (w : Work). Pushes chains pushed (record { table = change.table; key = primary_of p.schema change.edit }) (record { writer = id_for w.id old.txns.next; row = row_after change.edit })) work
-      (subst (λ (x : Schema). Pushes chains pushed (record { table = change.table; key = primary_of x change.edit }) (record { writer = id_for push.work.id old.txns.next; row = row_after change.edit })) schema push.pushes)
+      subst (λ (w : Work). Pushes chains pushed (record { table = change.table; key = primary_of p.schema change.edit })
+      (record { writer = id_for w.id old.txns.next; row = row_after change.edit })) work
+      (subst (λ (x : Schema). Pushes chains pushed (record { table = change.table; key = primary_of x change.edit })
+      (record { writer = id_for push.work.id old.txns.next; row = row_after change.edit })) schema push.pushes)
 
   small : id_for p.work.id old.txns.next < 2 ^ 64
   small = small_id p.work.id old.txns.next p.small p.listed.few
@@ -105,7 +122,9 @@ module _ (s : ℕ) (chains pushed : Chains) (old new : WorldState) (change : Rec
         older = versions_at (record { table = change.table; key = primary_of p.schema change.edit }) chains;
         pushed = record {
           version = record { writer = id_for p.work.id old.txns.next; row = row_after change.edit };
-          versions = pushed_here chains pushed (record { table = change.table; key = primary_of p.schema change.edit }) (record { writer = id_for p.work.id old.txns.next; row = row_after change.edit }) pushes;
+          versions =
+              pushed_here chains pushed (record { table = change.table; key = primary_of p.schema change.edit })
+              (record { writer = id_for p.work.id old.txns.next; row = row_after change.edit }) pushes;
           is = refl;
           small = small;
         };
@@ -115,7 +134,8 @@ module _ (s : ℕ) (chains pushed : Chains) (old new : WorldState) (change : Rec
           coded told,
           record {
             lag = lag_stays chains pushed (record { table = change.table; key = primary_of p.schema change.edit }) (what_is_there chains)
-                (pushed_elsewhere chains pushed (record { table = change.table; key = primary_of p.schema change.edit }) (record { writer = id_for p.work.id old.txns.next; row = row_after change.edit }) pushes) (λ t w v apart. refl);
+                (pushed_elsewhere chains pushed (record { table = change.table; key = primary_of p.schema change.edit })
+                (record { writer = id_for p.work.id old.txns.next; row = row_after change.edit }) pushes) (λ t w v apart. refl);
             first = λ which below. absurd (omega arith);
             here = refl;
             later = λ which above. refl;
@@ -123,17 +143,24 @@ module _ (s : ℕ) (chains pushed : Chains) (old new : WorldState) (change : Rec
         );
       }
 
-  first_keys : (f : PutsFirst s old new change p.schema) → IsChangingKeys pushed new (record { table = change.table; key = change.key; before = None; after = row_after change.edit; which = 0; put = None })
+  first_keys : (f : PutsFirst s old new change p.schema)
+      → IsChangingKeys pushed new (record { table = change.table; key = change.key; before = None; after = row_after change.edit; which = 0; put = None })
   first_keys f =
       keys_next None same (record {})
-      (λ told. ap newest (absent old.schemas (pairs_of old) old.versions.kept_at chains change.table p.schema at.column (primary_of p.schema change.edit) (rows (was_told told)).clustered p.table.there at.primary
+      (λ told. ap newest (absent old.schemas (pairs_of old) old.versions.kept_at chains change.table p.schema at.column (primary_of p.schema change.edit)
+      (rows (was_told told)).clustered p.table.there at.primary
       (λ has. subst (λ (k : List ℕ). value_of k (pairs_of old (clustered_index change.table)) ≡ None) at.spelled (nothing told))))
-      (λ told. coded_again old.schemas new.schemas (pairs_of new) (pairs_of new) old.versions.kept_at new.versions.kept_at pushed (what_is_there chains) same refl (kept.kept told.versions)
-      (first_rows old.schemas (pairs_of old) (pairs_of new) chains pushed change.table p.schema change.edit change.key p.table.there p.fits (id_for p.work.id old.txns.next) small pushes old.versions.kept_at f.is_put (nothing told)
-      (puts_pairs (clustered_index change.table) change.key (Some (version_code p.schema (version_by change.edit [] (id_for p.work.id old.txns.next) 0))) old new (all.here, all.elsewhere) told) (rows (was_told told))))
+      (λ told. coded_again old.schemas new.schemas (pairs_of new) (pairs_of new) old.versions.kept_at new.versions.kept_at pushed (what_is_there chains) same
+      refl (kept.kept told.versions)
+      (first_rows old.schemas (pairs_of old) (pairs_of new) chains pushed change.table p.schema change.edit change.key p.table.there p.fits
+      (id_for p.work.id old.txns.next) small pushes old.versions.kept_at f.is_put (nothing told)
+      (puts_pairs (clustered_index change.table) change.key (Some (version_code p.schema (version_by change.edit [] (id_for p.work.id old.txns.next) 0))) old
+      new (all.here, all.elsewhere) told) (rows (was_told told))))
     where
       all : RecordsEdit s change p.schema [] (id_for p.work.id old.txns.next) 0 (undo_of_new change.table change.key) old new
-      all = subst (λ (w : Work). RecordsEdit s change p.schema [] (id_for w.id old.txns.next) 0 (undo_of_new change.table change.key) old new) (one_work s f.session p.session f.work p.work old f.had p.has_work) f.records
+      all =
+          subst (λ (w : Work). RecordsEdit s change p.schema [] (id_for w.id old.txns.next) 0 (undo_of_new change.table change.key) old new)
+          (one_work s f.session p.session f.work p.work old f.had p.has_work) f.records
 
       same : new.schemas ≡ old.schemas
       same = ap (λ (state : WorldState). state.schemas) f.records.rest
@@ -145,30 +172,60 @@ module _ (s : ℕ) (chains pushed : Chains) (old new : WorldState) (change : Rec
       at = key_at p.schema change.edit change.key p.fits
 
       was_told : IsTold new → IsTold old
-      was_told told = record { pairs = pairs_told (clustered_index change.table) change.key (Some (version_code p.schema (version_by change.edit [] (id_for p.work.id old.txns.next) 0))) old new (all.here, all.elsewhere) told; versions = kept.told told.versions }
+      was_told told =
+          record {
+            pairs = pairs_told (clustered_index change.table) change.key
+                (Some (version_code p.schema (version_by change.edit [] (id_for p.work.id old.txns.next) 0))) old new (all.here, all.elsewhere) told;
+            versions
+                = kept.told told.versions;
+          }
 
       nothing : IsTold new → value_of change.key (pairs_of old (clustered_index change.table)) ≡ None
-      nothing told = none_of (value_of change.key (pairs_of old (clustered_index change.table))) (tells (λ pairs. is_some (value_of change.key pairs) ≡ false) (old.indexes (clustered_index change.table)).pairs f.absent ((was_told told).pairs (clustered_index change.table)))
+      nothing told =
+          none_of (value_of change.key (pairs_of old (clustered_index change.table)))
+          (tells (λ pairs. is_some (value_of change.key pairs) ≡ false) (old.indexes (clustered_index change.table)).pairs f.absent
+          ((was_told told).pairs (clustered_index change.table)))
 
-  next_keys : (former : Coded) (o : PutsOver s old new change p.schema former) → IsChangingKeys pushed new (record { table = change.table; key = change.key; before = row_shown former.marked former.row; after = row_after change.edit; which = 0; put = None })
+  next_keys : (former : Coded) (o : PutsOver s old new change p.schema former)
+      → IsChangingKeys pushed new (record {
+        table = change.table;
+        key = change.key;
+        before = row_shown former.marked former.row;
+        after = row_after
+            change.edit;
+        which = 0;
+        put = None;
+      })
   next_keys former o =
       keys_next (row_shown former.marked former.row) same (shown_fits p.schema change.key o.bytes former.marked former o.was.code_is)
       (λ told. ap (λ (k : Value). newest (versions_at (record { table = change.table; key = k }) chains)) (sym home)
-      ∙ ap newest (decoded old.schemas (pairs_of old) old.versions.kept_at chains change.table p.schema change.key o.bytes former (rows (was_told told)).clustered p.table.there (there told) o.was.code_is).0)
-      (λ told. coded_again old.schemas new.schemas (pairs_of new) (pairs_of new) new.versions.kept_at new.versions.kept_at pushed (what_is_there chains) same refl refl
-      (next_rows old.schemas (pairs_of old) (pairs_of new) chains pushed change.table p.schema change.edit change.key p.table.there p.fits (id_for p.work.id old.txns.next) small pushes new.versions.kept_at former o.session.next_pointer (record { version = kept.version; bytes = o.bytes })
+      ∙ ap newest (decoded old.schemas (pairs_of old) old.versions.kept_at chains change.table p.schema change.key o.bytes former
+      (rows (was_told told)).clustered p.table.there (there told) o.was.code_is).0)
+      (λ told. coded_again old.schemas new.schemas (pairs_of new) (pairs_of new) new.versions.kept_at new.versions.kept_at pushed (what_is_there chains) same
+      refl refl
+      (next_rows old.schemas (pairs_of old) (pairs_of new) chains pushed change.table p.schema change.edit change.key p.table.there p.fits
+      (id_for p.work.id old.txns.next) small pushes new.versions.kept_at former o.session.next_pointer (record { version = kept.version; bytes = o.bytes })
       (there told) o.was.code_is found_code o.leads o.small (kept.here told.versions)
-      (puts_pairs (clustered_index change.table) change.key (Some (version_code p.schema (version_by change.edit former.row (id_for p.work.id old.txns.next) o.session.next_pointer))) old new (all.here, all.elsewhere) told)
-      (coded_still old.schemas (pairs_of old) old.versions.kept_at new.versions.kept_at chains (what_is_there chains) (kept_more old.schemas o.session.next_pointer (undo_of_former change.table change.key o.bytes) old.versions new.versions kept told.versions) (rows (was_told told)))))
+      (puts_pairs (clustered_index change.table) change.key
+      (Some (version_code p.schema (version_by change.edit former.row (id_for p.work.id old.txns.next) o.session.next_pointer))) old new
+      (all.here, all.elsewhere) told)
+      (coded_still old.schemas (pairs_of old) old.versions.kept_at new.versions.kept_at chains (what_is_there chains)
+      (kept_more old.schemas o.session.next_pointer (undo_of_former change.table change.key o.bytes) old.versions new.versions kept told.versions)
+      (rows (was_told told)))))
     where
-      all : RecordsEdit s change p.schema former.row (id_for p.work.id old.txns.next) o.session.next_pointer (undo_of_former change.table change.key o.bytes) old new
-      all = subst (λ (w : Work). RecordsEdit s change p.schema former.row (id_for w.id old.txns.next) o.session.next_pointer (undo_of_former change.table change.key o.bytes) old new) (one_work s o.session p.session o.work p.work old o.had p.has_work) o.records
+      all : RecordsEdit s change p.schema former.row (id_for p.work.id old.txns.next) o.session.next_pointer (undo_of_former change.table change.key o.bytes)
+          old new
+      all =
+          subst (λ (w : Work). RecordsEdit s change p.schema former.row (id_for w.id old.txns.next) o.session.next_pointer
+          (undo_of_former change.table change.key o.bytes) old new) (one_work s o.session p.session o.work p.work old o.had p.has_work) o.records
 
       same : new.schemas ≡ old.schemas
       same = ap (λ (state : WorldState). state.schemas) o.records.rest
 
       kept : KeepsVersion old.schemas o.session.next_pointer (undo_of_former change.table change.key o.bytes) old.versions new.versions
-      kept = subst (λ (x : Session). KeepsVersion old.schemas x.next_pointer (undo_of_former change.table change.key o.bytes) old.versions new.versions) (one_session old s o.records.work.session o.session o.records.work.had.session_is o.had.session_is) o.records.work.versions
+      kept =
+          subst (λ (x : Session). KeepsVersion old.schemas x.next_pointer (undo_of_former change.table change.key o.bytes) old.versions new.versions)
+          (one_session old s o.records.work.session o.session o.records.work.had.session_is o.had.session_is) o.records.work.versions
 
       found_code : IsCodeOf p.schema change.key o.bytes kept.version
       found_code =
@@ -179,30 +236,49 @@ module _ (s : ℕ) (chains pushed : Chains) (old new : WorldState) (change : Rec
       home = at_primary p.schema (primary_of p.schema change.edit) change.key o.bytes former (key_at p.schema change.edit change.key p.fits) o.was.code_is
 
       was_told : IsTold new → IsTold old
-      was_told told = record { pairs = pairs_told (clustered_index change.table) change.key (Some (version_code p.schema (version_by change.edit former.row (id_for p.work.id old.txns.next) o.session.next_pointer))) old new (all.here, all.elsewhere) told; versions = kept.told told.versions }
+      was_told told =
+          record {
+            pairs = pairs_told (clustered_index change.table) change.key
+                (Some (version_code p.schema (version_by change.edit former.row (id_for p.work.id old.txns.next) o.session.next_pointer))) old new
+                (all.here, all.elsewhere) told;
+            versions = kept.told told.versions;
+          }
 
       there : IsTold new → value_of change.key (pairs_of old (clustered_index change.table)) ≡ Some o.bytes
-      there told = tells (λ pairs. value_of change.key pairs ≡ Some o.bytes) (old.indexes (clustered_index change.table)).pairs o.was.there ((was_told told).pairs (clustered_index change.table))
+      there told =
+          tells (λ pairs. value_of change.key pairs ≡ Some o.bytes) (old.indexes (clustered_index change.table)).pairs o.was.there
+          ((was_told told).pairs (clustered_index change.table))
 
-  pub recorded_keys : (before after : Option (List Value)) (key : List ℕ) → key ≡ change.key → after ≡ row_after change.edit → ChangesRecord s old new change (records.Recorded before)
+  pub recorded_keys : (before after : Option (List Value)) (key : List ℕ) → key ≡ change.key → after ≡ row_after change.edit
+      → ChangesRecord s old new change (records.Recorded before)
       → IsChangingKeys pushed new (record { table = change.table; key = key; before = before; after = after; which = 0; put = None })
   recorded_keys before after key key_is after_is h =
       let one = one_schema (slice_get old.schemas change.table) h.0 p.schema h.1.there p.table.there in
       let puts : PutsVersion s old new change p.schema before = subst (λ (x : Schema). PutsVersion s old new change x before) one h.2 in
-      let Next : List ℕ → Option (List Value) → Option (List Value) → Type 0 = λ k b a. IsChangingKeys pushed new (record { table = change.table; key = k; before = b; after = a; which = 0; put = None }) in
+      let Next : List ℕ → Option (List Value) → Option (List Value) → Type 0 =
+      λ k b a. IsChangingKeys pushed new (record { table = change.table; key = k; before = b; after = a; which = 0; put = None }) in
       let known : Next change.key before (row_after change.edit)
-      = ⊎_elim (λ f. subst (λ (b : Option (List Value)). Next change.key b (row_after change.edit)) (sym f.1) (first_keys f.0)) (λ o. subst (λ (b : Option (List Value)). Next change.key b (row_after change.edit)) (sym o.2) (next_keys o.0 o.1)) puts in
+      =
+      ⊎_elim (λ f. subst (λ (b : Option (List Value)). Next change.key b (row_after change.edit)) (sym f.1) (first_keys f.0))
+      (λ o. subst (λ (b : Option (List Value)). Next change.key b (row_after change.edit)) (sym o.2) (next_keys o.0 o.1)) puts in
       subst (λ (k : List ℕ). Next k before after) (sym key_is) (subst (λ (a : Option (List Value)). Next change.key before a) (sym after_is) known)
 
-pub record_stands : (s : ℕ) (chains : Chains) (old new : WorldState) (change : RecordChange) (key : List ℕ) (before after : Option (List Value)) → IsChangingRow s chains old (Record change key after) → ChangesRecord s old new change (records.Recorded before)
-    → ChangesRow s chains old new (Record change key after) (Went (Keys (record { table = change.table; key = key; before = before; after = after; which = 0; put = None })))
-record_stands s chains old new change key before after p h =
-    ((h, λ pushed push. recorded_keys s chains pushed old new change p.0 p.1 push before after key p.2 p.3 h, refl, p.2), λ schema there. let some = some_record_step change.stage in omega arith)
+pub record_stands : (s : ℕ) (chains : Chains) (old new : WorldState) (change : RecordChange) (key : List ℕ) (before after : Option (List Value))
+    → IsChangingRow s chains old (Record change key after) → ChangesRecord s old new change (records.Recorded before)
+    → ChangesRow s chains old new (Record change key after)
+    (Went (Keys (record { table = change.table; key = key; before = before; after = after; which = 0; put = None })))
+record_stands s chains old new change key before after p h = (
+  (h, λ pushed push. recorded_keys s chains pushed old new change p.0 p.1 push before after key p.2 p.3 h, refl, p.2),
+  λ schema there. let some =
+      some_record_step change.stage in omega arith,
+)
 
-pub record_hindered : (s : ℕ) (chains : Chains) (old new : WorldState) (change same : RecordChange) (key : List ℕ) (after : Option (List Value)) (why : Move) → IsChangingRow s chains old (Record change key after) → ChangesRecord s old new change (records.Hindered same why)
+pub record_hindered : (s : ℕ) (chains : Chains) (old new : WorldState) (change same : RecordChange) (key : List ℕ) (after : Option (List Value)) (why : Move)
+    → IsChangingRow s chains old (Record change key after) → ChangesRecord s old new change (records.Hindered same why)
     → ChangesRow s chains old new (Record change key after) (Hindered (Record same key after) why)
 record_hindered s chains old new change same key after why p h =
     (ap (λ (c : RecordChange). let r : RowChange = Record c key after in r) h.0, (h.2, rows_aside s chains old new h.1 p.1, p.2, p.3), (h.1, h.3, h.4, h.5))
 
-pub keys_hindered : (s : ℕ) (chains : Chains) (old new : WorldState) (change same : KeysChange) (why : Move) → ChangesKeys s chains old new change (Hindered same why) → ChangesRow s chains old new (Keys change) (Hindered (Keys same) why)
+pub keys_hindered : (s : ℕ) (chains : Chains) (old new : WorldState) (change same : KeysChange) (why : Move)
+    → ChangesKeys s chains old new change (Hindered same why) → ChangesRow s chains old new (Keys change) (Hindered (Keys same) why)
 keys_hindered s chains old new change same why h = (ap (λ (c : KeysChange). let r : RowChange = Keys c in r) h.0, h.2, (h.1, h.3))

@@ -18,17 +18,20 @@ abbrev pub HasStayed : Index → Index → Type 0
 HasStayed old new = AreKept old.pairs new.pairs × (new.place ≡ old.place)
 
 -- where a step in one index has kept the places there, no place has changed anywhere
-pub places_if : {index : ℕ} {step : Index → Index → Type 0} {old new : WorldState} → InIndex index step old new → (new.indexes index).place ≡ (old.indexes index).place → (i : ℕ) → (new.indexes i).place ≡ (old.indexes i).place
+pub places_if : {index : ℕ} {step : Index → Index → Type 0} {old new : WorldState} → InIndex index step old new
+    → (new.indexes index).place ≡ (old.indexes index).place → (i : ℕ) → (new.indexes i).place ≡ (old.indexes i).place
 places_if {index} {step} {old} {new} is kept i =
     ⊎_elim (λ e. subst (λ k. (new.indexes k).place ≡ (old.indexes k).place) (sym e) kept) (λ other. (is.elsewhere i other).place) (cases_eq i index)
 
 -- where a step in one index has kept the pairs there, no pair has changed anywhere
-pub pairs_if : {index : ℕ} {step : Index → Index → Type 0} {old new : WorldState} → InIndex index step old new → AreKept (old.indexes index).pairs (new.indexes index).pairs → (i : ℕ) → AreKept (old.indexes i).pairs (new.indexes i).pairs
+pub pairs_if : {index : ℕ} {step : Index → Index → Type 0} {old new : WorldState} → InIndex index step old new
+    → AreKept (old.indexes index).pairs (new.indexes index).pairs → (i : ℕ) → AreKept (old.indexes i).pairs (new.indexes i).pairs
 pairs_if {index} {step} {old} {new} is kept i =
     ⊎_elim (λ e. subst (λ k. AreKept (old.indexes k).pairs (new.indexes k).pairs) (sym e) kept) (λ other. (is.elsewhere i other).pairs) (cases_eq i index)
 
 -- where the call has kept its index, no pair has changed anywhere, and no place
-pub stays_if : {index : ℕ} {call : Index → Index → Type 0} {old new : WorldState} → Calls index call old new → HasStayed (old.indexes index) (new.indexes index) → RowsStay old new
+pub stays_if : {index : ℕ} {call : Index → Index → Type 0} {old new : WorldState} → Calls index call old new
+    → HasStayed (old.indexes index) (new.indexes index) → RowsStay old new
 stays_if {index} {call} {old} {new} c kept =
     record { pairs = pairs_if c.index_is kept.0; places = places_if c.index_is kept.1; versions = c.beside.versions; rest = c.beside.rest }
 
@@ -62,7 +65,8 @@ delay_hinders actor old new NoMemory h = absurd h
 -- ---- fetch
 
 -- an answer of fetch but Done and End
-pub fetch_delays : (actor : ℕ) (key read : List ℕ) (old new : Index) (move : Move) → Fetches actor key read old new move → move ≢ Done → move ≢ End → Delays actor old new move
+pub fetch_delays : (actor : ℕ) (key read : List ℕ) (old new : Index) (move : Move) → Fetches actor key read old new move → move ≢ Done → move ≢ End
+    → Delays actor old new move
 fetch_delays actor key read old new Done h not_done not_end = absurd (not_done refl)
 fetch_delays actor key read old new End h not_done not_end = absurd (not_end refl)
 fetch_delays actor key read old new Step h not_done not_end = h
@@ -103,7 +107,8 @@ next_key_keeps actor key read old new (Full need free) h = absurd h
 next_key_keeps actor key read old new TooDeep h = absurd h
 next_key_keeps actor key read old new NoMemory h = absurd h
 
-pub next_key_hinders : (actor : ℕ) (key read : List ℕ) (old new : Index) (move : Move) → NextKeys actor key read old new move → move ≢ Done → move ≢ End → Hinders actor old new move
+pub next_key_hinders : (actor : ℕ) (key read : List ℕ) (old new : Index) (move : Move) → NextKeys actor key read old new move → move ≢ Done → move ≢ End
+    → Hinders actor old new move
 next_key_hinders actor key read old new Done h not_done not_end = absurd (not_done refl)
 next_key_hinders actor key read old new End h not_done not_end = absurd (not_end refl)
 next_key_hinders actor key read old new (Latch by) h not_done not_end = h
@@ -119,7 +124,8 @@ next_key_hinders actor key read old new NoMemory h not_done not_end = absurd h
 -- ---- changes
 
 -- a change that brings no undo record
-pub puts_if : {index actor : ℕ} {call : Index → Index → Move → Type 0} {old new : WorldState} {answer : Move} {holder : Option ℕ} (key : List ℕ) (value : Option (List ℕ)) → Changes index actor None call old new answer
+pub puts_if : {index actor : ℕ} {call : Index → Index → Move → Type 0} {old new : WorldState} {answer : Move} {holder : Option ℕ} (key : List ℕ)
+    (value : Option (List ℕ)) → Changes index actor None call old new answer
     → HasGone (λ before after. after ≡ with_value key value before) holder (old.indexes index) (new.indexes index) → PutsPair index key value old new
 puts_if key value c here =
     record {
@@ -130,7 +136,8 @@ puts_if key value c here =
       rest = c.beside.rest;
     }
 
-pub change_stays_if : {index actor : ℕ} {call : Index → Index → Move → Type 0} {old new : WorldState} {answer : Move} → Changes index actor None call old new answer → HasStayed (old.indexes index) (new.indexes index) → RowsStay old new
+pub change_stays_if : {index actor : ℕ} {call : Index → Index → Move → Type 0} {old new : WorldState} {answer : Move}
+    → Changes index actor None call old new answer → HasStayed (old.indexes index) (new.indexes index) → RowsStay old new
 change_stays_if {index} {actor} {call} {old} {new} c kept =
     record { pairs = pairs_if c.index_is kept.0; places = places_if c.index_is kept.1; versions = c.beside.versions; rest = c.beside.rest }
 
@@ -165,7 +172,8 @@ insert_keeps actor key value old new (Bad page rule) h not_done = (h.all.pairs, 
 insert_keeps actor key value old new End h not_done = absurd h
 
 -- where the key was not there
-pub insert_hinders : (actor : ℕ) (key value : List ℕ) (old new : Index) (move : Move) → IsThere false key old → Inserts actor key value old new move → move ≢ Done → Hinders actor old new move
+pub insert_hinders : (actor : ℕ) (key value : List ℕ) (old new : Index) (move : Move) → IsThere false key old → Inserts actor key value old new move
+    → move ≢ Done → Hinders actor old new move
 insert_hinders actor key value old new Done absent h not_done = absurd (not_done refl)
 insert_hinders actor key value old new (At there kept) absent h not_done = none_and_some key kept old absent h.2
 insert_hinders actor key value old new (Latch by) absent h not_done = h
@@ -194,7 +202,8 @@ replace_keeps actor key value old new (Bad page rule) h not_done = (h.all.pairs,
 replace_keeps actor key value old new (At k v) h not_done = absurd h
 
 -- where the key was there
-pub replace_hinders : (actor : ℕ) (key value : List ℕ) (old new : Index) (move : Move) → IsThere true key old → Replaces actor key value old new move → move ≢ Done → Hinders actor old new move
+pub replace_hinders : (actor : ℕ) (key value : List ℕ) (old new : Index) (move : Move) → IsThere true key old → Replaces actor key value old new move
+    → move ≢ Done → Hinders actor old new move
 replace_hinders actor key value old new Done there h not_done = absurd (not_done refl)
 replace_hinders actor key value old new End there h not_done = there_and_not key old there h.0
 replace_hinders actor key value old new (Latch by) there h not_done = inr h
@@ -222,7 +231,8 @@ remove_keeps actor key old new (Full need free) h not_done = absurd h
 remove_keeps actor key old new TooDeep h not_done = absurd h
 remove_keeps actor key old new (At k v) h not_done = absurd h
 
-pub remove_hinders : (actor : ℕ) (key : List ℕ) (old new : Index) (move : Move) → Removes actor key old new move → move ≢ Done → HindersEntry actor key old new move
+pub remove_hinders : (actor : ℕ) (key : List ℕ) (old new : Index) (move : Move) → Removes actor key old new move → move ≢ Done
+    → HindersEntry actor key old new move
 remove_hinders actor key old new Done h not_done = absurd (not_done refl)
 remove_hinders actor key old new End h not_done = h.1
 remove_hinders actor key old new (Latch by) h not_done = h
@@ -235,7 +245,8 @@ remove_hinders actor key old new (Full need free) h not_done = absurd h
 remove_hinders actor key old new TooDeep h not_done = absurd h
 remove_hinders actor key old new (At k v) h not_done = absurd h
 
-pub mark_hinders : (actor : ℕ) (key value : List ℕ) (old new : Index) (move : Move) → Replaces actor key value old new move → move ≢ Done → HindersEntry actor key old new move
+pub mark_hinders : (actor : ℕ) (key value : List ℕ) (old new : Index) (move : Move) → Replaces actor key value old new move → move ≢ Done
+    → HindersEntry actor key old new move
 mark_hinders actor key value old new Done h not_done = absurd (not_done refl)
 mark_hinders actor key value old new End h not_done = h.0
 mark_hinders actor key value old new (Latch by) h not_done = inr h

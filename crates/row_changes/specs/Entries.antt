@@ -56,7 +56,8 @@ pub record GoesOnPutting (old new : WorldState) (put next : EntryPut) : Type 0 w
 abbrev pub PutsEntry : ℕ → WorldState → WorldState → EntryPut → Reached EntryPut → Type 0
 PutsEntry actor old new put (Went next) = GoesOnPutting old new put next
 PutsEntry actor old new put Done = PutsPair put.index put.entry (Some unmarked) old new
-PutsEntry actor old new put (Hindered same why) = (same ≡ put) × RowsStay old new × IsPutting new put × Hinders actor (old.indexes put.index) (new.indexes put.index) why
+PutsEntry actor old new put (Hindered same why) =
+    (same ≡ put) × RowsStay old new × IsPutting new put × Hinders actor (old.indexes put.index) (new.indexes put.index) why
 
 -- ---- marking
 
@@ -71,7 +72,8 @@ pub record IsMarking (state : WorldState) (mark : EntryMark) : Type 0 where
 abbrev pub MarksEntry : ℕ → WorldState → WorldState → EntryMark → Reached EntryMark → Type 0
 MarksEntry actor old new mark (Went next) = ⊥
 MarksEntry actor old new mark Done = PutsPair mark.index mark.entry (Some marked) old new
-MarksEntry actor old new mark (Hindered same why) = (same ≡ mark) × RowsStay old new × IsMarking new mark × HindersEntry actor mark.entry (old.indexes mark.index) (new.indexes mark.index) why
+MarksEntry actor old new mark (Hindered same why) =
+    (same ≡ mark) × RowsStay old new × IsMarking new mark × HindersEntry actor mark.entry (old.indexes mark.index) (new.indexes mark.index) why
 
 -- ---- removing
 
@@ -93,4 +95,5 @@ pub record GoesOnDropping (old new : WorldState) (drop next : EntryDrop) : Type 
 abbrev pub DropsEntry : ℕ → WorldState → WorldState → EntryDrop → Reached EntryDrop → Type 0
 DropsEntry actor old new drop (Went next) = GoesOnDropping old new drop next
 DropsEntry actor old new drop Done = PutsPair drop.index drop.entry None old new
-DropsEntry actor old new drop (Hindered same why) = (same ≡ drop) × RowsStay old new × IsDropping new drop × HindersEntry actor drop.entry (old.indexes drop.index) (new.indexes drop.index) why
+DropsEntry actor old new drop (Hindered same why) =
+    (same ≡ drop) × RowsStay old new × IsDropping new drop × HindersEntry actor drop.entry (old.indexes drop.index) (new.indexes drop.index) why

@@ -32,7 +32,8 @@ IsEntryFor schema which (Some row) primary (Some entry) = IsEntryIn schema which
 
 -- the value stays in each key from the one up to the other
 abbrev pub StayBetween : Schema → ℕ → ℕ → Option (List Value) → Option (List Value) → Type 0
-StayBetween schema from to before after = (which : ℕ) (key : Key) → from ≤ which → which < to → slice_get schema.keys which ≡ Some key → value_stays key.column before after ≡ true
+StayBetween schema from to before after =
+    (which : ℕ) (key : Key) → from ≤ which → which < to → slice_get schema.keys which ≡ Some key → value_stays key.column before after ≡ true
 
 -- the value doesn't stay in this key, if it is one, and stays in those from the first on
 pub record IsFirstToChange (schema : Schema) (from : ℕ) (before after : Option (List Value)) (which : ℕ) : Type 0 where

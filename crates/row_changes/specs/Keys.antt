@@ -119,4 +119,5 @@ pub record HindersKeys (actor : ℕ) (old new : WorldState) (change : KeysChange
 abbrev pub ChangesKeys : ℕ → Chains → WorldState → WorldState → KeysChange → Reached KeysChange → Type 0
 ChangesKeys actor chains old new change (Went next) = GoesOnWithKeys chains old new change next
 ChangesKeys actor chains old new change Done = RowsStay old new × HasRows chains new
-ChangesKeys actor chains old new change (Hindered same why) = (same ≡ change) × RowsStay old new × IsChangingKeys chains new change × HindersKeys actor old new change why
+ChangesKeys actor chains old new change (Hindered same why) =
+    (same ≡ change) × RowsStay old new × IsChangingKeys chains new change × HindersKeys actor old new change why

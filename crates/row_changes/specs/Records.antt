@@ -133,11 +133,21 @@ pub record ChangesWork (s : ℕ) (logged_undo : Undo) (old new : WorldState) : T
 -- A version is the newest of its row now: its record stands, what it replaced is kept, and the history says so. No actor's
 -- place has changed.
 pub record Records (s : ℕ) (change : Change) (rows : ℕ) (table : ℕ) (key bytes : List ℕ) (undo : Undo) (old new : WorldState) : Type 0 where
-  pub here : Goes (λ before after. after ≡ with_value key (Some bytes) before) (old.indexes (clustered_index table)).pairs (new.indexes (clustered_index table)).pairs
+  pub here : Goes (λ before after. after ≡ with_value key (Some bytes) before) (old.indexes (clustered_index table)).pairs
+      (new.indexes (clustered_index table)).pairs
   pub elsewhere : (other : ℕ) → other ≢ clustered_index table → AreKept (old.indexes other).pairs (new.indexes other).pairs
   pub places : (index : ℕ) → (new.indexes index).place ≡ (old.indexes index).place
   pub work : ChangesWork s undo old new
-  pub rest : new ≡ record old { past = Changed s change ∷ old.past; rows = old.rows + rows; indexes = new.indexes; versions = new.versions; paged = new.paged; sessions = new.sessions; txns = new.txns }
+  pub rest : new ≡ record old {
+    past = Changed s change ∷ old.past;
+    rows = old.rows + rows;
+    indexes = new.indexes;
+    versions = new.versions;
+    paged =
+        new.paged;
+    sessions = new.sessions;
+    txns = new.txns;
+  }
 
 -- a record that replaces none: its undo record tells of a new row
 abbrev pub undo_of_new : ℕ → List ℕ → Undo
@@ -150,7 +160,8 @@ undo_of_former table key bytes = record { kind = 2; table = table; key = key; va
 -- The new version stands as these bytes, the undo record keeps what was there, and the history tells the change.
 abbrev pub RecordsEdit : ℕ → RecordChange → Schema → List Value → ℕ → ℕ → Undo → WorldState → WorldState → Type 0
 RecordsEdit s change schema former writer pointer undo old new =
-    Records s (change_of change.table change.edit) (rows_put change.edit) change.table change.key (version_code schema (version_by change.edit former writer pointer)) undo old new
+    Records s (change_of change.table change.edit) (rows_put change.edit) change.table change.key
+    (version_code schema (version_by change.edit former writer pointer)) undo old new
 
 -- where there was no record
 pub record PutsFirst (s : ℕ) (old new : WorldState) (change : RecordChange) (schema : Schema) : Type 0 where
@@ -171,15 +182,19 @@ pub record PutsOver (s : ℕ) (old new : WorldState) (change : RecordChange) (sc
   pub small : session.next_pointer < 2 ^ 64
   pub finds : FindsRow change.edit former
   pub was : IsFormer schema change.key bytes former (old.indexes (clustered_index change.table))
-  pub records : RecordsEdit s change schema former.row (id_for work.id old.txns.next) session.next_pointer (undo_of_former change.table change.key bytes) old new
+  pub records : RecordsEdit s change schema former.row (id_for work.id old.txns.next) session.next_pointer (undo_of_former change.table change.key bytes) old
+      new
 
 -- the row that readers of the newest rows found there before
 abbrev pub PutsVersion : ℕ → WorldState → WorldState → RecordChange → Schema → Option (List Value) → Type 0
-PutsVersion s old new change schema before = (PutsFirst s old new change schema × (before ≡ None)) ⊎ ((former : Version) × PutsOver s old new change schema former × (before ≡ row_shown former.marked former.row))
+PutsVersion s old new change schema before =
+    (PutsFirst s old new change schema × (before ≡ None)) ⊎
+    ((former : Version) × PutsOver s old new change schema former × (before ≡ row_shown former.marked former.row))
 
 -- no version of the table has the bytes of this record
 abbrev pub IsSpoiled : Schema → List ℕ → Index → Type 0
-IsSpoiled schema key index = Told (λ pairs. (bytes : List ℕ) × (value_of key pairs ≡ Some bytes) × ((version : Version) → IsRecordOf schema version key bytes → ⊥)) index
+IsSpoiled schema key index =
+    Told (λ pairs. (bytes : List ℕ) × (value_of key pairs ≡ Some bytes) × ((version : Version) → IsRecordOf schema version key bytes → ⊥)) index
 
 -- Why the change has not gone on: a call of its index, or one that makes room for its undo record, was hindered; or the
 -- record that is there is none of the table's; or a row that is to be removed isn't there.
@@ -194,7 +209,8 @@ abbrev pub ChangesRecord : ℕ → WorldState → WorldState → RecordChange �
 ChangesRecord s old new change (Went next) = GoesOnWithRecord s old new change next
 ChangesRecord s old new change (Recorded before) = (schema : Schema) × IsTable change.table schema old × PutsVersion s old new change schema before
 ChangesRecord s old new change (Hindered same why) =
-    (same ≡ change) × StepsAside s old new × IsChangingRecord s new change × (schema : Schema) × IsTable change.table schema old × HindersRecord s change schema old new why
+    (same ≡ change) × StepsAside s old new × IsChangingRecord s new change × (schema : Schema) × IsTable change.table schema old × HindersRecord s change
+    schema old new why
 
 -- ---- what was found
 

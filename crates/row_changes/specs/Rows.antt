@@ -46,7 +46,8 @@ pub record PushesEdit (s : ℕ) (change : RecordChange) (state : WorldState) (be
 
 -- Before the record, the indexes are the rows before; then keys take over what was pushed.
 abbrev pub IsChangingRow : ℕ → Chains → WorldState → RowChange → Type 0
-IsChangingRow s chains state (Record change key after) = IsChangingRecord s state change × HasRows chains state × (key ≡ change.key) × (after ≡ row_after change.edit)
+IsChangingRow s chains state (Record change key after) =
+    IsChangingRecord s state change × HasRows chains state × (key ≡ change.key) × (after ≡ row_after change.edit)
 IsChangingRow s chains state (Keys change) = IsChangingKeys chains state change
 
 -- how many steps are left at most, where the table has so many keys
@@ -56,15 +57,18 @@ row_steps keys (Keys change) = keys_steps (keys - change.which) change.put
 
 -- one of the two parts has gone on; or the version stands, the history tells it, and the keys come next
 abbrev pub GoesOnWithRow : ℕ → Chains → WorldState → WorldState → RowChange → RowChange → Type 0
-GoesOnWithRow s chains old new (Record change key after) (Record next key' after') = GoesOnWithRecord s old new change next × IsChangingRow s chains new (Record next key' after')
+GoesOnWithRow s chains old new (Record change key after) (Record next key' after') =
+    GoesOnWithRecord s old new change next × IsChangingRow s chains new (Record next key' after')
 GoesOnWithRow s chains old new (Record change key after) (Keys next) =
-    ChangesRecord s old new change (records.Recorded next.before) × ((pushed : Chains) → PushesEdit s change old chains pushed → IsChangingKeys pushed new next) × (next.table ≡ change.table) × (next.key ≡ change.key)
+    ChangesRecord s old new change (records.Recorded next.before) ×
+    ((pushed : Chains) → PushesEdit s change old chains pushed → IsChangingKeys pushed new next) × (next.table ≡ change.table) × (next.key ≡ change.key)
 GoesOnWithRow s chains old new (Keys change) (Record next key after) = ⊥
 GoesOnWithRow s chains old new (Keys change) (Keys next) = GoesOnWithKeys chains old new change next
 
 -- why neither has gone on
 abbrev pub HindersRow : ℕ → WorldState → WorldState → RowChange → Move → Type 0
-HindersRow s old new (Record change key after) why = StepsAside s old new × (schema : Schema) × IsTable change.table schema old × HindersRecord s change schema old new why
+HindersRow s old new (Record change key after) why =
+    StepsAside s old new × (schema : Schema) × IsTable change.table schema old × HindersRecord s change schema old new why
 HindersRow s old new (Keys change) why = RowsStay old new × HindersKeys s old new change why
 
 -- the table of the change
@@ -75,7 +79,9 @@ table_of (Keys change) = change.table
 -- The last step leaves the indexes as the rows that are there now.
 abbrev pub ChangesRow : ℕ → Chains → WorldState → WorldState → RowChange → Reached RowChange → Type 0
 ChangesRow s chains old new change (Went next) =
-    GoesOnWithRow s chains old new change next × ((schema : Schema) → slice_get old.schemas (table_of change) ≡ Some schema → row_steps (length schema.keys) next < row_steps (length schema.keys) change)
+    GoesOnWithRow s chains old new change next ×
+    ((schema : Schema) → slice_get old.schemas (table_of change) ≡ Some schema → row_steps (length schema.keys) next < row_steps (length schema.keys)
+    change)
 ChangesRow s chains old new (Record change key after) Done = ⊥
 ChangesRow s chains old new (Keys change) Done = RowsStay old new × HasRows chains new
 ChangesRow s chains old new change (Hindered same why) = (same ≡ change) × IsChangingRow s chains new change × HindersRow s old new change why

@@ -44,7 +44,8 @@ use Rattle.row_search.proofs.Visited.{after_goes, follows_on, is_walked, up_to_p
 
 -- ---- look
 
-pub look_goes : (actor : ℕ) (schema : Schema) (state : WorldState) (scan : Scan) (entry bytes : List ℕ) (version : Coded) → IsSearching actor schema state (record { scan = scan; phase = Look entry bytes })
+pub look_goes : (actor : ℕ) (schema : Schema) (state : WorldState) (scan : Scan) (entry bytes : List ℕ) (version : Coded)
+    → IsSearching actor schema state (record { scan = scan; phase = Look entry bytes })
     → IsRecordOf schema version (primary_part schema entry) bytes → IsVersion version
     → GoesOn actor schema state state (record { scan = scan; phase = Look entry bytes }) (record { scan = scan; phase = phase_after scan.sight entry version })
 look_goes actor schema state scan entry bytes version is record_is numbers =
@@ -57,7 +58,8 @@ look_goes actor schema state scan entry bytes version is record_is numbers =
     code : IsCodeOf schema (primary_part schema entry) bytes version
     code = record { record_is = record_is; numbers = numbers }
 
-    way : (versions : List Version) → IsRecordWith schema (primary_part schema entry) state.versions.kept_at (Some bytes) versions → IsOnWay schema (primary_part schema entry) bytes state.versions.kept_at version versions
+    way : (versions : List Version) → IsRecordWith schema (primary_part schema entry) state.versions.kept_at (Some bytes) versions
+        → IsOnWay schema (primary_part schema entry) bytes state.versions.kept_at version versions
     way versions r = from_record schema (primary_part schema entry) bytes state.versions.kept_at version versions r code
 
 -- ---- walk
@@ -65,11 +67,14 @@ look_goes actor schema state scan entry bytes version is record_is numbers =
 len_less : (versions rest : List Version) (first : Version) → versions ≡ first ∷ rest → length rest < length versions
 len_less versions rest first e = subst (λ (vs : List Version). length rest < length vs) (sym e) (omega arith)
 
-pub may_walk : (actor : ℕ) (schema : Schema) (state : WorldState) (scan : Scan) (entry : List ℕ) (pointer : ℕ) → IsSearching actor schema state (record { scan = scan; phase = Walk entry pointer }) → IsPointer pointer state.versions
+pub may_walk : (actor : ℕ) (schema : Schema) (state : WorldState) (scan : Scan) (entry : List ℕ) (pointer : ℕ)
+    → IsSearching actor schema state (record { scan = scan; phase = Walk entry pointer }) → IsPointer pointer state.versions
 may_walk actor schema state scan entry pointer is told = let h = is.phase.1 told in may_ask schema (primary_part schema entry) state.versions pointer h.0 h.1
 
-module _ (actor : ℕ) (schema : Schema) (old new : WorldState) (scan : Scan) (entry : List ℕ) (pointer : ℕ) (is : IsSearching actor schema old (record { scan = scan; phase = Walk entry pointer })) (unchanged : IsUnchanged old new) where
-  pub walk_goes : (version : Coded) → pointer ≢ 0 → (IsTrue old.versions.told → option_map (λ (kept : Kept). kept.version) (old.versions.kept_at pointer) ≡ Some version)
+module _ (actor : ℕ) (schema : Schema) (old new : WorldState) (scan : Scan) (entry : List ℕ) (pointer : ℕ)
+    (is : IsSearching actor schema old (record { scan = scan; phase = Walk entry pointer })) (unchanged : IsUnchanged old new) where
+  pub walk_goes : (version : Coded) → pointer ≢ 0
+      → (IsTrue old.versions.told → option_map (λ (kept : Kept). kept.version) (old.versions.kept_at pointer) ≡ Some version)
       → GoesOn actor schema old new (record { scan = scan; phase = Walk entry pointer }) (record { scan = scan; phase = phase_after scan.sight entry version })
   walk_goes version leads shown_is =
       after_goes actor schema old new scan entry unchanged (Walk entry pointer) is is.phase.0 version
@@ -77,9 +82,19 @@ module _ (actor : ℕ) (schema : Schema) (old new : WorldState) (scan : Scan) (e
       (λ versions_at shows finds. let w = way finds.1 finds.2 shows.told in (finds.0, finds.1, w.0, w.1, finds.3))
       (λ versions_at shows n finds to_go.
       let w = way to_go.0 to_go.1 shows.told in
-      record { rank = 2; long = length to_go.0; n_is = to_go.2; ranked = omega arith; rest = older to_go.0; led = w.1.rest; shorter = inr (refl, len_less to_go.0 (older to_go.0) (shown version) w.1.first) })
+      record {
+        rank = 2;
+        long = length to_go.0;
+        n_is = to_go.2;
+        ranked = omega arith;
+        rest = older to_go.0;
+        led = w.1.rest;
+        shorter = inr
+            (refl, len_less to_go.0 (older to_go.0) (shown version) w.1.first);
+      })
     where
-      way : (versions : List Version) → LeadTo schema (primary_part schema entry) old.versions.kept_at pointer versions → IsTrue old.versions.told → (bytes : List ℕ) × IsOnWay schema (primary_part schema entry) bytes old.versions.kept_at version versions
+      way : (versions : List Version) → LeadTo schema (primary_part schema entry) old.versions.kept_at pointer versions → IsTrue old.versions.told
+          → (bytes : List ℕ) × IsOnWay schema (primary_part schema entry) bytes old.versions.kept_at version versions
       way versions lead told = from_pointer schema (primary_part schema entry) old.versions.kept_at pointer version versions lead leads (shown_is told)
 
   pub walk_ends : pointer ≡ 0 → GoesOn actor schema old new (record { scan = scan; phase = Walk entry pointer }) (record { scan = scan; phase = Follow })
@@ -95,8 +110,11 @@ module _ (actor : ℕ) (schema : Schema) (old new : WorldState) (scan : Scan) (e
 
 -- ---- the end
 
-pub sort_is_done : (actor : ℕ) (schema : Schema) (state : WorldState) (scan now : Scan) → IsSearching actor schema state (record { scan = scan; phase = Sort }) → IsSameScan scan now
-    → ((versions_at : Value → List Version) → ShowsRows schema scan state versions_at → Finds schema state.versions.kept_at (place_in actor scan state) versions_at (record { scan = scan; phase = Sort }) → Finds schema state.versions.kept_at (place_in actor now state) versions_at (record { scan = now; phase = Leave }))
+pub sort_is_done : (actor : ℕ) (schema : Schema) (state : WorldState) (scan now : Scan)
+    → IsSearching actor schema state (record { scan = scan; phase = Sort }) → IsSameScan scan now
+    → ((versions_at : Value → List Version) → ShowsRows schema scan state versions_at → Finds schema state.versions.kept_at (place_in actor scan state)
+    versions_at (record { scan = scan; phase = Sort }) → Finds schema state.versions.kept_at (place_in actor now state) versions_at
+    (record { scan = now; phase = Leave }))
     → GoesOn actor schema state state (record { scan = scan; phase = Sort }) (record { scan = now; phase = Leave })
 sort_is_done actor schema state scan now is same finds =
     record {
@@ -104,12 +122,20 @@ sort_is_done actor schema state scan now is same finds =
       same = same;
       holds = searching_on actor schema state state scan now Sort Leave (moves_itself actor (index_of scan.table scan.which) state) is same.table same.which tt;
       finds = finds;
-      nears = λ versions_at shows n was to_go. (0 ∷ 0 ∷ 0 ∷ 0 ∷ [], refl, subst (λ (k : List ℕ). IsBelow (0 ∷ 0 ∷ 0 ∷ 0 ∷ []) k) (sym to_go) (inr (refl, inl (omega arith))));
+      nears =
+          λ versions_at shows n was to_go. (
+            0 ∷ 0 ∷ 0 ∷ 0 ∷ [],
+            refl,
+            subst (λ (k : List ℕ). IsBelow (0 ∷ 0 ∷ 0 ∷ 0 ∷ []) k) (sym to_go)
+                (inr (refl, inl (omega arith))),
+          );
     }
 
-pub clustered_is_sorted : (actor : ℕ) (schema : Schema) (state : WorldState) (scan : Scan) → IsSearching actor schema state (record { scan = scan; phase = Sort }) → scan.which ≡ 0
+pub clustered_is_sorted : (actor : ℕ) (schema : Schema) (state : WorldState) (scan : Scan)
+    → IsSearching actor schema state (record { scan = scan; phase = Sort }) → scan.which ≡ 0
     → GoesOn actor schema state state (record { scan = scan; phase = Sort }) (record { scan = scan; phase = Leave })
-clustered_is_sorted actor schema state scan is none = sort_is_done actor schema state scan scan is (same_scan scan) (λ versions_at shows found. (found, found.order none))
+clustered_is_sorted actor schema state scan is none =
+    sort_is_done actor schema state scan scan is (same_scan scan) (λ versions_at shows found. (found, found.order none))
 
 -- ---- keep
 
@@ -117,8 +143,10 @@ one_plus : (n : ℕ) → suc n ≡ 1 + n
 one_plus n = omega arith
 
 -- the answer tells whether the entry is the row's own
-pub owner_told : (schema : Schema) (scan : Scan) (row_at : Value → Option (List Value)) (entry : List ℕ) (row : List Value) (own : Bool) → HasItsColumns schema → scan.which ≤ length schema.keys → IsHome schema (key_of schema row) row
-    → (scan.which ≡ 0 → primary_part schema entry ≡ entry) → primary_part schema entry ≡ primary_key schema row → IsOwner schema scan.which (primary_part schema entry) entry row own → TellsSame (index_key schema scan.which row) entry own
+pub owner_told : (schema : Schema) (scan : Scan) (row_at : Value → Option (List Value)) (entry : List ℕ) (row : List Value) (own : Bool)
+    → HasItsColumns schema → scan.which ≤ length schema.keys → IsHome schema (key_of schema row) row
+    → (scan.which ≡ 0 → primary_part schema entry ≡ entry) → primary_part schema entry ≡ primary_key schema row → IsOwner schema scan.which
+    (primary_part schema entry) entry row own → TellsSame (index_key schema scan.which row) entry own
 owner_told schema scan row_at entry row own columns le h whole part owner = go scan.which refl where
   go : (n : ℕ) → scan.which ≡ n → TellsSame (index_key schema scan.which row) entry own
   go zero e =
@@ -128,41 +156,55 @@ owner_told schema scan row_at entry row own columns le h whole part owner = go s
       let key = key_there_at schema at le_at in
       let column = columns.keys at key.0 key.1 in
       let code : index_key schema scan.which row ≡ entry_code column.0.kind (value_in key.0.column row) (primary_part schema entry)
-      = ap (λ w. index_key schema w row) e ∙ (keyed_is schema at row key.0 column.0 key.1 column.1 ∙ ap (entry_code column.0.kind (value_in key.0.column row)) (sym part)) in
-      subst (λ (bytes : List ℕ). TellsSame bytes entry own) (sym code) (owner.keyed at key.0 column.0 (e ∙ one_plus at) key.1 column.1 (fits_in schema.columns row key.0.column column.0 h.at.fits column.1))
+      =
+      ap (λ w. index_key schema w row) e ∙ (keyed_is schema at row key.0 column.0 key.1 column.1 ∙ ap
+      (entry_code column.0.kind (value_in key.0.column row)) (sym part)) in
+      subst (λ (bytes : List ℕ). TellsSame bytes entry own) (sym code)
+      (owner.keyed at key.0 column.0 (e ∙ one_plus at) key.1 column.1 (fits_in schema.columns row key.0.column column.0 h.at.fits column.1))
 
-module _ (actor : ℕ) (schema : Schema) (state : WorldState) (scan : Scan) (entry : List ℕ) (row : List Value) (is : IsSearching actor schema state (record { scan = scan; phase = Keep entry row })) where
-  tells : (versions_at : Value → List Version) (own : Bool) → ShowsRows schema scan state versions_at → IsComing schema scan (rows_seen scan.sight versions_at) entry → IsSeenAt schema (rows_seen scan.sight versions_at) (primary_part schema entry) row
+module _ (actor : ℕ) (schema : Schema) (state : WorldState) (scan : Scan) (entry : List ℕ) (row : List Value)
+    (is : IsSearching actor schema state (record { scan = scan; phase = Keep entry row })) where
+  tells : (versions_at : Value → List Version) (own : Bool) → ShowsRows schema scan state versions_at
+      → IsComing schema scan (rows_seen scan.sight versions_at) entry → IsSeenAt schema (rows_seen scan.sight versions_at) (primary_part schema entry) row
       → IsOwner schema scan.which (primary_part schema entry) entry row own → TellsSame (index_key schema scan.which row) entry own
   tells versions_at own shows coming at owner =
       owner_told schema scan (rows_seen scan.sight versions_at) entry row own shows.columns is.key
-      (home schema state.versions.kept_at shows.table.pairs versions_at (sees_by scan.sight) (key_of schema row) row shows.table.clustered at.seen) coming.whole at.key_is owner
+      (home schema state.versions.kept_at shows.table.pairs versions_at (sees_by scan.sight) (key_of schema row) row shows.table.clustered at.seen)
+      coming.whole at.key_is owner
 
-  left : (pairs : List Pair) (n : List ℕ) → HasToGo schema state.versions.kept_at (place_in actor scan state) pairs (Keep entry row) n → (rank : ℕ) × (long : ℕ) × (n ≡ 1 ∷ pairs_behind (place_in actor scan state) pairs ∷ rank ∷ long ∷ []) × (0 < rank)
+  left : (pairs : List Pair) (n : List ℕ) → HasToGo schema state.versions.kept_at (place_in actor scan state) pairs (Keep entry row) n
+      → (rank : ℕ) × (long : ℕ) × (n ≡ 1 ∷ pairs_behind (place_in actor scan state) pairs ∷ rank ∷ long ∷ []) × (0 < rank)
   left pairs n to_go = (1, 0, to_go, omega arith)
 
-  pub other_goes : IsOwner schema scan.which (primary_part schema entry) entry row false → GoesOn actor schema state state (record { scan = scan; phase = Keep entry row }) (record { scan = scan; phase = Follow })
+  pub other_goes : IsOwner schema scan.which (primary_part schema entry) entry row false
+      → GoesOn actor schema state state (record { scan = scan; phase = Keep entry row }) (record { scan = scan; phase = Follow })
   other_goes owner =
       follows_on actor schema state state scan scan entry (unchanged_itself state) (same_scan scan) (Keep entry row) is is.phase
       (λ versions_at shows finds. (
         is_walked actor schema state state scan entry (unchanged_itself state) versions_at finds.0,
         up_to_place actor schema state state scan entry (unchanged_itself state) versions_at scan.rows.items is.phase
-            (other_row_there actor schema state state scan entry (unchanged_itself state) versions_at shows is.key finds.0 row finds.1 (tells versions_at false shows finds.0 finds.1 owner)),
+            (other_row_there actor schema state state scan entry (unchanged_itself state) versions_at shows is.key finds.0 row finds.1
+            (tells versions_at false shows finds.0 finds.1 owner)),
       )) left
 
-  pub own_goes : (kept : Vec FoundRow Global) → kept.items ≡ scan.rows.items ++ record { key = primary_part schema entry; row = row } ∷ [] → IsOwner schema scan.which (primary_part schema entry) entry row true
+  pub own_goes : (kept : Vec FoundRow Global) → kept.items ≡ scan.rows.items ++ record { key = primary_part schema entry; row = row } ∷ []
+      → IsOwner schema scan.which (primary_part schema entry) entry row true
       → GoesOn actor schema state state (record { scan = scan; phase = Keep entry row }) (record { scan = record scan { rows = kept }; phase = Follow })
   own_goes kept kept_is owner =
-      follows_on actor schema state state scan (record scan { rows = kept }) entry (unchanged_itself state) (record { table = refl; which = refl; range = refl; sight = refl }) (Keep entry row) is is.phase
+      follows_on actor schema state state scan (record scan { rows = kept }) entry (unchanged_itself state)
+      (record { table = refl; which = refl; range = refl; sight = refl }) (Keep entry row) is is.phase
       (λ versions_at shows finds. (
         is_walked actor schema state state scan entry (unchanged_itself state) versions_at finds.0,
         up_to_place actor schema state state scan entry (unchanged_itself state) versions_at kept.items is.phase
             (subst (λ (rows : List FoundRow). AreFound schema scan.which (rows_seen scan.sight versions_at) (lies_up_to schema scan entry) rows) (sym kept_is)
-            (own_row_there actor schema state state scan entry (unchanged_itself state) versions_at shows is.key finds.0 row finds.1 (tells versions_at true shows finds.0 finds.1 owner))),
+            (own_row_there actor schema state state scan entry (unchanged_itself state) versions_at shows is.key finds.0 row finds.1
+            (tells versions_at true shows finds.0 finds.1 owner))),
       )) left
 
   -- there was no room for the row
-  pub keep_waits : (kept : Vec FoundRow Global) → kept.items ≡ scan.rows.items → Waits actor schema state state (record { scan = scan; phase = Keep entry row }) (record { scan = record scan { rows = kept }; phase = Keep entry row }) NoMemory
+  pub keep_waits : (kept : Vec FoundRow Global) → kept.items ≡ scan.rows.items
+      → Waits actor schema state state (record { scan = scan; phase = Keep entry row })
+      (record { scan = record scan { rows = kept }; phase = Keep entry row }) NoMemory
   keep_waits kept kept_are =
       record {
         unchanged = unchanged_itself state;
@@ -172,7 +214,9 @@ module _ (actor : ℕ) (schema : Schema) (state : WorldState) (scan : Scan) (ent
         holds = record { there = is.there; key = is.key; few = is.few; phase = is.phase };
         finds = λ versions_at finds. (
           record {
-            below = subst (λ (rows : List FoundRow). AreFound schema scan.which (rows_seen scan.sight versions_at) (lies_below schema scan entry) rows) (sym kept_are) finds.0.below;
+            below =
+                subst (λ (rows : List FoundRow). AreFound schema scan.which (rows_seen scan.sight versions_at) (lies_below schema scan entry) rows)
+                (sym kept_are) finds.0.below;
             within = finds.0.within;
             whole = finds.0.whole;
           },
@@ -183,8 +227,11 @@ module _ (actor : ℕ) (schema : Schema) (state : WorldState) (scan : Scan) (ent
 
 -- ---- sort
 
-pub keyed_is_sorted : (actor : ℕ) (schema : Schema) (state : WorldState) (scan : Scan) → IsSearching actor schema state (record { scan = scan; phase = Sort }) → scan.which ≢ 0 → (sorted : Vec FoundRow Global) → IsPermutation scan.rows.items sorted.items
-    → IsSortedBy (λ (a b : FoundRow). is_lt (key_cmp a.key b.key)) sorted.items → GoesOn actor schema state state (record { scan = scan; phase = Sort }) (record { scan = record scan { rows = sorted }; phase = Leave })
+pub keyed_is_sorted : (actor : ℕ) (schema : Schema) (state : WorldState) (scan : Scan)
+    → IsSearching actor schema state (record { scan = scan; phase = Sort }) → scan.which ≢ 0 → (sorted : Vec FoundRow Global)
+    → IsPermutation scan.rows.items sorted.items
+    → IsSortedBy (λ (a b : FoundRow). is_lt (key_cmp a.key b.key)) sorted.items → GoesOn actor schema state state (record { scan = scan; phase = Sort })
+    (record { scan = record scan { rows = sorted }; phase = Leave })
 keyed_is_sorted actor schema state scan is keyed sorted same up =
     sort_is_done actor schema state scan (record scan { rows = sorted }) is (record { table = refl; which = refl; range = refl; sight = refl })
     (λ versions_at shows found. (
@@ -195,7 +242,8 @@ keyed_is_sorted actor schema state scan is keyed sorted same up =
     ))
 
 -- there was no room to sort
-pub sort_waits : (actor : ℕ) (schema : Schema) (state : WorldState) (scan : Scan) (kept : Vec FoundRow Global) → IsSearching actor schema state (record { scan = scan; phase = Sort }) → kept.items ≡ scan.rows.items
+pub sort_waits : (actor : ℕ) (schema : Schema) (state : WorldState) (scan : Scan) (kept : Vec FoundRow Global)
+    → IsSearching actor schema state (record { scan = scan; phase = Sort }) → kept.items ≡ scan.rows.items
     → Waits actor schema state state (record { scan = scan; phase = Sort }) (record { scan = record scan { rows = kept }; phase = Sort }) NoMemory
 sort_waits actor schema state scan kept is kept_are =
     record {
@@ -204,6 +252,8 @@ sort_waits actor schema state scan kept is kept_are =
       rows_are = kept_are;
       phase_is = refl;
       holds = record { there = is.there; key = is.key; few = is.few; phase = is.phase };
-      finds = λ versions_at found. subst (λ (rows : List FoundRow). AreFound schema scan.which (rows_seen scan.sight versions_at) (lies_in schema scan) rows) (sym kept_are) found;
+      finds =
+          λ versions_at found. subst (λ (rows : List FoundRow). AreFound schema scan.which (rows_seen scan.sight versions_at) (lies_in schema scan) rows)
+          (sym kept_are) found;
       cause = refl;
     }

@@ -43,11 +43,15 @@ zero_is n e = grind (arith, nat_tests)
 
 -- ---- another phase of the same search
 
-pub still_there : (schema : Schema) (table : ℕ) (old new : WorldState) → new ≡ record old { indexes = new.indexes; versions = new.versions; paged = new.paged } → slice_get old.schemas table ≡ Some schema → slice_get new.schemas table ≡ Some schema
+pub still_there : (schema : Schema) (table : ℕ) (old new : WorldState)
+    → new ≡ record old { indexes = new.indexes; versions = new.versions; paged = new.paged } → slice_get old.schemas table ≡ Some schema
+    → slice_get new.schemas table ≡ Some schema
 still_there schema table old new rest there = ap (λ (s : WorldState). slice_get s.schemas table) rest ∙ there
 
-pub searching_on : (actor : ℕ) (schema : Schema) (old new : WorldState) (scan now : Scan) (phase next : Phase) → OnlyMoves actor (index_of scan.table scan.which) old new → IsSearching actor schema old (record { scan = scan; phase = phase })
-    → now.table ≡ scan.table → now.which ≡ scan.which → PhaseHolds actor schema now new next → IsSearching actor schema new (record { scan = now; phase = next })
+pub searching_on : (actor : ℕ) (schema : Schema) (old new : WorldState) (scan now : Scan) (phase next : Phase)
+    → OnlyMoves actor (index_of scan.table scan.which) old new → IsSearching actor schema old (record { scan = scan; phase = phase })
+    → now.table ≡ scan.table → now.which ≡ scan.which → PhaseHolds actor schema now new next → IsSearching actor schema new
+    (record { scan = now; phase = next })
 searching_on actor schema old new scan now phase next moves is table which holds =
     record {
       there = ap (slice_get new.schemas) table ∙ still_there schema scan.table old new moves.rest is.there;
@@ -77,7 +81,8 @@ module _ (actor : ℕ) (schema : Schema) (old new : WorldState) (scan : Scan) (k
           let zero : scan.which ≡ 0 = zero_is scan.which clustered in
           let there = pair shows.pairs shows.clustered.rising (ap (λ w. (old.indexes (index_of scan.table w)).pairs) zero ∙ shows.pairs_are) in
           let some = at_key schema scan old.versions.kept_at shows.pairs versions_at key value shows.clustered there in
-          let whole : primary_part schema key ≡ key = whole_key schema shows.clustered.primary key shows.clustered.primary_is (shows.clustered.keys key (ap is_some there)) in (
+          let whole : primary_part schema key ≡ key =
+          whole_key schema shows.clustered.primary key shows.clustered.primary_is (shows.clustered.keys key (ap is_some there)) in (
             some.0,
             subst (λ k. IsRecordWith schema k old.versions.kept_at (Some value) some.0) (sym whole) some.1,
             subst (λ k. IsSeenAmong schema scan (λ v. first_seen (sees_by scan.sight) (versions_at v)) k some.0) (sym whole) some.2,
@@ -104,15 +109,27 @@ module _ (actor : ℕ) (schema : Schema) (old new : WorldState) (scan : Scan) (k
       abbrev row_at : Value → Option (List Value)
       row_at = rows_seen scan.sight versions_at
 
-      pub finds_at : scan.range.empty ≡ false → AreFound schema scan.which row_at (lies_below schema scan key) scan.rows.items → (side : Side) → IsOnSide scan.range key side
+      pub finds_at : scan.range.empty ≡ false → AreFound schema scan.which row_at (lies_below schema scan key) scan.rows.items → (side : Side)
+          → IsOnSide scan.range key side
           → PhaseFinds schema scan row_at old.versions.kept_at (place_in actor scan new) (phase_at scan.which key value side)
-      finds_at some below Before out = (some, subst (λ (o : Option Pair). IfSome o (λ p. AreFound schema scan.which row_at (lies_up_to schema scan p.0) scan.rows.items)) (sym placed) (comes_before schema scan row_at shows.searched shows.keys key below out))
+      finds_at some below Before out = (
+        some,
+        subst (λ (o : Option Pair). IfSome o (λ p. AreFound schema scan.which row_at (lies_up_to schema scan p.0) scan.rows.items)) (sym placed)
+            (comes_before schema scan row_at shows.searched shows.keys key below out),
+      )
       finds_at some below Behind out = comes_behind schema scan row_at shows.searched shows.keys key below out
       finds_at some below Within inside = go (scan.which == 0) refl where
         coming : (scan.which ≡ 0 → primary_part schema key ≡ key) → IsComing schema scan row_at key
-        coming whole = record { below = below; within = is_in scan.range.empty (is_from scan.range.low key) (is_up_to scan.range.high key) some inside.0 inside.1; whole = whole }
+        coming whole =
+            record {
+              below = below;
+              within = is_in scan.range.empty (is_from scan.range.low key) (is_up_to scan.range.high key) some inside.0 inside.1;
+              whole
+                  = whole;
+            }
 
-        go : (b : Bool) → (scan.which == 0) ≡ b → PhaseFinds schema scan row_at old.versions.kept_at (place_in actor scan new) (cond b (Look key value) (Fetch key))
+        go : (b : Bool) → (scan.which == 0) ≡ b
+            → PhaseFinds schema scan row_at old.versions.kept_at (place_in actor scan new) (cond b (Look key value) (Fetch key))
         go true clustered = let o = own clustered versions_at shows.table in (coming (λ zero. o.3), o.0, o.1, o.2)
         go false keyed = coming (λ zero. absurd (true≢false (sym (zero_so scan.which zero) ∙ keyed)))
 

@@ -24,10 +24,13 @@ use Rattle.row_search.proofs.KeyOrder.{flipped}
 use Rattle.row_search.proofs.Keys.{IsHome}
 use Rattle.row_search.proofs.Lists.{all_so}
 
-pub permuted : (schema : Schema) (row_at : Value → Option (List Value)) (which : ℕ) (p : List Value → Bool) (rows sorted : List FoundRow) → which ≢ 0 → IsPermutation rows sorted → AreFound schema which row_at p rows → AreFound schema which row_at p sorted
+pub permuted : (schema : Schema) (row_at : Value → Option (List Value)) (which : ℕ) (p : List Value → Bool) (rows sorted : List FoundRow) → which ≢ 0
+    → IsPermutation rows sorted → AreFound schema which row_at p rows → AreFound schema which row_at p sorted
 permuted schema row_at which p rows sorted keyed same is =
     record {
-      seen = recursion_from_All (IsSeenRow schema row_at) sorted (All-permutation (IsSeenRow schema row_at) rows sorted same (All-from_recursion (IsSeenRow schema row_at) rows is.seen));
+      seen =
+          recursion_from_All (IsSeenRow schema row_at) sorted
+          (All-permutation (IsSeenRow schema row_at) rows sorted same (All-from_recursion (IsSeenRow schema row_at) rows is.seen));
       once = λ value. sum_by-IsPermutation (λ (f : FoundRow). cond (is_same_value value (key_of schema f.row)) 1 0) rows sorted same ∙ is.once value;
       order = λ zero. absurd (keyed zero);
     }
@@ -41,7 +44,8 @@ one_later k = omega arith
 -- the rest is in order, too
 tail_up : (first : FoundRow) (rows : List FoundRow) → IsSortedBy comes_before (first ∷ rows) → IsSortedBy comes_before rows
 tail_up first rows up = λ k d low high.
-    subst (λ n. comes_before (slice_index_or (first ∷ rows) n d) (slice_index_or rows k d) ≡ false) (one_later k) (up (suc k) d (omega arith) (let e : length (first ∷ rows) ≡ suc (length rows) = refl in omega arith))
+    subst (λ n. comes_before (slice_index_or (first ∷ rows) n d) (slice_index_or rows k d) ≡ false) (one_later k)
+    (up (suc k) d (omega arith) (let e : length (first ∷ rows) ≡ suc (length rows) = refl in omega arith))
 
 module _ (schema : Schema) where
   -- The row has a key.
@@ -50,9 +54,11 @@ module _ (schema : Schema) where
     key_is : found.key ≡ primary_key schema found.row
 
   one_value : (a b : FoundRow) → IsKeyed a → IsKeyed b → a.key ≡ b.key → key_of schema a.row ≡ key_of schema b.row
-  one_value a b ka kb same = one_key (kind_at schema.columns schema.primary) (key_of schema a.row) (key_of schema b.row) ka.has_key kb.has_key (sym ka.key_is ∙ (same ∙ kb.key_is))
+  one_value a b ka kb same =
+      one_key (kind_at schema.columns schema.primary) (key_of schema a.row) (key_of schema b.row) ka.has_key kb.has_key (sym ka.key_is ∙ (same ∙ kb.key_is))
 
-  counted : (value : Value) (found : FoundRow) (rows : List FoundRow) → times_found schema value (found ∷ rows) ≡ cond (is_same_value value (key_of schema found.row)) 1 0 + times_found schema value rows
+  counted : (value : Value) (found : FoundRow) (rows : List FoundRow)
+      → times_found schema value (found ∷ rows) ≡ cond (is_same_value value (key_of schema found.row)) 1 0 + times_found schema value rows
   counted value found rows = sum_by-cons (λ (f : FoundRow). cond (is_same_value value (key_of schema f.row)) 1 0) found rows
 
   rest_once : (m n k : ℕ) → m ≡ n + k → m ≤ 1 → k ≤ 1
@@ -66,7 +72,8 @@ module _ (schema : Schema) where
   apart a b rows ka kb once same =
       let value = key_of schema a.row in
       let one : value ≡ key_of schema b.row = one_value a b ka kb same in
-      let first : times_found schema value (a ∷ b ∷ rows) ≡ 1 + times_found schema value (b ∷ rows) = counted value a (b ∷ rows) ∙ ap (λ t. cond t 1 0 + times_found schema value (b ∷ rows)) (value_itself value) in
+      let first : times_found schema value (a ∷ b ∷ rows) ≡ 1 + times_found schema value (b ∷ rows) =
+      counted value a (b ∷ rows) ∙ ap (λ t. cond t 1 0 + times_found schema value (b ∷ rows)) (value_itself value) in
       let second : times_found schema value (b ∷ rows) ≡ 1 + times_found schema value rows
       = counted value b rows ∙ ap (λ t. cond t 1 0 + times_found schema value rows) (ap (λ v. is_same_value value v) (sym one) ∙ value_itself value) in
       twice (times_found schema value (a ∷ b ∷ rows)) (times_found schema value (b ∷ rows)) (times_found schema value rows) first second (once value)
@@ -78,13 +85,22 @@ module _ (schema : Schema) where
     go Equal is = absurd (differ (same_key a b is))
     go Greater is = absurd (true≢false (sym (ap is_lt (flipped key_cmp key_cmp_total a b Greater is)) ∙ not_below))
 
-  rising : (rows : List FoundRow) → AllByRecursion IsKeyed rows → ((value : Value) → times_found schema value rows ≤ 1) → IsSortedBy comes_before rows → RiseByKey rows
+  rising : (rows : List FoundRow) → AllByRecursion IsKeyed rows → ((value : Value) → times_found schema value rows ≤ 1) → IsSortedBy comes_before rows
+      → RiseByKey rows
   rising [] keyed once up = tt
   rising (a ∷ []) keyed once up = (tt, tt)
   rising (a ∷ b ∷ rows) keyed once up =
-      let later = rising (b ∷ rows) keyed.1 (λ value. rest_once (times_found schema value (a ∷ b ∷ rows)) (cond (is_same_value value (key_of schema a.row)) 1 0) (times_found schema value (b ∷ rows)) (counted value a (b ∷ rows)) (once value)) (tail_up a (b ∷ rows) up) in
-      let first : key_cmp a.key b.key ≡ Less = less_then a.key b.key (up 0 a (omega arith) (omega arith)) (apart a b rows keyed.0 keyed.1.0 once) in
-      ((first, all_so (λ (f : FoundRow). key_cmp b.key f.key ≡ Less) (λ (f : FoundRow). key_cmp a.key f.key ≡ Less) (λ f less. key_cmp_total.trans a.key b.key f.key first less) rows later.0), later)
+      let later =
+      rising (b ∷ rows) keyed.1 (λ value. rest_once (times_found schema value (a ∷ b ∷ rows)) (cond (is_same_value value (key_of schema a.row)) 1 0)
+      (times_found schema value (b ∷ rows)) (counted value a (b ∷ rows)) (once value)) (tail_up a (b ∷ rows) up) in
+      let first : key_cmp a.key b.key ≡ Less = less_then a.key b.key (up 0 a (omega arith) (omega arith)) (apart a b rows keyed.0 keyed.1.0 once) in (
+        (
+          first,
+          all_so (λ (f : FoundRow). key_cmp b.key f.key ≡ Less) (λ (f : FoundRow). key_cmp a.key f.key ≡ Less)
+              (λ f less. key_cmp_total.trans a.key b.key f.key first less) rows later.0,
+        ),
+        later,
+      )
 
   at_most_once : (p : List Value → Bool) (found : Option (List Value)) → once_if p found ≤ 1
   at_most_once p None = omega arith
@@ -93,8 +109,10 @@ module _ (schema : Schema) where
     go true = omega arith
     go false = omega arith
 
-  pub rises : (row_at : Value → Option (List Value)) (which : ℕ) (p : List Value → Bool) (rows : List FoundRow) → ((value : Value) (row : List Value) → row_at value ≡ Some row → IsHome schema value row) → AreFound schema which row_at p rows
+  pub rises : (row_at : Value → Option (List Value)) (which : ℕ) (p : List Value → Bool) (rows : List FoundRow)
+      → ((value : Value) (row : List Value) → row_at value ≡ Some row → IsHome schema value row) → AreFound schema which row_at p rows
       → IsSortedBy (λ (a b : FoundRow). is_lt (key_cmp a.key b.key)) rows → RiseByKey rows
   rises row_at which p rows homes is up =
-      rising rows (all_so (IsSeenRow schema row_at) IsKeyed (λ f s. record { has_key = (homes (key_of schema f.row) f.row s.seen).has_key; key_is = s.key_is }) rows is.seen)
+      rising rows (all_so (IsSeenRow schema row_at) IsKeyed
+      (λ f s. record { has_key = (homes (key_of schema f.row) f.row s.seen).has_key; key_is = s.key_is }) rows is.seen)
       (λ value. subst (λ n. n ≤ 1) (sym (is.once value)) (at_most_once p (row_at value))) up

@@ -80,7 +80,8 @@ lt_less Equal h = cc
 lt_less Greater h = cc
 
 -- at or below, but not the same
-pub le_apart : (key other : List ℕ) → (key ≡ other → is_lt (key_cmp key other) ≡ is_le (key_cmp key other)) → is_lt (key_cmp key other) ≡ is_le (key_cmp key other)
+pub le_apart : (key other : List ℕ) → (key ≡ other → is_lt (key_cmp key other) ≡ is_le (key_cmp key other))
+    → is_lt (key_cmp key other) ≡ is_le (key_cmp key other)
 le_apart key other h = go (key_cmp key other) refl where
   go : (r : Ordering) → key_cmp key other ≡ r → is_lt (key_cmp key other) ≡ is_le (key_cmp key other)
   go Less is = ap is_lt is ∙ sym (ap is_le is)
@@ -107,7 +108,8 @@ first_below : (key bound : List ℕ) → slice_cmp nat_cmp key bound ≡ Less �
 first_below [] [] is = cc
 first_below [] (b ∷ bound) is = refl
 first_below (k ∷ key) [] is = cc
-first_below (k ∷ key) (b ∷ bound) is = then_less (nat_cmp k b) (slice_cmp nat_cmp key bound) (slice_cmp nat_cmp (take (length bound) key) bound) (first_below key bound) is
+first_below (k ∷ key) (b ∷ bound) is =
+    then_less (nat_cmp k b) (slice_cmp nat_cmp key bound) (slice_cmp nat_cmp (take (length bound) key) bound) (first_below key bound) is
 
 -- first bytes rise as keys do
 firsts_rise : (n : ℕ) (xs ys : List ℕ) → is_le (slice_cmp nat_cmp xs ys) ≡ true → is_le (slice_cmp nat_cmp (take n xs) (take n ys)) ≡ true
@@ -146,6 +148,8 @@ begins_before (Without bound) key from = not_before key bound (gt_ge (beside key
 pub up_to_below : (high : Bound) (key other : List ℕ) → is_le (key_cmp other key) ≡ true → is_up_to high key ≡ true → is_up_to high other ≡ true
 up_to_below Open key other le up = refl
 up_to_below (With bound) key other le up =
-    le_le (slice_cmp nat_cmp) bytes_total (take (length bound) other) (take (length bound) key) bound (firsts_rise (length bound) other key (sym (ap is_le (key_cmp_is other key)) ∙ le)) up
+    le_le (slice_cmp nat_cmp) bytes_total (take (length bound) other) (take (length bound) key) bound
+    (firsts_rise (length bound) other key (sym (ap is_le (key_cmp_is other key)) ∙ le)) up
 up_to_below (Without bound) key other le up =
-    le_lt (slice_cmp nat_cmp) bytes_total (take (length bound) other) (take (length bound) key) bound (firsts_rise (length bound) other key (sym (ap is_le (key_cmp_is other key)) ∙ le)) up
+    le_lt (slice_cmp nat_cmp) bytes_total (take (length bound) other) (take (length bound) key) bound
+    (firsts_rise (length bound) other key (sym (ap is_le (key_cmp_is other key)) ∙ le)) up

@@ -34,7 +34,8 @@ use Rattle.entries.specs.Calls.{HasKey as IsAtKey}
 
 -- ---- what was found
 
-way_on : (schema : Schema) (scan : Scan) (row_at : Value → Option (List Value)) (old new : ℕ → Option Kept) (place : Option Pair) (phase : Phase) → KeepsWay schema scan.sight old new phase → PhaseFinds schema scan row_at old place phase → PhaseFinds schema scan row_at new place phase
+way_on : (schema : Schema) (scan : Scan) (row_at : Value → Option (List Value)) (old new : ℕ → Option Kept) (place : Option Pair) (phase : Phase)
+    → KeepsWay schema scan.sight old new phase → PhaseFinds schema scan row_at old place phase → PhaseFinds schema scan row_at new place phase
 way_on schema scan row_at old new place Seek keeps f = f
 way_on schema scan row_at old new place Follow keeps f = f
 way_on schema scan row_at old new place (Fetch entry) keeps f = f
@@ -48,13 +49,16 @@ way_on schema scan row_at old new place (Keep entry row) keeps f = f
 way_on schema scan row_at old new place Sort keeps f = f
 way_on schema scan row_at old new place Leave keeps f = f
 
-pub found_still : (schema : Schema) (old new : ℕ → Option Kept) (place : Option Pair) (was now : Value → List Version) (search : RowSearch) → ((value : Value) → rows_seen search.scan.sight now value ≡ rows_seen search.scan.sight was value)
+pub found_still : (schema : Schema) (old new : ℕ → Option Kept) (place : Option Pair) (was now : Value → List Version) (search : RowSearch)
+    → ((value : Value) → rows_seen search.scan.sight now value ≡ rows_seen search.scan.sight was value)
     → KeepsWay schema search.scan.sight old new search.phase → Finds schema old place was search → Finds schema new place now search
 found_still schema old new place was now search same keeps found =
     let seen : rows_seen search.scan.sight was ≡ rows_seen search.scan.sight now = λ i value. sym (same value) i in
-    subst (λ (row_at : Value → Option (List Value)). PhaseFinds schema search.scan row_at new place search.phase) seen (way_on schema search.scan (rows_seen search.scan.sight was) old new place search.phase keeps found)
+    subst (λ (row_at : Value → Option (List Value)). PhaseFinds schema search.scan row_at new place search.phase) seen
+    (way_on schema search.scan (rows_seen search.scan.sight was) old new place search.phase keeps found)
 
-record_still : (schema : Schema) (key : List ℕ) (old new : ℕ → Option Kept) (found : Option (List ℕ)) (versions : List Version) → KeepsMore old new → IsRecordWith schema key old found versions → IsRecordWith schema key new found versions
+record_still : (schema : Schema) (key : List ℕ) (old new : ℕ → Option Kept) (found : Option (List ℕ)) (versions : List Version) → KeepsMore old new
+    → IsRecordWith schema key old found versions → IsRecordWith schema key new found versions
 record_still schema key old new None [] more is = is
 record_still schema key old new None (version ∷ versions) more is = is
 record_still schema key old new (Some bytes) [] more is = is
@@ -64,14 +68,18 @@ pub way_still : (schema : Schema) (sight : Sight) (old new : ℕ → Option Kept
 way_still schema sight old new Seek more = tt
 way_still schema sight old new Follow more = tt
 way_still schema sight old new (Fetch entry) more = tt
-way_still schema sight old new (Look entry bytes) more = λ versions is. (versions, record_still schema (primary_part schema entry) old new (Some bytes) versions more is, refl)
-way_still schema sight old new (Walk entry pointer) more = λ versions is. (versions, leads_still schema (primary_part schema entry) old new pointer versions more is, refl)
+way_still schema sight old new (Look entry bytes) more =
+    λ versions is. (versions, record_still schema (primary_part schema entry) old new (Some bytes) versions more is, refl)
+way_still schema sight old new (Walk entry pointer) more =
+    λ versions is. (versions, leads_still schema (primary_part schema entry) old new pointer versions more is, refl)
 way_still schema sight old new (Keep entry row) more = tt
 way_still schema sight old new Sort more = tt
 way_still schema sight old new Leave more = tt
 
-holds_still : (actor : ℕ) (schema : Schema) (scan : Scan) (old new : WorldState) → place_in actor scan new ≡ place_in actor scan old → (IsTrue new.versions.told → IsTrue old.versions.told) → (phase : Phase)
-    → (IsTrue new.versions.told → KeepsWay schema scan.sight old.versions.kept_at new.versions.kept_at phase) → PhaseHolds actor schema scan old phase → PhaseHolds actor schema scan new phase
+holds_still : (actor : ℕ) (schema : Schema) (scan : Scan) (old new : WorldState) → place_in actor scan new ≡ place_in actor scan old
+    → (IsTrue new.versions.told → IsTrue old.versions.told) → (phase : Phase)
+    → (IsTrue new.versions.told → KeepsWay schema scan.sight old.versions.kept_at new.versions.kept_at phase) → PhaseHolds actor schema scan old phase →
+    PhaseHolds actor schema scan new phase
 holds_still actor schema scan old new place told Seek keeps h = tt
 holds_still actor schema scan old new place told Follow keeps h = ap is_some place ∙ h
 holds_still actor schema scan old new place told (Fetch entry) keeps h = subst (λ (o : Option Pair). IsAtKey entry o) (sym place) h
@@ -87,8 +95,11 @@ holds_still actor schema scan old new place told (Keep entry row) keeps h = subs
 holds_still actor schema scan old new place told Sort keeps h = tt
 holds_still actor schema scan old new place told Leave keeps h = tt
 
-pub searching_still : (actor : ℕ) (schema : Schema) (old new : WorldState) (search : RowSearch) → IsSearching actor schema old search → slice_get new.schemas search.scan.table ≡ Some schema → place_in actor search.scan new ≡ place_in actor search.scan old
-    → (IsTrue new.versions.told → IsTrue old.versions.told) → (IsTrue new.versions.told → KeepsWay schema search.scan.sight old.versions.kept_at new.versions.kept_at search.phase) → IsSearching actor schema new search
+pub searching_still : (actor : ℕ) (schema : Schema) (old new : WorldState) (search : RowSearch) → IsSearching actor schema old search
+    → slice_get new.schemas search.scan.table ≡ Some schema → place_in actor search.scan new ≡ place_in actor search.scan old
+    → (IsTrue new.versions.told → IsTrue old.versions.told) →
+    (IsTrue new.versions.told → KeepsWay schema search.scan.sight old.versions.kept_at new.versions.kept_at search.phase) → IsSearching actor schema new
+    search
 searching_still actor schema old new search is there place told keeps =
     record { there = there; key = is.key; few = is.few; phase = holds_still actor schema search.scan old new place told search.phase keeps is.phase }
 
@@ -101,7 +112,8 @@ some_there : (found : Option (List ℕ)) → (found ≡ None → ⊥) → is_som
 some_there None h = absurd (h refl)
 some_there (Some bytes) h = refl
 
-pub in_clustered : (schema : Schema) (kept : ℕ → Option Kept) (pairs : List Pair) (versions_at : Value → List Version) (sight : Sight) → IsClustered schema kept pairs versions_at → HaveKeys schema 0 pairs (rows_seen sight versions_at)
+pub in_clustered : (schema : Schema) (kept : ℕ → Option Kept) (pairs : List Pair) (versions_at : Value → List Version) (sight : Sight)
+    → IsClustered schema kept pairs versions_at → HaveKeys schema 0 pairs (rows_seen sight versions_at)
 in_clustered schema kept pairs versions_at sight is value row seen =
     let h = home schema kept pairs versions_at (sees_by sight) value row is seen in
     let kind : kind_at schema.columns schema.primary ≡ is.primary.kind = kind_is schema is.primary is.primary_is in
@@ -123,14 +135,17 @@ told_some some mark is = rw is refl
 one_plus : (n : ℕ) → 1 + n ≡ suc n
 one_plus n = omega arith
 
-pub in_keyed : (schema : Schema) (kept : ℕ → Option Kept) (pairs entries : List Pair) (versions_at said : Value → List Version) (sight : Sight) (at : ℕ) (key : Key) → IsClustered schema kept pairs versions_at → slice_get schema.keys at ≡ Some key
+pub in_keyed : (schema : Schema) (kept : ℕ → Option Kept) (pairs entries : List Pair) (versions_at said : Value → List Version) (sight : Sight) (at : ℕ)
+    (key : Key) → IsClustered schema kept pairs versions_at → slice_get schema.keys at ≡ Some key
     → HasEntries schema key.column entries said
-    → ((value : Value) (row : List Value) → rows_seen sight versions_at value ≡ Some row → list_any (λ told. has_value key.column (value_in key.column row) told.row) (said value) ≡ true) → HaveKeys schema (1 + at) entries (rows_seen sight versions_at)
+    → ((value : Value) (row : List Value) → rows_seen sight versions_at value ≡ Some row → list_any
+    (λ told. has_value key.column (value_in key.column row) told.row) (said value) ≡ true) → HaveKeys schema (1 + at) entries (rows_seen sight versions_at)
 in_keyed schema kept pairs entries versions_at said sight at key is there e says value row seen =
     let h = home schema kept pairs versions_at (sees_by sight) value row is seen in
     let kind : kind_at schema.columns schema.primary ≡ e.primary.kind = kind_is schema e.primary e.primary_is in
     let has : HasKey e.primary.kind value = subst (λ (k : Kind). HasKey k value) kind h.has_key in
-    let has_entry : HasEntry e.indexed.kind (value_in key.column row) = (fits_in schema.columns row key.column e.indexed h.at.fits e.indexed_is, bits_in row key.column h.at.bits) in
+    let has_entry : HasEntry e.indexed.kind (value_in key.column row) =
+    (fits_in schema.columns row key.column e.indexed h.at.fits e.indexed_is, bits_in row key.column h.at.bits) in
     let code : index_key schema (1 + at) row ≡ entry_code e.indexed.kind (value_in key.column row) (key_code e.primary.kind value)
     = ap (λ n. index_key schema n row) (one_plus at)
     ∙ (keyed_is schema at row key e.indexed there e.indexed_is
@@ -139,13 +154,18 @@ in_keyed schema kept pairs entries versions_at said sight at key is there e says
     ∙ (ap is_some (e.marks value (value_in key.column row) has has_entry)
     ∙ told_some (list_any (λ told. has_value key.column (value_in key.column row) told.row) (said value)) _ (says value row seen))
 
-pub seen_among : (column : ℕ) (sight : Sight) (versions : List Version) (row : List Value) → first_seen (sees_by sight) versions ≡ Some row → list_any (λ told. has_value column (value_in column row) told.row) versions ≡ true
+pub seen_among : (column : ℕ) (sight : Sight) (versions : List Version) (row : List Value) → first_seen (sees_by sight) versions ≡ Some row
+    → list_any (λ told. has_value column (value_in column row) told.row) versions ≡ true
 seen_among column sight [] row is = cc
 seen_among column sight (version ∷ versions) row is = go (sees_by sight version.writer) is (seen_among column sight versions row) where
-  go : (b : Bool) → cond b version.row (first_seen (sees_by sight) versions) ≡ Some row → (first_seen (sees_by sight) versions ≡ Some row → list_any (λ told. has_value column (value_in column row) told.row) versions ≡ true)
+  go : (b : Bool) → cond b version.row (first_seen (sees_by sight) versions) ≡ Some row
+      → (first_seen (sees_by sight) versions ≡ Some row → list_any (λ told. has_value column (value_in column row) told.row) versions ≡ true)
       → list_any (λ told. has_value column (value_in column row) told.row) (version ∷ versions) ≡ true
-  go true e later = or_left (has_value column (value_in column row) version.row) (list_any (λ told. has_value column (value_in column row) told.row) versions) (ap (has_value column (value_in column row)) e ∙ value_itself (value_in column row))
-  go false e later = or_right (has_value column (value_in column row) version.row) (list_any (λ told. has_value column (value_in column row) told.row) versions) (later e)
+  go true e later =
+      or_left (has_value column (value_in column row) version.row) (list_any (λ told. has_value column (value_in column row) told.row) versions)
+      (ap (has_value column (value_in column row)) e ∙ value_itself (value_in column row))
+  go false e later =
+      or_right (has_value column (value_in column row) version.row) (list_any (λ told. has_value column (value_in column row) told.row) versions) (later e)
 
 pub newest_seen : (versions : List Version) → first_seen (λ id. true) versions ≡ newest versions
 newest_seen [] = refl
@@ -153,7 +173,8 @@ newest_seen (version ∷ versions) = refl
 
 -- ---- a search that comes to its pair anew
 
-pub needs_none : (schema : Schema) (sight : Sight) (old new : ℕ → Option Kept) (phase : Phase) → ((entry bytes : List ℕ) → phase ≡ Look entry bytes → ⊥) → ((entry : List ℕ) (pointer : ℕ) → phase ≡ Walk entry pointer → ⊥) → KeepsWay schema sight old new phase
+pub needs_none : (schema : Schema) (sight : Sight) (old new : ℕ → Option Kept) (phase : Phase) → ((entry bytes : List ℕ) → phase ≡ Look entry bytes → ⊥)
+    → ((entry : List ℕ) (pointer : ℕ) → phase ≡ Walk entry pointer → ⊥) → KeepsWay schema sight old new phase
 needs_none schema sight old new Seek no_look no_walk = tt
 needs_none schema sight old new Follow no_look no_walk = tt
 needs_none schema sight old new (Fetch entry) no_look no_walk = tt

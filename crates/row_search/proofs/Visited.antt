@@ -66,10 +66,12 @@ module _ (actor : ℕ) (schema : Schema) (old new : WorldState) (scan : Scan) (e
     row_at = rows_seen scan.sight versions_at
 
     -- what was found up to the entry was found up to the place
-    pub up_to_place : (rows : List FoundRow) → IsAtKey entry at_old → AreFound schema scan.which row_at (lies_up_to schema scan entry) rows → IfSome at_new (λ pair. AreFound schema scan.which row_at (lies_up_to schema scan pair.0) rows)
+    pub up_to_place : (rows : List FoundRow) → IsAtKey entry at_old → AreFound schema scan.which row_at (lies_up_to schema scan entry) rows
+        → IfSome at_new (λ pair. AreFound schema scan.which row_at (lies_up_to schema scan pair.0) rows)
     up_to_place rows at found =
         let f = at_entry at in
-        subst (λ (o : Option Pair). IfSome o (λ pair. AreFound schema scan.which row_at (lies_up_to schema scan pair.0) rows)) (sym f.1) (subst (λ k. AreFound schema scan.which row_at (lies_up_to schema scan k) rows) (sym f.2) found)
+        subst (λ (o : Option Pair). IfSome o (λ pair. AreFound schema scan.which row_at (lies_up_to schema scan pair.0) rows)) (sym f.1)
+        (subst (λ k. AreFound schema scan.which row_at (lies_up_to schema scan k) rows) (sym f.2) found)
 
     pub is_walked : IsComing schema scan row_at entry → scan.range.empty ≡ false
     is_walked coming = go scan.range.empty coming.within where
@@ -82,15 +84,21 @@ module _ (actor : ℕ) (schema : Schema) (old new : WorldState) (scan : Scan) (e
       homes value row seen = home schema old.versions.kept_at shows.table.pairs versions_at (sees_by scan.sight) value row shows.table.clustered seen
 
       -- the reader sees no row at the entry's primary value
-      pub no_row_there : IsComing schema scan row_at entry → (versions : List Version) (among : IsSeenAmong schema scan row_at (primary_part schema entry) versions) → row_at among.value ≡ None → AreFound schema scan.which row_at (lies_up_to schema scan entry) scan.rows.items
+      pub no_row_there : IsComing schema scan row_at entry
+          → (versions : List Version) (among : IsSeenAmong schema scan row_at (primary_part schema entry) versions) → row_at among.value ≡ None
+          → AreFound schema scan.which row_at (lies_up_to schema scan entry) scan.rows.items
       no_row_there coming versions among none =
           passes_by schema scan row_at shows.searched shows.keys entry coming.below
-          (is_passed schema scan row_at which homes entry coming among.value among.has_key among.key_is (λ row seen own. none_some row (row_at among.value) none seen))
+          (is_passed schema scan row_at which homes entry coming among.value among.has_key among.key_is
+          (λ row seen own. none_some row (row_at among.value) none seen))
 
-      pub other_row_there : IsComing schema scan row_at entry → (row : List Value) → IsSeenAt schema row_at (primary_part schema entry) row → index_key schema scan.which row ≢ entry → AreFound schema scan.which row_at (lies_up_to schema scan entry) scan.rows.items
-      other_row_there coming row at apart = passes_by schema scan row_at shows.searched shows.keys entry coming.below (other_entry schema scan row_at which homes entry coming row at apart)
+      pub other_row_there : IsComing schema scan row_at entry → (row : List Value) → IsSeenAt schema row_at (primary_part schema entry) row
+          → index_key schema scan.which row ≢ entry → AreFound schema scan.which row_at (lies_up_to schema scan entry) scan.rows.items
+      other_row_there coming row at apart =
+          passes_by schema scan row_at shows.searched shows.keys entry coming.below (other_entry schema scan row_at which homes entry coming row at apart)
 
-      pub own_row_there : IsComing schema scan row_at entry → (row : List Value) → IsSeenAt schema row_at (primary_part schema entry) row → index_key schema scan.which row ≡ entry
+      pub own_row_there : IsComing schema scan row_at entry → (row : List Value) → IsSeenAt schema row_at (primary_part schema entry) row
+          → index_key schema scan.which row ≡ entry
           → AreFound schema scan.which row_at (lies_up_to schema scan entry) (scan.rows.items ++ record { key = primary_part schema entry; row = row } ∷ [])
       own_row_there coming row at own = row_kept schema scan row_at which homes entry coming row at own
 
@@ -109,11 +117,15 @@ module _ (actor : ℕ) (schema : Schema) (old new : WorldState) (scan : Scan) (e
     pub led : LeadTo schema (primary_part schema entry) old.versions.kept_at version.pointer rest
     pub shorter : (2 < rank) ⊎ ((2 ≡ rank) × (length rest < long))
 
-  module _ (phase : Phase) (is : IsSearching actor schema old (record { scan = scan; phase = phase })) (at : IsAtKey entry at_old) (version : Coded) (held : IsTrue old.versions.told → Held version)
-      (came : (versions_at : Value → List Version) → ShowsRows schema scan old versions_at → Finds schema old.versions.kept_at at_old versions_at (record { scan = scan; phase = phase })
-      → IsComing schema scan (rows_seen scan.sight versions_at) entry × (versions : List Version) × (bytes : List ℕ) × IsOnWay schema (primary_part schema entry) bytes old.versions.kept_at version versions
+  module _ (phase : Phase) (is : IsSearching actor schema old (record { scan = scan; phase = phase })) (at : IsAtKey entry at_old) (version : Coded)
+      (held : IsTrue old.versions.told → Held version)
+      (came : (versions_at : Value → List Version) → ShowsRows schema scan old versions_at → Finds schema old.versions.kept_at at_old versions_at
+      (record { scan = scan; phase = phase })
+      → IsComing schema scan (rows_seen scan.sight versions_at) entry × (versions : List Version) × (bytes : List ℕ) × IsOnWay schema
+      (primary_part schema entry) bytes old.versions.kept_at version versions
       × IsSeenAmong schema scan (rows_seen scan.sight versions_at) (primary_part schema entry) versions)
-      (left : (versions_at : Value → List Version) (shows : ShowsRows schema scan old versions_at) (n : List ℕ) → Finds schema old.versions.kept_at at_old versions_at (record { scan = scan; phase = phase })
+      (left : (versions_at : Value → List Version) (shows : ShowsRows schema scan old versions_at) (n : List ℕ) → Finds schema old.versions.kept_at at_old
+      versions_at (record { scan = scan; phase = phase })
       → HasToGo schema old.versions.kept_at at_old shows.searched phase n → HasLeft version shows.searched n) where
     holds_after : (seen marked : Bool) → PhaseHolds actor schema scan new (cond seen (cond marked Follow (Keep entry version.row)) (Walk entry version.pointer))
     holds_after true true = some_at at
@@ -121,35 +133,59 @@ module _ (actor : ℕ) (schema : Schema) (old new : WorldState) (scan : Scan) (e
     holds_after false marked = (
       subst (λ (o : Option Pair). IsAtKey entry o) (sym place_is) at,
       λ told.
-          let h = held (unchanged.versions.told told) in
-          (older h.0, subst (λ (kept : ℕ → Option Kept). LeadTo schema (primary_part schema entry) kept version.pointer (older h.0)) (sym (unchanged.versions.kept told)) h.2.rest),
+          let h = held (unchanged.versions.told told) in (
+            older h.0,
+            subst (λ (kept : ℕ → Option Kept). LeadTo schema (primary_part schema entry) kept version.pointer (older h.0))
+                (sym (unchanged.versions.kept told)) h.2.rest,
+          ),
     )
 
-    finds_after : (versions_at : Value → List Version) → ShowsRows schema scan old versions_at → Finds schema old.versions.kept_at at_old versions_at (record { scan = scan; phase = phase })
+    finds_after : (versions_at : Value → List Version) → ShowsRows schema scan old versions_at
+        → Finds schema old.versions.kept_at at_old versions_at (record { scan = scan; phase = phase })
         → (seen marked : Bool) → sees_by scan.sight version.writer ≡ seen → version.marked ≡ marked
-        → PhaseFinds schema scan (rows_seen scan.sight versions_at) old.versions.kept_at at_new (cond seen (cond marked Follow (Keep entry version.row)) (Walk entry version.pointer))
+        → PhaseFinds schema scan (rows_seen scan.sight versions_at) old.versions.kept_at at_new
+        (cond seen (cond marked Follow (Keep entry version.row)) (Walk entry version.pointer))
     finds_after versions_at shows finds true true seen marked =
         let c = came versions_at shows finds in (
           is_walked versions_at c.0,
-          up_to_place versions_at scan.rows.items at (no_row_there versions_at shows is.key c.0 c.1 c.4 (no_row schema scan (rows_seen scan.sight versions_at) (primary_part schema entry) c.2 old.versions.kept_at version c.1 c.3 c.4 seen marked)),
+          up_to_place versions_at scan.rows.items at
+              (no_row_there versions_at shows is.key c.0 c.1 c.4
+              (no_row schema scan (rows_seen scan.sight versions_at) (primary_part schema entry) c.2 old.versions.kept_at version c.1 c.3 c.4 seen marked)),
         )
     finds_after versions_at shows finds true false seen marked =
         let c = came versions_at shows finds in
         (c.0, row_there schema scan (rows_seen scan.sight versions_at) (primary_part schema entry) c.2 old.versions.kept_at version c.1 c.3 c.4 seen marked)
     finds_after versions_at shows finds false marked seen is_marked =
-        let c = came versions_at shows finds in
-        (c.0, older c.1, c.3.rest, passed_over schema scan (rows_seen scan.sight versions_at) (primary_part schema entry) c.2 old.versions.kept_at version c.1 c.3 c.4 seen)
+        let c = came versions_at shows finds in (
+          c.0,
+          older c.1,
+          c.3.rest,
+          passed_over schema scan (rows_seen scan.sight versions_at) (primary_part schema entry) c.2 old.versions.kept_at version
+              c.1 c.3 c.4 seen,
+        )
 
     nears_after : (pairs : List Pair) (n : List ℕ) → HasLeft version pairs n → (seen marked : Bool)
-        → (m : List ℕ) × HasToGo schema old.versions.kept_at at_new pairs (cond seen (cond marked Follow (Keep entry version.row)) (Walk entry version.pointer)) m × IsBelow m n
-    nears_after pairs n l true true = (1 ∷ pairs_behind at_new pairs ∷ 0 ∷ 0 ∷ [], refl, subst (λ (k : List ℕ). IsBelow (1 ∷ pairs_behind at_new pairs ∷ 0 ∷ 0 ∷ []) k) (sym l.n_is) (inr (refl, inr (ap (λ (o : Option Pair). pairs_behind o pairs) place_is, inl (less l.rank l.ranked))))) where
+        → (m : List ℕ) × HasToGo schema old.versions.kept_at at_new pairs
+        (cond seen (cond marked Follow (Keep entry version.row)) (Walk entry version.pointer)) m × IsBelow m n
+    nears_after pairs n l true true = (
+      1 ∷ pairs_behind at_new pairs ∷ 0 ∷ 0 ∷ [],
+      refl,
+      subst (λ (k : List ℕ). IsBelow (1 ∷ pairs_behind at_new pairs ∷ 0 ∷ 0 ∷ []) k) (sym l.n_is)
+          (inr (refl, inr (ap (λ (o : Option Pair). pairs_behind o pairs) place_is, inl (less l.rank l.ranked)))),
+    ) where
       less : (r : ℕ) → 1 < r → 0 < r
       less r lt = omega arith
-    nears_after pairs n l true false = (1 ∷ pairs_behind at_new pairs ∷ 1 ∷ 0 ∷ [], refl, subst (λ (k : List ℕ). IsBelow (1 ∷ pairs_behind at_new pairs ∷ 1 ∷ 0 ∷ []) k) (sym l.n_is) (inr (refl, inr (ap (λ (o : Option Pair). pairs_behind o pairs) place_is, inl l.ranked))))
+    nears_after pairs n l true false = (
+      1 ∷ pairs_behind at_new pairs ∷ 1 ∷ 0 ∷ [],
+      refl,
+      subst (λ (k : List ℕ). IsBelow (1 ∷ pairs_behind at_new pairs ∷ 1 ∷ 0 ∷ []) k) (sym l.n_is)
+          (inr (refl, inr (ap (λ (o : Option Pair). pairs_behind o pairs) place_is, inl l.ranked))),
+    )
     nears_after pairs n l false marked = (
       1 ∷ pairs_behind at_new pairs ∷ 2 ∷ length l.rest ∷ [],
       (l.rest, l.led, refl),
-      subst (λ (k : List ℕ). IsBelow (1 ∷ pairs_behind at_new pairs ∷ 2 ∷ length l.rest ∷ []) k) (sym l.n_is) (inr (refl, inr (ap (λ (o : Option Pair). pairs_behind o pairs) place_is, below l.shorter))),
+      subst (λ (k : List ℕ). IsBelow (1 ∷ pairs_behind at_new pairs ∷ 2 ∷ length l.rest ∷ []) k) (sym l.n_is)
+          (inr (refl, inr (ap (λ (o : Option Pair). pairs_behind o pairs) place_is, below l.shorter))),
     )
       where
         below : (2 < l.rank) ⊎ ((2 ≡ l.rank) × (length l.rest < l.long)) → IsBelow (2 ∷ length l.rest ∷ []) (l.rank ∷ l.long ∷ [])
@@ -161,14 +197,19 @@ module _ (actor : ℕ) (schema : Schema) (old new : WorldState) (scan : Scan) (e
         record {
           moves = moves;
           same = same_scan scan;
-          holds = searching_on actor schema old new scan scan phase (phase_after scan.sight entry version) moves is refl refl (holds_after (sees_by scan.sight version.writer) version.marked);
+          holds =
+              searching_on actor schema old new scan scan phase (phase_after scan.sight entry version) moves is refl refl
+              (holds_after (sees_by scan.sight version.writer) version.marked);
           finds = λ versions_at shows finds. finds_after versions_at shows finds (sees_by scan.sight version.writer) version.marked refl refl;
-          nears = λ versions_at shows n finds to_go. nears_after shows.searched n (left versions_at shows n finds to_go) (sees_by scan.sight version.writer) version.marked;
+          nears =
+              λ versions_at shows n finds to_go. nears_after shows.searched n (left versions_at shows n finds to_go) (sees_by scan.sight version.writer)
+              version.marked;
         }
 
 -- ---- the search goes on behind the pair, perhaps with one row more
 
-module _ (actor : ℕ) (schema : Schema) (old new : WorldState) (scan now : Scan) (entry : List ℕ) (unchanged : IsUnchanged old new) (same : IsSameScan scan now) (phase : Phase) (is : IsSearching actor schema old (record { scan = scan; phase = phase }))
+module _ (actor : ℕ) (schema : Schema) (old new : WorldState) (scan now : Scan) (entry : List ℕ) (unchanged : IsUnchanged old new)
+    (same : IsSameScan scan now) (phase : Phase) (is : IsSearching actor schema old (record { scan = scan; phase = phase }))
     (at : IsAtKey entry (place_in actor scan old)) where
   moved : OnlyMoves actor (index_of scan.table scan.which) old new
   moved = moves_unchanged actor (index_of scan.table scan.which) old new unchanged
@@ -176,22 +217,29 @@ module _ (actor : ℕ) (schema : Schema) (old new : WorldState) (scan now : Scan
   now_at : place_in actor now new ≡ place_in actor scan new
   now_at = ap (λ t. (new.indexes (index_of t now.which)).place actor) same.table ∙ ap (λ w. (new.indexes (index_of scan.table w)).place actor) same.which
 
-  pub follows_on : (finds : (versions_at : Value → List Version) → ShowsRows schema scan old versions_at → Finds schema old.versions.kept_at (place_in actor scan old) versions_at (record { scan = scan; phase = phase })
+  pub follows_on : (finds : (versions_at : Value → List Version) → ShowsRows schema scan old versions_at → Finds schema old.versions.kept_at
+      (place_in actor scan old) versions_at (record { scan = scan; phase = phase })
       → Finds schema old.versions.kept_at (place_in actor scan new) versions_at (record { scan = now; phase = Follow }))
-      → (left : (pairs : List Pair) (n : List ℕ) → HasToGo schema old.versions.kept_at (place_in actor scan old) pairs phase n → (rank : ℕ) × (long : ℕ) × (n ≡ 1 ∷ pairs_behind (place_in actor scan old) pairs ∷ rank ∷ long ∷ []) × (0 < rank))
+      → (left : (pairs : List Pair) (n : List ℕ) → HasToGo schema old.versions.kept_at (place_in actor scan old) pairs phase n → (rank : ℕ) × (long : ℕ) ×
+      (n ≡ 1 ∷ pairs_behind (place_in actor scan old) pairs ∷ rank ∷ long ∷ []) × (0 < rank))
       → GoesOn actor schema old new (record { scan = scan; phase = phase }) (record { scan = now; phase = Follow })
   follows_on finds left =
       record {
         moves = moved;
         same = same;
-        holds = searching_on actor schema old new scan now phase Follow moved is same.table same.which (ap is_some now_at ∙ some_at actor schema old new scan entry unchanged at);
-        finds = λ versions_at shows was. subst (λ (o : Option Pair). Finds schema old.versions.kept_at o versions_at (record { scan = now; phase = Follow })) (sym now_at) (finds versions_at shows was);
+        holds =
+            searching_on actor schema old new scan now phase Follow moved is same.table same.which
+            (ap is_some now_at ∙ some_at actor schema old new scan entry unchanged at);
+        finds =
+            λ versions_at shows was. subst (λ (o : Option Pair). Finds schema old.versions.kept_at o versions_at (record { scan = now; phase = Follow }))
+            (sym now_at) (finds versions_at shows was);
         nears = λ versions_at shows n was to_go.
             let l = left shows.searched n to_go in
             let one : pairs_behind (place_in actor now new) shows.searched ≡ pairs_behind (place_in actor scan old) shows.searched
             = ap (λ (o : Option Pair). pairs_behind o shows.searched) (now_at ∙ place_is actor schema old new scan entry unchanged) in (
               1 ∷ pairs_behind (place_in actor now new) shows.searched ∷ 0 ∷ 0 ∷ [],
               refl,
-              subst (λ (k : List ℕ). IsBelow (1 ∷ pairs_behind (place_in actor now new) shows.searched ∷ 0 ∷ 0 ∷ []) k) (sym l.2) (inr (refl, inr (one, inl l.3))),
+              subst (λ (k : List ℕ). IsBelow (1 ∷ pairs_behind (place_in actor now new) shows.searched ∷ 0 ∷ 0 ∷ []) k) (sym l.2)
+                  (inr (refl, inr (one, inl l.3))),
             );
       }

@@ -28,16 +28,19 @@ pub record IsOnWay (schema : Schema) (key bytes : List ℕ) (kept : ℕ → Opti
   pub first : versions ≡ shown coded ∷ older versions
   pub rest : LeadTo schema key kept coded.pointer (older versions)
 
-pub from_record : (schema : Schema) (key bytes : List ℕ) (kept : ℕ → Option Kept) (coded : Coded) (versions : List Version) → IsRecordWith schema key kept (Some bytes) versions → IsCodeOf schema key bytes coded → IsOnWay schema key bytes kept coded versions
+pub from_record : (schema : Schema) (key bytes : List ℕ) (kept : ℕ → Option Kept) (coded : Coded) (versions : List Version)
+    → IsRecordWith schema key kept (Some bytes) versions → IsCodeOf schema key bytes coded → IsOnWay schema key bytes kept coded versions
 from_record schema key bytes kept coded versions is code =
     let read = record_read schema key bytes kept versions coded is code in
     record { code_is = code; first = read.0; rest = read.1 }
 
 -- what was shown for the pointer is the next version
-pub from_pointer : (schema : Schema) (key : List ℕ) (kept : ℕ → Option Kept) (pointer : ℕ) (coded : Coded) (versions : List Version) → LeadTo schema key kept pointer versions → pointer ≢ 0
+pub from_pointer : (schema : Schema) (key : List ℕ) (kept : ℕ → Option Kept) (pointer : ℕ) (coded : Coded) (versions : List Version)
+    → LeadTo schema key kept pointer versions → pointer ≢ 0
     → option_map (λ (k : Kept). k.version) (kept pointer) ≡ Some coded → (bytes : List ℕ) × IsOnWay schema key bytes kept coded versions
 from_pointer schema key kept pointer coded versions lead leads is = go (kept pointer) refl is where
-  go : (found : Option Kept) → kept pointer ≡ found → option_map (λ (k : Kept). k.version) found ≡ Some coded → (bytes : List ℕ) × IsOnWay schema key bytes kept coded versions
+  go : (found : Option Kept) → kept pointer ≡ found → option_map (λ (k : Kept). k.version) found ≡ Some coded
+      → (bytes : List ℕ) × IsOnWay schema key bytes kept coded versions
   go None at e = cc
   go (Some found) at e =
       let same : found.version ≡ coded = cc in
@@ -50,13 +53,16 @@ zero_test : (n : ℕ) → n ≡ 0 → (n == 0) ≡ true
 zero_test n e = rw e refl
 
 -- the pointer may be asked for
-pub may_ask : (schema : Schema) (key : List ℕ) (versions : Versions) (pointer : ℕ) (led : List Version) → LeadTo schema key versions.kept_at pointer led → leads pointer versions ≡ true
+pub may_ask : (schema : Schema) (key : List ℕ) (versions : Versions) (pointer : ℕ) (led : List Version) → LeadTo schema key versions.kept_at pointer led
+    → leads pointer versions ≡ true
 may_ask schema key versions pointer [] is = or_left (pointer == 0) (is_some (versions.kept_at pointer)) (zero_test pointer is)
-may_ask schema key versions pointer (version ∷ rest) is = or_right (pointer == 0) (is_some (versions.kept_at pointer)) (pointer_leads schema key versions.kept_at pointer (version ∷ rest) is is.1.leads)
+may_ask schema key versions pointer (version ∷ rest) is =
+    or_right (pointer == 0) (is_some (versions.kept_at pointer)) (pointer_leads schema key versions.kept_at pointer (version ∷ rest) is is.1.leads)
 
 -- ---- what the reader sees of them
 
-module _ (schema : Schema) (scan : Scan) (row_at : Value → Option (List Value)) (key bytes : List ℕ) (kept : ℕ → Option Kept) (coded : Coded) (versions : List Version) (way : IsOnWay schema key bytes kept coded versions)
+module _ (schema : Schema) (scan : Scan) (row_at : Value → Option (List Value)) (key bytes : List ℕ) (kept : ℕ → Option Kept) (coded : Coded)
+    (versions : List Version) (way : IsOnWay schema key bytes kept coded versions)
     (among : IsSeenAmong schema scan row_at key versions) where
   sees-first : row_at among.value ≡ cond (sees_by scan.sight coded.writer) (row_shown coded.marked coded.row) (first_seen (sees_by scan.sight) (older versions))
   sees-first = among.seen ∙ ap (first_seen (sees_by scan.sight)) way.first
@@ -74,7 +80,8 @@ module _ (schema : Schema) (scan : Scan) (row_at : Value → Option (List Value)
   -- a marked version that is seen leaves no row
   pub no_row : sees_by scan.sight coded.writer ≡ true → coded.marked ≡ true → row_at among.value ≡ None
   no_row seen marked =
-      sees-first ∙ (ap (λ b. cond b (row_shown coded.marked coded.row) (first_seen (sees_by scan.sight) (older versions))) seen ∙ ap (λ b. row_shown b coded.row) marked)
+      sees-first ∙ (ap (λ b. cond b (row_shown coded.marked coded.row) (first_seen (sees_by scan.sight) (older versions))) seen ∙ ap
+      (λ b. row_shown b coded.row) marked)
 
   pub row_there : sees_by scan.sight coded.writer ≡ true → coded.marked ≡ false → IsSeenAt schema row_at key coded.row
   row_there seen unmarked =
@@ -82,9 +89,11 @@ module _ (schema : Schema) (scan : Scan) (row_at : Value → Option (List Value)
       let primary_is = way.code_is.record_is.key_is.primary in
       let there = key_there schema key bytes coded primary primary_is way.code_is in
       let kind : kind_at schema.columns schema.primary ≡ primary.kind = kind_is schema primary primary_is in
-      let has : HasKey (kind_at schema.columns schema.primary) (key_of schema coded.row) = subst (λ (k : Kind). HasKey k (key_of schema coded.row)) (sym kind) there.0 in
+      let has : HasKey (kind_at schema.columns schema.primary) (key_of schema coded.row) =
+      subst (λ (k : Kind). HasKey k (key_of schema coded.row)) (sym kind) there.0 in
       let spelled : key ≡ primary_key schema coded.row = there.1 ∙ ap (λ (k : Kind). key_code k (key_of schema coded.row)) (sym kind) in
-      let same : among.value ≡ key_of schema coded.row = one_key (kind_at schema.columns schema.primary) among.value (key_of schema coded.row) among.has_key has (sym among.key_is ∙ spelled) in
+      let same : among.value ≡ key_of schema coded.row =
+      one_key (kind_at schema.columns schema.primary) among.value (key_of schema coded.row) among.has_key has (sym among.key_is ∙ spelled) in
       record {
         seen =
             ap row_at (sym same)
@@ -96,15 +105,19 @@ module _ (schema : Schema) (scan : Scan) (row_at : Value → Option (List Value)
       }
 
 -- pointer 0 leads to nothing
-pub nothing_led : (schema : Schema) (scan : Scan) (row_at : Value → Option (List Value)) (key : List ℕ) (kept : ℕ → Option Kept) (pointer : ℕ) (versions : List Version) → LeadTo schema key kept pointer versions → pointer ≡ 0
+pub nothing_led : (schema : Schema) (scan : Scan) (row_at : Value → Option (List Value)) (key : List ℕ) (kept : ℕ → Option Kept) (pointer : ℕ)
+    (versions : List Version) → LeadTo schema key kept pointer versions → pointer ≡ 0
     → (among : IsSeenAmong schema scan row_at key versions) → row_at among.value ≡ None
-nothing_led schema scan row_at key kept pointer versions lead zero among = among.seen ∙ ap (first_seen (sees_by scan.sight)) (leads_nowhere schema key kept pointer versions lead zero)
+nothing_led schema scan row_at key kept pointer versions lead zero among =
+    among.seen ∙ ap (first_seen (sees_by scan.sight)) (leads_nowhere schema key kept pointer versions lead zero)
 
 -- ---- records of the clustered index
 
 -- the record that stands at a key has the versions of its row
-pub at_key : (schema : Schema) (scan : Scan) (kept : ℕ → Option Kept) (pairs : List Pair) (versions_at : Value → List Version) (key bytes : List ℕ) → IsClustered schema kept pairs versions_at → value_of key pairs ≡ Some bytes
-    → (versions : List Version) × IsRecordWith schema key kept (Some bytes) versions × IsSeenAmong schema scan (λ value. first_seen (sees_by scan.sight) (versions_at value)) key versions
+pub at_key : (schema : Schema) (scan : Scan) (kept : ℕ → Option Kept) (pairs : List Pair) (versions_at : Value → List Version) (key bytes : List ℕ)
+    → IsClustered schema kept pairs versions_at → value_of key pairs ≡ Some bytes
+    → (versions : List Version) × IsRecordWith schema key kept (Some bytes) versions × IsSeenAmong schema scan
+    (λ value. first_seen (sees_by scan.sight) (versions_at value)) key versions
 at_key schema scan kept pairs versions_at key bytes is there =
     let some = is.keys key (ap is_some there) in
     let value = some.0 in

@@ -48,7 +48,8 @@ pub record IsPutOff (actor : ℕ) (old new : Index) (move : Move) : Type 0 where
 put_off : (actor : ℕ) (old new : Index) (move : Move) → Delays actor old new move → IsPutOff actor old new move
 put_off actor old new move h = record { as_before = delay_as_before actor old new move h; waits = delay_waits actor old new move h }
 
-pub seek_put_off : (actor : ℕ) (from : List ℕ) (old new : Index) (move : Move) → Seeks actor from old new move → ((key value : List ℕ) → move ≢ At key value) → move ≢ End → IsPutOff actor old new move
+pub seek_put_off : (actor : ℕ) (from : List ℕ) (old new : Index) (move : Move) → Seeks actor from old new move
+    → ((key value : List ℕ) → move ≢ At key value) → move ≢ End → IsPutOff actor old new move
 seek_put_off actor from old new (At key value) h not_at not_end = absurd (not_at key value refl)
 seek_put_off actor from old new End h not_at not_end = absurd (not_end refl)
 seek_put_off actor from old new NoMemory h not_at not_end = record { as_before = h; waits = tt }
@@ -61,7 +62,8 @@ seek_put_off actor from old new Done h not_at not_end = put_off actor old new Do
 seek_put_off actor from old new (Full need free) h not_at not_end = put_off actor old new (Full need free) h
 seek_put_off actor from old new TooDeep h not_at not_end = put_off actor old new TooDeep h
 
-pub follow_put_off : (actor : ℕ) (old new : Index) (move : Move) → Follows actor old new move → ((key value : List ℕ) → move ≢ At key value) → move ≢ End → IsPutOff actor old new move
+pub follow_put_off : (actor : ℕ) (old new : Index) (move : Move) → Follows actor old new move → ((key value : List ℕ) → move ≢ At key value) → move ≢ End
+    → IsPutOff actor old new move
 follow_put_off actor old new (At key value) h not_at not_end = absurd (not_at key value refl)
 follow_put_off actor old new End h not_at not_end = absurd (not_end refl)
 follow_put_off actor old new NoMemory h not_at not_end = record { as_before = h; waits = tt }
@@ -74,7 +76,8 @@ follow_put_off actor old new Done h not_at not_end = put_off actor old new Done 
 follow_put_off actor old new (Full need free) h not_at not_end = put_off actor old new (Full need free) h
 follow_put_off actor old new TooDeep h not_at not_end = put_off actor old new TooDeep h
 
-pub fetch_put_off : (actor : ℕ) (key read : List ℕ) (old new : Index) (move : Move) → Fetches actor key read old new move → move ≢ Done → move ≢ End → IsPutOff actor old new move
+pub fetch_put_off : (actor : ℕ) (key read : List ℕ) (old new : Index) (move : Move) → Fetches actor key read old new move → move ≢ Done → move ≢ End
+    → IsPutOff actor old new move
 fetch_put_off actor key read old new Done h not_done not_end = absurd (not_done refl)
 fetch_put_off actor key read old new End h not_done not_end = absurd (not_end refl)
 fetch_put_off actor key read old new (At k v) h not_done not_end = put_off actor old new (At k v) h
@@ -129,7 +132,9 @@ module _ {index : ℕ} {call : Index → Index → Type 0} {old new : WorldState
   pub call_unchanged : IsAsBefore (old.indexes index) (new.indexes index) → IsUnchanged old new
   call_unchanged here =
       record {
-        indexes = λ other. ⊎_elim (λ e. subst (λ k. IsAsBefore (old.indexes k) (new.indexes k)) (sym e) here) (λ apart. c.index_is.elsewhere other apart) (cases_eq other index);
+        indexes =
+            λ other. ⊎_elim (λ e. subst (λ k. IsAsBefore (old.indexes k) (new.indexes k)) (sym e) here) (λ apart. c.index_is.elsewhere other apart)
+            (cases_eq other index);
         versions = c.beside.versions;
         rest = c.beside.rest;
       }
@@ -137,14 +142,19 @@ module _ {index : ℕ} {call : Index → Index → Type 0} {old new : WorldState
   pub call_moves : (actor : ℕ) (pair : Pair) → IsGiven actor pair (old.indexes index) (new.indexes index) → OnlyMoves actor index old new
   call_moves actor pair given =
       record {
-        pairs = λ other. ⊎_elim (λ e. subst (λ k. AreKept (old.indexes k).pairs (new.indexes k).pairs) (sym e) given.pairs) (λ apart. (c.index_is.elsewhere other apart).pairs) (cases_eq other index);
+        pairs =
+            λ other. ⊎_elim (λ e. subst (λ k. AreKept (old.indexes k).pairs (new.indexes k).pairs) (sym e) given.pairs)
+            (λ apart. (c.index_is.elsewhere other apart).pairs) (cases_eq other index);
         places = λ other apart. (c.index_is.elsewhere other apart).place;
         others = given.others;
-        awaited = λ other. ⊎_elim (λ e. subst (λ k. (new.indexes k).awaited ≡ (old.indexes k).awaited) (sym e) given.awaited) (λ apart. (c.index_is.elsewhere other apart).awaited) (cases_eq other index);
+        awaited =
+            λ other. ⊎_elim (λ e. subst (λ k. (new.indexes k).awaited ≡ (old.indexes k).awaited) (sym e) given.awaited)
+            (λ apart. (c.index_is.elsewhere other apart).awaited) (cases_eq other index);
         versions = c.beside.versions;
         rest = c.beside.rest;
       }
 
 -- the same call, of an index and with an answer that are known to be these
-pub recast : (call : Move → Index → Index → Type 0) (i j : ℕ) (a b : Move) (old new : WorldState) → i ≡ j → a ≡ b → Calls i (call a) old new → Calls j (call b) old new
+pub recast : (call : Move → Index → Index → Type 0) (i j : ℕ) (a b : Move) (old new : WorldState) → i ≡ j → a ≡ b → Calls i (call a) old new
+    → Calls j (call b) old new
 recast call i j a b old new same answer c = subst (λ (k : ℕ). Calls k (call b) old new) same (subst (λ (m : Move). Calls i (call m) old new) answer c)

@@ -21,7 +21,8 @@ use Rattle.row_search.specs.Searches.{IsSearching, Finds}
 abbrev pub KeepsWay : Schema → Sight → (ℕ → Option Kept) → (ℕ → Option Kept) → Phase → Type 0
 KeepsWay schema sight old new (Look entry bytes) =
     (versions : List Version) → IsRecordWith schema (primary_part schema entry) old (Some bytes) versions
-    → (now : List Version) × IsRecordWith schema (primary_part schema entry) new (Some bytes) now × (first_seen (sees_by sight) now ≡ first_seen (sees_by sight) versions)
+    → (now : List Version) × IsRecordWith schema (primary_part schema entry) new (Some bytes) now ×
+    (first_seen (sees_by sight) now ≡ first_seen (sees_by sight) versions)
 KeepsWay schema sight old new (Walk entry pointer) =
     (versions : List Version) → LeadTo schema (primary_part schema entry) old pointer versions
     → (now : List Version) × LeadTo schema (primary_part schema entry) new pointer now × (first_seen (sees_by sight) now ≡ first_seen (sees_by sight) versions)
@@ -30,7 +31,8 @@ KeepsWay schema sight old new other = Unit {0}
 -- What the one has found the other has found, too.
 abbrev pub KeepsFound : RowSearch → RowSearch → Type 0
 KeepsFound one other =
-    (schema : Schema) (kept : ℕ → Option Kept) (place : Option Pair) (versions_at : Value → List Version) → Finds schema kept place versions_at one → Finds schema kept place versions_at other
+    (schema : Schema) (kept : ℕ → Option Kept) (place : Option Pair) (versions_at : Value → List Version) → Finds schema kept place versions_at one
+    → Finds schema kept place versions_at other
 
 -- Where the one may go on the other may, too.
 abbrev pub KeepsSearching : RowSearch → RowSearch → Type 0

@@ -20,5 +20,6 @@ IsEntryOf kind value primary entry own = IsOfKindOrNull kind value → TellsSame
 -- the answer for an index of this number: all keys of the clustered index are those of rows
 pub record IsOwner (schema : Schema) (which : ℕ) (primary entry : List ℕ) (row : List Value) (own : Bool) : Type 0 where
   pub clustered : which ≡ 0 → own ≡ true
-  pub keyed : (at : ℕ) (key : Key) (indexed : Column) → which ≡ 1 + at → slice_get schema.keys at ≡ Some key → slice_get schema.columns key.column ≡ Some indexed
+  pub keyed : (at : ℕ) (key : Key) (indexed : Column) → which ≡ 1 + at → slice_get schema.keys at ≡ Some key
+      → slice_get schema.columns key.column ≡ Some indexed
       → IsEntryOf indexed.kind (value_in key.column row) primary entry own

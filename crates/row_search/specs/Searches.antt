@@ -30,7 +30,8 @@ place_in actor scan state = (state.indexes (index_of scan.table scan.which)).pla
 
 -- where it is told what is kept, the record of a key has versions, all of which are kept
 abbrev pub IsRecordKept : Schema → WorldState → List ℕ → List ℕ → Type 0
-IsRecordKept schema state key bytes = IsTrue state.versions.told → (versions : List Version) × IsRecordWith schema key state.versions.kept_at (Some bytes) versions
+IsRecordKept schema state key bytes =
+    IsTrue state.versions.told → (versions : List Version) × IsRecordWith schema key state.versions.kept_at (Some bytes) versions
 
 -- where it is told what is kept, the pointer leads to versions, all of which are kept
 abbrev pub IsWayKept : Schema → WorldState → List ℕ → ℕ → Type 0
@@ -76,14 +77,17 @@ pub record IsSeenAt (schema : Schema) (row_at : Value → Option (List Value)) (
 
 abbrev pub PhaseFinds : Schema → Scan → (Value → Option (List Value)) → (ℕ → Option Kept) → Option Pair → Phase → Type 0
 PhaseFinds schema scan row_at kept place Seek = (scan.range.empty ≡ false) × AreFound schema scan.which row_at (λ row. false) scan.rows.items
-PhaseFinds schema scan row_at kept place Follow = (scan.range.empty ≡ false) × IfSome place (λ pair. AreFound schema scan.which row_at (lies_up_to schema scan pair.0) scan.rows.items)
+PhaseFinds schema scan row_at kept place Follow =
+    (scan.range.empty ≡ false) × IfSome place (λ pair. AreFound schema scan.which row_at (lies_up_to schema scan pair.0) scan.rows.items)
 PhaseFinds schema scan row_at kept place (Fetch entry) = IsComing schema scan row_at entry
 PhaseFinds schema scan row_at kept place (Look entry bytes) =
     IsComing schema scan row_at entry
-    × (versions : List Version) × IsRecordWith schema (primary_part schema entry) kept (Some bytes) versions × IsSeenAmong schema scan row_at (primary_part schema entry) versions
+    × (versions : List Version) × IsRecordWith schema (primary_part schema entry) kept (Some bytes) versions × IsSeenAmong schema scan row_at
+    (primary_part schema entry) versions
 PhaseFinds schema scan row_at kept place (Walk entry pointer) =
     IsComing schema scan row_at entry
-    × (versions : List Version) × LeadTo schema (primary_part schema entry) kept pointer versions × IsSeenAmong schema scan row_at (primary_part schema entry) versions
+    × (versions : List Version) × LeadTo schema (primary_part schema entry) kept pointer versions × IsSeenAmong schema scan row_at
+    (primary_part schema entry) versions
 PhaseFinds schema scan row_at kept place (Keep entry row) = IsComing schema scan row_at entry × IsSeenAt schema row_at (primary_part schema entry) row
 PhaseFinds schema scan row_at kept place Sort = AreFound schema scan.which row_at (lies_in schema scan) scan.rows.items
 PhaseFinds schema scan row_at kept place Leave = AreFound schema scan.which row_at (lies_in schema scan) scan.rows.items × RiseByKey scan.rows.items
@@ -95,12 +99,14 @@ Finds schema kept place versions_at search = PhaseFinds schema search.scan (rows
 
 -- Before its first step a search has found what there is to find so far, which is nothing.
 abbrev pub BeginsWithNothing : RowSearch → Type 0
-BeginsWithNothing fresh = (schema : Schema) (kept : ℕ → Option Kept) (place : Option Pair) (versions_at : Value → List Version) → Finds schema kept place versions_at fresh
+BeginsWithNothing fresh =
+    (schema : Schema) (kept : ℕ → Option Kept) (place : Option Pair) (versions_at : Value → List Version) → Finds schema kept place versions_at fresh
 
 -- It may begin where its table and its index are there.
 abbrev pub MayBegin : RowSearch → Type 0
 MayBegin fresh =
-    (actor : ℕ) (schema : Schema) (state : WorldState) → slice_get state.schemas fresh.scan.table ≡ Some schema → fresh.scan.which ≤ length schema.keys → fresh.scan.which < 8
+    (actor : ℕ) (schema : Schema) (state : WorldState) → slice_get state.schemas fresh.scan.table ≡ Some schema → fresh.scan.which ≤ length schema.keys
+    → fresh.scan.which < 8
     → IsSearching actor schema state fresh
 
 -- ---- how far it has to go

@@ -70,8 +70,10 @@ pub record GoesOn (actor : ℕ) (schema : Schema) (old new : WorldState) (search
   pub same : IsSameScan search.scan next.scan
   pub holds : IsSearching actor schema new next
   pub finds : (versions_at : Value → List Version) → ShowsRows schema search.scan old versions_at
-      → Finds schema old.versions.kept_at (place_in actor search.scan old) versions_at search → Finds schema old.versions.kept_at (place_in actor next.scan new) versions_at next
-  pub nears : (versions_at : Value → List Version) (shows : ShowsRows schema search.scan old versions_at) (n : List ℕ) → Finds schema old.versions.kept_at (place_in actor search.scan old) versions_at search
+      → Finds schema old.versions.kept_at (place_in actor search.scan old) versions_at search → Finds schema old.versions.kept_at
+      (place_in actor next.scan new) versions_at next
+  pub nears : (versions_at : Value → List Version) (shows : ShowsRows schema search.scan old versions_at) (n : List ℕ)
+      → Finds schema old.versions.kept_at (place_in actor search.scan old) versions_at search
       → HasToGo schema old.versions.kept_at (place_in actor search.scan old) shows.searched search.phase n
       → (m : List ℕ) × HasToGo schema old.versions.kept_at (place_in actor next.scan new) shows.searched next.phase m × IsBelow m n
 
@@ -82,7 +84,8 @@ pub record Waits (actor : ℕ) (schema : Schema) (old new : WorldState) (search 
   pub rows_are : same.scan.rows.items ≡ search.scan.rows.items
   pub phase_is : same.phase ≡ search.phase
   pub holds : IsSearching actor schema new same
-  pub finds : (versions_at : Value → List Version) → Finds schema old.versions.kept_at (place_in actor search.scan old) versions_at search → Finds schema old.versions.kept_at (place_in actor same.scan new) versions_at same
+  pub finds : (versions_at : Value → List Version) → Finds schema old.versions.kept_at (place_in actor search.scan old) versions_at search
+      → Finds schema old.versions.kept_at (place_in actor same.scan new) versions_at same
   pub cause : PhaseWaits actor old new search.scan search.phase why
 
 -- The search is over: the rows that the reader sees whose key in the index lies in the range, each once, in the order of

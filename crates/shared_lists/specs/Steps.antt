@@ -35,7 +35,8 @@ rows_in_range plan schema rows = filter (λ row. is_within plan.range (index_key
 -- n commits.
 abbrev pub AreRowsSeen : ℕ → Plan → List Event → ℕ → ℕ → List (List Value) → Type 0
 AreRowsSeen table plan past s n rows =
-    (schema : Schema) → slice_get (created past) table ≡ Some schema → rows ≡ rows_in_range plan schema (rows_of table (changed (with_all_tables past) (seen past s n)))
+    (schema : Schema) → slice_get (created past) table ≡ Some schema
+    → rows ≡ rows_in_range plan schema (rows_of table (changed (with_all_tables past) (seen past s n)))
 
 -- The latest rows, in the plan's range or all of them, where one session alone has changes.
 abbrev pub AreNewestRows : ℕ → Plan → List Event → ℕ → List (List Value) → Type 0
@@ -88,6 +89,7 @@ rows_entered other task = 0
 -- ---- taking back
 
 abbrev pub TakesBack : ℕ → ℕ → State → State → Undone → Type 0
-TakesBack s keep old new undone.Went = Turns s (task_of s new) old new × ((left : ℕ) × (task_of s new ≡ Undoing left)) × (undo_to_go (task_of s new) < undo_to_go (task_of s old))
+TakesBack s keep old new undone.Went =
+    Turns s (task_of s new) old new × ((left : ℕ) × (task_of s new ≡ Undoing left)) × (undo_to_go (task_of s new) < undo_to_go (task_of s old))
 TakesBack s keep old new undone.Undone = IsNow (events.Undone s keep ∷ old.past) s Idle old.writer old new
 TakesBack s keep old new undone.NoMemory = Turns s (task_of s old) old new

@@ -56,7 +56,8 @@ made_of_parts (Undoing left) = refl
 abbrev pub task_code : Coded Task
 task_code =
     code_by Parts
-    (coded× (coded_option (coded× coded_ℕ (coded× of_plan.the_row.coded of_reading.the_row.coded))) (coded× (coded_option (coded× (coded_option of_change.the_row.coded) coded_ℕ)) (coded× coded_bool (coded_option coded_ℕ))))
+    (coded× (coded_option (coded× coded_ℕ (coded× of_plan.the_row.coded of_reading.the_row.coded)))
+    (coded× (coded_option (coded× (coded_option of_change.the_row.coded) coded_ℕ)) (coded× coded_bool (coded_option coded_ℕ))))
     parts_of (λ p. task_with p.0 p.1.0 p.1.1.0 p.1.1.1) made_of_parts
 
 abbrev pub is_changing : Task → Bool

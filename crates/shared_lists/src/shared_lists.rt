@@ -193,12 +193,12 @@ pub trait SharedLists: Drop {
         ensures settings { (lists self.new).settings ≡ slice_set (lists self.old).settings session (at_end (slice_index_or (lists self.old).settings session at_first)) }
         ensures rows { (lists self.new).rows ≡ (lists self.old).rows };
 
-    /// Acknowledges the session's commit.
-    fn ack(&mut self, session: u32)
+    /// Acknowledges the session's commit, at a moment of the disk.
+    fn ack(&mut self, session: u32, moment: u64)
         requires joined { session < length (lists self.old).state.names }
-        requires may { MayCome (lists self.old).state.past (Acked session 0) }
+        requires may { MayCome (lists self.old).state.past (Acked session moment) }
         requires idle { task_of session (lists self.old).state ≡ Idle }
-        ensures adds { Adds (Acked session 0) session (lists self.old).state (lists self.new).state }
+        ensures adds { Adds (Acked session moment) session (lists self.old).state (lists self.new).state }
         ensures settings { (lists self.new).settings ≡ (lists self.old).settings }
         ensures rows { (lists self.new).rows ≡ (lists self.old).rows };
 

@@ -28,7 +28,14 @@ committed_all (e ∷ past) n m few less = committed_all past n m (omega (arith, 
 
 -- the database after one more commit is the one before with the changes of that transaction
 pub commit_adds : (s : ℕ) (past : List Event) → db_after (commits past + 1) (Committed s ∷ past) ≡ changed (db_after (commits past) past) (own s past)
-commit_adds s past = grind (arith, nat_tests, changed_append (opening past) (own s past) (committed (commits past) past), committed_all past (commits past + 1) (commits past) (omega arith) (omega arith))
+commit_adds s past =
+    grind (
+      arith,
+      nat_tests,
+      changed_append (opening past) (own s past) (committed (commits past) past),
+      committed_all past (commits past + 1) (commits past)
+          (omega arith) (omega arith),
+    )
 
 pub view_counts : (s t : ℕ) (past : List Event) → view_of s (View s ∷ Committed t ∷ past) ≡ Some (commits past + 1)
 view_counts s t past = grind (arith, nat_tests)

@@ -12,7 +12,8 @@ same_bytes (b ∷ name) = grind (arith, nat_tests, same_bytes name)
 pub kept_at : (name : List ℕ) (made : ℕ) (saves : List Save) → made_at name (saved name made true saves) ≡ Some made
 kept_at name made saves = rw (same_bytes name) refl
 
-by_name : (b : Bool) (name : List ℕ) (save : Save) (saves : List Save) → bytes_eq save.name name ≡ b → made_at name (back_to name saves) ≡ made_at name saves → made_at name (back_to name (save ∷ saves)) ≡ made_at name (save ∷ saves)
+by_name : (b : Bool) (name : List ℕ) (save : Save) (saves : List Save) → bytes_eq save.name name ≡ b
+    → made_at name (back_to name saves) ≡ made_at name saves → made_at name (back_to name (save ∷ saves)) ≡ made_at name (save ∷ saves)
 by_name true name save saves is behind = rw is (rw is refl)
 by_name false name save saves is behind = rw is behind
 

@@ -35,7 +35,8 @@ ChangesLatest db latest changes = AllByRecursion (λ change. IsSameWhere db late
 
 abbrev pub GivesLatest : Database → Database → ℕ → Option Schema → Option Filter → Type 0
 GivesLatest db latest table None condition = Unit {0}
-GivesLatest db latest table (Some schema) condition = AllByRecursion (λ row. IsSameAt db latest (table, key_of schema row)) (matching schema.columns condition (rows_of table db))
+GivesLatest db latest table (Some schema) condition =
+    AllByRecursion (λ row. IsSameAt db latest (table, key_of schema row)) (matching schema.columns condition (rows_of table db))
 
 abbrev pub GivesLatestOf : Database → Database → Option ℕ → Option Filter → Type 0
 GivesLatestOf db latest None condition = Unit {0}

@@ -53,7 +53,8 @@ sight_in level s setting statement past = sight_of level (is_alone s setting pas
 abbrev pub BeginsBy : ℕ → Setting → Stmt → List Event → Type 0
 BeginsBy s setting (stmt.Begin snapshot) past = Unit {0}
 BeginsBy s setting (stmt.Savepoint name) past = setting.autocommit ≡ false
-BeginsBy s setting (stmt.CreateTable table if_not_exists definitions) past = (outcome (stmt.CreateTable table if_not_exists definitions) (base s past)).changes ≢ []
+BeginsBy s setting (stmt.CreateTable table if_not_exists definitions) past =
+    (outcome (stmt.CreateTable table if_not_exists definitions) (base s past)).changes ≢ []
 BeginsBy s setting statement past = is_on_rows statement ≡ true
 
 pub record MayBegin (says : Language) (s : ℕ) (number : ℕ) (l : Level) (past : List Event) : Type 0 where
@@ -82,7 +83,8 @@ CommitsBy s setting stmt.Commit past = Unit {0}
 CommitsBy s setting (stmt.Begin snapshot) past = did begins_txn s past ≡ false
 CommitsBy s setting (stmt.SetAutocommit true) past = setting.autocommit ≡ false
 CommitsBy s setting (stmt.CreateTable table if_not_exists definitions) past =
-    (did begins_txn s past ≡ false) ⊎ HasMade (length (outcome (stmt.CreateTable table if_not_exists definitions) (base s past)).changes) s (outcome (stmt.CreateTable table if_not_exists definitions) (base s past)).changes past
+    (did begins_txn s past ≡ false) ⊎ HasMade (length (outcome (stmt.CreateTable table if_not_exists definitions) (base s past)).changes) s
+    (outcome (stmt.CreateTable table if_not_exists definitions) (base s past)).changes past
 CommitsBy s setting statement past = (is_on_rows statement ≡ true) × IsSettled s setting statement past
 
 pub record MayCommit (says : Language) (s : ℕ) (past : List Event) : Type 0 where
@@ -132,7 +134,8 @@ TakesView Serializable s past = did takes_view s past ≡ false
 
 abbrev pub ViewsBy : Level → ℕ → Setting → Stmt → List Event → Type 0
 ViewsBy l s setting (stmt.Begin true) past = (l ≡ RepeatableRead) × (did begins_txn s past ≡ true) × (view_of s past ≡ None)
-ViewsBy l s setting (stmt.Select selected table condition lock) past = (sight_in l s setting (stmt.Select selected table condition lock) past ≡ Sight.of_view) × TakesView l s past
+ViewsBy l s setting (stmt.Select selected table condition lock) past =
+    (sight_in l s setting (stmt.Select selected table condition lock) past ≡ Sight.of_view) × TakesView l s past
 ViewsBy l s setting other past = ⊥
 
 pub record MayView (says : Language) (s : ℕ) (past : List Event) : Type 0 where
@@ -158,7 +161,8 @@ ChangesBy s other past = IsWriting other
 
 -- no two open transactions have changes on one key
 abbrev pub IsFree : ℕ → Change → List Event → Type 0
-IsFree s change past = (place : Place) → place_of (newest past).schemas change ≡ Some place → (other : ℕ) → other ≢ s → Spares (newest past) place (own other past)
+IsFree s change past =
+    (place : Place) → place_of (newest past).schemas change ≡ Some place → (other : ℕ) → other ≢ s → Spares (newest past) place (own other past)
 
 pub record MayChange (says : Language) (s : ℕ) (change : Change) (past : List Event) : Type 0 where
   pub is_open : IsOpen s past
@@ -225,12 +229,6 @@ pub record HasTimedOut (s : ℕ) (held : Lock) (waited : ℕ) (past : List Event
   pub asked : Lock
   pub request : request_in (of_item s past) ≡ Some asked
   pub blocks : conflicts held asked ≡ true
-
--- a refusal that comes of pages or of trees, where a history shows no cause
-abbrev pub IsOfPages : SqlError → Type 0
-IsOfPages (errors.Full need free) = free < need
-IsOfPages errors.TooDeep = Unit {0}
-IsOfPages other = ⊥
 
 -- a statement on rows: its answer, and a consistent read's own view at READ COMMITTED
 pub record AnswersRows (s : ℕ) (setting : Setting) (statement : Stmt) (reply : Reply) (past : List Event) : Type 0 where
@@ -302,7 +300,8 @@ pub record IsNoStatement (says : Language) (s : ℕ) (reply : Reply) (past : Lis
 -- What would come next, and how many rows it would bring: the rows of an answer, or one that is put.
 abbrev pub NextBrings : Sight → ℕ → Stmt → ℕ → List Event → Type 0
 NextBrings sight s (stmt.Select selected table condition lock) more past =
-    (db : Database) × MaySee sight s (stmt.Select selected table condition lock) db (point s past) × (more ≡ rows_of_reply (outcome (stmt.Select selected table condition lock) db).reply)
+    (db : Database) × MaySee sight s (stmt.Select selected table condition lock) db (point s past) ×
+    (more ≡ rows_of_reply (outcome (stmt.Select selected table condition lock) db).reply)
 NextBrings sight s (stmt.Insert table columns tuples) more past = more ≡ 1
 NextBrings sight s (stmt.Update table sets condition) more past = more ≡ 1
 NextBrings sight s other more past = ⊥
@@ -357,8 +356,8 @@ pub record WantsMemory (says : Language) (s : ℕ) (past : List Event) : Type 0 
 -- a reply that breaks off an item
 abbrev pub EndsEarly : Language → ℕ → Reply → List Event → Type 0
 EndsEarly says s (replies.Fail (errors.Deadlock cycle)) past = NamesCycle cycle (of_item s past) × IsRolledBackWhole says s past
-EndsEarly says s (replies.Fail (errors.Timeout held waited)) past = HasTimedOut s held waited past × Sometime (IsFitting says held) s past × IsGivenUp says s past
-EndsEarly says s (replies.Fail error) past = IsOfPages error × (IsUnmade says s past ⊎ ((given_up : IsGivenUp says s past) × IsWriting given_up.statement))
+EndsEarly says s (replies.Fail (errors.Timeout held waited)) past =
+    HasTimedOut s held waited past × Sometime (IsFitting says held) s past × IsGivenUp says s past
 EndsEarly says s (replies.RunLimit rows) past = IsOverfull says s rows past × (IsGivenUp says s past ⊎ WasCommitted says s past)
 EndsEarly says s replies.NoMemory past = WantsMemory says s past
 EndsEarly says s other past = ⊥

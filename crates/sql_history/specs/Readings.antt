@@ -14,11 +14,6 @@ abbrev pub is_plain_select : Stmt → Bool
 is_plain_select (stmt.Select selected table condition None) = true
 is_plain_select other = false
 
--- a SELECT with one
-abbrev pub is_locking_select : Stmt → Bool
-is_locking_select (stmt.Select selected table condition (Some mode)) = true
-is_locking_select other = false
-
 -- whatever the text of the session's item is read as is such a statement
 abbrev pub AsksOnly : Language → (Stmt → Bool) → ℕ → List Event → Type 0
 AsksOnly says test s past = (statement : Stmt) → Asks says s statement past → test statement ≡ true
@@ -30,9 +25,3 @@ pub record AnswersBySnapshot (says : Language) (s : ℕ) (reply : Reply) (past :
   pub number : ℕ
   pub view : view_of s (point s past) ≡ Some number
   pub answer : reply ≡ (outcome statement (seen_by s number (point s past))).reply
-
--- the answer by the latest committed rows, and the changes that the transaction had made before
-pub record AnswersByLatest (says : Language) (s : ℕ) (reply : Reply) (past : List Event) : Type 0 where
-  pub statement : Stmt
-  pub asks : Asks says s statement past
-  pub answer : reply ≡ (outcome statement (base s (point s past))).reply

@@ -59,7 +59,8 @@ DoesItem says item reply before after = after ≡ before
 abbrev pub HasDone : Language → ℕ → List Event → List Piece → Type 0
 HasDone says s [] pieces = pieces ≡ []
 HasDone says s (Begin t n l ∷ past) pieces = Either (t == s) (pieces ≡ []) (HasDone says s past pieces)
-HasDone says s (Ended t j reply ∷ past) pieces = Either (t == s) ((before : List Piece) × HasDone says s past before × DoesItem says (under_way s past) reply before pieces) (HasDone says s past pieces)
+HasDone says s (Ended t j reply ∷ past) pieces =
+    Either (t == s) ((before : List Piece) × HasDone says s past before × DoesItem says (under_way s past) reply before pieces) (HasDone says s past pieces)
 HasDone says s (other ∷ past) pieces = HasDone says s past pieces
 
 -- a reply that is compared; an item that stopped, or was broken off behind its commit, has none
@@ -129,12 +130,6 @@ pub record AnswersAsAlone (says : Language) (past : List Event) : Type 0 where
 
 -- ---- the premise
 
--- the setup part, session 0, is over before another session starts anything
-abbrev pub is_setup : Event → Bool
-is_setup (Started s j item) = s == 0
-is_setup (Ended s j reply) = s == 0
-is_setup other = false
-
 -- no other session has started anything
 abbrev pub IsUnstarted : List Event → Type 0
 IsUnstarted [] = Unit {0}
@@ -147,7 +142,9 @@ IsSerializable [] = Unit {0}
 IsSerializable (Begin s n l ∷ past) = (s ≢ 0 → l ≡ Serializable) × IsSerializable past
 IsSerializable (other ∷ past) = IsSerializable past
 
--- the setup part stands first
-abbrev pub SetsUpFirst : List Event → Type 0
-SetsUpFirst [] = Unit {0}
-SetsUpFirst (e ∷ past) = (is_setup e ≡ true → IsUnstarted past) × SetsUpFirst past
+-- The setup part, session 0, starts its items while no other session has started any, and has ended them all when another
+-- does.
+abbrev pub IsSetUp : List Event → Type 0
+IsSetUp [] = Unit {0}
+IsSetUp (Started s j item ∷ past) = (s ≡ 0 → IsUnstarted past) × (s ≢ 0 → under_way 0 past ≡ None) × IsSetUp past
+IsSetUp (other ∷ past) = IsSetUp past

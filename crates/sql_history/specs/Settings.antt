@@ -84,8 +84,13 @@ SetByItem says item reply made is_open before after = after ≡ before
 -- what the session has set
 abbrev pub HasSet : Language → ℕ → List Event → Setting → Type 0
 HasSet says s [] setting = setting ≡ at_first
-HasSet says s (Begin t n l ∷ past) setting = Either (t == s) ((before : Setting) × HasSet says s past before × (setting ≡ at_begin before)) (HasSet says s past setting)
-HasSet says s (Committed t ∷ past) setting = Either (t == s) ((before : Setting) × HasSet says s past before × (setting ≡ at_end before)) (HasSet says s past setting)
-HasSet says s (RolledBack t ∷ past) setting = Either (t == s) ((before : Setting) × HasSet says s past before × (setting ≡ at_end before)) (HasSet says s past setting)
-HasSet says s (Ended t j reply ∷ past) setting = Either (t == s) ((before : Setting) × HasSet says s past before × SetByItem says (under_way s past) reply (length (own s past)) (is_some (level s past)) before setting) (HasSet says s past setting)
+HasSet says s (Begin t n l ∷ past) setting =
+    Either (t == s) ((before : Setting) × HasSet says s past before × (setting ≡ at_begin before)) (HasSet says s past setting)
+HasSet says s (Committed t ∷ past) setting =
+    Either (t == s) ((before : Setting) × HasSet says s past before × (setting ≡ at_end before)) (HasSet says s past setting)
+HasSet says s (RolledBack t ∷ past) setting =
+    Either (t == s) ((before : Setting) × HasSet says s past before × (setting ≡ at_end before)) (HasSet says s past setting)
+HasSet says s (Ended t j reply ∷ past) setting =
+    Either (t == s) ((before : Setting) × HasSet says s past before × SetByItem says (under_way s past) reply (length (own s past)) (is_some (level s past))
+    before setting) (HasSet says s past setting)
 HasSet says s (other ∷ past) setting = HasSet says s past setting

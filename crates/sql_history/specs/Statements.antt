@@ -68,7 +68,8 @@ session_refusal s current_level setting (stmt.SetLevel NextTransaction level) = 
 session_refusal s current_level setting (stmt.RollbackTo name) = if is_some (made_at name setting.saves) then None else Some NoSavepoint
 session_refusal s current_level setting (stmt.CreateTable table if_not_exists definitions) = if s == 0 then None else Some (Syntax 0)
 session_refusal s current_level setting (stmt.Select selected table condition (Some mode)) = Some (Syntax 0)
-session_refusal s current_level setting (stmt.Select selected table condition None) = refused_if (is_serializable (level_or current_level (next_level setting))) (Syntax 0) None
+session_refusal s current_level setting (stmt.Select selected table condition None) =
+    refused_if (is_serializable (level_or current_level (next_level setting))) (Syntax 0) None
 session_refusal s current_level setting other = None
 
 abbrev pub first_of : Option SqlError → Option SqlError → Option SqlError

@@ -16,9 +16,8 @@ pub use databases::{
     all_changes_put_back_leave_the_database, without_own_changes_a_snapshot_is_committed,
 };
 pub use readings::{
-    a_consistent_read_answers_by_its_view, a_locking_read_answers_by_the_latest,
-    after_a_stop_items_answer_stopped, nothing_commits_after_a_stop,
-    the_front_of_a_legal_history_is_legal,
+    a_consistent_read_answers_by_its_view, after_a_stop_items_answer_stopped,
+    nothing_commits_after_a_stop, the_front_of_a_legal_history_is_legal,
 };
 pub use savepoints::{a_rollback_keeps_its_savepoint, a_savepoint_takes_the_place_of_its_name};
 pub use settings::Save;

@@ -12,7 +12,7 @@ ghost use Rattle.sql_grammar.specs.Grammar.{Spells};
 ghost use Rattle.sql_history.specs.Items.{point};
 ghost use Rattle.sql_history.specs.Counts.{has_stopped};
 ghost use Rattle.sql_history.specs.Legal.{IsLegal};
-ghost use Rattle.sql_history.specs.Readings.{AsksOnly, is_plain_select, is_locking_select, AnswersBySnapshot, AnswersByLatest};
+ghost use Rattle.sql_history.specs.Readings.{AsksOnly, is_plain_select, AnswersBySnapshot};
 
 pub fn the_front_of_a_legal_history_is_legal()
     ensures { (e : Event) (past : List Event) → IsLegal Spells (e ∷ past) → IsLegal Spells past }
@@ -22,12 +22,6 @@ pub fn the_front_of_a_legal_history_is_legal()
 /// MySQL 8.0 Reference Manual, "Consistent Nonlocking Reads".
 pub fn a_consistent_read_answers_by_its_view()
     ensures { (s j : ℕ) (rows : List (List Value)) (past : List Event) → IsLegal Spells (Ended s j (Rows rows) ∷ past) → level s (point s past) ≡ Some RepeatableRead → AsksOnly Spells is_plain_select s past → AnswersBySnapshot Spells s (Rows rows) past }
-{}
-
-/// A SELECT with a lock clause at REPEATABLE READ answers by the latest committed rows, and its own changes.
-/// MySQL 8.0 Reference Manual, "Locking Reads".
-pub fn a_locking_read_answers_by_the_latest()
-    ensures { (s j : ℕ) (rows : List (List Value)) (past : List Event) → IsLegal Spells (Ended s j (Rows rows) ∷ past) → level s (point s past) ≡ Some RepeatableRead → AsksOnly Spells is_locking_select s past → AnswersByLatest Spells s (Rows rows) past }
 {}
 
 pub fn after_a_stop_items_answer_stopped()

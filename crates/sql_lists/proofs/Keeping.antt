@@ -63,9 +63,10 @@ module _ (names : List (List ℕ)) (h : List Event) (settings : List Setting) (r
   pays e = subst (λ owed. PaysCommit owed e) (sym kept.paid) tt
 
   -- an entry that puts no row, and sets these
-  adds : (e : Event) (new : List Setting) → MayFollow Spells h e → MayCome h e → AllSet (e ∷ h) new → length new ≡ length settings → rows_kept (e ∷ h) ≡ rows_kept h
-      → has_stopped (e ∷ h) ≡ false → last_moment (e ∷ h) ≡ 0 → owes_commit (e ∷ h) ≡ None → AreStanding (e ∷ h) → IsInOrder (e ∷ h) → IsKept names (e ∷ h) new rows
-  adds e new may comes sets long same runs timeless paid stands ordered =
+  adds : (e : Event) (new : List Setting) → MayFollow Spells h e → MayCome h e → AllSet (e ∷ h) new → length new ≡ length settings
+      → rows_kept (e ∷ h) ≡ rows_kept h
+      → has_stopped (e ∷ h) ≡ false → owes_commit (e ∷ h) ≡ None → AreStanding (e ∷ h) → IsInOrder (e ∷ h) → IsKept names (e ∷ h) new rows
+  adds e new may comes sets long same runs paid stands ordered =
       record {
         legal = (may, kept.legal);
         opened = cons_is_some e h;
@@ -75,14 +76,14 @@ module _ (names : List (List ℕ)) (h : List Event) (settings : List Setting) (r
         counted = kept.counted ∙ sym same;
         few = kept.few;
         runs = runs;
-        timeless = timeless;
         paid = paid;
         stands = stands;
         ordered = ordered;
       }
 
   -- the tables that a session sees that alone has changes
-  tabled_now : (s : ℕ) (change : Change) → ((other : ℕ) → other ≢ s → own other h ≡ []) → IsTabled (length (created h)) change → IsTabled (length ((opening h).schemas ++ tables_made (own s h ++ committed (commits h) h))) change
+  tabled_now : (s : ℕ) (change : Change) → ((other : ℕ) → other ≢ s → own other h ≡ []) → IsTabled (length (created h)) change
+      → IsTabled (length ((opening h).schemas ++ tables_made (own s h ++ committed (commits h) h))) change
   tabled_now s change alone tabled =
       subst (λ (schemas : List Schema). IsTabled (length schemas) change)
       (kept.stands.tables s (λ other ne. ap (list_any is_creation) (alone other ne)) ∙ schemas_after (opening h) (own s h ++ committed (commits h) h)) tabled
@@ -99,66 +100,89 @@ module _ (names : List (List ℕ)) (h : List Event) (settings : List Setting) (r
   started_of : (s j : ℕ) (item : Item) → is_of s (events.Started s j item) ≡ true
   started_of s j item = grind (arith, nat_tests)
 
-  pub kept_start : (s : ℕ) (item : Item) → under_way s h ≡ None → is_leaving s h ≡ false → IsKept names (events.Started s (started s h + 1) item ∷ h) settings rows
+  pub kept_start : (s : ℕ) (item : Item) → under_way s h ≡ None → is_leaving s h ≡ false
+      → IsKept names (events.Started s (started s h + 1) item ∷ h) settings rows
   kept_start s item idle stays =
       adds (events.Started s (started s h + 1) item) settings (kept.opened, record { idle = idle; stays = stays; numbered = refl }, pays _) (idle, refl)
-      (sets_none (events.Started s (started s h + 1) item) h settings (λ u x held. held) kept.set) refl refl kept.runs kept.timeless refl (stands_plain _ h (λ u. refl) refl (λ u. refl) kept.stands) (same_seen (events.Started s (started s h + 1) item) h (λ u. refl) refl refl kept.ordered)
+      (sets_none (events.Started s (started s h + 1) item) h settings (λ u x held. held) kept.set) refl refl kept.runs refl
+      (stands_plain _ h (λ u. refl) refl (λ u. refl) kept.stands) (same_seen (events.Started s (started s h + 1) item) h (λ u. refl) refl refl kept.ordered)
 
   pub kept_view : (s : ℕ) → MayView Spells s h → IsOpen s h → level s h ≢ Some Serializable → IsKept names (events.View s ∷ h) settings rows
   kept_view s may is_open unlocked =
-      adds (events.View s) settings (kept.opened, kept.runs, may, pays _) is_open (sets_none (events.View s) h settings (λ u x held. held) kept.set) refl refl kept.runs kept.timeless (owed_none (level s h) s unlocked) (stands_plain _ h (λ u. refl) refl (λ u. refl) kept.stands) (same_seen (events.View s) h (λ u. refl) refl refl kept.ordered)
+      adds (events.View s) settings (kept.opened, kept.runs, may, pays _) is_open (sets_none (events.View s) h settings (λ u x held. held) kept.set) refl
+      refl kept.runs (owed_none (level s h) s unlocked) (stands_plain _ h (λ u. refl) refl (λ u. refl) kept.stands)
+      (same_seen (events.View s) h (λ u. refl) refl refl kept.ordered)
 
-  pub kept_ack : (s : ℕ) → OwesAck s h → IsKept names (events.Acked s 0 ∷ h) settings rows
-  kept_ack s owes =
-      adds (events.Acked s 0) settings (kept.opened, kept.runs, record { owed = owes.owed; closed = owes.closed; later = subst (λ n. n ≤ 0) (sym kept.timeless) (omega arith) }, pays _) (owes.owed, owes.closed)
-      (sets_none (events.Acked s 0) h settings (λ u x held. held) kept.set) refl refl kept.runs refl refl (stands_plain _ h (λ u. refl) refl (λ u. refl) kept.stands) (same_seen (events.Acked s 0) h (λ u. refl) refl refl kept.ordered)
+  pub kept_ack : (s moment : ℕ) → OwesAck s h → last_moment h ≤ moment → IsKept names (events.Acked s moment ∷ h) settings rows
+  kept_ack s moment owes later =
+      adds (events.Acked s moment) settings (kept.opened, kept.runs, record { owed = owes.owed; closed = owes.closed; later = later }, pays _)
+      (owes.owed, owes.closed)
+      (sets_none (events.Acked s moment) h settings (λ u x held. held) kept.set) refl refl kept.runs refl
+      (stands_plain _ h (λ u. refl) refl (λ u. refl) kept.stands)
+      (same_seen (events.Acked s moment) h (λ u. refl) refl refl kept.ordered)
 
   begin_of : (s n : ℕ) (l : Level) → is_of s (events.Begin s n l) ≡ true
   begin_of s n l = grind (arith, nat_tests)
 
-  pub kept_begin : (s : ℕ) (l : Level) → s < length names → MayBegin Spells s (begins h + 1) l h → IsKept names (events.Begin s (begins h + 1) l ∷ h) (set settings s (at_begin (get_or settings s at_first))) rows
+  pub kept_begin : (s : ℕ) (l : Level) → s < length names → MayBegin Spells s (begins h + 1) l h
+      → IsKept names (events.Begin s (begins h + 1) l ∷ h) (set settings s (at_begin (get_or settings s at_first))) rows
   kept_begin s l joined may =
       let e = events.Begin s (begins h + 1) l in
       let none : own s h ≡ [] = (ids_of h kept.comes).closed s may.closed in
       adds e (set settings s (at_begin (get_or settings s at_first))) (kept.opened, kept.runs, may, pays _) (refl, may.closed)
-      (sets_one e h settings s (at_begin (get_or settings s at_first)) (within s joined) (mine_alone s e (begin_of s (begins h + 1) l)) kept.set (set_at_begin h s (begins h + 1) l (get_or settings s at_first) (kept.set s)))
-      (length-set settings s _) refl kept.runs kept.timeless refl (stands_begun s (begins h + 1) l h none kept.stands) (same_seen e h (own_gone_at s h none) refl refl kept.ordered)
+      (sets_one e h settings s (at_begin (get_or settings s at_first)) (within s joined) (mine_alone s e (begin_of s (begins h + 1) l)) kept.set
+      (set_at_begin h s (begins h + 1) l (get_or settings s at_first) (kept.set s)))
+      (length-set settings s _) refl kept.runs refl (stands_begun s (begins h + 1) l h none kept.stands)
+      (same_seen e h (own_gone_at s h none) refl refl kept.ordered)
 
   commit_of : (s : ℕ) → is_of s (events.Committed s) ≡ true
   commit_of s = grind (arith, nat_tests)
 
-  pub kept_commit : (s : ℕ) → s < length names → MayCommit Spells s h → IsKept names (events.Committed s ∷ h) (set settings s (at_end (get_or settings s at_first))) rows
+  pub kept_commit : (s : ℕ) → s < length names → MayCommit Spells s h
+      → IsKept names (events.Committed s ∷ h) (set settings s (at_end (get_or settings s at_first))) rows
   kept_commit s joined may =
       adds (events.Committed s) (set settings s (at_end (get_or settings s at_first))) (kept.opened, kept.runs, may, pays _) may.is_open
-      (sets_one (events.Committed s) h settings s (at_end (get_or settings s at_first)) (within s joined) (mine_alone s (events.Committed s) (commit_of s)) kept.set (set_at_commit h s (get_or settings s at_first) (kept.set s)))
-      (length-set settings s _) refl kept.runs kept.timeless refl (stands_committed s h kept.stands) (ordered_committed s h (committed_is s h kept.stands) kept.ordered)
+      (sets_one (events.Committed s) h settings s (at_end (get_or settings s at_first)) (within s joined) (mine_alone s (events.Committed s) (commit_of s))
+      kept.set (set_at_commit h s (get_or settings s at_first) (kept.set s)))
+      (length-set settings s _) refl kept.runs refl (stands_committed s h kept.stands) (ordered_committed s h (committed_is s h kept.stands) kept.ordered)
 
   rollback_of : (s : ℕ) → is_of s (events.RolledBack s) ≡ true
   rollback_of s = grind (arith, nat_tests)
 
-  pub kept_rollback : (s : ℕ) → s < length names → MayRollBack Spells s h → IsKept names (events.RolledBack s ∷ h) (set settings s (at_end (get_or settings s at_first))) rows
+  pub kept_rollback : (s : ℕ) → s < length names → MayRollBack Spells s h
+      → IsKept names (events.RolledBack s ∷ h) (set settings s (at_end (get_or settings s at_first))) rows
   kept_rollback s joined may =
       adds (events.RolledBack s) (set settings s (at_end (get_or settings s at_first))) (kept.opened, kept.runs, may, pays _) (may.is_open, may.all_undone)
-      (sets_one (events.RolledBack s) h settings s (at_end (get_or settings s at_first)) (within s joined) (mine_alone s (events.RolledBack s) (rollback_of s)) kept.set (set_at_rollback h s (get_or settings s at_first) (kept.set s)))
-      (length-set settings s _) refl kept.runs kept.timeless refl (stands_rolled_back s h may.all_undone kept.stands) (same_seen (events.RolledBack s) h (own_gone_at s h may.all_undone) refl refl kept.ordered)
+      (sets_one (events.RolledBack s) h settings s (at_end (get_or settings s at_first)) (within s joined)
+      (mine_alone s (events.RolledBack s) (rollback_of s)) kept.set (set_at_rollback h s (get_or settings s at_first) (kept.set s)))
+      (length-set settings s _) refl kept.runs refl (stands_rolled_back s h may.all_undone kept.stands)
+      (same_seen (events.RolledBack s) h (own_gone_at s h may.all_undone) refl refl kept.ordered)
 
-  pub kept_undo : (s : ℕ) → MayUndo Spells s (length (own s h) - 1) h → IsUndoable (length (own s h) - 1) (own s h) → IsKept names (events.Undone s (length (own s h) - 1) ∷ h) settings rows
+  pub kept_undo : (s : ℕ) → MayUndo Spells s (length (own s h) - 1) h → IsUndoable (length (own s h) - 1) (own s h)
+      → IsKept names (events.Undone s (length (own s h) - 1) ∷ h) settings rows
   kept_undo s may undoable =
       adds (events.Undone s (length (own s h) - 1)) settings (kept.opened, kept.runs, may, pays _) (may.is_open, undoable)
-      (sets_none (events.Undone s (length (own s h) - 1)) h settings (λ u x held. held) kept.set) refl refl kept.runs kept.timeless refl (stands_undone s (length (own s h) - 1) h undoable kept.stands) (ordered_undone s (length (own s h) - 1) h undoable kept.ordered)
+      (sets_none (events.Undone s (length (own s h) - 1)) h settings (λ u x held. held) kept.set) refl refl kept.runs refl
+      (stands_undone s (length (own s h) - 1) h undoable kept.stands) (ordered_undone s (length (own s h) - 1) h undoable kept.ordered)
 
-  pub kept_remove : (s table : ℕ) (key : Value) → MayChange Spells s (Remove table key) h → IsTabled (length (created h)) (Remove table key) → ((other : ℕ) → other ≢ s → own other h ≡ []) → IsKept names (events.Changed s (Remove table key) ∷ h) settings rows
+  pub kept_remove : (s table : ℕ) (key : Value) → MayChange Spells s (Remove table key) h → IsTabled (length (created h)) (Remove table key)
+      → ((other : ℕ) → other ≢ s → own other h ≡ []) → IsKept names (events.Changed s (Remove table key) ∷ h) settings rows
   kept_remove s table key may tabled alone =
       adds (events.Changed s (Remove table key)) settings (kept.opened, kept.runs, may, pays _) (may.is_open, tabled)
-      (sets_none (events.Changed s (Remove table key)) h settings (λ u x held. held) kept.set) refl refl kept.runs kept.timeless refl (stands_row s (Remove table key) h refl kept.stands) (ordered_changed s (Remove table key) h (tabled_now s (Remove table key) alone tabled) kept.ordered)
+      (sets_none (events.Changed s (Remove table key)) h settings (λ u x held. held) kept.set) refl refl kept.runs refl
+      (stands_row s (Remove table key) h refl kept.stands)
+      (ordered_changed s (Remove table key) h (tabled_now s (Remove table key) alone tabled) kept.ordered)
 
-  pub kept_create : (s : ℕ) (schema : Schema) → MayChange Spells s (Create schema) h → ((other : ℕ) → other ≢ s → own other h ≡ []) → length (created h) < MOST_TABLES → IsKept names (events.Changed s (Create schema) ∷ h) settings rows
+  pub kept_create : (s : ℕ) (schema : Schema) → MayChange Spells s (Create schema) h → ((other : ℕ) → other ≢ s → own other h ≡ [])
+      → length (created h) < MOST_TABLES → IsKept names (events.Changed s (Create schema) ∷ h) settings rows
   kept_create s schema may alone room =
       adds (events.Changed s (Create schema)) settings (kept.opened, kept.runs, may, pays _) (may.is_open, tt)
-      (sets_none (events.Changed s (Create schema)) h settings (λ u x held. held) kept.set) refl refl kept.runs kept.timeless refl (stands_created s schema h alone room kept.stands) (ordered_changed s (Create schema) h tt kept.ordered)
+      (sets_none (events.Changed s (Create schema)) h settings (λ u x held. held) kept.set) refl refl kept.runs refl
+      (stands_created s schema h alone room kept.stands) (ordered_changed s (Create schema) h tt kept.ordered)
 
   -- a row more
-  pub kept_put : (s table : ℕ) (row : List Value) → MayChange Spells s (Put table row) h → IsTabled (length (created h)) (Put table row) → ((other : ℕ) → other ≢ s → own other h ≡ []) → IsKept names (events.Changed s (Put table row) ∷ h) settings (rows + 1)
+  pub kept_put : (s table : ℕ) (row : List Value) → MayChange Spells s (Put table row) h → IsTabled (length (created h)) (Put table row)
+      → ((other : ℕ) → other ≢ s → own other h ≡ []) → IsKept names (events.Changed s (Put table row) ∷ h) settings (rows + 1)
   kept_put s table row may tabled alone =
       record {
         legal = ((kept.opened, kept.runs, may, pays _), kept.legal);
@@ -169,7 +193,6 @@ module _ (names : List (List ℕ)) (h : List Event) (settings : List Setting) (r
         counted = omega (arith, kept.counted, sum_by-cons rows_of_entry (events.Changed s (Put table row)) h);
         few = subst (λ n. n ≤ most_rows) (omega (arith, kept.counted, sum_by-cons rows_of_entry (events.Changed s (Put table row)) h)) may.within;
         runs = kept.runs;
-        timeless = kept.timeless;
         paid = refl;
         stands = stands_row s (Put table row) h refl kept.stands;
         ordered = ordered_changed s (Put table row) h (tabled_now s (Put table row) alone tabled) kept.ordered;
@@ -185,9 +208,20 @@ module _ (names : List (List ℕ)) (h : List Event) (settings : List Setting) (r
   few_by reply (inr fits) = subst (λ n. n + rows_of_reply reply ≤ most_rows) (sym kept.counted) fits
 
   may_end : (s : ℕ) (reply : Reply) → (may : MayReply s reply h) → MayFollow Spells h (events.Ended s (started s h) reply)
-  may_end s reply may = (kept.opened, record { numbered = refl; item = may.item; asked = may.asked; ends = subst (λ stopped. EndsBy stopped Spells s may.item reply h) (sym kept.runs) may.ends }, pays _)
+  may_end s reply may = (
+    kept.opened,
+    record {
+      numbered = refl;
+      item = may.item;
+      asked = may.asked;
+      ends = subst (λ stopped. EndsBy stopped Spells s may.item reply h)
+          (sym kept.runs) may.ends;
+    },
+    pays _,
+  )
 
-  pub kept_end : (s : ℕ) (reply : Reply) (new : List Setting) → MayReply s reply h → AllSet (events.Ended s (started s h) reply ∷ h) new → length new ≡ length settings → IsKept names (events.Ended s (started s h) reply ∷ h) new (rows + rows_of_reply reply)
+  pub kept_end : (s : ℕ) (reply : Reply) (new : List Setting) → MayReply s reply h → AllSet (events.Ended s (started s h) reply ∷ h) new
+      → length new ≡ length settings → IsKept names (events.Ended s (started s h) reply ∷ h) new (rows + rows_of_reply reply)
   kept_end s reply new may sets long =
       record {
         legal = (may_end s reply may, kept.legal);
@@ -198,25 +232,29 @@ module _ (names : List (List ℕ)) (h : List Event) (settings : List Setting) (r
         counted = omega (arith, kept.counted, sum_by-cons rows_of_entry (events.Ended s (started s h) reply) h);
         few = few_by reply may.ends.1;
         runs = kept.runs;
-        timeless = kept.timeless;
         paid = refl;
         stands = stands_plain _ h (λ u. refl) refl (λ u. refl) kept.stands;
         ordered = same_seen (events.Ended s (started s h) reply) h (λ u. refl) refl refl kept.ordered;
       }
 
-  pub kept_reply : (s : ℕ) (reply : Reply) → MayReply s reply h → reply ≢ replies.Done → IsKept names (events.Ended s (started s h) reply ∷ h) settings (rows + rows_of_reply reply)
+  pub kept_reply : (s : ℕ) (reply : Reply) → MayReply s reply h → reply ≢ replies.Done
+      → IsKept names (events.Ended s (started s h) reply ∷ h) settings (rows + rows_of_reply reply)
   kept_reply s reply may not_done = kept_end s reply settings may (λ u. elim (eqb_tells u s) [
-    | inl same ↦ subst (λ v. HasSet Spells v (events.Ended s (started s h) reply ∷ h) (get_or settings v at_first)) (sym same.1) (set_at_end h s (started s h) reply (get_or settings s at_first) not_done (kept.set s))
-    | inr differ ↦ set_other (events.Ended s (started s h) reply) h u (get_or settings u at_first) (mine_alone s (events.Ended s (started s h) reply) (ended_of s (started s h) reply) u differ.1) (kept.set u)
+    | inl same ↦ subst (λ v. HasSet Spells v (events.Ended s (started s h) reply ∷ h) (get_or settings v at_first)) (sym same.1)
+        (set_at_end h s (started s h) reply (get_or settings s at_first) not_done (kept.set s))
+    | inr differ ↦ set_other (events.Ended s (started s h) reply) h u (get_or settings u at_first)
+        (mine_alone s (events.Ended s (started s h) reply) (ended_of s (started s h) reply) u differ.1) (kept.set u)
   ]) refl
 
-  pub kept_done : (s : ℕ) (stmt : Stmt) (x : Setting) → s < length names → MayReply s replies.Done h → Asks Spells s stmt h → x ≡ set_by stmt (length (own s h)) (is_some (level s h)) (get_or settings s at_first)
+  pub kept_done : (s : ℕ) (stmt : Stmt) (x : Setting) → s < length names → MayReply s replies.Done h → Asks Spells s stmt h
+      → x ≡ set_by stmt (length (own s h)) (is_some (level s h)) (get_or settings s at_first)
       → IsKept names (events.Ended s (started s h) replies.Done ∷ h) (set settings s x) rows
   kept_done s stmt x joined may asks is =
       let e = events.Ended s (started s h) replies.Done in
       subst (λ n. IsKept names (e ∷ h) (set settings s x) n) (omega arith)
       (kept_end s replies.Done (set settings s x) may
-      (sets_one e h settings s x (within s joined) (mine_alone s e (ended_of s (started s h) replies.Done)) kept.set (subst (HasSet Spells s (e ∷ h)) (sym is) (set_at_done h s (started s h) stmt (get_or settings s at_first) asks (kept.set s))))
+      (sets_one e h settings s x (within s joined) (mine_alone s e (ended_of s (started s h) replies.Done)) kept.set
+      (subst (HasSet Spells s (e ∷ h)) (sym is) (set_at_done h s (started s h) stmt (get_or settings s at_first) asks (kept.set s))))
       (length-set settings s x))
 
   pub kept_join : (name : List ℕ) → IsKept (names ++ name ∷ []) h (settings ++ at_first ∷ []) rows
@@ -230,7 +268,6 @@ module _ (names : List (List ℕ)) (h : List Event) (settings : List Setting) (r
         counted = kept.counted;
         few = kept.few;
         runs = kept.runs;
-        timeless = kept.timeless;
         paid = kept.paid;
         stands = kept.stands;
         ordered = kept.ordered;
@@ -265,23 +302,26 @@ kept_first lists first =
       counted = omega (arith, first.rows, sum_by-cons rows_of_entry (events.Opened first.db) []);
       few = subst (λ n. n ≤ most_rows) (sym first.rows) first.few_rows;
       runs = refl;
-      timeless = refl;
       paid = refl;
       stands = record { one = λ a b is also. absurd (false≢true is); tables = λ s only. refl; few = first.few_tables };
       ordered = λ s. tt;
     })))
 
 -- nothing changes but what a session has under way
-pub by_turning : (s : ℕ) (task : Task) (old new : Lists) → Turns s task old.state new.state → new.settings ≡ old.settings → new.rows ≡ old.rows → AreKept old → AreKept new
+pub by_turning : (s : ℕ) (task : Task) (old new : Lists) → Turns s task old.state new.state → new.settings ≡ old.settings → new.rows ≡ old.rows
+    → AreKept old → AreKept new
 by_turning s task old new turns sets counts kept = by_now old.state.past s task old.state.writer old new old.settings old.rows turns sets counts kept
 
 pub by_adding : (e : Event) (s : ℕ) (old new : Lists) (settings : List Setting) (rows : ℕ)
     → Adds e s old.state new.state → new.settings ≡ settings → new.rows ≡ rows → IsKept old.state.names (e ∷ old.state.past) settings rows → AreKept new
-by_adding e s old new settings rows adds sets counts after = by_now (e ∷ old.state.past) s (task_of s old.state) old.state.writer old new settings rows adds sets counts after
+by_adding e s old new settings rows adds sets counts after =
+    by_now (e ∷ old.state.past) s (task_of s old.state) old.state.writer old new settings rows adds sets counts after
 
 pub by_closing : (e : Event) (s : ℕ) (old new : Lists) (settings : List Setting)
-    → Closes e s old.state new.state → new.settings ≡ settings → new.rows ≡ old.rows → IsKept old.state.names (e ∷ old.state.past) settings old.rows → AreKept new
-by_closing e s old new settings closes sets counts after = by_now (e ∷ old.state.past) s (task_of s old.state) (writer_without old.state.writer s) old new settings old.rows closes sets counts after
+    → Closes e s old.state new.state → new.settings ≡ settings → new.rows ≡ old.rows → IsKept old.state.names (e ∷ old.state.past) settings old.rows →
+    AreKept new
+by_closing e s old new settings closes sets counts after =
+    by_now (e ∷ old.state.past) s (task_of s old.state) (writer_without old.state.writer s) old new settings old.rows closes sets counts after
 
 -- an entry that may want memory
 pub by_result : {X Y : Type 0} (result : Result X Y) (e : Event) (s : ℕ) (old new : Lists)
@@ -292,51 +332,63 @@ by_result (Err x) e s old new ok err sets counts before after = by_turning s (ta
 
 -- a transaction that is opened
 pub by_begin : {X Y : Type 0} (result : Result X Y) (e : Event) (s : ℕ) (old new : Lists) (settings : List Setting)
-    → OnOk result (Adds e s old.state new.state) → OnErr result (Stays s old.state new.state) → OnOk result (new.settings ≡ settings) → OnErr result (new.settings ≡ old.settings) → new.rows ≡ old.rows
+    → OnOk result (Adds e s old.state new.state) → OnErr result (Stays s old.state new.state) → OnOk result (new.settings ≡ settings) → OnErr result
+    (new.settings ≡ old.settings) → new.rows ≡ old.rows
     → AreKept old → IsKept old.state.names (e ∷ old.state.past) settings old.rows → AreKept new
 by_begin (Ok x) e s old new settings ok err sets unset counts before after = by_adding e s old new settings old.rows ok sets counts after
 by_begin (Err x) e s old new settings ok err sets unset counts before after = by_turning s (task_of s old.state) old new err unset counts before
 
 -- a search, or a change, that is begun or not
 pub by_turn : {X Y : Type 0} (result : Result X Y) (s : ℕ) (task : Task) (old new : Lists)
-    → OnOk result (Turns s task old.state new.state) → OnErr result (Stays s old.state new.state) → new.settings ≡ old.settings → new.rows ≡ old.rows → AreKept old → AreKept new
+    → OnOk result (Turns s task old.state new.state) → OnErr result (Stays s old.state new.state) → new.settings ≡ old.settings → new.rows ≡ old.rows →
+    AreKept old → AreKept new
 by_turn (Ok x) s task old new ok err sets counts before = by_turning s task old new ok sets counts before
 by_turn (Err x) s task old new ok err sets counts before = by_turning s (task_of s old.state) old new err sets counts before
 
 pub by_join : {X Y : Type 0} (result : Result X Y) (name : List ℕ) (old new : Lists)
-    → OnOk result (new.state.names ≡ old.state.names ++ name ∷ []) → new.state.past ≡ old.state.past → OnOk result (new.settings ≡ old.settings ++ at_first ∷ []) → new.rows ≡ old.rows
+    → OnOk result (new.state.names ≡ old.state.names ++ name ∷ []) → new.state.past ≡ old.state.past → OnOk result
+    (new.settings ≡ old.settings ++ at_first ∷ []) → new.rows ≡ old.rows
     → OnErr result ((new.state.names ≡ old.state.names) × (new.settings ≡ old.settings)) → AreKept old → AreKept new
 by_join {X} {Y} result name old new names past sets counts err before =
     subst (λ h. IsKept new.state.names h new.settings new.rows) (sym past)
     (subst (λ n. IsKept new.state.names old.state.past new.settings n) (sym counts) (go result names sets err)) where
-      go : (r : Result X Y) → OnOk r (new.state.names ≡ old.state.names ++ name ∷ []) → OnOk r (new.settings ≡ old.settings ++ at_first ∷ []) → OnErr r ((new.state.names ≡ old.state.names) × (new.settings ≡ old.settings)) → IsKept new.state.names old.state.past new.settings old.rows
+      go : (r : Result X Y) → OnOk r (new.state.names ≡ old.state.names ++ name ∷ []) → OnOk r (new.settings ≡ old.settings ++ at_first ∷ [])
+          → OnErr r ((new.state.names ≡ old.state.names) × (new.settings ≡ old.settings)) → IsKept new.state.names old.state.past new.settings old.rows
       go (Ok x) names sets err =
           subst (λ ns. IsKept ns old.state.past new.settings old.rows) (sym names)
-          (subst (λ xs. IsKept (old.state.names ++ name ∷ []) old.state.past xs old.rows) (sym sets) (kept_join old.state.names old.state.past old.settings old.rows before name))
+          (subst (λ xs. IsKept (old.state.names ++ name ∷ []) old.state.past xs old.rows) (sym sets)
+          (kept_join old.state.names old.state.past old.settings old.rows before name))
       go (Err x) names sets err =
           subst (λ ns. IsKept ns old.state.past new.settings old.rows) (sym err.0)
           (subst (λ xs. IsKept old.state.names old.state.past xs old.rows) (sym err.1) before)
 
 -- the session's change makes a step
 pub by_change : (s : ℕ) (old new : Lists) (answer : Changed) → ((other : ℕ) → other ≢ s → own other old.state.past ≡ [])
-    → ((change : Change) → asked (task_of s old.state) ≡ Some change → MayChange Spells s change old.state.past × IsTabled (length (created old.state.past)) change × IsOfRow change)
-    → Changes s old.state new.state answer → new.settings ≡ old.settings → new.rows ≡ old.rows + rows_entered answer (task_of s old.state) → AreKept old → AreKept new
+    → ((change : Change) → asked (task_of s old.state) ≡ Some change → MayChange Spells s change old.state.past × IsTabled (length (created old.state.past))
+    change × IsOfRow change)
+    → Changes s old.state new.state answer → new.settings ≡ old.settings → new.rows ≡ old.rows + rows_entered answer (task_of s old.state) → AreKept old →
+    AreKept new
 by_change s old new made.Went alone may changes sets counts kept = by_turning s (task_of s new.state) old new changes.turns sets (counts ∙ omega arith) kept
 by_change s old new made.Done alone may changes sets counts kept = by_turning s Idle old new changes.1 sets (counts ∙ omega arith) kept
-by_change s old new made.NoMemory alone may changes sets counts kept = by_turning s (left_by (asked (task_of s old.state))) old new changes sets (counts ∙ omega arith) kept
-by_change s old new made.Entered alone may changes sets counts kept = go changes.change (may changes.change changes.asked_was) changes.now (counts ∙ ap (λ change. old.rows + rows_of_change change) changes.asked_was) where
-  go : (change : Change) → MayChange Spells s change old.state.past × IsTabled (length (created old.state.past)) change × IsOfRow change
-      → IsNow (events.Changed s change ∷ old.state.past) s (task_of s new.state) old.state.writer old.state new.state → new.rows ≡ old.rows + rows_of_change (Some change) → AreKept new
-  go (Create schema) may now more = absurd may.2
-  go (Put table row) may now more =
-      by_now (events.Changed s (Put table row) ∷ old.state.past) s (task_of s new.state) old.state.writer old new old.settings (old.rows + 1) now sets more
-      (kept_put old.state.names old.state.past old.settings old.rows kept s table row may.0 may.1 alone)
-  go (Remove table key) may now more =
-      by_now (events.Changed s (Remove table key) ∷ old.state.past) s (task_of s new.state) old.state.writer old new old.settings old.rows now sets (more ∙ omega arith)
-      (kept_remove old.state.names old.state.past old.settings old.rows kept s table key may.0 may.1 alone)
+by_change s old new made.NoMemory alone may changes sets counts kept =
+    by_turning s (left_by (asked (task_of s old.state))) old new changes sets (counts ∙ omega arith) kept
+by_change s old new made.Entered alone may changes sets counts kept =
+    go changes.change (may changes.change changes.asked_was) changes.now (counts ∙ ap (λ change. old.rows + rows_of_change change) changes.asked_was) where
+      go : (change : Change) → MayChange Spells s change old.state.past × IsTabled (length (created old.state.past)) change × IsOfRow change
+          → IsNow (events.Changed s change ∷ old.state.past) s (task_of s new.state) old.state.writer old.state new.state → new.rows ≡ old.rows + rows_of_change
+          (Some change) → AreKept new
+      go (Create schema) may now more = absurd may.2
+      go (Put table row) may now more =
+          by_now (events.Changed s (Put table row) ∷ old.state.past) s (task_of s new.state) old.state.writer old new old.settings (old.rows + 1) now sets more
+          (kept_put old.state.names old.state.past old.settings old.rows kept s table row may.0 may.1 alone)
+      go (Remove table key) may now more =
+          by_now (events.Changed s (Remove table key) ∷ old.state.past) s (task_of s new.state) old.state.writer old new old.settings old.rows now sets
+          (more ∙ omega arith)
+          (kept_remove old.state.names old.state.past old.settings old.rows kept s table key may.0 may.1 alone)
 
 -- the session's newest change is taken back by a step
-pub by_undo : (s : ℕ) (old new : Lists) (answer : Undone) → MayUndo Spells s (length (own s old.state.past) - 1) old.state.past → IsUndoable (length (own s old.state.past) - 1) (own s old.state.past)
+pub by_undo : (s : ℕ) (old new : Lists) (answer : Undone) → MayUndo Spells s (length (own s old.state.past) - 1) old.state.past
+    → IsUndoable (length (own s old.state.past) - 1) (own s old.state.past)
     → TakesBack s (length (own s old.state.past) - 1) old.state new.state answer → new.settings ≡ old.settings → new.rows ≡ old.rows → AreKept old → AreKept new
 by_undo s old new undone.Went may undoable takes sets counts kept = by_turning s (task_of s new.state) old new takes.0 sets counts kept
 by_undo s old new undone.NoMemory may undoable takes sets counts kept = by_turning s (task_of s old.state) old new takes sets counts kept
@@ -352,7 +404,8 @@ by_search s table plan reading old new (searched.Found rows) searches sets count
 by_search s table plan reading old new searched.NoMemory searches sets counts kept = by_turning s Idle old new searches sets counts kept
 
 -- an item ends, after what it set was set
-pub ends_after : (s : ℕ) (reply : Reply) (old mid new : State) → Stays s old mid → Adds (events.Ended s (started s mid.past) reply) s mid new → Adds (events.Ended s (started s old.past) reply) s old new
+pub ends_after : (s : ℕ) (reply : Reply) (old mid new : State) → Stays s old mid → Adds (events.Ended s (started s mid.past) reply) s mid new
+    → Adds (events.Ended s (started s old.past) reply) s old new
 ends_after s reply old mid new stays adds =
     record {
       names_are = adds.names_are ∙ stays.names_are;
@@ -362,21 +415,26 @@ ends_after s reply old mid new stays adds =
       others = λ t ne. adds.others t ne ∙ stays.others t ne;
     }
 
-pub by_setting : (s : ℕ) (stmt : Stmt) (x : Setting) (old mid new : Lists) → s < length old.state.names → MayReply s replies.Done old.state.past → Asks Spells s stmt old.state.past
+pub by_setting : (s : ℕ) (stmt : Stmt) (x : Setting) (old mid new : Lists) → s < length old.state.names → MayReply s replies.Done old.state.past
+    → Asks Spells s stmt old.state.past
     → x ≡ set_by stmt (length (own s old.state.past)) (is_some (level s old.state.past)) (get_or old.settings s at_first)
     → Stays s old.state mid.state → mid.settings ≡ set old.settings s x → mid.rows ≡ old.rows
-    → Adds (events.Ended s (started s mid.state.past) replies.Done) s mid.state new.state → new.settings ≡ mid.settings → new.rows ≡ mid.rows + 0 → AreKept old → AreKept new
+    → Adds (events.Ended s (started s mid.state.past) replies.Done) s mid.state new.state → new.settings ≡ mid.settings → new.rows ≡ mid.rows + 0 → AreKept
+    old → AreKept new
 by_setting s stmt x old mid new joined may asks is stays sets counts adds later_sets later_counts kept =
-    by_adding (events.Ended s (started s old.state.past) replies.Done) s old new (set old.settings s x) old.rows (ends_after s replies.Done old.state mid.state new.state stays adds) (later_sets ∙ sets) (later_counts ∙ (omega arith ∙ counts))
+    by_adding (events.Ended s (started s old.state.past) replies.Done) s old new (set old.settings s x) old.rows
+    (ends_after s replies.Done old.state mid.state new.state stays adds) (later_sets ∙ sets) (later_counts ∙ (omega arith ∙ counts))
     (kept_done old.state.names old.state.past old.settings old.rows kept s stmt x joined may asks is)
 
 -- a statement that keeps no savepoint sets the same with and without a transaction
-pub sets_quietly : (stmt : Stmt) (s made : ℕ) (h : List Event) (x : Setting) → SetsQuietly stmt s h → set_by stmt 0 false x ≡ set_by stmt made (is_some (level s h)) x
+pub sets_quietly : (stmt : Stmt) (s made : ℕ) (h : List Event) (x : Setting) → SetsQuietly stmt s h
+    → set_by stmt 0 false x ≡ set_by stmt made (is_some (level s h)) x
 sets_quietly (stmts.Savepoint name) s made h x quiet = ap (λ l. set_by (stmts.Savepoint name) made (is_some l) x) (sym quiet)
 sets_quietly (stmts.SetLevel Session l) s made h x quiet = refl
 sets_quietly (stmts.SetLevel NextTransaction l) s made h x quiet = refl
 sets_quietly other s made h x quiet = refl
 
 -- the savepoint of an open transaction
-pub saves_as : (name : List ℕ) (made : ℕ) (l : Option Level) (x : Setting) → is_some l ≡ true → record x { saves = saved name made true x.saves } ≡ set_by (stmts.Savepoint name) made (is_some l) x
+pub saves_as : (name : List ℕ) (made : ℕ) (l : Option Level) (x : Setting) → is_some l ≡ true
+    → record x { saves = saved name made true x.saves } ≡ set_by (stmts.Savepoint name) made (is_some l) x
 saves_as name made l x is_open = rw is_open refl

@@ -1,6 +1,7 @@
 -- What the calls of the lists do to what all sessions share, as steps of statements say it.
-use Rattle.std.proofs.Common.{◌≡◌, ◌≢◌, ℕ, ◌<◌, ◌-◌, true, false, Option, Some, None, List, ◌∷◌, length, refl, sym, ap, subst, ◌∙◌, inl, inr, arith}
+use Rattle.std.proofs.Common.{◌≡◌, ◌≢◌, ◌⊎◌, ℕ, ◌<◌, ◌-◌, true, false, Option, Some, None, List, [], ◌∷◌, ◌++◌, length, refl, sym, ap, subst, ◌∙◌, inl, inr, arith}
 use Rattle.std.proofs.lemmas.Bool.Decides.{nat_tests, eqb_tells}
+use Rattle.std.specs.List.{AllByRecursion}
 use Rattle.std.proofs.lemmas.Bool.{false≢true}
 use Rattle.std.proofs.lemmas.List.{length-drop}
 use Rattle.inno_model.specs.declared.event.Event.{Event}
@@ -17,9 +18,26 @@ use Rattle.shared_lists.specs.declared.answers.Undone.TheVariants as undone
 use Rattle.shared_lists.specs.Tasks.{Task, Idle, asked, left_by}
 use Rattle.shared_lists.specs.State.{State, IsNow, Adds, Closes, Turns, Stays, task_of, writer_without}
 use Rattle.shared_lists.specs.Steps.{Searches, GoesOn, Enters, Changes, TakesBack}
-use Rattle.sql_lists.specs.Steps.{Moves, StaysRunning, changes_rows}
+use Rattle.sql_history.specs.Counts.{last_moment}
+use Rattle.sql_lists.specs.Steps.{Adding, IsEntryOf, Moves, StaysRunning, changes_rows}
 use Rattle.sql_lists.specs.Going.{left, to_close, to_roll_back}
 use Rattle.inno_types.specs.Order.{IsBelow}
+
+-- ---- how the past goes on
+
+pub adding_none : (t : ℕ) (old new : State) → new.past ≡ old.past → Adding t old new
+adding_none t old new past_is = record { entries = []; past_is = past_is; each = tt }
+
+pub adding_one : (t : ℕ) (e : Event) (old new : State) → is_of t e ≡ true → new.past ≡ e ∷ old.past → (changes_rows e ≡ true → new.writer ≡ Some t)
+    → Adding t old new
+adding_one t e old new mine past_is locked = record { entries = e ∷ []; past_is = past_is; each = ((mine, locked), tt) }
+
+-- one entry at most
+abbrev pub AddingOne : ℕ → State → State → Type 0
+AddingOne t old new = (new.past ≡ old.past) ⊎ ((e : Event) × (is_of t e ≡ true) × (new.past ≡ e ∷ old.past) × (changes_rows e ≡ true → new.writer ≡ Some t))
+
+pub adding_at_most_one : (t : ℕ) (old new : State) → AddingOne t old new → Adding t old new
+adding_at_most_one t old new adding = elim adding [ inl stays ↦ adding_none t old new stays | inr adds ↦ adding_one t adds.0 old new adds.1 adds.2 adds.3 ]
 
 -- ---- steps that add nothing
 
@@ -27,7 +45,8 @@ pub moves_turns : (t : ℕ) (task : Task) (old new : State) → Turns t task old
 moves_turns t task old new turns =
     record {
       names_stay = turns.names_are;
-      adding = inl turns.past_is;
+      adding = adding_none t old new turns.past_is;
+      acks_none = ap last_moment turns.past_is;
       writer_stays = λ s differ held. turns.writer_is ∙ held;
       tasks_stay = turns.others;
     }
@@ -42,7 +61,8 @@ pub moves_none : (t : ℕ) (state : State) → Moves t state state
 moves_none t state = moves_stays t state state (stays_none t state)
 
 -- what holds of the past, who may write and the session's task, still holds where nothing has changed
-pub carried : (P : List Event → Option ℕ → Task → Type 0) (t : ℕ) (old new : State) → Stays t old new → P old.past old.writer (task_of t old) → P new.past new.writer (task_of t new)
+pub carried : (P : List Event → Option ℕ → Task → Type 0) (t : ℕ) (old new : State) → Stays t old new → P old.past old.writer (task_of t old)
+    → P new.past new.writer (task_of t new)
 carried P t old new stays before =
     subst (λ h. P h new.writer (task_of t new)) (sym stays.past_is)
     (subst (λ w. P old.past w (task_of t new)) (sym stays.writer_is)
@@ -53,7 +73,8 @@ pub moves_locked : (t : ℕ) (old new : State) → writer_without old.writer t �
 moves_locked t old new free now =
     record {
       names_stay = now.names_are;
-      adding = inl now.past_is;
+      adding = adding_none t old new now.past_is;
+      acks_none = ap last_moment now.past_is;
       writer_stays = λ s differ held. absurd (still_held s differ (ap (λ w. writer_without w t) (sym held) ∙ free));
       tasks_stay = now.others;
     } where
@@ -65,7 +86,9 @@ pub moves_then : (t : ℕ) (old mid new : State) → mid.past ≡ old.past → M
 moves_then t old mid new same first second =
     record {
       names_stay = second.names_stay ∙ first.names_stay;
-      adding = elim second.adding [ inl stays ↦ inl (stays ∙ same) | inr adds ↦ inr (adds.0, adds.1, adds.2 ∙ ap (λ h. adds.0 ∷ h) same, adds.3) ];
+      adding =
+          record { entries = second.adding.entries; past_is = second.adding.past_is ∙ ap (λ h. second.adding.entries ++ h) same; each = second.adding.each };
+      acks_none = second.acks_none ∙ ap last_moment same;
       writer_stays = λ s differ held. second.writer_stays s differ (first.writer_stays s differ held);
       tasks_stay = λ s differ. second.tasks_stay s differ ∙ first.tasks_stay s differ;
     }
@@ -73,33 +96,39 @@ moves_then t old mid new same first second =
 -- ---- steps that add an entry
 
 -- whatever becomes of the session's task
-pub moves_entry : (t : ℕ) (e : Event) (task : Task) (old new : State) → is_of t e ≡ true → (changes_rows e ≡ true → old.writer ≡ Some t) → IsNow (e ∷ old.past) t task old.writer old new → Moves t old new
-moves_entry t e task old new mine locked now =
+pub moves_entry : (t : ℕ) (e : Event) (task : Task) (old new : State) → is_of t e ≡ true → last_moment (e ∷ old.past) ≡ last_moment old.past
+    → (changes_rows e ≡ true → old.writer ≡ Some t) → IsNow (e ∷ old.past) t task old.writer old new → Moves t old new
+moves_entry t e task old new mine unacked locked now =
     record {
       names_stay = now.names_are;
-      adding = inr (e, mine, now.past_is, λ changes. now.writer_is ∙ locked changes);
+      adding = adding_one t e old new mine now.past_is (λ changes. now.writer_is ∙ locked changes);
+      acks_none = ap last_moment now.past_is ∙ unacked;
       writer_stays = λ s differ held. now.writer_is ∙ held;
       tasks_stay = now.others;
     }
 
-pub moves_adds : (t : ℕ) (e : Event) (old new : State) → is_of t e ≡ true → (changes_rows e ≡ true → old.writer ≡ Some t) → Adds e t old new → Moves t old new
-moves_adds t e old new mine locked adds = moves_entry t e (task_of t old) old new mine locked adds
+pub moves_adds : (t : ℕ) (e : Event) (old new : State) → is_of t e ≡ true → last_moment (e ∷ old.past) ≡ last_moment old.past
+    → (changes_rows e ≡ true → old.writer ≡ Some t) → Adds e t old new → Moves t old new
+moves_adds t e old new mine unacked locked adds = moves_entry t e (task_of t old) old new mine unacked locked adds
 
 still_another : (w : Option ℕ) (t s : ℕ) → s ≢ t → w ≡ Some s → writer_without w t ≡ Some s
 still_another w t s differ held = ap (λ x. writer_without x t) held ∙ elim (eqb_tells s t) [ inl same ↦ absurd (differ same.1) | inr other ↦ rw other.0 refl ]
 
-pub moves_closes : (t : ℕ) (e : Event) (old new : State) → is_of t e ≡ true → changes_rows e ≡ false → Closes e t old new → Moves t old new
-moves_closes t e old new mine spares closes =
+pub moves_closes : (t : ℕ) (e : Event) (old new : State) → is_of t e ≡ true → last_moment (e ∷ old.past) ≡ last_moment old.past → changes_rows e ≡ false
+    → Closes e t old new → Moves t old new
+moves_closes t e old new mine unacked spares closes =
     record {
       names_stay = closes.names_are;
-      adding = inr (e, mine, closes.past_is, λ changes. absurd (false≢true (sym spares ∙ changes)));
+      adding = adding_one t e old new mine closes.past_is (λ changes. absurd (false≢true (sym spares ∙ changes)));
+      acks_none = ap last_moment closes.past_is ∙ unacked;
       writer_stays = λ s differ held. closes.writer_is ∙ still_another old.writer t s differ held;
       tasks_stay = closes.others;
     }
 
 -- ---- the steps of a session's task
 
-pub moves_searches : (t table : ℕ) (plan : Plan) (reading : Reading) (old new : State) (answer : Searched) → Searches table plan reading t old new answer → Moves t old new
+pub moves_searches : (t table : ℕ) (plan : Plan) (reading : Reading) (old new : State) (answer : Searched) → Searches table plan reading t old new answer
+    → Moves t old new
 moves_searches t table plan reading old new searched.Went searches = moves_turns t (task_of t old) old new searches
 moves_searches t table plan reading old new (searched.Found rows) searches = moves_turns t Idle old new searches.0
 moves_searches t table plan reading old new searched.NoMemory searches = moves_turns t Idle old new searches
@@ -108,7 +137,8 @@ pub moves_goes_on : (t : ℕ) (old new : State) → GoesOn t old new → Moves t
 moves_goes_on t old new goes = moves_turns t (task_of t new) old new goes.turns
 
 pub moves_enters : (t : ℕ) (old new : State) → old.writer ≡ Some t → Enters t old new → Moves t old new
-moves_enters t old new locked enters = moves_entry t (events.Changed t enters.change) (task_of t new) old new (grind (arith, nat_tests)) (λ changes. locked) enters.now
+moves_enters t old new locked enters =
+    moves_entry t (events.Changed t enters.change) (task_of t new) old new (grind (arith, nat_tests)) refl (λ changes. locked) enters.now
 
 pub moves_changes : (t : ℕ) (old new : State) (answer : Changed) → old.writer ≡ Some t → Changes t old new answer → Moves t old new
 moves_changes t old new made.Went locked changes = moves_goes_on t old new changes
@@ -118,13 +148,35 @@ moves_changes t old new made.NoMemory locked changes = moves_turns t (left_by (a
 
 pub moves_takes_back : (t keep : ℕ) (old new : State) (answer : Undone) → TakesBack t keep old new answer → Moves t old new
 moves_takes_back t keep old new undone.Went takes = moves_turns t (task_of t new) old new takes.0
-moves_takes_back t keep old new undone.Undone takes = moves_entry t (events.Undone t keep) Idle old new (grind (arith, nat_tests)) (λ changes. absurd (false≢true changes)) takes
+moves_takes_back t keep old new undone.Undone takes =
+    moves_entry t (events.Undone t keep) Idle old new (grind (arith, nat_tests)) refl (λ changes. absurd (false≢true changes)) takes
 moves_takes_back t keep old new undone.NoMemory takes = moves_turns t (task_of t old) old new takes
 
 -- ---- the statements of others
 
+-- what StaysRunning says, of one entry at most
+abbrev pub StaysByOne : {M : Type 0} → (State → ℕ → M → Type 0) → Type 0
+StaysByOne {M} IsRunning =
+    (old new : State) (t s : ℕ) (statement : M) → t ≢ s → AddingOne t old new → (old.writer ≡ Some s → new.writer ≡ Some s) → task_of s new ≡ task_of s old
+    → IsRunning old s statement → IsRunning new s statement
+
+stays_along : {M : Type 0} (IsRunning : State → ℕ → M → Type 0) → StaysByOne IsRunning → (es : List Event) (old new : State) (t s : ℕ) (statement : M) → t ≢ s
+    → new.past ≡ es ++ old.past → AllByRecursion (IsEntryOf t new.writer) es → (old.writer ≡ Some s → new.writer ≡ Some s) → task_of s new ≡ task_of s old
+    → IsRunning old s statement → IsRunning new s statement
+stays_along IsRunning one [] old new t s statement differ past each keeps task running = one old new t s statement differ (inl past) keeps task running
+stays_along IsRunning one (e ∷ es) old new t s statement differ past each keeps task running =
+    let mid : State = record new { past = es ++ old.past } in
+    one mid new t s statement differ (inr (e, each.0.0, past, each.0.1)) (λ held. held) refl
+    (stays_along IsRunning one es old mid t s statement differ refl each.1 keeps task running)
+
+-- what one entry leaves, several leave
+pub stays_running : {M : Type 0} (IsRunning : State → ℕ → M → Type 0) → StaysByOne IsRunning → StaysRunning IsRunning
+stays_running IsRunning one old new t s statement differ adding keeps task running =
+    stays_along IsRunning one adding.entries old new t s statement differ adding.past_is adding.each keeps task running
+
 -- what a session's step leaves of another one's statement
-pub others_stay : {M : Type 0} (IsRunning : State → ℕ → M → Type 0) → StaysRunning IsRunning → (old new : State) (t s : ℕ) (statement : M) → t ≢ s → Moves t old new → IsRunning old s statement → IsRunning new s statement
+pub others_stay : {M : Type 0} (IsRunning : State → ℕ → M → Type 0) → StaysRunning IsRunning → (old new : State) (t s : ℕ) (statement : M) → t ≢ s
+    → Moves t old new → IsRunning old s statement → IsRunning new s statement
 others_stay IsRunning stays old new t s statement differ moves running =
     stays old new t s statement differ moves.adding (moves.writer_stays s (λ is. differ (sym is))) (moves.tasks_stay s (λ is. differ (sym is))) running
 
@@ -151,9 +203,11 @@ fewer_stand s h some = elim (eqb_tells s s) [
 ]
 
 -- each step of taking back brings the rollback nearer to its end
-pub takes_back_nears : (s : ℕ) (old new : State) (answer : Undone) → answer ≢ undone.NoMemory → 0 < length (own s old.past) → TakesBack s (length (own s old.past) - 1) old new answer → IsBelow (to_roll_back s new) (to_roll_back s old)
+pub takes_back_nears : (s : ℕ) (old new : State) (answer : Undone) → answer ≢ undone.NoMemory → 0 < length (own s old.past)
+    → TakesBack s (length (own s old.past) - 1) old new answer → IsBelow (to_roll_back s new) (to_roll_back s old)
 takes_back_nears s old new undone.Went went some takes =
     below_third 1 _ _ _ _ _ _ (ap (to_close s) takes.0.past_is) (ap (λ h. length (own s h)) takes.0.past_is) takes.2
 takes_back_nears s old new undone.Undone went some takes =
-    below_second 1 _ _ _ _ _ _ (ap (to_close s) takes.past_is) (subst (λ (h : List Event). length (own s h) < length (own s old.past)) (sym takes.past_is) (fewer_stand s old.past some))
+    below_second 1 _ _ _ _ _ _ (ap (to_close s) takes.past_is)
+    (subst (λ (h : List Event). length (own s h) < length (own s old.past)) (sym takes.past_is) (fewer_stand s old.past some))
 takes_back_nears s old new undone.NoMemory went some takes = absurd (went refl)

@@ -30,15 +30,19 @@ same_test : (s : ℕ) → eqb s s ≡ true
 same_test s = grind (arith, nat_tests)
 
 -- of the session the entry makes this of it, and others have set what they had
-pub sets_one : (e : Event) (h : List Event) (settings : List Setting) (s : ℕ) (x : Setting) → s < length settings → ((u : ℕ) → u ≢ s → is_of u e ≡ false) → AllSet h settings → HasSet Spells s (e ∷ h) x → AllSet (e ∷ h) (set settings s x)
+pub sets_one : (e : Event) (h : List Event) (settings : List Setting) (s : ℕ) (x : Setting) → s < length settings → ((u : ℕ) → u ≢ s → is_of u e ≡ false)
+    → AllSet h settings → HasSet Spells s (e ∷ h) x → AllSet (e ∷ h) (set settings s x)
 sets_one e h settings s x lt others all here u =
     elim (eqb_tells u s) [
-      | inl same ↦ subst (λ v. HasSet Spells v (e ∷ h) (get_or (set settings s x) v at_first)) (sym same.1) (subst (HasSet Spells s (e ∷ h)) (sym (get_or-set_same settings s x at_first lt)) here)
-      | inr differ ↦ subst (HasSet Spells u (e ∷ h)) (sym (get_or-set_other settings s u x at_first differ.1)) (set_other e h u (get_or settings u at_first) (others u differ.1) (all u))
+      | inl same ↦ subst (λ v. HasSet Spells v (e ∷ h) (get_or (set settings s x) v at_first)) (sym same.1)
+          (subst (HasSet Spells s (e ∷ h)) (sym (get_or-set_same settings s x at_first lt)) here)
+      | inr differ ↦ subst (HasSet Spells u (e ∷ h)) (sym (get_or-set_other settings s u x at_first differ.1))
+          (set_other e h u (get_or settings u at_first) (others u differ.1) (all u))
     ]
 
 -- an entry that sets nothing
-pub sets_none : (e : Event) (h : List Event) (settings : List Setting) → ((u : ℕ) (x : Setting) → HasSet Spells u h x → HasSet Spells u (e ∷ h) x) → AllSet h settings → AllSet (e ∷ h) settings
+pub sets_none : (e : Event) (h : List Event) (settings : List Setting) → ((u : ℕ) (x : Setting) → HasSet Spells u h x → HasSet Spells u (e ∷ h) x)
+    → AllSet h settings → AllSet (e ∷ h) settings
 sets_none e h settings keeps all u = keeps u (get_or settings u at_first) (all u)
 
 -- one more session, which has set nothing
@@ -67,9 +71,11 @@ quiet : (item : _) (reply : Reply) (made : ℕ) (is_open : Bool) (x : Setting) �
 quiet (Some (items.Sql text)) replies.Done made is_open x not_done = absurd (not_done refl)
 quiet item reply made is_open x not_done = refl
 
-pub set_at_end : (h : List Event) (s j : ℕ) (reply : Reply) (x : Setting) → reply ≢ replies.Done → HasSet Spells s h x → HasSet Spells s (events.Ended s j reply ∷ h) x
+pub set_at_end : (h : List Event) (s j : ℕ) (reply : Reply) (x : Setting) → reply ≢ replies.Done → HasSet Spells s h x
+    → HasSet Spells s (events.Ended s j reply ∷ h) x
 set_at_end h s j reply x not_done held = rw (same_test s) (x, held, quiet (under_way s h) reply (length (own s h)) (is_some (level s h)) x not_done)
 
 -- a statement that was done sets what it sets
-pub set_at_done : (h : List Event) (s j : ℕ) (stmt : Stmt) (x : Setting) → Asks Spells s stmt h → HasSet Spells s h x → HasSet Spells s (events.Ended s j replies.Done ∷ h) (set_by stmt (length (own s h)) (is_some (level s h)) x)
+pub set_at_done : (h : List Event) (s j : ℕ) (stmt : Stmt) (x : Setting) → Asks Spells s stmt h → HasSet Spells s h x
+    → HasSet Spells s (events.Ended s j replies.Done ∷ h) (set_by stmt (length (own s h)) (is_some (level s h)) x)
 set_at_done h s j stmt x asks held = rw (same_test s) (x, held, rw (asks.1) (stmt, asks.2, refl))

@@ -20,7 +20,8 @@ use Rattle.sql_lists.proofs.Staying.{committed_more}
 -- the tables of a database after changes
 pub schemas_after : (db : Database) (changes : List Change) → (changed db changes).schemas ≡ db.schemas ++ made changes
 schemas_after db [] = sym (append-nil db.schemas)
-schemas_after db (Create schema ∷ changes) = ap (λ schemas. schemas ++ schema ∷ []) (schemas_after db changes) ∙ append_assoc db.schemas (made changes) (schema ∷ [])
+schemas_after db (Create schema ∷ changes) =
+    ap (λ schemas. schemas ++ schema ∷ []) (schemas_after db changes) ∙ append_assoc db.schemas (made changes) (schema ∷ [])
 schemas_after db (Put table row ∷ changes) = schemas_after db changes
 schemas_after db (Remove table key ∷ changes) = schemas_after db changes
 
@@ -38,7 +39,9 @@ made_none (Remove table key ∷ changes) none = made_none changes none
 
 -- the tables that stand for a session: those of the opening, the committed ones, and its own
 pub now_is : (s : ℕ) (h : List Event) → schemas_now s h ≡ (opening h).schemas ++ (made (committed (commits h) h) ++ made (own s h))
-now_is s h = schemas_after (opening h) (own s h ++ committed (commits h) h) ∙ ap (λ schemas. (opening h).schemas ++ schemas) (made_append (own s h) (committed (commits h) h))
+now_is s h =
+    schemas_after (opening h) (own s h ++ committed (commits h) h) ∙ ap (λ schemas. (opening h).schemas ++ schemas)
+    (made_append (own s h) (committed (commits h) h))
 
 -- an entry that makes no table, and leaves who is making one
 module _ (old new : List Event)
@@ -58,7 +61,8 @@ module _ (old new : List Event)
       }
 
 -- an entry that changes nothing
-pub stands_plain : (e : Event) (h : List Event) → ((u : ℕ) → own u (e ∷ h) ≡ own u h) → created (e ∷ h) ≡ created h → ((s : ℕ) → schemas_now s (e ∷ h) ≡ schemas_now s h) → AreStanding h → AreStanding (e ∷ h)
+pub stands_plain : (e : Event) (h : List Event) → ((u : ℕ) → own u (e ∷ h) ≡ own u h) → created (e ∷ h) ≡ created h
+    → ((s : ℕ) → schemas_now s (e ∷ h) ≡ schemas_now s h) → AreStanding h → AreStanding (e ∷ h)
 stands_plain e h own_is tables now stands = stands_same h (e ∷ h) (λ u. ap (list_any is_creation) (own_is u)) tables now stands
 
 -- a change of a row
@@ -68,7 +72,8 @@ made_row true (Put table row) changes is = refl
 made_row true (Remove table key) changes is = refl
 made_row false change changes row = refl
 
-any_row : (b : Bool) (change : Change) (changes : List Change) → is_creation change ≡ false → list_any is_creation (cond b (change ∷ changes) changes) ≡ list_any is_creation changes
+any_row : (b : Bool) (change : Change) (changes : List Change) → is_creation change ≡ false
+    → list_any is_creation (cond b (change ∷ changes) changes) ≡ list_any is_creation changes
 any_row true change changes row = rw row refl
 any_row false change changes row = refl
 
@@ -80,7 +85,8 @@ created_row t (Remove table key) h is = refl
 pub stands_row : (t : ℕ) (change : Change) (h : List Event) → is_creation change ≡ false → AreStanding h → AreStanding (events.Changed t change ∷ h)
 stands_row t change h row stands =
     stands_same h (events.Changed t change ∷ h) (λ u. any_row (eqb t u) change (own u h) row) (created_row t change h row)
-    (λ s. now_is s (events.Changed t change ∷ h) ∙ (ap (λ schemas. (opening h).schemas ++ (made (committed (commits h) h) ++ schemas)) (made_row (eqb t s) change (own s h) row) ∙ sym (now_is s h)))
+    (λ s. now_is s (events.Changed t change ∷ h) ∙
+    (ap (λ schemas. (opening h).schemas ++ (made (committed (commits h) h) ++ schemas)) (made_row (eqb t s) change (own s h) row) ∙ sym (now_is s h)))
     stands
 
 -- a session without changes begins or ends
@@ -95,14 +101,16 @@ pub stands_begun : (t n : ℕ) (l : _) (h : List Event) → own t h ≡ [] → A
 stands_begun t n l h none stands =
     let own_is : (u : ℕ) → own u (events.Begin t n l ∷ h) ≡ own u h = λ u. own_gone (eqb t u) (own u h) (none_at t u h none) in
     stands_same h (events.Begin t n l ∷ h) (λ u. ap (list_any is_creation) (own_is u)) refl
-    (λ s. now_is s (events.Begin t n l ∷ h) ∙ (ap (λ changes. (opening h).schemas ++ (made (committed (commits h) h) ++ made changes)) (own_is s) ∙ sym (now_is s h)))
+    (λ s. now_is s (events.Begin t n l ∷ h) ∙
+    (ap (λ changes. (opening h).schemas ++ (made (committed (commits h) h) ++ made changes)) (own_is s) ∙ sym (now_is s h)))
     stands
 
 pub stands_rolled_back : (t : ℕ) (h : List Event) → own t h ≡ [] → AreStanding h → AreStanding (events.RolledBack t ∷ h)
 stands_rolled_back t h none stands =
     let own_is : (u : ℕ) → own u (events.RolledBack t ∷ h) ≡ own u h = λ u. own_gone (eqb t u) (own u h) (none_at t u h none) in
     stands_same h (events.RolledBack t ∷ h) (λ u. ap (list_any is_creation) (own_is u)) refl
-    (λ s. now_is s (events.RolledBack t ∷ h) ∙ (ap (λ changes. (opening h).schemas ++ (made (committed (commits h) h) ++ made changes)) (own_is s) ∙ sym (now_is s h)))
+    (λ s. now_is s (events.RolledBack t ∷ h) ∙
+    (ap (λ changes. (opening h).schemas ++ (made (committed (commits h) h) ++ made changes)) (own_is s) ∙ sym (now_is s h)))
     stands
 
 -- a change of a row is put back
@@ -112,11 +120,13 @@ dropped_one n change before is = rw is refl
 oldest_one : (change : Change) (before : List Change) (keep : ℕ) → length before ≡ keep → oldest keep (change ∷ before) ≡ before
 oldest_one change before keep is = dropped_one (length (change ∷ before) - keep) change before (omega (arith, is))
 
-undone_is : (keep : ℕ) (changes : List Change) → IsUndoable keep changes → (list_any is_creation (oldest keep changes) ≡ list_any is_creation changes) × (made (oldest keep changes) ≡ made changes)
+undone_is : (keep : ℕ) (changes : List Change) → IsUndoable keep changes
+    → (list_any is_creation (oldest keep changes) ≡ list_any is_creation changes) × (made (oldest keep changes) ≡ made changes)
 undone_is keep [] undoable = absurd undoable
 undone_is keep (Create schema ∷ before) undoable = absurd undoable.0
 undone_is keep (Put table row ∷ before) undoable = let is = oldest_one (Put table row) before keep undoable.1 in (ap (list_any is_creation) is, ap made is)
-undone_is keep (Remove table key ∷ before) undoable = let is = oldest_one (Remove table key) before keep undoable.1 in (ap (list_any is_creation) is, ap made is)
+undone_is keep (Remove table key ∷ before) undoable =
+    let is = oldest_one (Remove table key) before keep undoable.1 in (ap (list_any is_creation) is, ap made is)
 
 one_of : (X : Type 0) (f : List Change → X) (b : Bool) (x y : List Change) → (b ≡ true → f x ≡ f y) → f (cond b x y) ≡ f y
 one_of X f true x y same = same refl
@@ -127,10 +137,14 @@ at_session t u P here is = elim (eqb_tells t u) [ inl same ↦ subst P same.1 he
 
 pub stands_undone : (t keep : ℕ) (h : List Event) → IsUndoable keep (own t h) → AreStanding h → AreStanding (events.Undone t keep ∷ h)
 stands_undone t keep h undoable stands =
-    let is : (u : ℕ) → eqb t u ≡ true → (list_any is_creation (oldest keep (own u h)) ≡ list_any is_creation (own u h)) × (made (oldest keep (own u h)) ≡ made (own u h)) =
-    λ u at. at_session t u (λ v. (list_any is_creation (oldest keep (own v h)) ≡ list_any is_creation (own v h)) × (made (oldest keep (own v h)) ≡ made (own v h))) (undone_is keep (own t h) undoable) at in
+    let is : (u : ℕ) → eqb t u ≡ true → (list_any is_creation (oldest keep (own u h)) ≡ list_any is_creation (own u h)) ×
+    (made (oldest keep (own u h)) ≡ made (own u h)) =
+    λ u at. at_session t u (λ v. (list_any is_creation (oldest keep (own v h)) ≡ list_any is_creation (own v h)) ×
+    (made (oldest keep (own v h)) ≡ made (own v h))) (undone_is keep (own t h) undoable) at in
     stands_same h (events.Undone t keep ∷ h) (λ u. one_of Bool (list_any is_creation) (eqb t u) (oldest keep (own u h)) (own u h) (λ at. (is u at).0)) refl
-    (λ s. now_is s (events.Undone t keep ∷ h) ∙ (ap (λ schemas. (opening h).schemas ++ (made (committed (commits h) h) ++ schemas)) (one_of (List Schema) made (eqb t s) (oldest keep (own s h)) (own s h) (λ at. (is s at).1)) ∙ sym (now_is s h)))
+    (λ s. now_is s (events.Undone t keep ∷ h) ∙
+    (ap (λ schemas. (opening h).schemas ++ (made (committed (commits h) h) ++ schemas))
+    (one_of (List Schema) made (eqb t s) (oldest keep (own s h)) (own s h) (λ at. (is s at).1)) ∙ sym (now_is s h)))
     stands
 
 -- ---- a commit
@@ -154,10 +168,13 @@ module _ (t : ℕ) (h : List Event) (stands : AreStanding h) where
   own_after : (u : ℕ) → u ≢ t → own u (events.Committed t ∷ h) ≡ own u h
   own_after u differ = elim (eqb_tells t u) [ inl same ↦ absurd (differ (sym same.1)) | inr apart ↦ rw apart.0 refl ]
 
-  now_after : (s : ℕ) → schemas_now s (events.Committed t ∷ h) ≡ (opening h).schemas ++ ((made (committed (commits h) h) ++ made (own t h)) ++ made (own s (events.Committed t ∷ h)))
+  now_after : (s : ℕ)
+      → schemas_now s (events.Committed t ∷ h) ≡ (opening h).schemas ++
+      ((made (committed (commits h) h) ++ made (own t h)) ++ made (own s (events.Committed t ∷ h)))
   now_after s =
       now_is s (events.Committed t ∷ h)
-      ∙ ap (λ schemas. (opening h).schemas ++ (schemas ++ made (own s (events.Committed t ∷ h)))) (ap made committed_is ∙ made_append (own t h) (committed (commits h) h))
+      ∙ ap (λ schemas. (opening h).schemas ++ (schemas ++ made (own s (events.Committed t ∷ h))))
+      (ap made committed_is ∙ made_append (own t h) (committed (commits h) h))
 
   -- what is left of the session's own tables after the commit
   none_left : (b : Bool) (changes : List Change) → (b ≡ false → made changes ≡ []) → made (cond b [] changes) ≡ []
@@ -168,17 +185,31 @@ module _ (t : ℕ) (h : List Event) (stands : AreStanding h) where
   by_maker : list_any is_creation (own t h) ≡ true → (s : ℕ) → created h ≡ schemas_now s (events.Committed t ∷ h)
   by_maker makes s =
       let lone : IsOnlyMaker t h = λ other ne. not_true (list_any is_creation (own other h)) (λ is. ne (stands.one other t is makes)) in
-      let left : made (own s (events.Committed t ∷ h)) ≡ [] = none_left (eqb t s) (own s h) (λ no. elim (eqb_tells t s) [ inl same ↦ absurd (false≢true (sym no ∙ same.0)) | inr differ ↦ made_none (own s h) (lone s (λ is. differ.1 (sym is))) ]) in
-      stands.tables t lone ∙ (now_is t h ∙ (ap (λ schemas. (opening h).schemas ++ schemas) (sym (append-nil (made (committed (commits h) h) ++ made (own t h)))) ∙ (ap (λ schemas. (opening h).schemas ++ ((made (committed (commits h) h) ++ made (own t h)) ++ schemas)) (sym left) ∙ sym (now_after s))))
+      let left : made (own s (events.Committed t ∷ h)) ≡ [] =
+      none_left (eqb t s) (own s h) (λ no. elim (eqb_tells t s)
+      [ inl same ↦ absurd (false≢true (sym no ∙ same.0)) | inr differ ↦ made_none (own s h) (lone s (λ is. differ.1 (sym is))) ]) in
+      stands.tables t lone ∙ (now_is t h ∙ (ap (λ schemas. (opening h).schemas ++ schemas)
+      (sym (append-nil (made (committed (commits h) h) ++ made (own t h)))) ∙
+      (ap (λ schemas. (opening h).schemas ++ ((made (committed (commits h) h) ++ made (own t h)) ++ schemas)) (sym left) ∙ sym (now_after s))))
 
   -- it commits none
   by_other : list_any is_creation (own t h) ≡ false → (s : ℕ) → IsOnlyMaker s (events.Committed t ∷ h) → created h ≡ schemas_now s (events.Committed t ∷ h)
   by_other none s only =
-      let before : IsOnlyMaker s h = λ other ne. elim (eqb_tells other t) [ inl same ↦ subst (λ v. list_any is_creation (own v h) ≡ false) (sym same.1) none | inr differ ↦ ap (list_any is_creation) (sym (own_after other differ.1)) ∙ only other ne ] in
-      let mine : made (own s (events.Committed t ∷ h)) ≡ made (own s h) = one_of (List Schema) made (eqb t s) [] (own s h) (λ at. sym (at_session t s (λ v. made (own v h) ≡ []) (made_none (own t h) none) at)) in
-      stands.tables s before ∙ (now_is s h ∙ (ap (λ schemas. (opening h).schemas ++ (schemas ++ made (own s h))) (sym (append-nil (made (committed (commits h) h)))) ∙ (ap (λ schemas. (opening h).schemas ++ ((made (committed (commits h) h) ++ schemas) ++ made (own s h))) (sym (made_none (own t h) none)) ∙ (ap (λ schemas. (opening h).schemas ++ ((made (committed (commits h) h) ++ made (own t h)) ++ schemas)) (sym mine) ∙ sym (now_after s)))))
+      let before : IsOnlyMaker s h =
+      λ other ne. elim (eqb_tells other t) [
+        | inl same ↦ subst (λ v. list_any is_creation (own v h) ≡ false) (sym same.1) none
+        | inr differ ↦ ap
+            (list_any is_creation) (sym (own_after other differ.1)) ∙ only other ne
+      ] in
+      let mine : made (own s (events.Committed t ∷ h)) ≡ made (own s h) =
+      one_of (List Schema) made (eqb t s) [] (own s h) (λ at. sym (at_session t s (λ v. made (own v h) ≡ []) (made_none (own t h) none) at)) in
+      stands.tables s before ∙ (now_is s h ∙ (ap (λ schemas. (opening h).schemas ++ (schemas ++ made (own s h)))
+      (sym (append-nil (made (committed (commits h) h)))) ∙
+      (ap (λ schemas. (opening h).schemas ++ ((made (committed (commits h) h) ++ schemas) ++ made (own s h))) (sym (made_none (own t h) none)) ∙
+      (ap (λ schemas. (opening h).schemas ++ ((made (committed (commits h) h) ++ made (own t h)) ++ schemas)) (sym mine) ∙ sym (now_after s)))))
 
-  by_either : (b : Bool) → list_any is_creation (own t h) ≡ b → (s : ℕ) → IsOnlyMaker s (events.Committed t ∷ h) → created h ≡ schemas_now s (events.Committed t ∷ h)
+  by_either : (b : Bool) → list_any is_creation (own t h) ≡ b → (s : ℕ) → IsOnlyMaker s (events.Committed t ∷ h)
+      → created h ≡ schemas_now s (events.Committed t ∷ h)
   by_either true is s only = by_maker is s
   by_either false is s only = by_other is s only
 
@@ -192,7 +223,8 @@ module _ (t : ℕ) (h : List Event) (stands : AreStanding h) where
 
 -- ---- a table is made, while nobody else has changes
 
-module _ (t : ℕ) (schema : Schema) (h : List Event) (alone : (other : ℕ) → other ≢ t → own other h ≡ []) (room : length (created h) < MOST_TABLES) (stands : AreStanding h) where
+module _ (t : ℕ) (schema : Schema) (h : List Event) (alone : (other : ℕ) → other ≢ t → own other h ≡ []) (room : length (created h) < MOST_TABLES)
+    (stands : AreStanding h) where
   own_apart : (u : ℕ) → u ≢ t → own u (events.Changed t (Create schema) ∷ h) ≡ []
   own_apart u differ = elim (eqb_tells t u) [ inl same ↦ absurd (differ (sym same.1)) | inr apart ↦ rw apart.0 (alone u differ) ]
 
@@ -213,10 +245,16 @@ module _ (t : ℕ) (schema : Schema) (h : List Event) (alone : (other : ℕ) →
       ap (λ schemas. schemas ++ schema ∷ []) (stands.tables t lone ∙ now_is t h)
       ∙ (append_assoc (opening h).schemas (made (committed (commits h) h) ++ made (own t h)) (schema ∷ [])
       ∙ (ap (λ schemas. (opening h).schemas ++ schemas) (append_assoc (made (committed (commits h) h)) (made (own t h)) (schema ∷ []))
-      ∙ (ap (λ changes. (opening h).schemas ++ (made (committed (commits h) h) ++ made changes)) (sym own_here) ∙ sym (now_is t (events.Changed t (Create schema) ∷ h)))))
+      ∙ (ap (λ changes. (opening h).schemas ++ (made (committed (commits h) h) ++ made changes)) (sym own_here) ∙ sym
+      (now_is t (events.Changed t (Create schema) ∷ h)))))
 
   only_here : (s : ℕ) → IsOnlyMaker s (events.Changed t (Create schema) ∷ h) → s ≡ t
-  only_here s only = elim (eqb_tells s t) [ inl same ↦ same.1 | inr differ ↦ absurd (false≢true (sym (only t (λ is. differ.1 (sym is))) ∙ ap (list_any is_creation) own_here)) ]
+  only_here s only =
+      elim (eqb_tells s t) [
+        | inl same ↦ same.1
+        | inr differ ↦ absurd
+            (false≢true (sym (only t (λ is. differ.1 (sym is))) ∙ ap (list_any is_creation) own_here))
+      ]
 
   pub stands_created : AreStanding (events.Changed t (Create schema) ∷ h)
   stands_created =

@@ -12,7 +12,8 @@ use Rattle.sql_grammar.specs.Grammar.{Spells}
 use Rattle.sql_history.specs.Items.{of_turn, is_over, point, before_turn, own_before, base}
 use Rattle.sql_history.specs.Legal.{Takes}
 use Rattle.shared_lists.specs.State.{State}
-use Rattle.sql_lists.specs.Steps.{changes_rows, Adding}
+use Rattle.sql_lists.specs.Steps.{changes_rows}
+use Rattle.sql_lists.proofs.Moving.{AddingOne}
 
 -- an entry of one session is no other's
 pub other_of : (e : Event) (t u : ℕ) → is_of t e ≡ true → u ≢ t → is_of u e ≡ false
@@ -100,7 +101,12 @@ committed_more n (e ∷ h) le = committed_more n h le
 
 -- an entry of a session without changes leaves what is committed
 pub committed_all : (e : Event) (h : List Event) (t : ℕ) → is_of t e ≡ true → own t h ≡ [] → committed (commits (e ∷ h)) (e ∷ h) ≡ committed (commits h) h
-committed_all (events.Committed t') h t mine none = elim (eqb_tells t' t) [ inl same ↦ (let empty : own t' h ≡ [] = ap (λ x. own x h) same.1 ∙ none in grind (arith, nat_tests, empty, committed_more (commits h + 1) h (omega arith))) | inr differ ↦ absurd (false≢true (sym differ.0 ∙ mine)) ]
+committed_all (events.Committed t') h t mine none =
+    elim (eqb_tells t' t) [
+      | inl same ↦ (let empty : own t' h ≡ [] = ap (λ x. own x h) same.1 ∙ none in grind
+          (arith, nat_tests, empty, committed_more (commits h + 1) h (omega arith)))
+      | inr differ ↦ absurd (false≢true (sym differ.0 ∙ mine))
+    ]
 committed_all e h t mine none = refl
 
 same_session : (s t : ℕ) → Some s ≡ Some t → s ≡ t
@@ -116,7 +122,8 @@ not_true : (b : Bool) → (b ≡ true → ⊥) → b ≡ false
 not_true true refuted = absurd (refuted refl)
 not_true false refuted = refl
 
-module _ (old new : State) (t s : ℕ) (differ : t ≢ s) (adding : Adding t old new) (keeps : old.writer ≡ Some s → new.writer ≡ Some s) (steady : IsSteady old s) where
+module _ (old new : State) (t s : ℕ) (differ : t ≢ s) (adding : AddingOne t old new) (keeps : old.writer ≡ Some s → new.writer ≡ Some s)
+    (steady : IsSteady old s) where
   still_locked : new.writer ≡ Some s
   still_locked = keeps steady.locked
 

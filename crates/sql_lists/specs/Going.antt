@@ -29,6 +29,10 @@ to_view s past = if is_some (view_of s past) then 0 else 1
 abbrev pub to_roll_back : ℕ → State → List ℕ
 to_roll_back s state = left 1 (to_close s state.past) (length (own s state.past)) (undo_to_go (task_of s state))
 
+-- the acknowledgement brings the statement nearer to its end, whatever the state
+abbrev pub NearsAcked : {M : Type 0} → (ℕ → State → M → List ℕ) → M → M → Type 0
+NearsAcked to_go before after = (old new : State) (s : ℕ) → IsBelow (to_go s new after) (to_go s old before)
+
 -- A step from one state and statement to another, by its answer, where so much is left of each: one that went is nearer
 -- to the end.
 abbrev pub Nears : {M : Type 0} → (ℕ → State → M → List ℕ) → ℕ → State → M → State → M → Advance → Type 0

@@ -13,7 +13,7 @@ use Rattle.inno_db.specs.declared.change.Change.TheVariants.{Create}
 use Rattle.inno_model.specs.Past.{under_way, of_item, own, commits, committed, opening, awaits_ack, IsClosed}
 use Rattle.sql_grammar.specs.Grammar.{Spells}
 use Rattle.sql_history.specs.Settings.{Setting, HasSet, at_first}
-use Rattle.sql_history.specs.Counts.{has_stopped, last_moment, rows_kept, most_rows}
+use Rattle.sql_history.specs.Counts.{has_stopped, rows_kept, most_rows}
 use Rattle.sql_history.specs.Legal.{IsLegal, EndsBy, owes_commit}
 use Rattle.sql_history.specs.Statements.{schemas_now}
 use Rattle.law_past_agreement.specs.Order.{created, is_creation, IsTabled, IsOrdered}
@@ -53,9 +53,8 @@ pub record IsKept (names : List (List ℕ)) (past : List Event) (settings : List
   pub enough : length names ≤ length settings
   pub counted : rows ≡ rows_kept past
   pub few : rows ≤ most_rows
-  -- the engine has not stopped, each commit was acknowledged at the moment 0, and no view waits for its commit
+  -- the engine has not stopped, and no view waits for its commit
   pub runs : has_stopped past ≡ false
-  pub timeless : last_moment past ≡ 0
   pub paid : owes_commit past ≡ None
   pub stands : AreStanding past
   pub ordered : IsInOrder past

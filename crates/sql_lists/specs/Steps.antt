@@ -1,5 +1,5 @@
 -- What a step of one session's statement does, by its answer, whatever the statement is.
-use Rattle.std.specs.Prelude.{◌≡◌, ◌≢◌, ◌⊎◌, ℕ, Bool, true, false, if◌then◌else◌, is_some, Some, None, List, [], ◌∷◌}
+use Rattle.std.specs.Prelude.{◌≡◌, ◌≢◌, ℕ, Bool, true, false, if◌then◌else◌, is_some, Option, Some, None, List, [], ◌∷◌, ◌++◌}
 use Rattle.std.specs.List.{AllByRecursion}
 use Rattle.inno_types.specs.declared.lock.Level.TheVariants.{RepeatableRead}
 use Rattle.inno_types.specs.declared.lock.Edge.{Edge}
@@ -7,13 +7,14 @@ use Rattle.inno_types.specs.declared.lock.LockKind.TheVariants.{Rec}
 use Rattle.inno_types.specs.declared.lock.Mode.TheVariants.{X}
 use Rattle.inno_types.specs.declared.stmt.Stmt.{Stmt}
 use Rattle.inno_model.specs.declared.event.Event.{Event}
-use Rattle.inno_model.specs.declared.event.Event.TheVariants.{Changed, Ended}
+use Rattle.inno_model.specs.declared.event.Event.TheVariants.{Changed, Ended, Acked}
 use Rattle.inno_model.specs.Past.{is_of, started, of_item, own, level, txn, IsOpen}
 use Rattle.sql_grammar.specs.Grammar.{Spells}
 use Rattle.sql_history.specs.Legal.{Takes}
+use Rattle.sql_history.specs.Counts.{last_moment}
 use Rattle.law_past_agreement.specs.Order.{IsOfRow}
 use Rattle.shared_lists.specs.Tasks.{Idle}
-use Rattle.shared_lists.specs.State.{State, task_of, Stays}
+use Rattle.shared_lists.specs.State.{State, task_of, Adds, Stays}
 use Rattle.sql_lists.specs.declared.advance.Advance.{Advance}
 use Rattle.sql_lists.specs.declared.advance.Advance.TheVariants as advance
 
@@ -33,19 +34,33 @@ abbrev pub changes_rows : Event → Bool
 changes_rows (Changed t change) = true
 changes_rows other = false
 
--- nothing is added, or one entry of the session's; changes are made by the session that may write alone
-abbrev pub Adding : ℕ → State → State → Type 0
-Adding t old new = (new.past ≡ old.past) ⊎ ((e : Event) × (is_of t e ≡ true) × (new.past ≡ e ∷ old.past) × (changes_rows e ≡ true → new.writer ≡ Some t))
+-- an entry of the session's; changes are made by the session that may write alone
+abbrev pub IsEntryOf : ℕ → Option ℕ → Event → Type 0
+IsEntryOf t writer e = (is_of t e ≡ true) × (changes_rows e ≡ true → writer ≡ Some t)
 
+-- entries of the session's are added, the newest first
+pub record Adding (t : ℕ) (old new : State) : Type 0 where
+  pub entries : List Event
+  pub past_is : new.past ≡ entries ++ old.past
+  pub each : AllByRecursion (IsEntryOf t new.writer) entries
+
+-- A step of the session's statement. Its commit is acknowledged by others than the statement.
 pub record Moves (t : ℕ) (old new : State) : Type 0 where
   pub names_stay : new.names ≡ old.names
   pub adding : Adding t old new
+  pub acks_none : last_moment new.past ≡ last_moment old.past
   pub writer_stays : (s : ℕ) → s ≢ t → old.writer ≡ Some s → new.writer ≡ Some s
   pub tasks_stay : (s : ℕ) → s ≢ t → task_of s new ≡ task_of s old
 
 -- the edge of a wait for the one plain lock
 abbrev pub plain_edge : ℕ → ℕ → Edge
-plain_edge waiter holder = record { waiter = waiter; holder = holder; lock = record { txn = holder; spot = record { index = 0; key = None }; kind = Rec; mode = X; reason = record { rule = 0; item = 0; level = RepeatableRead } } }
+plain_edge waiter holder =
+    record {
+      waiter = waiter;
+      holder = holder;
+      lock = record
+          { txn = holder; spot = record { index = 0; key = None }; kind = Rec; mode = X; reason = record { rule = 0; item = 0; level = RepeatableRead } };
+    }
 
 -- the number of the session's open transaction, or 0
 abbrev pub open_txn : ℕ → List Event → ℕ
@@ -63,9 +78,15 @@ abbrev pub Steps : {M : Type 0} → (State → ℕ → M → Type 0) → ℕ →
 Steps IsRunning s old new statement advance.Went = Moves s old new × IsRunning new s statement × (started s new.past ≡ started s old.past)
 Steps IsRunning s old new statement (advance.Waiting by blockers) = Stays s old new × IsRunning new s statement × WaitsFor s by blockers old
 Steps IsRunning s old new statement advance.NoMemory = Moves s old new × IsRunning new s statement × (new.past ≡ old.past)
-Steps IsRunning s old new statement (advance.Done reply) = Moves s old new × (new.past ≡ Ended s (started s old.past) reply ∷ old.past) × HasRowsAlone s old.past × (task_of s new ≡ Idle)
+Steps IsRunning s old new statement (advance.Done reply) =
+    Moves s old new × (new.past ≡ Ended s (started s old.past) reply ∷ old.past) × HasRowsAlone s old.past × (task_of s new ≡ Idle)
+
+-- After the acknowledgement of the session's commit its statement goes on as another one.
+abbrev pub GoesOnAcked : {M : Type 0} → (State → ℕ → M → Type 0) → M → M → Type 0
+GoesOnAcked {M} IsRunning before after = (old new : State) (s moment : ℕ) → IsRunning old s before → Adds (Acked s moment) s old new → IsRunning new s after
 
 -- A step of another session, or one that joins, leaves what holds of a statement between its steps.
 abbrev pub StaysRunning : {M : Type 0} → (State → ℕ → M → Type 0) → Type 0
 StaysRunning {M} IsRunning =
-    (old new : State) (t s : ℕ) (statement : M) → t ≢ s → Adding t old new → (old.writer ≡ Some s → new.writer ≡ Some s) → task_of s new ≡ task_of s old → IsRunning old s statement → IsRunning new s statement
+    (old new : State) (t s : ℕ) (statement : M) → t ≢ s → Adding t old new → (old.writer ≡ Some s → new.writer ≡ Some s) → task_of s new ≡ task_of s old →
+    IsRunning old s statement → IsRunning new s statement

@@ -12,7 +12,7 @@ ghost use Rattle.inno_model.specs.Past.{under_way, level, own, started, begins, 
 ghost use Rattle.sql_grammar.specs.Grammar.{Spells};
 ghost use Rattle.sql_history.specs.Items.{Asks};
 ghost use Rattle.sql_history.specs.Settings.{HasSet};
-ghost use Rattle.sql_history.specs.Counts.{rows_kept, rows_of_reply, most_rows};
+ghost use Rattle.sql_history.specs.Counts.{last_moment, rows_kept, rows_of_reply, most_rows};
 ghost use Rattle.sql_history.specs.Legal.{IsLegal, MayBegin, MayView, MayChange, MayUndo, MayCommit, MayRollBack, is_leaving};
 ghost use Rattle.law_fitting_rows.specs.Storable.{IsStorable};
 ghost use Rattle.law_past_agreement.specs.Order.{created, IsOfRow, IsTabled, IsUndoable, IsOrdered};
@@ -366,14 +366,15 @@ impl<L: SharedLists> SqlLists<L> {
         self.lists.commit(session);
     }
 
-    /// Acknowledges the session's commit.
-    pub fn ack(&mut self, session: u32)
+    /// Acknowledges the session's commit, at a moment that no earlier acknowledgement lies behind.
+    pub fn ack(&mut self, session: u32, moment: u64)
         requires joined { session < length self.old.names }
         requires may { OwesAck session self.old.past }
+        requires later { last_moment self.old.past ≤ moment }
         requires idle { task_of session self.old ≡ Idle }
-        ensures { Adds (Acked session 0) session self.old self.new }
+        ensures { Adds (Acked session moment) session self.old self.new }
     {
-        self.lists.ack(session);
+        self.lists.ack(session, moment);
     }
 
     /// Ends the rollback of the session's transaction, which may write no longer.

@@ -125,7 +125,14 @@ module _ (s : ℕ) (text : List ℕ) (stmt : Stmt) (h : List Event) (only : HasO
   taken_with autocommit level ready =
       record {
         taken = record {
-          takes = record { asks = asks; setting = ready.0; is_set = set_at_start ready.0 ready.1; not_refused = now_or_never (λ past. refused_at_once s ready.0 stmt past ≡ None) s text h only.item ready.2 };
+          takes =
+              record {
+                asks = asks;
+                setting = ready.0;
+                is_set = set_at_start ready.0 ready.1;
+                not_refused = now_or_never
+                    (λ past. refused_at_once s ready.0 stmt past ≡ None) s text h only.item ready.2;
+              };
           nothing = only.nothing;
           rows_alone = only.rows_alone;
         };
@@ -174,7 +181,17 @@ module _ (s : ℕ) (text : List ℕ) (h : List Event) (only : HasOnlyStarted s t
       record {
         item = Sql text;
         asked = only.item;
-        ends = (acked_too, inl refl, inr (inl (record { none = λ stmt asks. none stmt (subst (λ t. Spells t stmt) (sql_text asks.0 text (sym asks.1 ∙ only.item)) asks.2); place = at; answer = refl; nothing = only.nothing })));
+        ends = (
+          acked_too,
+          inl refl,
+          inr (inl (record {
+            none = λ stmt asks. none stmt
+                (subst (λ t. Spells t stmt) (sql_text asks.0 text (sym asks.1 ∙ only.item)) asks.2);
+            place = at;
+            answer = refl;
+            nothing = only.nothing;
+          })),
+        );
       }
 
   goes_on : is_over s h ≡ false

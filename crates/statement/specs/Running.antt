@@ -15,10 +15,10 @@ use Rattle.shared_lists.specs.Tasks.{Idle}
 use Rattle.shared_lists.specs.State.{State, task_of}
 use Rattle.sql_lists.specs.Steps.{HasRowsAlone}
 use Rattle.transaction_statements.specs.Committing.{IsOnTransactions}
-use Rattle.transaction_statements.specs.Running.{IsRunning as of_transaction}
-use Rattle.create_statement.specs.Running.{IsRunning as of_create}
-use Rattle.read_statement.specs.Running.{IsRunning as of_read}
-use Rattle.write_statement.specs.Running.{IsRunning as of_write}
+use Rattle.transaction_statements.specs.Running as of_transaction
+use Rattle.create_statement.specs.Running as of_create
+use Rattle.read_statement.specs.Running as of_read
+use Rattle.write_statement.specs.Running as of_write
 use Rattle.statement.specs.declared.under_way.Statement.{Statement}
 use Rattle.statement.specs.declared.under_way.Statement.TheVariants as statements
 use Rattle.statement.specs.declared.under_way.Kind.{Kind}
@@ -48,11 +48,27 @@ ReadsItem item statement = (text : List ℕ) × (item ≡ Sql text) × IsReadFro
 abbrev pub IsRunning : State → ℕ → Statement → Type 0
 IsRunning state s (statements.Unread at) = (text : List ℕ) × HasOnlyStarted s text state.past × IsNone text × (task_of s state ≡ Idle)
 IsRunning state s (statements.Asked stmt) = (text : List ℕ) × HasOnlyStarted s text state.past × Spells text stmt × (task_of s state ≡ Idle)
-IsRunning state s (statements.Transaction statement) = of_transaction state s statement
-IsRunning state s (statements.Create statement) = of_create state s statement
-IsRunning state s (statements.Read statement) = of_read state s statement
-IsRunning state s (statements.Write statement) = of_write state s statement
+IsRunning state s (statements.Transaction statement) = of_transaction.IsRunning state s statement
+IsRunning state s (statements.Create statement) = of_create.IsRunning state s statement
+IsRunning state s (statements.Read statement) = of_read.IsRunning state s statement
+IsRunning state s (statements.Write statement) = of_write.IsRunning state s statement
 IsRunning state s statements.Failed = (text : List ℕ) × HasOnlyStarted s text state.past × (task_of s state ≡ Idle)
+
+-- its commit is yet to be acknowledged
+abbrev pub owes_ack : Statement → Bool
+owes_ack (statements.Transaction statement) = of_transaction.owes_ack statement
+owes_ack (statements.Create statement) = of_create.owes_ack statement
+owes_ack (statements.Read statement) = of_read.owes_ack statement
+owes_ack (statements.Write statement) = of_write.owes_ack statement
+owes_ack other = false
+
+-- the statement behind that
+abbrev pub acked : Statement → Statement
+acked (statements.Transaction statement) = statements.Transaction (of_transaction.acked statement)
+acked (statements.Create statement) = statements.Create (of_create.acked statement)
+acked (statements.Read statement) = statements.Read (of_read.acked statement)
+acked (statements.Write statement) = statements.Write (of_write.acked statement)
+acked other = other
 
 -- ---- before it begins
 
@@ -66,7 +82,8 @@ IsOfKind kinds.Transaction stmt = IsOnTransactions stmt
 abbrev pub LooksAs : ℕ → Stmt → List Event → Look → Type 0
 LooksAs s stmt past (looks.Refused error) = (setting : Setting) × HasSet Spells s past setting × (refused_at_once s setting stmt past ≡ Some error)
 LooksAs s stmt past (looks.Ready autocommit level) =
-    (setting : Setting) × HasSet Spells s past setting × (refused_at_once s setting stmt past ≡ None) × (setting.autocommit ≡ autocommit) × (next_level setting ≡ level)
+    (setting : Setting) × HasSet Spells s past setting × (refused_at_once s setting stmt past ≡ None) × (setting.autocommit ≡ autocommit) ×
+    (next_level setting ≡ level)
 
 -- the machine of its kind is at work
 abbrev pub IsBegun : Statement → Type 0

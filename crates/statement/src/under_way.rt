@@ -1,15 +1,16 @@
 //! A statement under way, whichever it is. Before its first step it is looked at whether something refuses it at once;
 //! then the machine of its kind makes the steps.
 
-ghost use Rattle.std.specs.Prelude.{◌≡◌, ◌≢◌, ◌<◌, None, true, false, IfOk, length};
+ghost use Rattle.std.specs.Prelude.{◌≡◌, ◌≢◌, ◌<◌, ℕ, None, true, false, IfOk, length};
+ghost use Rattle.shared_lists.specs.State.{State};
 ghost use Rattle.inno_db.specs.Refusals.{refused_if};
 ghost use Rattle.inno_model.specs.Past.{level_or, IsOpen};
 ghost use Rattle.sql_history.specs.Settings.{next_level};
 ghost use Rattle.sql_history.specs.Statements.{session_refusal, is_serializable};
-ghost use Rattle.sql_lists.specs.Kept.{IsOnlyMaker};
-ghost use Rattle.sql_lists.specs.Steps.{Steps};
-ghost use Rattle.sql_lists.specs.Going.{Nears};
-ghost use Rattle.statement.specs.Running.{IsRunning, IsOfKind, LooksAs, IsBegun, is_went, is_done};
+ghost use Rattle.sql_lists.specs.Kept.{IsOnlyMaker, OwesAck};
+ghost use Rattle.sql_lists.specs.Steps.{Steps, GoesOnAcked};
+ghost use Rattle.sql_lists.specs.Going.{Nears, NearsAcked};
+ghost use Rattle.statement.specs.Running.{IsRunning, IsOfKind, LooksAs, IsBegun, is_went, is_done, owes_ack, acked};
 ghost use Rattle.statement.specs.Going.{statement_to_go};
 
 use create_statement::CreateStatement;
@@ -39,6 +40,39 @@ pub enum Statement {
 }
 
 impl Statement {
+    /// Whether the statement's commit is yet to be acknowledged. It makes no step before that.
+    pub fn owes_ack(&self) -> bool
+        ensures { result ≡ owes_ack self.now }
+    {
+        match self {
+            Statement::Transaction(statement) => statement.owes_ack(),
+            Statement::Create(statement) => statement.owes_ack(),
+            Statement::Read(statement) => statement.owes_ack(),
+            Statement::Write(statement) => statement.owes_ack(),
+            Statement::Unread { .. } | Statement::Asked(_) | Statement::Failed => false,
+        }
+    }
+
+    /// The statement after the acknowledgement of its commit.
+    pub fn acked(self) -> Self
+        ensures { result ≡ acked self }
+    {
+        match self {
+            Statement::Transaction(statement) => Statement::Transaction(statement.acked()),
+            Statement::Create(statement) => Statement::Create(statement.acked()),
+            Statement::Read(statement) => Statement::Read(statement.acked()),
+            Statement::Write(statement) => Statement::Write(statement.acked()),
+            other => other,
+        }
+    }
+
+    /// A commit that is owed stands in the past, and its acknowledgement brings the statement nearer to its end.
+    pub fn an_acknowledgement_moves_it_on()
+        ensures owed { (state : State) (s : ℕ) (m : Statement) → owes_ack m ≡ true → IsRunning state s m → OwesAck s state.past }
+        ensures runs { (m : Statement) → owes_ack m ≡ true → GoesOnAcked IsRunning m (acked m) }
+        ensures nears { (m : Statement) → owes_ack m ≡ true → NearsAcked statement_to_go m (acked m) }
+    {}
+
     /// One step of the session's statement.
     pub fn step<L: SharedLists>(
         self,
@@ -48,6 +82,7 @@ impl Statement {
     ) -> (Statement, Advance)
         requires joined { session < length lists.old.names }
         requires running { IsRunning lists.old session self }
+        requires acked { owes_ack self ≡ false }
         ensures steps { Steps IsRunning session lists.old lists.new result.0 result.1 }
         ensures nears { Nears statement_to_go session lists.old self lists.new result.0 result.1 }
     {

@@ -26,7 +26,8 @@ use Rattle.transaction_statements.specs.Committing.{Fits, SetsAlone}
 use Rattle.transaction_statements.specs.Knowing.{IsAt, IsEmptied, HasOpened, SavesIn, IsGoingBack, IsMissing, IsGivingUp, IsFinished, HasMadeNone}
 use Rattle.transaction_statements.specs.Running.{Nothing}
 
-may_be_done : (s : ℕ) (statement : Stmt) (past : List Event) → (takes : Takes Spells s statement past) → EndsTaken s takes.setting statement Done past → awaits_ack (of_item s past) ≡ false → did is_victim s past ≡ false → MayReply s Done past
+may_be_done : (s : ℕ) (statement : Stmt) (past : List Event) → (takes : Takes Spells s statement past) → EndsTaken s takes.setting statement Done past
+    → awaits_ack (of_item s past) ≡ false → did is_victim s past ≡ false → MayReply s Done past
 may_be_done s statement past takes ends acked no_victim =
     record {
       item = Sql takes.asks.0;
@@ -106,15 +107,34 @@ module _ (s : ℕ) (past : List Event) where
   ends_quietly setting stmt.Rollback alone none = elim alone [ ]
   ends_quietly setting (stmt.RollbackTo name) alone none = elim alone [ ]
 
-  pub finishes_quietly : (statement : Stmt) → IsAt s statement (SetsAlone statement) past → of_item s past ≡ [] → SetsQuietly statement s past → IsFinished s statement past
+  pub finishes_quietly : (statement : Stmt) → IsAt s statement (SetsAlone statement) past → of_item s past ≡ [] → SetsQuietly statement s past
+      → IsFinished s statement past
   finishes_quietly statement at none quiet =
-      record { takes = at.takes; ends = ends_quietly at.takes.setting statement at.knows none; acked = ap awaits_ack none; no_victim = at.no_victim; quiet = quiet; rows_alone = at.rows_alone }
+      record {
+        takes = at.takes;
+        ends = ends_quietly at.takes.setting statement at.knows none;
+        acked = ap awaits_ack none;
+        no_victim = at.no_victim;
+        quiet =
+            quiet;
+        rows_alone = at.rows_alone;
+      }
 
-  pub finishes_commit : IsAt s stmt.Commit (Fits committers.Commit) past → IsEmptied s past → awaits_ack (of_item s past) ≡ false → IsFinished s stmt.Commit past
+  pub finishes_commit : IsAt s stmt.Commit (Fits committers.Commit) past → IsEmptied s past → awaits_ack (of_item s past) ≡ false
+      → IsFinished s stmt.Commit past
   finishes_commit at empty acked =
-      record { takes = at.takes; ends = (refl, empty.closed, empty.not_rolled_back); acked = acked; no_victim = at.no_victim; quiet = tt; rows_alone = at.rows_alone }
+      record {
+        takes = at.takes;
+        ends = (refl, empty.closed, empty.not_rolled_back);
+        acked = acked;
+        no_victim = at.no_victim;
+        quiet = tt;
+        rows_alone =
+            at.rows_alone;
+      }
 
-  pub finishes_turn_on : IsAt s (stmt.SetAutocommit true) (Fits committers.TurnOn) past → IsEmptied s past → awaits_ack (of_item s past) ≡ false → IsFinished s (stmt.SetAutocommit true) past
+  pub finishes_turn_on : IsAt s (stmt.SetAutocommit true) (Fits committers.TurnOn) past → IsEmptied s past → awaits_ack (of_item s past) ≡ false
+      → IsFinished s (stmt.SetAutocommit true) past
   finishes_turn_on at empty acked =
       record {
         takes = at.takes;
@@ -125,25 +145,35 @@ module _ (s : ℕ) (past : List Event) where
         rows_alone = at.rows_alone;
       }
 
-  pub finishes_begin : (snapshot : Bool) → IsAt s (stmt.Begin snapshot) Nothing past → HasOpened s past → (snapshot ≡ true → level s past ≡ Some RepeatableRead → did takes_view s past ≡ true) → IsFinished s (stmt.Begin snapshot) past
+  pub finishes_begin : (snapshot : Bool) → IsAt s (stmt.Begin snapshot) Nothing past → HasOpened s past
+      → (snapshot ≡ true → level s past ≡ Some RepeatableRead → did takes_view s past ≡ true) → IsFinished s (stmt.Begin snapshot) past
   finishes_begin snapshot at opened view =
       record {
         takes = at.takes;
-        ends = (refl, record { opens = record { is_open = opened.is_open; begun = opened.begun; not_rolled_back = opened.not_rolled_back }; new = opened.new; view = view });
+        ends = (
+          refl,
+          record {
+            opens = record { is_open = opened.is_open; begun = opened.begun; not_rolled_back = opened.not_rolled_back };
+            new = opened.new;
+            view = view;
+          },
+        );
         acked = opened.acked;
         no_victim = at.no_victim;
         quiet = tt;
         rows_alone = at.rows_alone;
       }
 
-  pub finishes_rollback : IsAt s stmt.Rollback Nothing past → IsClosed s past → did commits_txn s past ≡ false → awaits_ack (of_item s past) ≡ false → IsFinished s stmt.Rollback past
+  pub finishes_rollback : IsAt s stmt.Rollback Nothing past → IsClosed s past → did commits_txn s past ≡ false → awaits_ack (of_item s past) ≡ false
+      → IsFinished s stmt.Rollback past
   finishes_rollback at closed uncommitted acked =
       record { takes = at.takes; ends = (refl, closed, uncommitted); acked = acked; no_victim = at.no_victim; quiet = tt; rows_alone = at.rows_alone }
 
   all_kept : (made : ℕ) (changes : List Change) → length changes ≤ made → oldest made changes ≡ changes
   all_kept made changes few = let none : length changes - made ≡ 0 = omega (arith, few) in rw none refl
 
-  pub finishes_rollback_to : (name : List ℕ) (made : ℕ) → IsAt s (stmt.RollbackTo name) (λ setting. made_at name setting.saves ≡ Some made) past → IsGoingBack s made past → length (own s past) ≤ made → IsFinished s (stmt.RollbackTo name) past
+  pub finishes_rollback_to : (name : List ℕ) (made : ℕ) → IsAt s (stmt.RollbackTo name) (λ setting. made_at name setting.saves ≡ Some made) past
+      → IsGoingBack s made past → length (own s past) ≤ made → IsFinished s (stmt.RollbackTo name) past
   finishes_rollback_to name made at back few =
       record {
         takes = at.takes;
@@ -158,8 +188,10 @@ module _ (s : ℕ) (past : List Event) where
   ends_within None autocommit some none = absurd (false≢true some)
   ends_within (Some l) autocommit some none = none
 
-  ends_saving : (setting : Setting) (opened : Bool) → (opened ≡ true → setting.autocommit ≡ false) → SavesIn opened s past → EndsSavepoint (level s (before_item s past)) setting.autocommit s past
-  ends_saving setting false knows saves = ends_within (level s (before_item s past)) setting.autocommit (ap is_some (sym (still s past saves.0).level_is) ∙ saves.1) saves.0
+  ends_saving : (setting : Setting) (opened : Bool) → (opened ≡ true → setting.autocommit ≡ false) → SavesIn opened s past
+      → EndsSavepoint (level s (before_item s past)) setting.autocommit s past
+  ends_saving setting false knows saves =
+      ends_within (level s (before_item s past)) setting.autocommit (ap is_some (sym (still s past saves.0).level_is) ∙ saves.1) saves.0
   ends_saving setting true knows saves =
       let o = saves.0 in
       subst (λ before. EndsSavepoint before setting.autocommit s past) (sym saves.1)
@@ -174,13 +206,15 @@ module _ (s : ℕ) (past : List Event) where
   open_saving false saves = saves.1
   open_saving true saves = saves.0.is_open
 
-  pub may_save : (name : List ℕ) (opened : Bool) → IsAt s (stmt.Savepoint name) (λ setting. opened ≡ true → setting.autocommit ≡ false) past → SavesIn opened s past → MayReply s Done past
+  pub may_save : (name : List ℕ) (opened : Bool) → IsAt s (stmt.Savepoint name) (λ setting. opened ≡ true → setting.autocommit ≡ false) past
+      → SavesIn opened s past → MayReply s Done past
   may_save name opened at saves =
       may_be_done s (stmt.Savepoint name) past at.takes (refl, ends_saving at.takes.setting opened at.knows saves) (acked_saving opened saves) at.no_victim
 
   -- ---- without memory
 
-  pub fails_begin : (snapshot : Bool) (Knows : Setting → Type 0) → IsAt s (stmt.Begin snapshot) Knows past → own s past ≡ [] → HasMadeNone s past → awaits_ack (of_item s past) ≡ false → IsGivingUp s past
+  pub fails_begin : (snapshot : Bool) (Knows : Setting → Type 0) → IsAt s (stmt.Begin snapshot) Knows past → own s past ≡ [] → HasMadeNone s past
+      → awaits_ack (of_item s past) ≡ false → IsGivingUp s past
   fails_begin snapshot Knows at new made acked =
       record {
         text = at.takes.asks.0;
@@ -208,7 +242,8 @@ module _ (s : ℕ) (past : List Event) where
         rows_alone = at.rows_alone;
       }
 
-  pub fails_saving : (name : List ℕ) (opened : Bool) → IsAt s (stmt.Savepoint name) (λ setting. opened ≡ true → setting.autocommit ≡ false) past → SavesIn opened s past → IsGivingUp s past
+  pub fails_saving : (name : List ℕ) (opened : Bool) → IsAt s (stmt.Savepoint name) (λ setting. opened ≡ true → setting.autocommit ≡ false) past
+      → SavesIn opened s past → IsGivingUp s past
   fails_saving name false at saves = fails_still (stmt.Savepoint name) _ at saves.0
   fails_saving name true at saves =
       let o = saves.0 in

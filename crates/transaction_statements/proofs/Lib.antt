@@ -1,5 +1,5 @@
 mod Staying
 mod Ending
-mod Stepping
-mod Moving
+pub mod Stepping
+pub mod Moving
 pub mod Others

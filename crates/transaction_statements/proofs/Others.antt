@@ -15,7 +15,8 @@ use Rattle.sql_history.specs.Legal.{Takes, CommittedFirst, LeavesIt, MayLeaveOpe
 use Rattle.law_past_agreement.specs.Order.{IsOfRow}
 use Rattle.shared_lists.specs.State.{State, task_of}
 use Rattle.sql_lists.specs.Kept.{SetsQuietly}
-use Rattle.sql_lists.specs.Steps.{Adding, HasRowsAlone}
+use Rattle.sql_lists.specs.Steps.{StaysRunning, HasRowsAlone}
+use Rattle.sql_lists.proofs.Moving.{AddingOne, stays_running}
 use Rattle.sql_lists.proofs.Staying.{other_of, within_of_other}
 use Rattle.transaction_statements.specs.declared.statement.TransactionStatement.{TransactionStatement}
 use Rattle.transaction_statements.specs.declared.statement.TransactionStatement.TheVariants as statements
@@ -146,14 +147,22 @@ module _ (e : Event) (h : List Event) (s : ℕ) (other : is_of s e ≡ false) wh
   runs_on (statements.Saving name opened) r = (at_other _ _ r.0, saves_on opened r.1)
   runs_on statements.Failed r = gives_up_on r
 
-pub stays_running : (old new : State) (t s : ℕ) (m : TransactionStatement) → t ≢ s → Adding t old new → task_of s new ≡ task_of s old → IsRunning old s m → IsRunning new s m
-stays_running old new t s m differ adding same_task r =
+stays_by_one : (old new : State) (t s : ℕ) (m : TransactionStatement) → t ≢ s → AddingOne t old new → task_of s new ≡ task_of s old → IsRunning old s m
+    → IsRunning new s m
+stays_by_one old new t s m differ adding same_task r =
     elim adding [
       | inl same_past ↦ at_past old.past same_past r.0 r.1
-      | inr added ↦ (let other : is_of s added.0 ≡ false = other_of added.0 t s added.1 (λ is. differ (sym is)) in at_past (added.0 ∷ old.past) added.2 (runs_on added.0 old.past s other m r.0) (subst (λ changes. HasTask m (length changes) (task_of s old)) (sym (same added.0 old.past s other).own_is) r.1))
+      | inr added ↦ (let other : is_of s added.0 ≡ false = other_of added.0 t s added.1 (λ is. differ (sym is)) in at_past (added.0 ∷ old.past) added.2
+          (runs_on added.0 old.past s other m r.0) (subst (λ changes. HasTask m (length changes) (task_of s old))
+          (sym (same added.0 old.past s other).own_is) r.1))
     ] where
       at_past : (past : List Event) → new.past ≡ past → RunsBy past s m → HasTask m (length (own s past)) (task_of s old) → IsRunning new s m
-      at_past past past-is runs has = subst (λ h. RunsBy h s m × HasTask m (length (own s h)) (task_of s new)) (sym past-is) (runs, subst (HasTask m (length (own s past))) (sym same_task) has)
+      at_past past past-is runs has =
+          subst (λ h. RunsBy h s m × HasTask m (length (own s h)) (task_of s new)) (sym past-is)
+          (runs, subst (HasTask m (length (own s past))) (sym same_task) has)
+
+pub stays : StaysRunning IsRunning
+stays = stays_running IsRunning (λ old new t s m differ adding keeps same_task r. stays_by_one old new t s m differ adding same_task r)
 
 -- a running statement has an item under way
 pub has_item : (state : State) (s : ℕ) (m : TransactionStatement) → IsRunning state s m → under_way s state.past ≢ None

@@ -19,7 +19,8 @@ use Rattle.transaction_statements.specs.Knowing.{IsAt, HasMadeNone}
 
 -- ---- an entry that neither starts nor ends an item
 
-abbrev pub takes_on : (s : ℕ) (statement : Stmt) (e : Event) (h : List Event) → is_within s e ≡ true → Takes Spells s statement h → Takes Spells s statement (e ∷ h)
+abbrev pub takes_on : (s : ℕ) (statement : Stmt) (e : Event) (h : List Event) → is_within s e ≡ true → Takes Spells s statement h
+    → Takes Spells s statement (e ∷ h)
 takes_on s statement e h within takes =
     record {
       asks = (takes.asks.0, item_within e h s within ∙ takes.asks.1, takes.asks.2);
@@ -28,14 +29,16 @@ takes_on s statement e h within takes =
       not_refused = inr (starts_not e h s within, takes.not_refused);
     }
 
-pub at_on : (s : ℕ) (statement : Stmt) (Knows : Setting → Type 0) (e : Event) (h : List Event) → is_within s e ≡ true → HasRowsAlone s (e ∷ h) → did is_victim s (e ∷ h) ≡ false → IsAt s statement Knows h → IsAt s statement Knows (e ∷ h)
+pub at_on : (s : ℕ) (statement : Stmt) (Knows : Setting → Type 0) (e : Event) (h : List Event) → is_within s e ≡ true → HasRowsAlone s (e ∷ h)
+    → did is_victim s (e ∷ h) ≡ false → IsAt s statement Knows h → IsAt s statement Knows (e ∷ h)
 at_on s statement Knows e h within rows victim at =
     record { takes = takes_on s statement e h within at.takes; knows = at.knows; rows_alone = rows; no_victim = victim }
 
 -- ---- the point
 
 -- an entry that changes nothing of the session's
-pub made_on : (s : ℕ) (e : Event) (h : List Event) → is_over s (e ∷ h) ≡ is_over s h → own s (e ∷ h) ≡ own s h → before_turn s (e ∷ h) ≡ before_turn s h → HasMadeNone s h → HasMadeNone s (e ∷ h)
+pub made_on : (s : ℕ) (e : Event) (h : List Event) → is_over s (e ∷ h) ≡ is_over s h → own s (e ∷ h) ≡ own s h → before_turn s (e ∷ h) ≡ before_turn s h
+    → HasMadeNone s h → HasMadeNone s (e ∷ h)
 made_on s e h same-over same-own same-turn made = go (is_over s h) refl where
   go : (over : Bool) → is_over s h ≡ over → HasMadeNone s (e ∷ h)
   go true is = let same = point_stays e h s is (same-over ∙ is) in subst (λ p. own s p ≡ own_before s p) (sym same) made
@@ -86,10 +89,14 @@ set_before s (events.Started t j item ∷ h) setting none set =
       | inl same ↦ rw same.0 set
       | inr differ ↦ rw differ.0 (set_before s h setting (grind (arith, nat_tests, none, differ.0)) set)
     ]
-set_before s (events.Begin t n l ∷ h) setting none set = set_before s h setting (grind (arith, nat_tests, none)) (either_other (eqb t s) _ _ (grind (arith, nat_tests, none)) set)
-set_before s (events.Committed t ∷ h) setting none set = set_before s h setting (grind (arith, nat_tests, none)) (either_other (eqb t s) _ _ (grind (arith, nat_tests, none)) set)
-set_before s (events.RolledBack t ∷ h) setting none set = set_before s h setting (grind (arith, nat_tests, none)) (either_other (eqb t s) _ _ (grind (arith, nat_tests, none)) set)
-set_before s (events.Ended t j reply ∷ h) setting none set = set_before s h setting (grind (arith, nat_tests, none)) (either_other (eqb t s) _ _ (grind (arith, nat_tests, none)) set)
+set_before s (events.Begin t n l ∷ h) setting none set =
+    set_before s h setting (grind (arith, nat_tests, none)) (either_other (eqb t s) _ _ (grind (arith, nat_tests, none)) set)
+set_before s (events.Committed t ∷ h) setting none set =
+    set_before s h setting (grind (arith, nat_tests, none)) (either_other (eqb t s) _ _ (grind (arith, nat_tests, none)) set)
+set_before s (events.RolledBack t ∷ h) setting none set =
+    set_before s h setting (grind (arith, nat_tests, none)) (either_other (eqb t s) _ _ (grind (arith, nat_tests, none)) set)
+set_before s (events.Ended t j reply ∷ h) setting none set =
+    set_before s h setting (grind (arith, nat_tests, none)) (either_other (eqb t s) _ _ (grind (arith, nat_tests, none)) set)
 set_before s (e ∷ h) setting none set = set_before s h setting (grind (arith, nat_tests, none)) set
 
 -- ---- an entry of another session

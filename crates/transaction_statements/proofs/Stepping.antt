@@ -56,7 +56,7 @@ undoable_of (c ∷ cs) rows some = (rows.0, omega arith)
 oldest_tail : (c : Change) (cs : List Change) → oldest (length (c ∷ cs) - 1) (c ∷ cs) ≡ cs
 oldest_tail c cs = let one : length (c ∷ cs) - (length (c ∷ cs) - 1) ≡ 1 = omega arith in rw one refl
 
-rows_left : (changes : List Change) → AllByRecursion IsOfRow changes → AllByRecursion IsOfRow (oldest (length changes - 1) changes)
+pub rows_left : (changes : List Change) → AllByRecursion IsOfRow changes → AllByRecursion IsOfRow (oldest (length changes - 1) changes)
 rows_left [] rows = tt
 rows_left (c ∷ cs) rows = subst (AllByRecursion IsOfRow) (sym (oldest_tail c cs)) rows.1
 
@@ -70,14 +70,23 @@ module _ (s : ℕ) (h : List Event) where
   -- ---- a commit
 
   pub may_commit : (committer : Committer) → IsOpen s h → IsAt s (stmt_of committer) (Fits committer) h → of_item s h ≡ [] → MayCommit Spells s h
-  may_commit committer is-open at none = record { is_open = is-open; statement = stmt_of committer; takes = at.takes; by = by committer at.takes.setting at.knows } where
-    by : (c : Committer) (setting : Setting) → Fits c setting → CommitsBy s setting (stmt_of c) h
-    by committers.Commit setting knows = tt
-    by committers.TurnOn setting knows = knows
-    by (committers.Begin snapshot l) setting knows = ap (list_any begins_txn) none
+  may_commit committer is-open at none =
+      record { is_open = is-open; statement = stmt_of committer; takes = at.takes; by = by committer at.takes.setting at.knows } where
+        by : (c : Committer) (setting : Setting) → Fits c setting → CommitsBy s setting (stmt_of c) h
+        by committers.Commit setting knows = tt
+        by committers.TurnOn setting knows = knows
+        by (committers.Begin snapshot l) setting knows = ap (list_any begins_txn) none
 
   pub emptied_closed : of_item s h ≡ [] → level s h ≡ None → own s h ≡ [] → IsEmptied s h
-  emptied_closed none closed new = record { closed = closed; new = new; not_begun = ap (list_any begins_txn) none; not_rolled_back = ap (list_any rolls_back_txn) none; made = made_still s h none }
+  emptied_closed none closed new =
+      record {
+        closed = closed;
+        new = new;
+        not_begun = ap (list_any begins_txn) none;
+        not_rolled_back = ap (list_any rolls_back_txn) none;
+        made = made_still
+            s h none;
+      }
 
   committed_made : of_item s h ≡ [] → HasMadeNone s (events.Committed s ∷ h)
   committed_made none =
@@ -99,7 +108,9 @@ module _ (s : ℕ) (h : List Event) where
   )
 
   pub at_committed : (statement : Stmt) (Knows : Setting → Type 0) → IsAt s statement Knows h → IsAt s statement Knows (events.Committed s ∷ h)
-  at_committed statement Knows at = at_on s statement Knows (events.Committed s) h refl (rows_of_none s (events.Committed s ∷ h) (grind (arith, nat_tests))) (grind (arith, nat_tests, at.no_victim)) at
+  at_committed statement Knows at =
+      at_on s statement Knows (events.Committed s) h refl (rows_of_none s (events.Committed s ∷ h) (grind (arith, nat_tests)))
+      (grind (arith, nat_tests, at.no_victim)) at
 
   pub emptied_acked : (moment : ℕ) → IsEmptied s h → IsEmptied s (events.Acked s moment ∷ h) × (awaits_ack (of_item s (events.Acked s moment ∷ h)) ≡ false)
   emptied_acked moment empty = (
@@ -133,7 +144,9 @@ module _ (s : ℕ) (h : List Event) where
       }
 
   pub at_begun : (n : ℕ) (l : Level) (statement : Stmt) (Knows : Setting → Type 0) → IsAt s statement Knows h → IsAt s statement Knows (events.Begin s n l ∷ h)
-  at_begun n l statement Knows at = at_on s statement Knows (events.Begin s n l) h refl (rows_of_none s (events.Begin s n l ∷ h) (grind (arith, nat_tests))) (grind (arith, nat_tests, at.no_victim)) at
+  at_begun n l statement Knows at =
+      at_on s statement Knows (events.Begin s n l) h refl (rows_of_none s (events.Begin s n l ∷ h) (grind (arith, nat_tests)))
+      (grind (arith, nat_tests, at.no_victim)) at
 
   pub knows_less : (statement : Stmt) (Knows : Setting → Type 0) → IsAt s statement Knows h → IsAt s statement Nothing h
   knows_less statement Knows at = record { takes = at.takes; knows = tt; rows_alone = at.rows_alone; no_victim = at.no_victim }
@@ -164,7 +177,9 @@ module _ (s : ℕ) (h : List Event) where
   own_undone = grind (arith, nat_tests)
 
   pub at_undone : (statement : Stmt) (Knows : Setting → Type 0) → IsAt s statement Knows h → IsAt s statement Knows (undone ∷ h)
-  at_undone statement Knows at = at_on s statement Knows undone h refl (subst (AllByRecursion IsOfRow) (sym own_undone) (rows_left (own s h) at.rows_alone)) (grind (arith, nat_tests, at.no_victim)) at
+  at_undone statement Knows at =
+      at_on s statement Knows undone h refl (subst (AllByRecursion IsOfRow) (sym own_undone) (rows_left (own s h) at.rows_alone))
+      (grind (arith, nat_tests, at.no_victim)) at
 
   pub back_undone : (made : ℕ) → made < length (own s h) → IsGoingBack s made h → IsGoingBack s made (undone ∷ h)
   back_undone made more back =
@@ -180,7 +195,9 @@ module _ (s : ℕ) (h : List Event) where
       }
 
   pub at_rolled : (statement : Stmt) (Knows : Setting → Type 0) → IsAt s statement Knows h → IsAt s statement Knows (events.RolledBack s ∷ h)
-  at_rolled statement Knows at = at_on s statement Knows (events.RolledBack s) h refl (rows_of_none s (events.RolledBack s ∷ h) (grind (arith, nat_tests))) (grind (arith, nat_tests, at.no_victim)) at
+  at_rolled statement Knows at =
+      at_on s statement Knows (events.RolledBack s) h refl (rows_of_none s (events.RolledBack s ∷ h) (grind (arith, nat_tests)))
+      (grind (arith, nat_tests, at.no_victim)) at
 
 -- ---- beginnings
 
@@ -190,7 +207,10 @@ sometime_too P Q too s (e ∷ past) (inl now) = inl (too (e ∷ past) now)
 sometime_too P Q too s (e ∷ past) (inr before) = inr (before.0, sometime_too P Q too s past before.1)
 
 -- what was found set is what counts
-pub retaken : (s : ℕ) (statement : Stmt) (Knows : Setting → Type 0) (past : List Event) (setting : Setting) (taken : IsTaken s statement past) → HasSet Spells s past setting → ((h : List Event) → refused_at_once s taken.takes.setting statement h ≡ None → refused_at_once s setting statement h ≡ None) → Knows setting → IsAt s statement Knows past
+pub retaken : (s : ℕ) (statement : Stmt) (Knows : Setting → Type 0) (past : List Event) (setting : Setting) (taken : IsTaken s statement past)
+    → HasSet Spells s past setting
+    → ((h : List Event) → refused_at_once s taken.takes.setting statement h ≡ None → refused_at_once s setting statement h ≡ None) → Knows setting
+    → IsAt s statement Knows past
 retaken s statement Knows past setting taken set same knows =
     record {
       takes = record {
@@ -218,7 +238,8 @@ back_first s made past none =
       acked = ap awaits_ack none;
     }
 
-pub missing_first : (s : ℕ) (name : List ℕ) (past : List Event) (setting : Setting) → IsTaken s (stmt.RollbackTo name) past → HasSet Spells s past setting → made_at name setting.saves ≡ None → IsMissing s name past
+pub missing_first : (s : ℕ) (name : List ℕ) (past : List Event) (setting : Setting) → IsTaken s (stmt.RollbackTo name) past → HasSet Spells s past setting
+    → made_at name setting.saves ≡ None → IsMissing s name past
 missing_first s name past setting taken set missing =
     record {
       asks = taken.takes.asks;
@@ -230,7 +251,8 @@ missing_first s name past setting taken set missing =
     }
 
 -- whatever was set
-pub taken_as : (s : ℕ) (statement : Stmt) (Knows : Setting → Type 0) (past : List Event) (taken : IsTaken s statement past) → Knows taken.takes.setting → IsAt s statement Knows past
+pub taken_as : (s : ℕ) (statement : Stmt) (Knows : Setting → Type 0) (past : List Event) (taken : IsTaken s statement past) → Knows taken.takes.setting
+    → IsAt s statement Knows past
 taken_as s statement Knows past taken knows =
     record { takes = taken.takes; knows = knows; rows_alone = taken.rows_alone; no_victim = ap (list_any is_victim) taken.nothing }
 

@@ -1,5 +1,6 @@
 -- What a statement on transactions knows of the past between its steps, and what it has under way.
-use Rattle.std.specs.Prelude.{◌≡◌, ℕ, ◌<◌, true, false, List, [], None, Some, length}
+use Rattle.std.specs.Prelude.{◌≡◌, ℕ, ◌<◌, Bool, true, false, List, [], None, Some, length}
+use Rattle.inno_types.specs.declared.lock.Level.{Level}
 use Rattle.inno_types.specs.declared.lock.Level.TheVariants.{RepeatableRead}
 use Rattle.inno_types.specs.declared.stmt.Stmt.TheVariants as stmt
 use Rattle.inno_model.specs.declared.event.Event.{Event}
@@ -25,11 +26,16 @@ RunsBy past s (statements.Committing committer) = IsAt s (stmt_of committer) (Fi
 RunsBy past s (statements.Unacked committer) = IsAt s (stmt_of committer) (Fits committer) past × IsEmptied s past × (awaits_ack (of_item s past) ≡ true)
 RunsBy past s (statements.Closed committer) = IsAt s (stmt_of committer) (Fits committer) past × IsEmptied s past × (awaits_ack (of_item s past) ≡ false)
 RunsBy past s statements.Viewing = IsAt s (stmt.Begin true) Nothing past × HasOpened s past × (level s past ≡ Some RepeatableRead) × (view_of s past ≡ None)
-RunsBy past s (statements.Begun snapshot) = IsAt s (stmt.Begin snapshot) Nothing past × HasOpened s past × (snapshot ≡ true → level s past ≡ Some RepeatableRead → did takes_view s past ≡ true)
+RunsBy past s (statements.Begun snapshot) =
+    IsAt s (stmt.Begin snapshot) Nothing past × HasOpened s past × (snapshot ≡ true → level s past ≡ Some RepeatableRead → did takes_view s past ≡ true)
 RunsBy past s statements.Rollback = IsAt s stmt.Rollback Nothing past × (did commits_txn s past ≡ false) × (awaits_ack (of_item s past) ≡ false)
-RunsBy past s (statements.RollbackTo name made) = IsAt s (stmt.RollbackTo name) (λ setting. made_at name setting.saves ≡ Some made) past × IsGoingBack s made past
-RunsBy past s (statements.Opening name l) = IsAt s (stmt.Savepoint name) (λ setting. (setting.autocommit ≡ false) × (l ≡ next_level setting)) past × (of_item s past ≡ []) × IsClosed s past × (own s past ≡ [])
-RunsBy past s (statements.Saving name opened) = IsAt s (stmt.Savepoint name) (λ setting. opened ≡ true → setting.autocommit ≡ false) past × SavesIn opened s past
+RunsBy past s (statements.RollbackTo name made) =
+    IsAt s (stmt.RollbackTo name) (λ setting. made_at name setting.saves ≡ Some made) past × IsGoingBack s made past
+RunsBy past s (statements.Opening name l) =
+    IsAt s (stmt.Savepoint name) (λ setting. (setting.autocommit ≡ false) × (l ≡ next_level setting)) past × (of_item s past ≡ []) × IsClosed s past ×
+    (own s past ≡ [])
+RunsBy past s (statements.Saving name opened) =
+    IsAt s (stmt.Savepoint name) (λ setting. opened ≡ true → setting.autocommit ≡ false) past × SavesIn opened s past
 RunsBy past s statements.Failed = IsGivingUp s past
 
 -- nothing is under way with rows, or the newest change is being taken back, while more stand than are to be kept
@@ -43,6 +49,21 @@ abbrev pub HasTask : TransactionStatement → ℕ → Task → Type 0
 HasTask statements.Rollback stand task = TakesBackTo 0 stand task
 HasTask (statements.RollbackTo name made) stand task = TakesBackTo made stand task
 HasTask other stand task = task ≡ Idle
+
+-- BEGIN with its transaction open
+abbrev pub begun_at : Bool → Level → TransactionStatement
+begun_at true RepeatableRead = statements.Viewing
+begun_at snapshot l = statements.Begun snapshot
+
+-- its commit is yet to be acknowledged
+abbrev pub owes_ack : TransactionStatement → Bool
+owes_ack (statements.Unacked committer) = true
+owes_ack other = false
+
+-- the statement behind that
+abbrev pub acked : TransactionStatement → TransactionStatement
+acked (statements.Unacked committer) = statements.Closed committer
+acked other = other
 
 abbrev pub IsRunning : State → ℕ → TransactionStatement → Type 0
 IsRunning state s statement = RunsBy state.past s statement × HasTask statement (length (own s state.past)) (task_of s state)

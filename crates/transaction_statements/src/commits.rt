@@ -1,9 +1,9 @@
 //! The steps of COMMIT, of SET autocommit that turns it on, and of BEGIN: each commits an open transaction first.
 
-ghost use Rattle.std.specs.Prelude.{◌≡◌, ◌<◌, length, Some, IsTrue, ◌↔◌};
+ghost use Rattle.std.specs.Prelude.{◌≡◌, ◌<◌, length};
 ghost use Rattle.sql_lists.specs.Steps.{Steps};
 ghost use Rattle.sql_lists.specs.Going.{Nears};
-ghost use Rattle.transaction_statements.specs.Running.{IsRunning};
+ghost use Rattle.transaction_statements.specs.Running.{IsRunning, begun_at};
 ghost use Rattle.transaction_statements.specs.Going.{to_go};
 
 use crate::committer::Committer;
@@ -29,20 +29,6 @@ pub fn step_committing<L: SharedLists>(
     }
     lists.commit(session);
     (TransactionStatement::Unacked { committer }, Advance::Went)
-}
-
-pub fn step_unacked<L: SharedLists>(
-    committer: Committer,
-    session: u32,
-    lists: &mut SqlLists<L>,
-) -> (TransactionStatement, Advance)
-    requires joined { session < length lists.old.names }
-    requires running { IsRunning lists.old session (TransactionStatement.Unacked committer) }
-    ensures steps { Steps IsRunning session lists.old lists.new result.0 result.1 }
-    ensures nears { Nears to_go session lists.old (TransactionStatement.Unacked committer) lists.new result.0 result.1 }
-{
-    lists.ack(session);
-    (TransactionStatement::Closed { committer }, Advance::Went)
 }
 
 /// Nothing is open: BEGIN opens its transaction, and the others are done.
@@ -75,19 +61,23 @@ fn open_new<L: SharedLists>(
     ensures steps { Steps IsRunning session lists.old lists.new result.0 result.1 }
     ensures nears { Nears to_go session lists.old (TransactionStatement.Closed (Committer.Begin snapshot level)) lists.new result.0 result.1 }
 {
-    if lists.begin(session, level).is_err() {
-        return (TransactionStatement::Failed, Advance::NoMemory);
+    match lists.begin(session, level) {
+        Ok(()) => (begun(snapshot, level), Advance::Went),
+        Err(_) => (TransactionStatement::Failed, Advance::NoMemory),
     }
-    if snapshot && is_repeatable_read(level) {
-        return (TransactionStatement::Viewing, Advance::Went);
-    }
-    (TransactionStatement::Begun { snapshot }, Advance::Went)
 }
 
-fn is_repeatable_read(level: Level) -> bool
-    ensures { IsTrue result ↔ (level ≡ Level.RepeatableRead) }
+/// BEGIN with its transaction open: at REPEATABLE READ, WITH CONSISTENT SNAPSHOT takes a view.
+fn begun(snapshot: bool, level: Level) -> TransactionStatement
+    ensures { result ≡ begun_at snapshot level }
 {
-    matches!(level, Level::RepeatableRead)
+    match level {
+        Level::RepeatableRead if snapshot => TransactionStatement::Viewing,
+        Level::ReadUncommitted
+        | Level::ReadCommitted
+        | Level::RepeatableRead
+        | Level::Serializable => TransactionStatement::Begun { snapshot },
+    }
 }
 
 /// Takes the view of WITH CONSISTENT SNAPSHOT.

@@ -1,15 +1,16 @@
 //! A statement on transactions under way, its beginning and its steps.
 
-ghost use Rattle.std.specs.Prelude.{◌≡◌, ◌<◌, length};
+ghost use Rattle.std.specs.Prelude.{◌≡◌, ◌<◌, ℕ, true, false, length};
 ghost use Rattle.shared_lists.specs.Tasks.{Idle};
-ghost use Rattle.shared_lists.specs.State.{task_of};
-ghost use Rattle.sql_lists.specs.Steps.{IsTaken, Steps, StaysRunning};
-ghost use Rattle.sql_lists.specs.Going.{Nears};
+ghost use Rattle.shared_lists.specs.State.{State, task_of};
+ghost use Rattle.sql_lists.specs.Kept.{OwesAck};
+ghost use Rattle.sql_lists.specs.Steps.{IsTaken, Steps, StaysRunning, GoesOnAcked};
+ghost use Rattle.sql_lists.specs.Going.{Nears, NearsAcked};
 ghost use Rattle.transaction_statements.specs.Committing.{IsOnTransactions};
-ghost use Rattle.transaction_statements.specs.Running.{IsRunning};
+ghost use Rattle.transaction_statements.specs.Running.{IsRunning, owes_ack, acked};
 ghost use Rattle.transaction_statements.specs.Going.{to_go};
 
-use crate::commits::{step_begun, step_closed, step_committing, step_unacked, step_viewing};
+use crate::commits::{step_begun, step_closed, step_committing, step_viewing};
 use crate::committer::Committer;
 use crate::endings::{step_failed, step_missing, step_quiet};
 use crate::rollbacks::{new_rollback_to, step_rollback, step_rollback_to};
@@ -80,6 +81,32 @@ impl TransactionStatement {
         }
     }
 
+    /// Whether the statement's commit is yet to be acknowledged. It makes no step before that.
+    pub fn owes_ack(&self) -> bool
+        ensures { result ≡ owes_ack self.now }
+    {
+        matches!(self, TransactionStatement::Unacked { .. })
+    }
+
+    /// The statement after the acknowledgement of its commit.
+    pub fn acked(self) -> Self
+        ensures { result ≡ acked self }
+    {
+        match self {
+            TransactionStatement::Unacked { committer } => {
+                TransactionStatement::Closed { committer }
+            }
+            other => other,
+        }
+    }
+
+    /// A commit that is owed stands in the past, and its acknowledgement brings the statement nearer to its end.
+    pub fn an_acknowledgement_moves_it_on()
+        ensures owed { (state : State) (s : ℕ) (m : TransactionStatement) → owes_ack m ≡ true → IsRunning state s m → OwesAck s state.past }
+        ensures runs { (m : TransactionStatement) → owes_ack m ≡ true → GoesOnAcked IsRunning m (acked m) }
+        ensures nears { (m : TransactionStatement) → owes_ack m ≡ true → NearsAcked to_go m (acked m) }
+    {}
+
     /// One step of the session's statement.
     pub fn step<L: SharedLists>(
         self,
@@ -89,6 +116,7 @@ impl TransactionStatement {
     ) -> (Self, Advance)
         requires joined { session < length lists.old.names }
         requires running { IsRunning lists.old session self }
+        requires acked { owes_ack self ≡ false }
         ensures steps { Steps IsRunning session lists.old lists.new result.0 result.1 }
         ensures nears { Nears to_go session lists.old self lists.new result.0 result.1 }
     {
@@ -98,7 +126,7 @@ impl TransactionStatement {
             TransactionStatement::Committing { committer } => step_committing(
                 committer, session, lists,
             ),
-            TransactionStatement::Unacked { committer } => step_unacked(committer, session, lists),
+            TransactionStatement::Unacked { .. } => unreachable!(),
             TransactionStatement::Closed { committer } => step_closed(committer, session, lists),
             TransactionStatement::Viewing => step_viewing(session, lists),
             TransactionStatement::Begun { snapshot } => step_begun(snapshot, session, lists),

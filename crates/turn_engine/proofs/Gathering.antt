@@ -17,11 +17,15 @@ remove_first [] x h e = absurd (omega arith)
 remove_first (y ∷ xs) x h e = ap (λ (z : _). z ∷ xs) (sym e)
 
 -- one receipt is taken in
-pub absorbed : (v w u : View) (all left : List Sitting) (r : Sitting) → all ≡ r ∷ left → w.joined ≡ [] → w.mine ≡ claim_of r → u ≡ with_sessions v w → gathered u left ≡ gathered v all
+pub absorbed : (v w u : View) (all left : List Sitting) (r : Sitting) → all ≡ r ∷ left → w.joined ≡ [] → w.mine ≡ claim_of r → u ≡ with_sessions v w
+    → gathered u left ≡ gathered v all
 absorbed v w u all left r is alone mine step =
     let joined : (v.joined ++ w.mine ∷ w.joined) ++ map claim_of left ≡ v.joined ++ map claim_of all =
-    append_assoc v.joined (w.mine ∷ w.joined) (map claim_of left) ∙ (ap (λ (cs : List Claim). v.joined ++ w.mine ∷ (cs ++ map claim_of left)) alone ∙ (ap (λ (c : Claim). v.joined ++ c ∷ map claim_of left) mine ∙ ap (λ (l : List Sitting). v.joined ++ map claim_of l) (sym is))) in
-    ap (λ (x : View). gathered x left) step ∙ ap (λ (cs : List Claim). record { live = v.live; turn = v.turn; seated = v.seated; mine = v.mine; joined = cs }) joined
+    append_assoc v.joined (w.mine ∷ w.joined) (map claim_of left) ∙
+    (ap (λ (cs : List Claim). v.joined ++ w.mine ∷ (cs ++ map claim_of left)) alone ∙
+    (ap (λ (c : Claim). v.joined ++ c ∷ map claim_of left) mine ∙ ap (λ (l : List Sitting). v.joined ++ map claim_of l) (sym is))) in
+    ap (λ (x : View). gathered x left) step ∙ ap
+    (λ (cs : List Claim). record { live = v.live; turn = v.turn; seated = v.seated; mine = v.mine; joined = cs }) joined
 
 among_any : (rs : List Sitting) (x k : ℕ) (r : Sitting) → k < length rs → slice_index_or rs k r ≡ r → r.number ≡ x → Among (map claim_of rs) x
 among_any [] x k r h e n = absurd (omega arith)
@@ -41,7 +45,8 @@ all_have_calls b [] h = tt
 all_have_calls b (r ∷ rs) h = (has_calls b r h.0, all_have_calls b rs h.1)
 
 -- the last seat may close the hall
-pub is_last : (v u : View) (s : Sitting) (rs : List Sitting) → v.live ≡ true → v.turn ≡ false → v.joined ≡ [] → v.mine ≡ claim_of s → s.number ≡ 0 → u ≡ gathered v rs
+pub is_last : (v u : View) (s : Sitting) (rs : List Sitting) → v.live ≡ true → v.turn ≡ false → v.joined ≡ [] → v.mine ≡ claim_of s → s.number ≡ 0
+    → u ≡ gathered v rs
     → ((x : ℕ) → 0 < x → x < length s.seen.names → Any (λ r. r.number ≡ x) rs) → IsLast u
 is_last v u s rs live idle alone mine first is all = subst IsLast (sym is) (record {
   live = live;
@@ -58,7 +63,8 @@ is_last v u s rs live idle alone mine first is all = subst IsLast (sym is) (reco
         inr (subst (λ (cs : List Claim). Among (cs ++ map claim_of rs) (suc x)) (sym alone) (among_any rs (suc x) found.0 found.1 found.2 found.3 found.4))
 
 -- what the closed hall's engine has
-pub gathers : (v u : View) (s : Sitting) (rs : List Sitting) (b : Board) → v.joined ≡ [] → v.mine ≡ claim_of s → s.number ≡ 0 → u ≡ gathered v rs → AllHeld b (u.mine ∷ u.joined) → HasCalls b s × All (HasCalls b) rs × (b.names ≡ s.seen.names)
+pub gathers : (v u : View) (s : Sitting) (rs : List Sitting) (b : Board) → v.joined ≡ [] → v.mine ≡ claim_of s → s.number ≡ 0 → u ≡ gathered v rs
+    → AllHeld b (u.mine ∷ u.joined) → HasCalls b s × All (HasCalls b) rs × (b.names ≡ s.seen.names)
 gathers v u s rs b alone mine first is h =
     let k = subst (λ (x : View). AllHeld b (x.mine ∷ x.joined)) is h in
     let own : Holds b (claim_of s) = subst (λ (c : Claim). Holds b c) mine k.0 in

@@ -25,7 +25,8 @@ use Rattle.turn_engine.specs.Turns.{Rests, Went, EndWent, StepWent, reply_in}
 
 -- ---- how many items were started is told by the session's calls
 
-started_own : (x t j n : ℕ) (item : Item) (rest : List Event) (b : Bool) → (t == x) ≡ b → n ≡ started x rest → cond b (n + 1) n ≡ started x (cond b (Started t j item ∷ rest) rest)
+started_own : (x t j n : ℕ) (item : Item) (rest : List Event) (b : Bool) → (t == x) ≡ b → n ≡ started x rest
+    → cond b (n + 1) n ≡ started x (cond b (Started t j item ∷ rest) rest)
 started_own x t j n item rest true is h = rw (is, h) refl
 started_own x t j n item rest false is h = h
 
@@ -33,7 +34,8 @@ ended_own : (x t j n : ℕ) (reply : Reply) (rest : List Event) (b : Bool) → n
 ended_own x t j n reply rest true h = h
 ended_own x t j n reply rest false h = h
 
-started_on : (x : ℕ) (e : Event) (past rest : List Event) → started x past ≡ started x rest → started x (e ∷ past) ≡ started x (cond (is_call x e) (e ∷ rest) rest)
+started_on : (x : ℕ) (e : Event) (past rest : List Event) → started x past ≡ started x rest
+    → started x (e ∷ past) ≡ started x (cond (is_call x e) (e ∷ rest) rest)
 started_on x (Started t j item) past rest h = started_own x t j (started x past) item rest (t == x) refl h
 started_on x (Ended t j reply) past rest h = ended_own x t j (started x past) reply rest (t == x) h
 started_on x other past rest h = h
@@ -81,7 +83,9 @@ went_on x a b c calls more p q v w = record {
 -- ---- answers
 
 end_went : (x : ℕ) (a b c : Board) (p : Phase) (reply : Reply) → Keeps x a b → EndsBy x b p reply c → EndWent x a p reply c
-end_went x a b c Busy reply k e = subst (λ (n : ℕ). Went x a c (Ended x n reply ∷ []) Idle) (same_started x a.past b.past (kept_calls x a b k)) (went x a b c (Ended x (started x b.past) reply ∷ []) Idle k e)
+end_went x a b c Busy reply k e =
+    subst (λ (n : ℕ). Went x a c (Ended x n reply ∷ []) Idle) (same_started x a.past b.past (kept_calls x a b k))
+    (went x a b c (Ended x (started x b.past) reply ∷ []) Idle k e)
 end_went x a b c other reply k e = went x a b c [] Left k e
 
 pub step_went : (x : ℕ) (a b c : Board) (p : Phase) (o : Option Reply) → Keeps x a b → StepsBy x b p o c → StepWent x a p o c
@@ -99,26 +103,31 @@ pub under_way : (x : ℕ) (a b : Board) (p : Phase) → Went x a b [] p → IsUn
 under_way x a b p w way = subst IsUnderWay (sym w.phase_is) way
 
 -- a step by which nothing ended, after others
-pub goes_on : (x : ℕ) (a b c : Board) (p : Phase) (r : Stepped) (pause : Pause) → r ≡ GoesOn pause → Went x a b [] p → StepWent x b (phase_of b x) (reply_in r) c → Went x a c [] p
+pub goes_on : (x : ℕ) (a b c : Board) (p : Phase) (r : Stepped) (pause : Pause) → r ≡ GoesOn pause → Went x a b [] p
+    → StepWent x b (phase_of b x) (reply_in r) c → Went x a c [] p
 goes_on x a b c p r pause is v s =
     let w : Went x b c [] (phase_of b x) = subst (λ (t : Stepped). StepWent x b (phase_of b x) (reply_in t) c) is s in
     went_on x a b c [] [] p p v (subst (λ (q : Phase). Went x b c [] q) v.phase_is w)
 
 -- the step by which an item ended
-pub answered : (x : ℕ) (a b c : Board) (r : Stepped) (reply : Reply) → r ≡ Over reply → Went x a b [] Busy → StepWent x b (phase_of b x) (reply_in r) c → Went x a c (Ended x (started x a.past) reply ∷ []) Idle
+pub answered : (x : ℕ) (a b c : Board) (r : Stepped) (reply : Reply) → r ≡ Over reply → Went x a b [] Busy → StepWent x b (phase_of b x) (reply_in r) c
+    → Went x a c (Ended x (started x a.past) reply ∷ []) Idle
 answered x a b c r reply is v s =
     let w : EndWent x b (phase_of b x) reply c = subst (λ (t : Stepped). StepWent x b (phase_of b x) (reply_in t) c) is s in
     let u : Went x b c (Ended x (started x b.past) reply ∷ []) Idle = subst (λ (q : Phase). EndWent x b q reply c) v.phase_is w in
-    subst (λ (n : ℕ). Went x a c (Ended x n reply ∷ []) Idle) (same_started x a.past b.past v.own) (went_on x a b c [] (Ended x (started x b.past) reply ∷ []) Busy Idle v u)
+    subst (λ (n : ℕ). Went x a c (Ended x n reply ∷ []) Idle) (same_started x a.past b.past v.own)
+    (went_on x a b c [] (Ended x (started x b.past) reply ∷ []) Busy Idle v u)
 
 -- the step by which a session has left
-pub has_gone : (x : ℕ) (a b c : Board) (r : Stepped) (reply : Reply) → r ≡ Over reply → Went x a b [] Leaving → StepWent x b (phase_of b x) (reply_in r) c → Went x a c [] Left
+pub has_gone : (x : ℕ) (a b c : Board) (r : Stepped) (reply : Reply) → r ≡ Over reply → Went x a b [] Leaving → StepWent x b (phase_of b x) (reply_in r) c
+    → Went x a c [] Left
 has_gone x a b c r reply is v s =
     let w : EndWent x b (phase_of b x) reply c = subst (λ (t : Stepped). StepWent x b (phase_of b x) (reply_in t) c) is s in
     went_on x a b c [] [] Leaving Left v (subst (λ (q : Phase). EndWent x b q reply c) v.phase_is w)
 
 -- a whole call
-pub called : (x : ℕ) (item : Item) (a b c : Board) (reply : Reply) → Went x a b (Started x (item_number x a) item ∷ []) Busy → Went x b c (Ended x (started x b.past) reply ∷ []) Idle
+pub called : (x : ℕ) (item : Item) (a b c : Board) (reply : Reply) → Went x a b (Started x (item_number x a) item ∷ []) Busy
+    → Went x b c (Ended x (started x b.past) reply ∷ []) Idle
     → Went x a c (Ended x (item_number x a) reply ∷ Started x (item_number x a) item ∷ []) Idle
 called x item a b c reply v w =
     subst (λ (n : ℕ). Went x a c (Ended x n reply ∷ Started x (item_number x a) item ∷ []) Idle) (one_started x (item_number x a) item a.past b.past v.own)
@@ -137,24 +146,31 @@ module _ {E : Type 0} (board : E → Board) where
   seen_then : (w end : Mine) (f : E) → end ≡ (idle (published w.0 (board f)), []) → board f ≡ end.0.mine.seen
   seen_then w end f is = sym (ap (λ (t : Mine). t.0.mine.seen) is)
 
-  pub turned : (x : ℕ) (m w end : Mine) (e f : E) (calls : List Event) (p : Phase) → Rests m x → HasTurn board m e w → end ≡ (idle (published w.0 (board f)), []) → Makes x (board e) (board f) calls p → Went x m.0.mine.seen end.0.mine.seen calls p
+  pub turned : (x : ℕ) (m w end : Mine) (e f : E) (calls : List Event) (p : Phase) → Rests m x → HasTurn board m e w
+      → end ≡ (idle (published w.0 (board f)), []) → Makes x (board e) (board f) calls p → Went x m.0.mine.seen end.0.mine.seen calls p
   turned x m w end e f calls p r h is made =
-      subst (λ (t : Board). Went x m.0.mine.seen t calls p) (seen_then w end f is) (went x m.0.mine.seen (board e) (board f) calls p (kept_by_turn x m w e r h) made)
+      subst (λ (t : Board). Went x m.0.mine.seen t calls p) (seen_then w end f is)
+      (went x m.0.mine.seen (board e) (board f) calls p (kept_by_turn x m w e r h) made)
 
-  pub start_turned : {A B : Type 0} (x : ℕ) (item : Item) (m w end : Mine) (e f : E) (r : Result A B) → Rests m x → HasTurn board m e w → end ≡ (idle (published w.0 (board f)), [])
-      → OnOk r (Makes x (board e) (board f) (Started x (item_number x (board e)) item ∷ []) Busy) → OnOk r (Went x m.0.mine.seen end.0.mine.seen (Started x (item_number x m.0.mine.seen) item ∷ []) Busy)
+  pub start_turned : {A B : Type 0} (x : ℕ) (item : Item) (m w end : Mine) (e f : E) (r : Result A B) → Rests m x → HasTurn board m e w
+      → end ≡ (idle (published w.0 (board f)), [])
+      → OnOk r (Makes x (board e) (board f) (Started x (item_number x (board e)) item ∷ []) Busy) → OnOk r
+      (Went x m.0.mine.seen end.0.mine.seen (Started x (item_number x m.0.mine.seen) item ∷ []) Busy)
   start_turned x item m w end e f (Err u) r h is made = tt
   start_turned x item m w end e f (Ok u) r h is made =
       let k : Keeps x m.0.mine.seen (board e) = kept_by_turn x m w e r h in
-      subst (λ (n : ℕ). Went x m.0.mine.seen end.0.mine.seen (Started x (n + 1) item ∷ []) Busy) (same_started x m.0.mine.seen.past (board e).past (kept_calls x m.0.mine.seen (board e) k))
+      subst (λ (n : ℕ). Went x m.0.mine.seen end.0.mine.seen (Started x (n + 1) item ∷ []) Busy)
+      (same_started x m.0.mine.seen.past (board e).past (kept_calls x m.0.mine.seen (board e) k))
       (turned x m w end e f (Started x (item_number x (board e)) item ∷ []) Busy r h is made)
 
-  pub start_refused : {A B : Type 0} (x : ℕ) (m w end : Mine) (e f : E) (r : Result A B) → Rests m x → HasTurn board m e w → end ≡ (idle (published w.0 (board f)), [])
+  pub start_refused : {A B : Type 0} (x : ℕ) (m w end : Mine) (e f : E) (r : Result A B) → Rests m x → HasTurn board m e w
+      → end ≡ (idle (published w.0 (board f)), [])
       → OnErr r (Makes x (board e) (board f) [] Idle) → OnErr r (Went x m.0.mine.seen end.0.mine.seen [] Idle)
   start_refused x m w end e f (Ok u) r h is made = tt
   start_refused x m w end e f (Err u) r h is made = turned x m w end e f [] Idle r h is made
 
-  pub step_turned : (x : ℕ) (m w end : Mine) (e f : E) (o q : Option Reply) → Rests m x → HasTurn board m e w → end ≡ (idle (published w.0 (board f)), []) → StepsBy x (board e) (phase_of (board e) x) o (board f) → q ≡ o
+  pub step_turned : (x : ℕ) (m w end : Mine) (e f : E) (o q : Option Reply) → Rests m x → HasTurn board m e w → end ≡ (idle (published w.0 (board f)), [])
+      → StepsBy x (board e) (phase_of (board e) x) o (board f) → q ≡ o
       → StepWent x m.0.mine.seen (phase_of m.0.mine.seen x) q end.0.mine.seen
   step_turned x m w end e f o q r h is s same =
       let k : Keeps x m.0.mine.seen (board e) = kept_by_turn x m w e r h in

@@ -10,14 +10,16 @@ use Rattle.turn_rule.specs.declared.rule.View.{View}
 use Rattle.turn_engine.specs.Turns.{Went}
 use Rattle.turn_engine.specs.Sessions.{Sitting, sitting, Executed}
 
-pub seen_on : (s : Sitting) (h k : TableId) (vs ws : List View) (l m : Bool) (v w : View) → sitting h vs l ≡ s → vs ≡ v ∷ [] → ws ≡ w ∷ [] → Extends v.mine.seen.past w.mine.seen.past → Extends s.seen.past (sitting k ws m).seen.past
+pub seen_on : (s : Sitting) (h k : TableId) (vs ws : List View) (l m : Bool) (v w : View) → sitting h vs l ≡ s → vs ≡ v ∷ [] → ws ≡ w ∷ []
+    → Extends v.mine.seen.past w.mine.seen.past → Extends s.seen.past (sitting k ws m).seen.past
 seen_on s h k vs ws l m v w is from to p =
     subst (λ (t : Sitting). Extends t.seen.past (sitting k ws m).seen.past) is
     (subst (λ (us : List View). Extends (sitting h us l).seen.past (sitting k ws m).seen.past) (sym from)
     (subst (λ (us : List View). Extends v.mine.seen.past (sitting k us m).seen.past) (sym to) p))
 
 -- a call that found no memory
-pub lost_call : (s : Sitting) (h k : TableId) (vs ws : List View) (l : Bool) (v w : View) (x : ℕ) (item : Item) → sitting h vs l ≡ s → l ≡ false → vs ≡ v ∷ [] → ws ≡ w ∷ [] → v.mine.number ≡ x → w.mine.number ≡ x → Went x v.mine.seen w.mine.seen [] Idle
+pub lost_call : (s : Sitting) (h k : TableId) (vs ws : List View) (l : Bool) (v w : View) (x : ℕ) (item : Item) → sitting h vs l ≡ s → l ≡ false
+    → vs ≡ v ∷ [] → ws ≡ w ∷ [] → v.mine.number ≡ x → w.mine.number ≡ x → Went x v.mine.seen w.mine.seen [] Idle
     → Executed s item NoMemory (sitting k ws true)
 lost_call s h k vs ws l v w x item is kept from to mine theirs went =
     let same : calls_of w.mine.number w.mine.seen.past ≡ calls_of v.mine.number v.mine.seen.past =

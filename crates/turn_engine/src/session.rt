@@ -135,6 +135,8 @@ impl Session {
         ensures same { (self.new.hall ≡ self.old.hall) × (self.new.number ≡ self.old.number) }
         ensures call { Executed self.old item.now result self.new }
         ensures seen { Extends self.old.seen.past self.new.seen.past }
+        // The first session alone lets others join.
+        ensures names { self.old.number ≡ 0 → self.new.seen.names ≡ self.old.seen.names }
     {
         if self.lost {
             return Reply::NoMemory;

@@ -24,17 +24,22 @@ told_of P state index told holds = told_pairs P (state.indexes index).pairs (tol
 abbrev pub IsThereAs : List ℕ → List ℕ → WorldState → ℕ → Type 0
 IsThereAs key value state index = (kept : List ℕ) × (value_of key ((rows_of state).pairs index) ≡ Some kept) × (length kept ≡ length value)
 
-not_none : (key value : List ℕ) (state : WorldState) (index : ℕ) → IsTold state → IsThereAs key value state index → Told (λ pairs. value_of key pairs ≡ None) (state.indexes index) → ⊥
+not_none : (key value : List ℕ) (state : WorldState) (index : ℕ) → IsTold state → IsThereAs key value state index
+    → Told (λ pairs. value_of key pairs ≡ None) (state.indexes index) → ⊥
 not_none key value state index told there none =
     let found : Some there.0 ≡ None = sym there.1 ∙ told_of (λ pairs. value_of key pairs ≡ None) state index told none in cc
 
-not_resized : (key value : List ℕ) (state : WorldState) (index : ℕ) → IsTold state → IsThereAs key value state index → IsResized key value (state.indexes index) → ⊥
+not_resized : (key value : List ℕ) (state : WorldState) (index : ℕ) → IsTold state → IsThereAs key value state index
+    → IsResized key value (state.indexes index) → ⊥
 not_resized key value state index told there resized =
-    let no : is_as_long value (value_of key ((rows_of state).pairs index)) ≡ false = told_of (λ pairs. is_as_long value (value_of key pairs) ≡ false) state index told resized in
-    let yes : is_as_long value (value_of key ((rows_of state).pairs index)) ≡ true = ap (is_as_long value) there.1 ∙ eq-eqb (length there.0) (length value) there.2 in
+    let no : is_as_long value (value_of key ((rows_of state).pairs index)) ≡ false =
+    told_of (λ pairs. is_as_long value (value_of key pairs) ≡ false) state index told resized in
+    let yes : is_as_long value (value_of key ((rows_of state).pairs index)) ≡ true =
+    ap (is_as_long value) there.1 ∙ eq-eqb (length there.0) (length value) there.2 in
     true≢false (sym yes ∙ no)
 
-pub replace_stops : (actor : ℕ) (key value : List ℕ) (old new : WorldState) (index : ℕ) (answer : Move) → (IsTold old → IsThereAs key value old index) → Replaces actor key value (old.indexes index) (new.indexes index) answer → answer ≢ Done → Stops actor index old new answer
+pub replace_stops : (actor : ℕ) (key value : List ℕ) (old new : WorldState) (index : ℕ) (answer : Move) → (IsTold old → IsThereAs key value old index)
+    → Replaces actor key value (old.indexes index) (new.indexes index) answer → answer ≢ Done → Stops actor index old new answer
 replace_stops actor key value old new index Done there h not_done = absurd (not_done refl)
 replace_stops actor key value old new index End there h not_done = λ told. not_none key value old index told (there told) h.0
 replace_stops actor key value old new index NoMemory there h not_done = λ told. not_resized key value old index told (there told) h.0
@@ -47,7 +52,8 @@ replace_stops actor key value old new index Again there h not_done = h
 replace_stops actor key value old new index Failed there h not_done = h
 replace_stops actor key value old new index (Bad page rule) there h not_done = h
 
-pub remove_stops : (actor : ℕ) (key : List ℕ) (old new : WorldState) (index : ℕ) (answer : Move) → Removes actor key (old.indexes index) (new.indexes index) answer → answer ≢ Done → answer ≢ End → Stops actor index old new answer
+pub remove_stops : (actor : ℕ) (key : List ℕ) (old new : WorldState) (index : ℕ) (answer : Move)
+    → Removes actor key (old.indexes index) (new.indexes index) answer → answer ≢ Done → answer ≢ End → Stops actor index old new answer
 remove_stops actor key old new index Done h not_done not_end = absurd (not_done refl)
 remove_stops actor key old new index End h not_done not_end = absurd (not_end refl)
 remove_stops actor key old new index (Latch by) h not_done not_end = h
@@ -61,12 +67,14 @@ remove_stops actor key old new index TooDeep h not_done not_end = absurd h
 remove_stops actor key old new index (At k v) h not_done not_end = absurd h
 
 -- the key was there, where all is told
-pub absent_stops : (actor : ℕ) (key : List ℕ) (old new : WorldState) (index : ℕ) → (IsTold old → is_some (value_of key ((rows_of old).pairs index)) ≡ true) → Removes actor key (old.indexes index) (new.indexes index) End → Stops actor index old new End
+pub absent_stops : (actor : ℕ) (key : List ℕ) (old new : WorldState) (index : ℕ) → (IsTold old → is_some (value_of key ((rows_of old).pairs index)) ≡ true)
+    → Removes actor key (old.indexes index) (new.indexes index) End → Stops actor index old new End
 absent_stops actor key old new index there h = λ told.
     let none = told_of (λ pairs. value_of key pairs ≡ None) old index told h.1 in
     true≢false (sym (there told) ∙ ap is_some none)
 
-pub next_key_stops : (actor : ℕ) (key read : List ℕ) (old new : WorldState) (index : ℕ) (answer : Move) → NextKeys actor key read (old.indexes index) (new.indexes index) answer → answer ≢ Done → answer ≢ End → Stops actor index old new answer
+pub next_key_stops : (actor : ℕ) (key read : List ℕ) (old new : WorldState) (index : ℕ) (answer : Move)
+    → NextKeys actor key read (old.indexes index) (new.indexes index) answer → answer ≢ Done → answer ≢ End → Stops actor index old new answer
 next_key_stops actor key read old new index Done h not_done not_end = absurd (not_done refl)
 next_key_stops actor key read old new index End h not_done not_end = absurd (not_end refl)
 next_key_stops actor key read old new index (Latch by) h not_done not_end = h
@@ -79,7 +87,8 @@ next_key_stops actor key read old new index (Full need free) h not_done not_end 
 next_key_stops actor key read old new index TooDeep h not_done not_end = absurd h
 next_key_stops actor key read old new index (At k v) h not_done not_end = absurd h
 
-pub fetch_stops : (actor : ℕ) (key read : List ℕ) (old new : WorldState) (index : ℕ) (answer : Move) → Fetches actor key read (old.indexes index) (new.indexes index) answer → answer ≢ Done → answer ≢ End → Stops actor index old new answer
+pub fetch_stops : (actor : ℕ) (key read : List ℕ) (old new : WorldState) (index : ℕ) (answer : Move)
+    → Fetches actor key read (old.indexes index) (new.indexes index) answer → answer ≢ Done → answer ≢ End → Stops actor index old new answer
 fetch_stops actor key read old new index Done h not_done not_end = absurd (not_done refl)
 fetch_stops actor key read old new index End h not_done not_end = absurd (not_end refl)
 fetch_stops actor key read old new index (Latch by) h not_done not_end = inr h

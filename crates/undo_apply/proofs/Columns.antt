@@ -27,11 +27,13 @@ pub record IsKeyAt (schema : Schema) (which : ℕ) : Type 0 where
   pub key_is : slice_get schema.keys which ≡ Some key
   pub on : (primary : Kind) (all : All (IsKeyOn schema.columns primary) schema.keys) → IsKeyOn schema.columns primary key
 
-at_which : (columns : List Column) (keys : List Key) (which : ℕ) → which < length keys → (key : Key) × (slice_get keys which ≡ Some key) × ((primary : Kind) → All (IsKeyOn columns primary) keys → IsKeyOn columns primary key)
+at_which : (columns : List Column) (keys : List Key) (which : ℕ) → which < length keys
+    → (key : Key) × (slice_get keys which ≡ Some key) × ((primary : Kind) → All (IsKeyOn columns primary) keys → IsKeyOn columns primary key)
 at_which columns [] which within = absurd (omega (arith, within))
 at_which columns (key ∷ keys) zero within = (key, refl, λ primary all. All-head (IsKeyOn columns primary) key keys all)
 at_which columns (key ∷ keys) (suc which) within =
-    let rest = at_which columns keys which (omega (arith, within)) in (rest.0, rest.1, λ primary all. rest.2 primary (All-tail (IsKeyOn columns primary) key keys all))
+    let rest =
+    at_which columns keys which (omega (arith, within)) in (rest.0, rest.1, λ primary all. rest.2 primary (All-tail (IsKeyOn columns primary) key keys all))
 
 pub key_at : (schema : Schema) (which : ℕ) → which < length schema.keys → IsKeyAt schema which
 key_at schema which within = let it = at_which schema.columns schema.keys which within in record { key = it.0; key_is = it.1; on = it.2 }
@@ -56,7 +58,8 @@ has_secondary schema which storable within =
 pub few_keys : (schema : Schema) → IsStorable schema → length schema.keys ≤ 4
 few_keys schema storable = storable.few
 
-pub has_key_at : (schemas : List Schema) (state : WorldState) (undo : Undo) (schema : Schema) (place : Place) (which : ℕ) → state.schemas ≡ schemas → TellsOf undo schema place schemas → which < length schema.keys → HasKeyAt state undo.table which
+pub has_key_at : (schemas : List Schema) (state : WorldState) (undo : Undo) (schema : Schema) (place : Place) (which : ℕ) → state.schemas ≡ schemas
+    → TellsOf undo schema place schemas → which < length schema.keys → HasKeyAt state undo.table which
 has_key_at schemas state undo schema place which same tells within =
     let few = few_keys schema tells.storable in
     record {
@@ -66,25 +69,39 @@ has_key_at schemas state undo schema place which same tells within =
       few = omega (arith, within, few);
     }
 
-pub index_of_key : (schemas : List Schema) (undo : Undo) (schema : Schema) (place : Place) (which : ℕ) → TellsOf undo schema place schemas → which < length schema.keys → IsIndex schemas (8 * undo.table + (1 + which))
+pub index_of_key : (schemas : List Schema) (undo : Undo) (schema : Schema) (place : Place) (which : ℕ) → TellsOf undo schema place schemas
+    → which < length schema.keys → IsIndex schemas (8 * undo.table + (1 + which))
 index_of_key schemas undo schema place which tells within =
     let few = few_keys schema tells.storable in
-    record { table = undo.table; which = 1 + which; number = refl; schema = schema; there = tells.there; key = omega (arith, within); few = omega (arith, within, few) }
+    record {
+      table = undo.table;
+      which = 1 + which;
+      number = refl;
+      schema = schema;
+      there = tells.there;
+      key = omega (arith, within);
+      few = omega
+          (arith, within, few);
+    }
 
-pub index_of_rows : (schemas : List Schema) (undo : Undo) (schema : Schema) (place : Place) → TellsOf undo schema place schemas → IsIndex schemas (8 * undo.table)
-index_of_rows schemas undo schema place tells = record { table = undo.table; which = 0; number = omega arith; schema = schema; there = tells.there; key = omega arith; few = omega arith }
+pub index_of_rows : (schemas : List Schema) (undo : Undo) (schema : Schema) (place : Place) → TellsOf undo schema place schemas
+    → IsIndex schemas (8 * undo.table)
+index_of_rows schemas undo schema place tells =
+    record { table = undo.table; which = 0; number = omega arith; schema = schema; there = tells.there; key = omega arith; few = omega arith }
 
 -- ---- entries
 
 -- what `secondary` makes of a record is the entry that `coded_rows` speaks of
-pub entry_is : (schema : Schema) (which : ℕ) (key : Key) (indexed : Column) (version : Coded) (primary : List ℕ) → slice_get schema.keys which ≡ Some key → slice_get schema.columns key.column ≡ Some indexed
+pub entry_is : (schema : Schema) (which : ℕ) (key : Key) (indexed : Column) (version : Coded) (primary : List ℕ) → slice_get schema.keys which ≡ Some key
+    → slice_get schema.columns key.column ≡ Some indexed
     → entry_of schema (which + 1) version.row primary ≡ entry_code indexed.kind (value_in key.column version.row) primary
 entry_is schema which key indexed version primary key_is there =
     let place : place_of schema (which + 1) ≡ key.column = place_of_is schema which ∙ column_is schema which key key_is in
     ap (λ (n : ℕ). entry_code (kind_at schema.columns n) (value_in n version.row) primary) place
     ∙ ap (λ (o : Option Column). entry_code (kind_if o) (value_in key.column version.row) primary) there
 
-pub entry_short : (schemas : List Schema) (undo : Undo) (schema : Schema) (place : Place) (which : ℕ) (version : Coded) (bytes : List ℕ) → TellsOf undo schema place schemas → which < length schema.keys → IsCodeOf schema undo.key bytes version
+pub entry_short : (schemas : List Schema) (undo : Undo) (schema : Schema) (place : Place) (which : ℕ) (version : Coded) (bytes : List ℕ)
+    → TellsOf undo schema place schemas → which < length schema.keys → IsCodeOf schema undo.key bytes version
     → length (entry_of schema (which + 1) version.row undo.key) ≤ 67
 entry_short schemas undo schema place which version bytes tells within code =
     let it = key_at schema which within in

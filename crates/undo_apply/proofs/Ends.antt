@@ -36,12 +36,19 @@ module _ (chains : Chains) (place : Place) (undo : Undo) (schema : Schema) (rows
   puts other = refl
 
   -- the record is taken back where its pointer leads to what was before
-  taken_back : (after : Chains) (bytes : List ℕ) (coded : Coded) (said : ℕ → List Version) → IsNewest undo schema rows.pairs rows.kept bytes coded → AreCodedBut rows.schemas rows.pairs rows.kept chains place said → Pops chains after place
+  taken_back : (after : Chains) (bytes : List ℕ) (coded : Coded) (said : ℕ → List Version) → IsNewest undo schema rows.pairs rows.kept bytes coded
+      → AreCodedBut rows.schemas rows.pairs rows.kept chains place said → Pops chains after place
       → LeadsBack undo rows.kept coded.pointer → AreCodedBut rows.schemas put_back.pairs rows.kept after place said
   taken_back after bytes coded said is are pops (inl new) =
       let here = place_is undo schema place rows.schemas tells bytes coded is.code_is in
       let step : PutsRecord rows.schemas rows.pairs put_back.pairs undo.table schema undo.key bytes coded None
-      = record { there = tells.there; code_is = is.code_is; puts = subst (λ (o : Option (List ℕ)). Puts rows.pairs put_back.pairs (clustered_index undo.table) undo.key o) (before_new undo new.0) puts } in
+      =
+      record {
+        there = tells.there;
+        code_is = is.code_is;
+        puts = subst
+            (λ (o : Option (List ℕ)). Puts rows.pairs put_back.pairs (clustered_index undo.table) undo.key o) (before_new undo new.0) puts;
+      } in
       but_after rows.schemas put_back.pairs rows.kept chains after place said pops
       (record_removed rows.schemas rows.pairs put_back.pairs rows.kept chains after (said_but chains place said) undo.table schema undo.key bytes coded are
       step is.there new.1 (subst (λ (p : Place). Pops chains after p) (sym here) pops))
@@ -49,22 +56,34 @@ module _ (chains : Chains) (place : Place) (undo : Undo) (schema : Schema) (rows
       let here = place_is undo schema place rows.schemas tells bytes coded is.code_is in
       let now : was_before undo ≡ Some former.bytes = before_kept undo kind ∙ ap Some (sym same) in
       let step : PutsRecord rows.schemas rows.pairs put_back.pairs undo.table schema undo.key bytes coded (Some former.bytes)
-      = record { there = tells.there; code_is = is.code_is; puts = subst (λ (o : Option (List ℕ)). Puts rows.pairs put_back.pairs (clustered_index undo.table) undo.key o) now puts } in
+      =
+      record {
+        there = tells.there;
+        code_is = is.code_is;
+        puts = subst
+            (λ (o : Option (List ℕ)). Puts rows.pairs put_back.pairs (clustered_index undo.table) undo.key o) now puts;
+      } in
       but_after rows.schemas put_back.pairs rows.kept chains after place said pops
       (record_taken_back rows.schemas rows.pairs put_back.pairs rows.kept chains after (said_but chains place said) undo.table schema undo.key bytes coded are
       former step is.there leads keeps (subst (λ (p : Place). Pops chains after p) (sym here) pops))
 
   -- Once all keys say the versions before, all is what it was without the newest version.
-  pub ends : (bytes : List ℕ) (coded : Coded) → IsUnderWay chains place undo schema rows bytes coded (length schema.keys) (IsLagging (shown coded) (versions_before chains place)) → (after : Chains) → Pops chains after place → IsTakenBack after undo put_back
+  pub ends : (bytes : List ℕ) (coded : Coded)
+      → IsUnderWay chains place undo schema rows bytes coded (length schema.keys) (IsLagging (shown coded) (versions_before chains place))
+      → (after : Chains) → Pops chains after place → IsTakenBack after undo put_back
   ends bytes coded way after pops = record {
-    all = change_over rows.schemas put_back.pairs rows.kept after place (said_but after place way.said) (taken_back after bytes coded way.said way.newest way.coded_but pops way.newest.before) (lags_there after place way.said)
+    all =
+        change_over rows.schemas put_back.pairs rows.kept after place (said_but after place way.said)
+        (taken_back after bytes coded way.said way.newest way.coded_but pops way.newest.before) (lags_there after place way.said)
         (λ which other key there key_is value.
         let there_too : slice_get rows.schemas undo.table ≡ Some other = subst (λ (t : ℕ). slice_get rows.schemas t ≡ Some other) tells.table_is there in
         let one : other ≡ schema = cc (there_too, tells.there) in
         let key_too : slice_get schema.keys which ≡ Some key = subst (λ (s : Schema). slice_get s.keys which ≡ Some key) one key_is in
         let within : which < length schema.keys = slice_get_within schema.keys which key key_too in
         ap (entry_said key.column value) (says_place after place way.said which ∙ way.says.first which within ∙ sym (popped_here chains after place pops)));
-    there = ap (value_of undo.key) (cond-true (clustered_index undo.table == clustered_index undo.table) _ (rows.pairs (clustered_index undo.table)) (eq-eqb (clustered_index undo.table) (clustered_index undo.table) refl))
+    there =
+        ap (value_of undo.key) (cond-true (clustered_index undo.table == clustered_index undo.table) _ (rows.pairs (clustered_index undo.table))
+        (eq-eqb (clustered_index undo.table) (clustered_index undo.table) refl))
         ∙ value_now undo.key (was_before undo) (rows.pairs (clustered_index undo.table)) (way.coded_but.clustered.tables undo.table schema tells.there).rising;
   }
 
@@ -73,19 +92,24 @@ module _ (chains : Chains) (place : Place) (undo : Undo) (schema : Schema) (rows
 longer : (first : Version) (rest : List Version) → rest ≡ first ∷ rest → ⊥
 longer first rest is = absurd (omega (arith, ap length is))
 
-stands_yet : (undo : Undo) (schema : Schema) (kept : ℕ → Option Kept) (bytes : List ℕ) (coded : Coded) (before : List Version) → IsCodeOf schema undo.key bytes coded → LeadTo schema undo.key kept coded.pointer before → LeadsBack undo kept coded.pointer → Some bytes ≡ was_before undo → ⊥
+stands_yet : (undo : Undo) (schema : Schema) (kept : ℕ → Option Kept) (bytes : List ℕ) (coded : Coded) (before : List Version)
+    → IsCodeOf schema undo.key bytes coded → LeadTo schema undo.key kept coded.pointer before → LeadsBack undo kept coded.pointer
+    → Some bytes ≡ was_before undo → ⊥
 stands_yet undo schema kept bytes coded before code leads_on (inl new) same = let none : Some bytes ≡ None = same ∙ before_new undo new.0 in cc
 stands_yet undo schema kept bytes coded before code leads_on (inr (kind, leads, former, keeps, kept_is)) same =
     let some : Some bytes ≡ Some undo.value = same ∙ before_kept undo kind in
     let one_value : bytes ≡ former.bytes = cc (some, kept_is) in
     let read = pointer_followed schema undo.key kept coded.pointer before former leads_on leads keeps in
     let code_too = subst (λ (b : List ℕ). IsCodeOf schema undo.key b former.version) (sym one_value) read.0 in
-    let one : former.version ≡ coded = same_version schema former.version coded undo.key bytes code_too.numbers code.numbers code_too.record_is code.record_is in
-    let behind : LeadTo schema undo.key kept coded.pointer (older before) = subst (λ (c : Coded). LeadTo schema undo.key kept c.pointer (older before)) one read.2 in
+    let one : former.version ≡ coded =
+    same_version schema former.version coded undo.key bytes code_too.numbers code.numbers code_too.record_is code.record_is in
+    let behind : LeadTo schema undo.key kept coded.pointer (older before) =
+    subst (λ (c : Coded). LeadTo schema undo.key kept c.pointer (older before)) one read.2 in
     let twice : older before ≡ before = one_lead schema undo.key kept coded.pointer (older before) before behind leads_on in
     longer (shown former.version) (older before) (twice ∙ read.1)
 
-pub stands : (chains : Chains) (place : Place) (undo : Undo) (schema : Schema) (rows : Rows) (bytes : List ℕ) (coded : Coded) (done : ℕ) (Holds : List Version → Type 0) → TellsOf undo schema place rows.schemas → IsUnderWay chains place undo schema rows bytes coded done Holds
+pub stands : (chains : Chains) (place : Place) (undo : Undo) (schema : Schema) (rows : Rows) (bytes : List ℕ) (coded : Coded) (done : ℕ)
+    (Holds : List Version → Type 0) → TellsOf undo schema place rows.schemas → IsUnderWay chains place undo schema rows bytes coded done Holds
     → value_of undo.key (rows.pairs (clustered_index undo.table)) ≢ was_before undo
 stands chains place undo schema rows bytes coded done Holds tells way same =
     let read = newest_read undo schema place rows.schemas tells rows.pairs rows.kept chains bytes coded way.coded_but.clustered way.newest in

@@ -27,14 +27,23 @@ same_pairs None = record {}
 same_pairs (Some pairs) = refl
 
 pub stays_same : (state : WorldState) → RowsStay state state
-stays_same state = record { pairs = λ index. same_pairs (state.indexes index).pairs; places = λ index. refl; versions = record { told = λ h. h; kept = λ h. refl }; rest = refl }
+stays_same state =
+    record {
+      pairs = λ index. same_pairs (state.indexes index).pairs;
+      places = λ index. refl;
+      versions = record { told = λ h. h; kept = λ h. refl };
+      rest =
+          refl;
+    }
 
 pub unchanged_stays : (old new : WorldState) → IsUnchanged old new → RowsStay old new
-unchanged_stays old new same = record { pairs = λ index. (same.indexes index).pairs; places = λ index. (same.indexes index).place; versions = same.versions; rest = same.rest }
+unchanged_stays old new same =
+    record { pairs = λ index. (same.indexes index).pairs; places = λ index. (same.indexes index).place; versions = same.versions; rest = same.rest }
 
 -- ---- what is known after a step
 
-pub tells_still : (undo : Undo) (schema : Schema) (place : Place) (old new : List Schema) → new ≡ old → TellsOf undo schema place old → TellsOf undo schema place new
+pub tells_still : (undo : Undo) (schema : Schema) (place : Place) (old new : List Schema) → new ≡ old → TellsOf undo schema place old
+    → TellsOf undo schema place new
 tells_still undo schema place old new same tells = subst (λ (s : List Schema). TellsOf undo schema place s) (sym same) tells
 
 module _ (chains : Chains) (place : Place) (actor : ℕ) (undo : Undo) (room : WorkRoom) (old : WorldState) (is : IsPuttingBack chains place undo room old) where
@@ -54,15 +63,18 @@ module _ (chains : Chains) (place : Place) (actor : ℕ) (undo : Undo) (room : W
       cc (was, is.tells.there)
 
   -- The step was made.
-  pub went : (next : WorkRoom) (new : WorldState) → new.schemas ≡ old.schemas → ChangesOneEntry is.schema undo old new → IsWhole next → FitsKeys (length is.schema.keys) undo next.stage
-      → (IsTold new → StageHolds chains place undo is.schema (rows_of new) next.newest.items next.stage) → Nears is.schema undo new room.stage next.stage → PutsBack chains place actor undo room next old new Step
+  pub went : (next : WorkRoom) (new : WorldState) → new.schemas ≡ old.schemas → ChangesOneEntry is.schema undo old new → IsWhole next
+      → FitsKeys (length is.schema.keys) undo next.stage
+      → (IsTold new → StageHolds chains place undo is.schema (rows_of new) next.newest.items next.stage) → Nears is.schema undo new room.stage next.stage →
+      PutsBack chains place actor undo room next old new Step
   went next new schemas changes whole fits holds nears = inl (record {
     changes = λ schema there. subst (λ (s : Schema). ChangesOneEntry s undo old new) (one_schema schema new schemas there) changes;
     holds = is_back next new schemas whole fits holds;
     nears = λ schema there. subst (λ (s : Schema). Nears s undo new room.stage next.stage) (one_schema schema new schemas there) nears;
   })
 
-  hindrance_is : (next : WorkRoom) (new : WorldState) (answer : Move) → answer ≢ Done → IsHindered chains place actor undo room next old new answer → PutsBack chains place actor undo room next old new answer
+  hindrance_is : (next : WorkRoom) (new : WorldState) (answer : Move) → answer ≢ Done → IsHindered chains place actor undo room next old new answer
+      → PutsBack chains place actor undo room next old new answer
   hindrance_is next new Done not_done is = absurd (not_done refl)
   hindrance_is next new Step not_done is = inr is
   hindrance_is next new (Latch by) not_done is = is
@@ -76,7 +88,8 @@ module _ (chains : Chains) (place : Place) (actor : ℕ) (undo : Undo) (room : W
   hindrance_is next new NoMemory not_done is = is
 
   -- It was not.
-  pub hindered : (next : WorkRoom) (new : WorldState) (answer : Move) → answer ≢ Done → RowsStay old new → next.stage ≡ room.stage → next.newest.items ≡ room.newest.items → IsWhole next → StopsAt actor undo room.stage old new answer
+  pub hindered : (next : WorkRoom) (new : WorldState) (answer : Move) → answer ≢ Done → RowsStay old new → next.stage ≡ room.stage
+      → next.newest.items ≡ room.newest.items → IsWhole next → StopsAt actor undo room.stage old new answer
       → PutsBack chains place actor undo room next old new answer
   hindered next new answer not_done stays stage bytes whole cause =
       let At : Rows → List ℕ → Stage → Type 0 = λ rows b s. StageHolds chains place undo is.schema rows b s in
@@ -91,11 +104,14 @@ module _ (chains : Chains) (place : Place) (actor : ℕ) (undo : Undo) (room : W
       })
 
 -- Steps that change no row leave what is known.
-pub others_leave : (chains : Chains) (place : Place) (undo : Undo) (room : WorkRoom) (old new : WorldState) → IsPuttingBack chains place undo room old → LeavesRows old new → IsPuttingBack chains place undo room new
+pub others_leave : (chains : Chains) (place : Place) (undo : Undo) (room : WorkRoom) (old new : WorldState) → IsPuttingBack chains place undo room old
+    → LeavesRows old new → IsPuttingBack chains place undo room new
 others_leave chains place undo room old new is leaves = record {
   schema = is.schema;
   tells = tells_still undo is.schema place old.schemas new.schemas leaves.schemas is.tells;
   whole = is.whole;
   fits = is.fits;
-  holds = λ told. subst (λ (r : Rows). StageHolds chains place undo is.schema r room.newest.items room.stage) (sym (leaves_rows leaves told)) (is.holds (leaves_told leaves told));
+  holds =
+      λ told. subst (λ (r : Rows). StageHolds chains place undo is.schema r room.newest.items room.stage) (sym (leaves_rows leaves told))
+      (is.holds (leaves_told leaves told));
 }

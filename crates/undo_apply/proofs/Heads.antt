@@ -11,7 +11,8 @@ pub head_long : (value : List ℕ) (marked : Bool) (writer pointer : ℕ) (field
 head_long value marked writer pointer fields is =
     omega (arith, ap length is, length-append (head_code marked writer pointer) fields, length-head_code marked writer pointer)
 
-pointer_stands : (value : List ℕ) (marked : Bool) (writer pointer : ℕ) (fields : List ℕ) → value ≡ head_code marked writer pointer ++ fields → take 8 (drop 9 value) ≡ u64_bytes pointer
+pointer_stands : (value : List ℕ) (marked : Bool) (writer pointer : ℕ) (fields : List ℕ) → value ≡ head_code marked writer pointer ++ fields
+    → take 8 (drop 9 value) ≡ u64_bytes pointer
 pointer_stands value marked writer pointer fields is =
     let front = mark_code marked ∷ u64_bytes writer in
     let rest = u64_bytes pointer ++ fields in
@@ -19,9 +20,11 @@ pointer_stands value marked writer pointer fields is =
     let all : value ≡ front ++ rest = is ∙ head_parts marked writer pointer fields in
     ap (λ (l : List ℕ). take 8 (drop 9 l)) all ∙ (ap (take 8) (drop_at front rest 9 len) ∙ take_at (u64_bytes pointer) fields 8 (length-u64_bytes pointer))
 
-pub pointer_there : (value : List ℕ) (marked : Bool) (writer pointer : ℕ) (fields : List ℕ) (read : ℕ) → read < 2 ^ 64 → take 8 (drop 9 value) ≡ u64_bytes read → pointer < 2 ^ 64 → value ≡ head_code marked writer pointer ++ fields → read ≡ pointer
+pub pointer_there : (value : List ℕ) (marked : Bool) (writer pointer : ℕ) (fields : List ℕ) (read : ℕ) → read < 2 ^ 64
+    → take 8 (drop 9 value) ≡ u64_bytes read → pointer < 2 ^ 64 → value ≡ head_code marked writer pointer ++ fields → read ≡ pointer
 pointer_there value marked writer pointer fields read small_too read_is small is =
     same_u64 read pointer small_too small (sym read_is ∙ pointer_stands value marked writer pointer fields is)
 
-pub no_pointer : (value : List ℕ) (marked : Bool) (writer pointer : ℕ) (fields : List ℕ) → ((n : ℕ) → take 8 (drop 9 value) ≡ u64_bytes n → ⊥) → value ≡ head_code marked writer pointer ++ fields → ⊥
+pub no_pointer : (value : List ℕ) (marked : Bool) (writer pointer : ℕ) (fields : List ℕ) → ((n : ℕ) → take 8 (drop 9 value) ≡ u64_bytes n → ⊥)
+    → value ≡ head_code marked writer pointer ++ fields → ⊥
 no_pointer value marked writer pointer fields none is = none pointer (pointer_stands value marked writer pointer fields is)

@@ -48,7 +48,8 @@ module _ (chains : Chains) (place : Place) (undo : Undo) (schema : Schema) where
   Clear rows bytes coded which = IsUnderWay chains place undo schema rows bytes coded which (IsCleared before)
 
   -- what comes once a key is clear
-  pub next_holds : (rows : Rows) (bytes : List ℕ) (coded : Coded) (which : ℕ) → TellsOf undo schema place rows.schemas → Clear rows bytes coded which → (b : Bool) → had_row undo ≡ b
+  pub next_holds : (rows : Rows) (bytes : List ℕ) (coded : Coded) (which : ℕ) → TellsOf undo schema place rows.schemas → Clear rows bytes coded which
+      → (b : Bool) → had_row undo ≡ b
       → StageHolds chains place undo schema rows bytes (cond b (Unmark which) (Key (which + 1)))
   next_holds rows bytes coded which tells way true had = (coded, way)
   next_holds rows bytes coded which tells way false had =
@@ -69,7 +70,8 @@ module _ (chains : Chains) (place : Place) (undo : Undo) (schema : Schema) where
 -- the entry of the record with these bytes is written, if they are one
 abbrev pub Writes : WorldState → Undo → ℕ → List ℕ → List ℕ → Bool → Type 0
 Writes state undo which value entry result =
-    (schema : Schema) (version : Coded) → slice_get state.schemas undo.table ≡ Some schema → IsVersion version → IsRecordOf schema version undo.key value → length (entry_of schema (which + 1) version.row undo.key) ≤ 67
+    (schema : Schema) (version : Coded) → slice_get state.schemas undo.table ≡ Some schema → IsVersion version → IsRecordOf schema version undo.key value
+    → length (entry_of schema (which + 1) version.row undo.key) ≤ 67
     → IsTrue result × (entry ≡ entry_of schema (which + 1) version.row undo.key)
 
 -- ---- pairs
@@ -85,9 +87,11 @@ removed_if key c here = record {
 }
 
 -- a key that isn't there is removed from the pairs of an index in vain
-pub unchanged_at : (index : ℕ) (key : List ℕ) (pairs : ℕ → List Pair) (other : ℕ) → value_of key (pairs index) ≡ None → pairs_after index key None pairs other ≡ pairs other
+pub unchanged_at : (index : ℕ) (key : List ℕ) (pairs : ℕ → List Pair) (other : ℕ) → value_of key (pairs index) ≡ None
+    → pairs_after index key None pairs other ≡ pairs other
 unchanged_at index key pairs other none = ⊎_elim
-    (λ same. cond-true (other == index) (with_value key None (pairs index)) (pairs other) (eq-eqb other index same) ∙ (absent_stays key (pairs index) none ∙ ap pairs (sym same)))
+    (λ same. cond-true (other == index) (with_value key None (pairs index)) (pairs other) (eq-eqb other index same) ∙
+    (absent_stays key (pairs index) none ∙ ap pairs (sym same)))
     (λ differs. cond-false (other == index) (with_value key None (pairs index)) (pairs other) (ne_eqb other index differs))
     (cases_eq other index)
 
@@ -119,7 +123,8 @@ end_or_not (Latch by) = inr (λ e. cc)
 end_or_not (Full need free) = inr (λ e. cc)
 end_or_not (Bad page rule) = inr (λ e. cc)
 
-pub went_on_other : (next : Stage) (answer : Move) (mid after : WorkRoom) (result : Move) → WentOn next answer mid after result → answer ≢ Done → (result ≡ answer) × (after ≡ mid)
+pub went_on_other : (next : Stage) (answer : Move) (mid after : WorkRoom) (result : Move) → WentOn next answer mid after result → answer ≢ Done
+    → (result ≡ answer) × (after ≡ mid)
 went_on_other next Done mid after result on not_done = absurd (not_done refl)
 went_on_other next End mid after result on not_done = on
 went_on_other next Step mid after result on not_done = on
@@ -132,7 +137,8 @@ went_on_other next (Latch by) mid after result on not_done = on
 went_on_other next (Full need free) mid after result on not_done = on
 went_on_other next (Bad page rule) mid after result on not_done = on
 
-pub went_or_ended_other : (next : Stage) (answer : Move) (mid after : WorkRoom) (result : Move) → WentOnOrEnded next answer mid after result → answer ≢ Done → answer ≢ End → (result ≡ answer) × (after ≡ mid)
+pub went_or_ended_other : (next : Stage) (answer : Move) (mid after : WorkRoom) (result : Move) → WentOnOrEnded next answer mid after result
+    → answer ≢ Done → answer ≢ End → (result ≡ answer) × (after ≡ mid)
 went_or_ended_other next Done mid after result on not_done not_end = absurd (not_done refl)
 went_or_ended_other next End mid after result on not_done not_end = absurd (not_end refl)
 went_or_ended_other next Step mid after result on not_done not_end = on
@@ -145,7 +151,8 @@ went_or_ended_other next (Latch by) mid after result on not_done not_end = on
 went_or_ended_other next (Full need free) mid after result on not_done not_end = on
 went_or_ended_other next (Bad page rule) mid after result on not_done not_end = on
 
-module _ (chains : Chains) (place : Place) (actor : ℕ) (undo : Undo) (room : WorkRoom) (old : WorldState) (is : IsPuttingBack chains place undo room old) (which : ℕ) where
+module _ (chains : Chains) (place : Place) (actor : ℕ) (undo : Undo) (room : WorkRoom) (old : WorldState) (is : IsPuttingBack chains place undo room old)
+    (which : ℕ) where
   abbrev keys : ℕ
   keys = length is.schema.keys
 
@@ -175,43 +182,64 @@ module _ (chains : Chains) (place : Place) (actor : ℕ) (undo : Undo) (room : W
   }
 
   -- another key was read
-  pub nexted_leaves : (entry : List ℕ) (read : Vec ℕ Global) → vec_capacity room.next ≤ vec_capacity read → Leaves (record room { entries = entry; next = read })
+  pub nexted_leaves : (entry : List ℕ) (read : Vec ℕ Global) → vec_capacity room.next ≤ vec_capacity read
+      → Leaves (record room { entries = entry; next = read })
   nexted_leaves entry read holds = record {
     stage = refl;
     newest = refl;
-    whole = record { newest = is.whole.newest; older = is.whole.older; next = omega (arith, holds, is.whole.next); marked = is.whole.marked; unmarked = is.whole.unmarked };
+    whole =
+        record {
+          newest = is.whole.newest;
+          older = is.whole.older;
+          next = omega (arith, holds, is.whole.next);
+          marked = is.whole.marked;
+          unmarked =
+              is.whole.unmarked;
+        };
   }
 
-  pub went_to : (mid : WorkRoom) → Leaves mid → (next : Stage) (new : WorldState) → new.schemas ≡ old.schemas → ChangesOneEntry is.schema undo old new → FitsKeys keys undo next
-      → (IsTold new → StageHolds chains place undo is.schema (rows_of new) room.newest.items next) → Nears is.schema undo new room.stage next → PutsBack chains place actor undo room (at_stage next mid) old new Step
+  pub went_to : (mid : WorkRoom) → Leaves mid → (next : Stage) (new : WorldState) → new.schemas ≡ old.schemas → ChangesOneEntry is.schema undo old new
+      → FitsKeys keys undo next
+      → (IsTold new → StageHolds chains place undo is.schema (rows_of new) room.newest.items next) → Nears is.schema undo new room.stage next → PutsBack
+      chains place actor undo room (at_stage next mid) old new Step
   went_to mid leaves next new schemas changes fits holds nears =
       went chains place actor undo room old is (at_stage next mid) new schemas changes (staged_whole mid next leaves.whole) fits
       (λ told. subst (λ (b : List ℕ). StageHolds chains place undo is.schema (rows_of new) b next) (sym leaves.newest) (holds told)) nears
 
-  pub stopped_at : (mid : WorkRoom) → Leaves mid → (new : WorldState) (answer : Move) → answer ≢ Done → RowsStay old new → StopsAt actor undo room.stage old new answer → PutsBack chains place actor undo room mid old new answer
-  stopped_at mid leaves new answer not_done stays cause = hindered chains place actor undo room old is mid new answer not_done stays leaves.stage leaves.newest leaves.whole cause
+  pub stopped_at : (mid : WorkRoom) → Leaves mid → (new : WorldState) (answer : Move) → answer ≢ Done → RowsStay old new
+      → StopsAt actor undo room.stage old new answer → PutsBack chains place actor undo room mid old new answer
+  stopped_at mid leaves new answer not_done stays cause =
+      hindered chains place actor undo room old is mid new answer not_done stays leaves.stage leaves.newest leaves.whole cause
 
-  pub put_as : (mid after : WorkRoom) (new : WorldState) (answer result : Move) → result ≡ answer → after ≡ mid → PutsBack chains place actor undo room mid old new answer → PutsBack chains place actor undo room after old new result
+  pub put_as : (mid after : WorkRoom) (new : WorldState) (answer result : Move) → result ≡ answer → after ≡ mid
+      → PutsBack chains place actor undo room mid old new answer → PutsBack chains place actor undo room after old new result
   put_as mid after new answer result result_is after_is is_so =
-      subst (λ (r : Move). PutsBack chains place actor undo room after old new r) (sym result_is) (subst (λ (w : WorkRoom). PutsBack chains place actor undo room w old new answer) (sym after_is) is_so)
+      subst (λ (r : Move). PutsBack chains place actor undo room after old new r) (sym result_is)
+      (subst (λ (w : WorkRoom). PutsBack chains place actor undo room w old new answer) (sym after_is) is_so)
 
   -- ---- entries
 
-  entry_is : (value entry : List ℕ) (result : Bool) (version : Coded) → Writes old undo which value entry result → which < keys → IsCodeOf is.schema undo.key value version → IsTrue result × (entry ≡ entry_of is.schema (which + 1) version.row undo.key)
+  entry_is : (value entry : List ℕ) (result : Bool) (version : Coded) → Writes old undo which value entry result → which < keys
+      → IsCodeOf is.schema undo.key value version → IsTrue result × (entry ≡ entry_of is.schema (which + 1) version.row undo.key)
   entry_is value entry result version writes within code =
-      writes is.schema version is.tells.there code.numbers code.record_is (entry_short old.schemas undo is.schema place which version value is.tells within code)
+      writes is.schema version is.tells.there code.numbers code.record_is
+      (entry_short old.schemas undo is.schema place which version value is.tells within code)
 
   -- No entry is written only where not all is told.
-  pub not_written : (value entry : List ℕ) (result : Bool) → Writes old undo which value entry result → which < keys → (IsTold old → (version : Coded) × IsCodeOf is.schema undo.key value version) → result ≡ false → IsTold old → ⊥
-  not_written value entry result writes within code false_is told = true≢false (sym (entry_is value entry result (code told).0 writes within (code told).1).0 ∙ false_is)
+  pub not_written : (value entry : List ℕ) (result : Bool) → Writes old undo which value entry result → which < keys
+      → (IsTold old → (version : Coded) × IsCodeOf is.schema undo.key value version) → result ≡ false → IsTold old → ⊥
+  not_written value entry result writes within code false_is told =
+      true≢false (sym (entry_is value entry result (code told).0 writes within (code told).1).0 ∙ false_is)
 
   -- the rows once the entry of a record has another value, or none
-  rows_now : (new : WorldState) (entry : List ℕ) (value now : Option (List ℕ)) (version : Coded) → PutsPair (key_index undo.table which) entry value old new → entry ≡ entry_of is.schema (which + 1) version.row undo.key → value ≡ now → IsTold new
+  rows_now : (new : WorldState) (entry : List ℕ) (value now : Option (List ℕ)) (version : Coded)
+      → PutsPair (key_index undo.table which) entry value old new → entry ≡ entry_of is.schema (which + 1) version.row undo.key → value ≡ now → IsTold new
       → rows_of new ≡ with_entry chains place undo is.schema (rows_of old) is.tells which version now
   rows_now new entry value now version puts same value_is told =
       rows_after puts told ∙ (λ i. record (rows_of old) { pairs = pairs_after (key_index undo.table which) (same i) (value_is i) (rows_of old).pairs })
 
-  one_pair : (new : WorldState) (entry : List ℕ) (value : Option (List ℕ)) → which < keys → PutsPair (key_index undo.table which) entry value old new → ChangesOneEntry is.schema undo old new
+  one_pair : (new : WorldState) (entry : List ℕ) (value : Option (List ℕ)) → which < keys → PutsPair (key_index undo.table which) entry value old new
+      → ChangesOneEntry is.schema undo old new
   one_pair new entry value within puts = inr (which, within, entry, value, puts)
 
   -- ---- the newest row's entry
@@ -222,18 +250,24 @@ module _ (chains : Chains) (place : Place) (actor : ℕ) (undo : Undo) (room : W
   abbrev following : Stage
   following = cond (had_row undo) (Unmark which) (Key (which + 1))
 
-  follow_nears : (stage : Stage) (new : WorldState) → room.stage ≡ stage → which < keys → 5 * (keys - which) + 3 ≤ steps_left keys stage → Nears is.schema undo new room.stage following
-  follow_nears stage new at within far = inl (let less = next_nears chains place undo is.schema which keys within (had_row undo) in let from = ap (steps_left keys) at in omega (arith, less, from, far))
+  follow_nears : (stage : Stage) (new : WorldState) → room.stage ≡ stage → which < keys → 5 * (keys - which) + 3 ≤ steps_left keys stage
+      → Nears is.schema undo new room.stage following
+  follow_nears stage new at within far =
+      inl (let less = next_nears chains place undo is.schema which keys within (had_row undo) in let from = ap (steps_left keys) at in omega
+      (arith, less, from, far))
 
   mark_code : room.stage ≡ Mark which → IsTold old → (version : Coded) × IsCodeOf is.schema undo.key room.newest.items version
   mark_code at told = let h = held (Mark which) at told in (h.0, h.1.newest.code_is)
 
-  pub mark_unwritten : room.stage ≡ Mark which → (entry : List ℕ) (result : Bool) → Writes old undo which room.newest.items entry result → result ≡ false → PutsBack chains place actor undo room (record room { entries = entry }) old old NoMemory
+  pub mark_unwritten : room.stage ≡ Mark which → (entry : List ℕ) (result : Bool) → Writes old undo which room.newest.items entry result → result ≡ false
+      → PutsBack chains place actor undo room (record room { entries = entry }) old old NoMemory
   mark_unwritten at entry result writes false_is =
       stopped_at (record room { entries = entry }) (written_leaves entry) old NoMemory (λ e. cc) (stays_same old)
-      (subst (λ (s : Stage). StopsAt actor undo s old old NoMemory) (sym at) (not_written room.newest.items entry result writes (fitting (Mark which) at) (mark_code at) false_is))
+      (subst (λ (s : Stage). StopsAt actor undo s old old NoMemory) (sym at)
+      (not_written room.newest.items entry result writes (fitting (Mark which) at) (mark_code at) false_is))
 
-  mark_there : room.stage ≡ Mark which → (entry : List ℕ) (result : Bool) → Writes old undo which room.newest.items entry result → IsTold old → IsThereAs entry room.marked old (key_index undo.table which)
+  mark_there : room.stage ≡ Mark which → (entry : List ℕ) (result : Bool) → Writes old undo which room.newest.items entry result → IsTold old
+      → IsThereAs entry room.marked old (key_index undo.table which)
   mark_there at entry result writes told =
       let within = fitting (Mark which) at in
       let h = held (Mark which) at told in
@@ -243,34 +277,44 @@ module _ (chains : Chains) (place : Place) (actor : ℕ) (undo : Undo) (room : W
       let column = column_of is.schema which in
       let value = value_in column coded.row in
       let says = entry_says chains place undo is.schema (rows_of old) is.tells way.said which coded room.newest.items within way.coded_but way.newest.code_is in
-      let byte = one_byte column value (way.said which) (lagging_any column value (shown coded) (versions_before chains place) (way.said which) h.2.found_is way.says.here) in
+      let byte =
+      one_byte column value (way.said which) (lagging_any column value (shown coded) (versions_before chains place) (way.said which) h.2.found_is
+      way.says.here) in
       (byte.0 ∷ [], ap (λ (e : List ℕ). value_of e ((rows_of old).pairs (key_index undo.table which))) same ∙ (says ∙ byte.1), sym (ap length is.whole.marked))
 
-  mark_done : room.stage ≡ Mark which → (entry : List ℕ) (result : Bool) → Writes old undo which room.newest.items entry result → (new : WorldState) → Changing entry room.marked new Done → PutsBack chains place actor undo room (at_stage following (record room { entries = entry })) old new Step
+  mark_done : room.stage ≡ Mark which → (entry : List ℕ) (result : Bool) → Writes old undo which room.newest.items entry result → (new : WorldState)
+      → Changing entry room.marked new Done → PutsBack chains place actor undo room (at_stage following (record room { entries = entry })) old new Step
   mark_done at entry result writes new changes =
       let within = fitting (Mark which) at in
       let puts : PutsPair (key_index undo.table which) entry (Some room.marked) old new = puts_if entry (Some room.marked) changes changes.index_is.here.1 in
-      went_to (record room { entries = entry }) (written_leaves entry) following new (schemas_after puts) (one_pair new entry (Some room.marked) within puts) (next_fits chains place undo is.schema which keys within (had_row undo) refl)
+      went_to (record room { entries = entry }) (written_leaves entry) following new (schemas_after puts) (one_pair new entry (Some room.marked) within puts)
+      (next_fits chains place undo is.schema which keys within (had_row undo) refl)
       (λ told.
       let h = held (Mark which) at (told_before_put puts told) in
       let same = (entry_is room.newest.items entry result h.0 writes within h.1.newest.code_is).1 in
       let now = rows_now new entry (Some room.marked) (Some (1 ∷ [])) h.0 puts same (ap Some is.whole.marked) told in
       let clear = dropped chains place undo is.schema (rows_of old) is.tells room.newest.items h.0 which true within h.1 h.2.plain h.2.found_is in
       let rows = with_entry chains place undo is.schema (rows_of old) is.tells which h.0 (Some (1 ∷ [])) in
-      subst (λ (r : Rows). StageHolds chains place undo is.schema r room.newest.items following) (sym now) (next_holds chains place undo is.schema rows room.newest.items h.0 which is.tells clear (had_row undo) refl))
+      subst (λ (r : Rows). StageHolds chains place undo is.schema r room.newest.items following) (sym now)
+      (next_holds chains place undo is.schema rows room.newest.items h.0 which is.tells clear (had_row undo) refl))
       (follow_nears (Mark which) new at within (omega arith))
 
-  pub mark_step : room.stage ≡ Mark which → (entry : List ℕ) (result : Bool) → Writes old undo which room.newest.items entry result → (new : WorldState) (answer : Move) → Changing entry room.marked new answer
-      → (after : WorkRoom) (reached : Move) → WentOn following answer (record room { entries = entry }) after reached → PutsBack chains place actor undo room after old new reached
+  pub mark_step : room.stage ≡ Mark which → (entry : List ℕ) (result : Bool) → Writes old undo which room.newest.items entry result
+      → (new : WorldState) (answer : Move) → Changing entry room.marked new answer
+      → (after : WorkRoom) (reached : Move) → WentOn following answer (record room { entries = entry }) after reached → PutsBack chains place actor undo room
+      after old new reached
   mark_step at entry result writes new answer changes after reached on = by_answer (done_or_not answer) where
     by_answer : (answer ≡ Done) ⊎ (answer ≢ Done) → PutsBack chains place actor undo room after old new reached
     by_answer (inl done) =
         let there = subst (λ (a : Move). WentOn following a (record room { entries = entry }) after reached) done on in
-        put_as (at_stage following (record room { entries = entry })) after new Step reached there.0 there.1 (mark_done at entry result writes new (subst (λ (a : Move). Changing entry room.marked new a) done changes))
+        put_as (at_stage following (record room { entries = entry })) after new Step reached there.0 there.1
+        (mark_done at entry result writes new (subst (λ (a : Move). Changing entry room.marked new a) done changes))
     by_answer (inr other) =
         let there = went_on_other following answer (record room { entries = entry }) after reached on other in
         put_as (record room { entries = entry }) after new answer reached there.0 there.1
-        (stopped_at (record room { entries = entry }) (written_leaves entry) new answer other (change_stays_if changes (replace_keeps actor entry room.marked (old.indexes (key_index undo.table which)) (new.indexes (key_index undo.table which)) answer changes.index_is.here other))
+        (stopped_at (record room { entries = entry }) (written_leaves entry) new answer other
+        (change_stays_if changes (replace_keeps actor entry room.marked (old.indexes (key_index undo.table which))
+        (new.indexes (key_index undo.table which)) answer changes.index_is.here other))
         (subst (λ (s : Stage). StopsAt actor undo s old new answer) (sym at)
         (replace_stops actor entry room.marked old new (key_index undo.table which) answer (mark_there at entry result writes) changes.index_is.here other)))
 
@@ -279,22 +323,30 @@ module _ (chains : Chains) (place : Place) (actor : ℕ) (undo : Undo) (room : W
   await_code : room.stage ≡ Await which → IsTold old → (version : Coded) × IsCodeOf is.schema undo.key room.newest.items version
   await_code at told = let h = held (Await which) at told in (h.0, h.1.newest.code_is)
 
-  pub await_unwritten : room.stage ≡ Await which → (entry : List ℕ) (result : Bool) → Writes old undo which room.newest.items entry result → result ≡ false → PutsBack chains place actor undo room (record room { entries = entry }) old old NoMemory
+  pub await_unwritten : room.stage ≡ Await which → (entry : List ℕ) (result : Bool) → Writes old undo which room.newest.items entry result → result ≡ false
+      → PutsBack chains place actor undo room (record room { entries = entry }) old old NoMemory
   await_unwritten at entry result writes false_is =
       stopped_at (record room { entries = entry }) (written_leaves entry) old NoMemory (λ e. cc) (stays_same old)
-      (subst (λ (s : Stage). StopsAt actor undo s old old NoMemory) (sym at) (not_written room.newest.items entry result writes (fitting (Await which) at) (await_code at) false_is))
+      (subst (λ (s : Stage). StopsAt actor undo s old old NoMemory) (sym at)
+      (not_written room.newest.items entry result writes (fitting (Await which) at) (await_code at) false_is))
 
-  await_went : room.stage ≡ Await which → (mid : WorkRoom) → Leaves mid → (new : WorldState) → RowsStay old new → PutsBack chains place actor undo room (at_stage (Remove which) mid) old new Step
+  await_went : room.stage ≡ Await which → (mid : WorkRoom) → Leaves mid → (new : WorldState) → RowsStay old new
+      → PutsBack chains place actor undo room (at_stage (Remove which) mid) old new Step
   await_went at mid leaves new stays =
       went_to mid leaves (Remove which) new (schemas_stay stays) (inl stays) (fitting (Await which) at)
-      (λ told. subst (λ (r : Rows). StageHolds chains place undo is.schema r room.newest.items (Remove which)) (sym (rows_stay stays told)) (held (Await which) at (told_before stays told)))
+      (λ told. subst (λ (r : Rows). StageHolds chains place undo is.schema r room.newest.items (Remove which)) (sym (rows_stay stays told))
+      (held (Await which) at (told_before stays told)))
       (inl (let from = ap (steps_left keys) at in omega (arith, from)))
 
-  pub await_step : room.stage ≡ Await which → (mid : WorkRoom) → Leaves mid → (entry read : List ℕ) (new : WorldState) (answer : Move) → Calls (key_index undo.table which) (λ b a. NextKeys actor entry read b a answer) old new
-      → (after : WorkRoom) (reached : Move) → WentOnOrEnded (Remove which) answer mid after reached → PutsBack chains place actor undo room after old new reached
+  pub await_step : room.stage ≡ Await which → (mid : WorkRoom) → Leaves mid → (entry read : List ℕ) (new : WorldState) (answer : Move)
+      → Calls (key_index undo.table which) (λ b a. NextKeys actor entry read b a answer) old new
+      → (after : WorkRoom) (reached : Move) → WentOnOrEnded (Remove which) answer mid after reached → PutsBack chains place actor undo room after old new
+      reached
   await_step at mid leaves entry read new answer calls after reached on = by_answer (done_or_not answer) (end_or_not answer) where
     stays : RowsStay old new
-    stays = stays_if calls (next_key_keeps actor entry read (old.indexes (key_index undo.table which)) (new.indexes (key_index undo.table which)) answer calls.index_is.here)
+    stays =
+        stays_if calls (next_key_keeps actor entry read (old.indexes (key_index undo.table which)) (new.indexes (key_index undo.table which)) answer
+        calls.index_is.here)
 
     by_answer : (answer ≡ Done) ⊎ (answer ≢ Done) → (answer ≡ End) ⊎ (answer ≢ End) → PutsBack chains place actor undo room after old new reached
     by_answer (inl done) ended =
@@ -307,95 +359,123 @@ module _ (chains : Chains) (place : Place) (actor : ℕ) (undo : Undo) (room : W
         let there = went_or_ended_other (Remove which) answer mid after reached on other not_end in
         put_as mid after new answer reached there.0 there.1
         (stopped_at mid leaves new answer other stays
-        (subst (λ (s : Stage). StopsAt actor undo s old new answer) (sym at) (next_key_stops actor entry read old new (key_index undo.table which) answer calls.index_is.here other not_end)))
+        (subst (λ (s : Stage). StopsAt actor undo s old new answer) (sym at)
+        (next_key_stops actor entry read old new (key_index undo.table which) answer calls.index_is.here other not_end)))
 
   -- ---- the newest row's entry is removed
 
   remove_code : room.stage ≡ Remove which → IsTold old → (version : Coded) × IsCodeOf is.schema undo.key room.newest.items version
   remove_code at told = let h = held (Remove which) at told in (h.0, h.1.newest.code_is)
 
-  pub remove_unwritten : room.stage ≡ Remove which → (entry : List ℕ) (result : Bool) → Writes old undo which room.newest.items entry result → result ≡ false → PutsBack chains place actor undo room (record room { entries = entry }) old old NoMemory
+  pub remove_unwritten : room.stage ≡ Remove which → (entry : List ℕ) (result : Bool) → Writes old undo which room.newest.items entry result
+      → result ≡ false → PutsBack chains place actor undo room (record room { entries = entry }) old old NoMemory
   remove_unwritten at entry result writes false_is =
       stopped_at (record room { entries = entry }) (written_leaves entry) old NoMemory (λ e. cc) (stays_same old)
-      (subst (λ (s : Stage). StopsAt actor undo s old old NoMemory) (sym at) (not_written room.newest.items entry result writes (fitting (Remove which) at) (remove_code at) false_is))
+      (subst (λ (s : Stage). StopsAt actor undo s old old NoMemory) (sym at)
+      (not_written room.newest.items entry result writes (fitting (Remove which) at) (remove_code at) false_is))
 
   -- the rows without the entry are those of a key that is clear
-  remove_holds : room.stage ≡ Remove which → (entry : List ℕ) (result : Bool) → Writes old undo which room.newest.items entry result → IsTold old → (rows : Rows)
-      → ((version : Coded) → entry ≡ entry_of is.schema (which + 1) version.row undo.key → rows ≡ with_entry chains place undo is.schema (rows_of old) is.tells which version None) → StageHolds chains place undo is.schema rows room.newest.items following
+  remove_holds : room.stage ≡ Remove which → (entry : List ℕ) (result : Bool) → Writes old undo which room.newest.items entry result → IsTold old
+      → (rows : Rows)
+      → ((version : Coded) → entry ≡ entry_of is.schema (which + 1) version.row undo.key → rows ≡ with_entry chains place undo is.schema (rows_of old)
+      is.tells which version None) → StageHolds chains place undo is.schema rows room.newest.items following
   remove_holds at entry result writes told rows now =
       let within = fitting (Remove which) at in
       let h = held (Remove which) at told in
       let same = (entry_is room.newest.items entry result h.0 writes within h.1.newest.code_is).1 in
       let clear = dropped chains place undo is.schema (rows_of old) is.tells room.newest.items h.0 which false within h.1 h.2.plain h.2.found_is in
       let without = with_entry chains place undo is.schema (rows_of old) is.tells which h.0 None in
-      subst (λ (r : Rows). StageHolds chains place undo is.schema r room.newest.items following) (sym (now h.0 same)) (next_holds chains place undo is.schema without room.newest.items h.0 which is.tells clear (had_row undo) refl)
+      subst (λ (r : Rows). StageHolds chains place undo is.schema r room.newest.items following) (sym (now h.0 same))
+      (next_holds chains place undo is.schema without room.newest.items h.0 which is.tells clear (had_row undo) refl)
 
   abbrev Removing : List ℕ → WorldState → Move → Type 0
   Removing entry new answer = Calls (key_index undo.table which) (λ b a. Removes actor entry b a answer) old new
 
-  remove_done : room.stage ≡ Remove which → (entry : List ℕ) (result : Bool) → Writes old undo which room.newest.items entry result → (new : WorldState) → Removing entry new Done → PutsBack chains place actor undo room (at_stage following (record room { entries = entry })) old new Step
+  remove_done : room.stage ≡ Remove which → (entry : List ℕ) (result : Bool) → Writes old undo which room.newest.items entry result → (new : WorldState)
+      → Removing entry new Done → PutsBack chains place actor undo room (at_stage following (record room { entries = entry })) old new Step
   remove_done at entry result writes new calls =
       let within = fitting (Remove which) at in
       let puts : PutsPair (key_index undo.table which) entry None old new = removed_if entry calls calls.index_is.here.2 in
-      went_to (record room { entries = entry }) (written_leaves entry) following new (schemas_after puts) (one_pair new entry None within puts) (next_fits chains place undo is.schema which keys within (had_row undo) refl)
-      (λ told. remove_holds at entry result writes (told_before_put puts told) (rows_of new) (λ version same. rows_now new entry None None version puts same refl told))
+      went_to (record room { entries = entry }) (written_leaves entry) following new (schemas_after puts) (one_pair new entry None within puts)
+      (next_fits chains place undo is.schema which keys within (had_row undo) refl)
+      (λ told. remove_holds at entry result writes (told_before_put puts told) (rows_of new)
+      (λ version same. rows_now new entry None None version puts same refl told))
       (follow_nears (Remove which) new at within (omega arith))
 
-  absent_rows : (entry : List ℕ) (version : Coded) → entry ≡ entry_of is.schema (which + 1) version.row undo.key → value_of entry ((rows_of old).pairs (key_index undo.table which)) ≡ None
+  absent_rows : (entry : List ℕ) (version : Coded) → entry ≡ entry_of is.schema (which + 1) version.row undo.key
+      → value_of entry ((rows_of old).pairs (key_index undo.table which)) ≡ None
       → rows_of old ≡ with_entry chains place undo is.schema (rows_of old) is.tells which version None
   absent_rows entry version same none =
       let index = key_index undo.table which in
-      let pairs : (other : ℕ) → (rows_of old).pairs other ≡ pairs_after index (entry_of is.schema (which + 1) version.row undo.key) None (rows_of old).pairs other
-      = λ other. sym (unchanged_at index (entry_of is.schema (which + 1) version.row undo.key) (rows_of old).pairs other (ap (λ (e : List ℕ). value_of e ((rows_of old).pairs index)) (sym same) ∙ none)) in
+      let pairs : (other : ℕ) → (rows_of old).pairs other ≡ pairs_after index (entry_of is.schema (which + 1) version.row undo.key) None (rows_of old).pairs
+      other
+      =
+      λ other. sym (unchanged_at index (entry_of is.schema (which + 1) version.row undo.key) (rows_of old).pairs other
+      (ap (λ (e : List ℕ). value_of e ((rows_of old).pairs index)) (sym same) ∙ none)) in
       λ i. record (rows_of old) { pairs = λ other. pairs other i }
 
-  remove_ended : room.stage ≡ Remove which → (entry : List ℕ) (result : Bool) → Writes old undo which room.newest.items entry result → (new : WorldState) → Removing entry new End → PutsBack chains place actor undo room (at_stage following (record room { entries = entry })) old new Step
+  remove_ended : room.stage ≡ Remove which → (entry : List ℕ) (result : Bool) → Writes old undo which room.newest.items entry result → (new : WorldState)
+      → Removing entry new End → PutsBack chains place actor undo room (at_stage following (record room { entries = entry })) old new Step
   remove_ended at entry result writes new calls =
       let within = fitting (Remove which) at in
       let stays : RowsStay old new = stays_if calls (calls.index_is.here.2.pairs, calls.index_is.here.2.place) in
-      went_to (record room { entries = entry }) (written_leaves entry) following new (schemas_stay stays) (inl stays) (next_fits chains place undo is.schema which keys within (had_row undo) refl)
+      went_to (record room { entries = entry }) (written_leaves entry) following new (schemas_stay stays) (inl stays)
+      (next_fits chains place undo is.schema which keys within (had_row undo) refl)
       (λ told.
       let before_told = told_before stays told in
       let none = told_of (λ pairs. value_of entry pairs ≡ None) old (key_index undo.table which) before_told calls.index_is.here.1 in
       remove_holds at entry result writes before_told (rows_of new) (λ version same. rows_stay stays told ∙ absent_rows entry version same none))
       (follow_nears (Remove which) new at within (omega arith))
 
-  pub remove_step : room.stage ≡ Remove which → (entry : List ℕ) (result : Bool) → Writes old undo which room.newest.items entry result → (new : WorldState) (answer : Move) → Removing entry new answer
-      → (after : WorkRoom) (reached : Move) → WentOnOrEnded following answer (record room { entries = entry }) after reached → PutsBack chains place actor undo room after old new reached
+  pub remove_step : room.stage ≡ Remove which → (entry : List ℕ) (result : Bool) → Writes old undo which room.newest.items entry result
+      → (new : WorldState) (answer : Move) → Removing entry new answer
+      → (after : WorkRoom) (reached : Move) → WentOnOrEnded following answer (record room { entries = entry }) after reached → PutsBack chains place actor
+      undo room after old new reached
   remove_step at entry result writes new answer calls after reached on = by_answer (done_or_not answer) (end_or_not answer) where
     by_answer : (answer ≡ Done) ⊎ (answer ≢ Done) → (answer ≡ End) ⊎ (answer ≢ End) → PutsBack chains place actor undo room after old new reached
     by_answer (inl done) ended =
         let there = subst (λ (a : Move). WentOnOrEnded following a (record room { entries = entry }) after reached) done on in
-        put_as (at_stage following (record room { entries = entry })) after new Step reached there.0 there.1 (remove_done at entry result writes new (subst (λ (a : Move). Removing entry new a) done calls))
+        put_as (at_stage following (record room { entries = entry })) after new Step reached there.0 there.1
+        (remove_done at entry result writes new (subst (λ (a : Move). Removing entry new a) done calls))
     by_answer (inr other) (inl ended) =
         let there = subst (λ (a : Move). WentOnOrEnded following a (record room { entries = entry }) after reached) ended on in
-        put_as (at_stage following (record room { entries = entry })) after new Step reached there.0 there.1 (remove_ended at entry result writes new (subst (λ (a : Move). Removing entry new a) ended calls))
+        put_as (at_stage following (record room { entries = entry })) after new Step reached there.0 there.1
+        (remove_ended at entry result writes new (subst (λ (a : Move). Removing entry new a) ended calls))
     by_answer (inr other) (inr not_end) =
         let there = went_or_ended_other following answer (record room { entries = entry }) after reached on other not_end in
         put_as (record room { entries = entry }) after new answer reached there.0 there.1
-        (stopped_at (record room { entries = entry }) (written_leaves entry) new answer other (stays_if calls (remove_keeps actor entry (old.indexes (key_index undo.table which)) (new.indexes (key_index undo.table which)) answer calls.index_is.here other))
-        (subst (λ (s : Stage). StopsAt actor undo s old new answer) (sym at) (remove_stops actor entry old new (key_index undo.table which) answer calls.index_is.here other not_end)))
+        (stopped_at (record room { entries = entry }) (written_leaves entry) new answer other
+        (stays_if calls (remove_keeps actor entry (old.indexes (key_index undo.table which)) (new.indexes (key_index undo.table which)) answer
+        calls.index_is.here other))
+        (subst (λ (s : Stage). StopsAt actor undo s old new answer) (sym at)
+        (remove_stops actor entry old new (key_index undo.table which) answer calls.index_is.here other not_end)))
 
   -- ---- the entry of the row before is unmarked
 
   former_is : room.stage ≡ Unmark which → IsTold old → WasThere undo is.schema (versions_before chains place)
   former_is at told =
       let h = held (Unmark which) at told in
-      let read = newest_read undo is.schema place old.schemas is.tells (rows_of old).pairs (rows_of old).kept chains room.newest.items h.0 h.1.coded_but.clustered h.1.newest in
+      let read =
+      newest_read undo is.schema place old.schemas is.tells (rows_of old).pairs (rows_of old).kept chains room.newest.items h.0 h.1.coded_but.clustered
+      h.1.newest in
       there (what_was undo is.schema (rows_of old).kept h.0.pointer (versions_before chains place) h.1.newest.before read.1) where
-        there : WasThere undo is.schema (versions_before chains place) ⊎ WasNot undo (versions_before chains place) → WasThere undo is.schema (versions_before chains place)
+        there : WasThere undo is.schema (versions_before chains place) ⊎ WasNot undo (versions_before chains place)
+            → WasThere undo is.schema (versions_before chains place)
         there (inl was) = was
         there (inr was) = absurd (true≢false (sym (fitting (Unmark which) at).1 ∙ was.had))
 
   unmark_code : room.stage ≡ Unmark which → IsTold old → (version : Coded) × IsCodeOf is.schema undo.key undo.value version
   unmark_code at told = let was = former_is at told in (was.former, was.code_is)
 
-  pub unmark_unwritten : room.stage ≡ Unmark which → (entry : List ℕ) (result : Bool) → Writes old undo which undo.value entry result → result ≡ false → PutsBack chains place actor undo room (record room { entries = entry }) old old NoMemory
+  pub unmark_unwritten : room.stage ≡ Unmark which → (entry : List ℕ) (result : Bool) → Writes old undo which undo.value entry result → result ≡ false
+      → PutsBack chains place actor undo room (record room { entries = entry }) old old NoMemory
   unmark_unwritten at entry result writes false_is =
       stopped_at (record room { entries = entry }) (written_leaves entry) old NoMemory (λ e. cc) (stays_same old)
-      (subst (λ (s : Stage). StopsAt actor undo s old old NoMemory) (sym at) (not_written undo.value entry result writes (fitting (Unmark which) at).0 (unmark_code at) false_is))
+      (subst (λ (s : Stage). StopsAt actor undo s old old NoMemory) (sym at)
+      (not_written undo.value entry result writes (fitting (Unmark which) at).0 (unmark_code at) false_is))
 
-  unmark_there : room.stage ≡ Unmark which → (entry : List ℕ) (result : Bool) → Writes old undo which undo.value entry result → IsTold old → IsThereAs entry room.unmarked old (key_index undo.table which)
+  unmark_there : room.stage ≡ Unmark which → (entry : List ℕ) (result : Bool) → Writes old undo which undo.value entry result → IsTold old
+      → IsThereAs entry room.unmarked old (key_index undo.table which)
   unmark_there at entry result writes told =
       let within = (fitting (Unmark which) at).0 in
       let h = held (Unmark which) at told in
@@ -405,14 +485,24 @@ module _ (chains : Chains) (place : Place) (actor : ℕ) (undo : Undo) (room : W
       let column = column_of is.schema which in
       let value = value_in column was.former.row in
       let says = entry_says chains place undo is.schema (rows_of old) is.tells way.said which was.former undo.value within way.coded_but was.code_is in
-      let byte = one_byte column value (way.said which) (cleared_any column value (versions_before chains place) (way.said which) (newest_any column was.former.row (versions_before chains place) was.first) way.says.here) in
-      (byte.0 ∷ [], ap (λ (e : List ℕ). value_of e ((rows_of old).pairs (key_index undo.table which))) same ∙ (says ∙ byte.1), sym (ap length is.whole.unmarked))
+      let byte =
+      one_byte column value (way.said which) (cleared_any column value (versions_before chains place) (way.said which)
+      (newest_any column was.former.row (versions_before chains place) was.first) way.says.here) in (
+        byte.0 ∷ [],
+        ap (λ (e : List ℕ). value_of e ((rows_of old).pairs (key_index undo.table which))) same ∙ (says ∙ byte.1),
+        sym
+            (ap length is.whole.unmarked),
+      )
 
-  unmark_done : room.stage ≡ Unmark which → (entry : List ℕ) (result : Bool) → Writes old undo which undo.value entry result → (new : WorldState) → Changing entry room.unmarked new Done → PutsBack chains place actor undo room (at_stage (Key (which + 1)) (record room { entries = entry })) old new Step
+  unmark_done : room.stage ≡ Unmark which → (entry : List ℕ) (result : Bool) → Writes old undo which undo.value entry result → (new : WorldState)
+      → Changing entry room.unmarked new Done
+      → PutsBack chains place actor undo room (at_stage (Key (which + 1)) (record room { entries = entry })) old new Step
   unmark_done at entry result writes new changes =
       let within = (fitting (Unmark which) at).0 in
-      let puts : PutsPair (key_index undo.table which) entry (Some room.unmarked) old new = puts_if entry (Some room.unmarked) changes changes.index_is.here.1 in
-      went_to (record room { entries = entry }) (written_leaves entry) (Key (which + 1)) new (schemas_after puts) (one_pair new entry (Some room.unmarked) within puts) (omega (arith, within))
+      let puts : PutsPair (key_index undo.table which) entry (Some room.unmarked) old new =
+      puts_if entry (Some room.unmarked) changes changes.index_is.here.1 in
+      went_to (record room { entries = entry }) (written_leaves entry) (Key (which + 1)) new (schemas_after puts)
+      (one_pair new entry (Some room.unmarked) within puts) (omega (arith, within))
       (λ told.
       let before_told = told_before_put puts told in
       let h = held (Unmark which) at before_told in
@@ -423,16 +513,22 @@ module _ (chains : Chains) (place : Place) (actor : ℕ) (undo : Undo) (room : W
       subst (λ (r : Rows). StageHolds chains place undo is.schema r room.newest.items (Key (which + 1))) (sym now) (h.0, done))
       (inl (let from = ap (steps_left keys) at in omega (arith, from, within)))
 
-  pub unmark_step : room.stage ≡ Unmark which → (entry : List ℕ) (result : Bool) → Writes old undo which undo.value entry result → (new : WorldState) (answer : Move) → Changing entry room.unmarked new answer
-      → (after : WorkRoom) (reached : Move) → WentOn (Key (which + 1)) answer (record room { entries = entry }) after reached → PutsBack chains place actor undo room after old new reached
+  pub unmark_step : room.stage ≡ Unmark which → (entry : List ℕ) (result : Bool) → Writes old undo which undo.value entry result
+      → (new : WorldState) (answer : Move) → Changing entry room.unmarked new answer
+      → (after : WorkRoom) (reached : Move) → WentOn (Key (which + 1)) answer (record room { entries = entry }) after reached → PutsBack chains place actor
+      undo room after old new reached
   unmark_step at entry result writes new answer changes after reached on = by_answer (done_or_not answer) where
     by_answer : (answer ≡ Done) ⊎ (answer ≢ Done) → PutsBack chains place actor undo room after old new reached
     by_answer (inl done) =
         let there = subst (λ (a : Move). WentOn (Key (which + 1)) a (record room { entries = entry }) after reached) done on in
-        put_as (at_stage (Key (which + 1)) (record room { entries = entry })) after new Step reached there.0 there.1 (unmark_done at entry result writes new (subst (λ (a : Move). Changing entry room.unmarked new a) done changes))
+        put_as (at_stage (Key (which + 1)) (record room { entries = entry })) after new Step reached there.0 there.1
+        (unmark_done at entry result writes new (subst (λ (a : Move). Changing entry room.unmarked new a) done changes))
     by_answer (inr other) =
         let there = went_on_other (Key (which + 1)) answer (record room { entries = entry }) after reached on other in
         put_as (record room { entries = entry }) after new answer reached there.0 there.1
-        (stopped_at (record room { entries = entry }) (written_leaves entry) new answer other (change_stays_if changes (replace_keeps actor entry room.unmarked (old.indexes (key_index undo.table which)) (new.indexes (key_index undo.table which)) answer changes.index_is.here other))
+        (stopped_at (record room { entries = entry }) (written_leaves entry) new answer other
+        (change_stays_if changes (replace_keeps actor entry room.unmarked (old.indexes (key_index undo.table which))
+        (new.indexes (key_index undo.table which)) answer changes.index_is.here other))
         (subst (λ (s : Stage). StopsAt actor undo s old new answer) (sym at)
-        (replace_stops actor entry room.unmarked old new (key_index undo.table which) answer (unmark_there at entry result writes) changes.index_is.here other)))
+        (replace_stops actor entry room.unmarked old new (key_index undo.table which) answer (unmark_there at entry result writes) changes.index_is.here
+        other)))

@@ -22,6 +22,7 @@ one_more lists list count are is = record {
   count_is = omega (arith, are.count_is, length-append lists (list ∷ []));
   each = λ n within. ⊎_elim
       (λ e. ap (λ (k : ℕ). length (slice_index_or (lists ++ list ∷ []) k [])) (e ∙ sym are.count_is) ∙ (ap length (last lists list) ∙ (is ∙ sym e)))
-      (λ differs. let less : n < count = omega (arith, differs, within) in let inside : n < length lists = omega (arith, less, are.count_is) in ap length (before lists list n inside) ∙ are.each n less)
+      (λ differs. let less : n < count = omega (arith, differs, within) in let inside : n < length lists = omega (arith, less, are.count_is) in ap length
+      (before lists list n inside) ∙ are.each n less)
       (cases_eq n count);
 }

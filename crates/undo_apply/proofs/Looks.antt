@@ -37,10 +37,12 @@ use Rattle.undo_apply.proofs.Goes.{stays_same, unchanged_stays, went}
 use Rattle.undo_apply.proofs.KeySteps.{held, fitting, Leaves, written_leaves, went_to, stopped_at, next_holds, next_fits, next_nears}
 
 -- what a record's head is
-pub head_is : (schema : Schema) (key bytes : List ℕ) (coded : Coded) → IsCodeOf schema key bytes coded → bytes ≡ head_code coded.marked coded.writer coded.pointer ++ others_code schema.primary schema.columns coded.row
+pub head_is : (schema : Schema) (key bytes : List ℕ) (coded : Coded) → IsCodeOf schema key bytes coded
+    → bytes ≡ head_code coded.marked coded.writer coded.pointer ++ others_code schema.primary schema.columns coded.row
 head_is schema key bytes coded code = code.record_is.value_is
 
-module _ (chains : Chains) (place : Place) (actor : ℕ) (undo : Undo) (room : WorkRoom) (old : WorldState) (is : IsPuttingBack chains place undo room old) (which : ℕ) where
+module _ (chains : Chains) (place : Place) (actor : ℕ) (undo : Undo) (room : WorkRoom) (old : WorldState) (is : IsPuttingBack chains place undo room old)
+    (which : ℕ) where
   abbrev keys : ℕ
   keys = length is.schema.keys
 
@@ -54,7 +56,8 @@ module _ (chains : Chains) (place : Place) (actor : ℕ) (undo : Undo) (room : W
   Leave mid = Leaves chains place actor undo room old is which mid
 
   -- the stage is another, and nothing else
-  to_stage : (mid : WorkRoom) → Leave mid → (next : Stage) → FitsKeys keys undo next → (IsTold old → StageHolds chains place undo is.schema (rows_of old) room.newest.items next) → Nears is.schema undo old room.stage next
+  to_stage : (mid : WorkRoom) → Leave mid → (next : Stage) → FitsKeys keys undo next
+      → (IsTold old → StageHolds chains place undo is.schema (rows_of old) room.newest.items next) → Nears is.schema undo old room.stage next
       → PutsBack chains place actor undo room (at_stage next mid) old old Step
   to_stage mid leaves next fits holds nears = went_to chains place actor undo room old is which mid leaves next old refl (inl (stays_same old)) fits holds nears
 
@@ -66,27 +69,43 @@ module _ (chains : Chains) (place : Place) (actor : ℕ) (undo : Undo) (room : W
   older_leaves read holds = record {
     stage = refl;
     newest = refl;
-    whole = record { newest = is.whole.newest; older = omega (arith, holds, is.whole.older); next = is.whole.next; marked = is.whole.marked; unmarked = is.whole.unmarked };
+    whole =
+        record {
+          newest = is.whole.newest;
+          older = omega (arith, holds, is.whole.older);
+          next = is.whole.next;
+          marked = is.whole.marked;
+          unmarked =
+              is.whole.unmarked;
+        };
   }
 
-  pub within_key : room.stage ≡ Key which → (count : ℕ) → ((schema : Schema) → slice_get old.schemas undo.table ≡ Some schema → count ≡ length schema.keys) → which < count → which < keys
+  pub within_key : room.stage ≡ Key which → (count : ℕ) → ((schema : Schema) → slice_get old.schemas undo.table ≡ Some schema → count ≡ length schema.keys)
+      → which < count → which < keys
   within_key at count counted less = omega (arith, less, counted is.schema is.tells.there)
 
-  last_key : room.stage ≡ Key which → (count : ℕ) → ((schema : Schema) → slice_get old.schemas undo.table ≡ Some schema → count ≡ length schema.keys) → count ≤ which → which ≡ keys
-  last_key at count counted more = let fits = fitting chains place actor undo room old is which (Key which) at in omega (arith, more, fits, counted is.schema is.tells.there)
+  last_key : room.stage ≡ Key which → (count : ℕ) → ((schema : Schema) → slice_get old.schemas undo.table ≡ Some schema → count ≡ length schema.keys)
+      → count ≤ which → which ≡ keys
+  last_key at count counted more =
+      let fits = fitting chains place actor undo room old is which (Key which) at in omega (arith, more, fits, counted is.schema is.tells.there)
 
   -- ---- the keys are done
 
-  pub look_new : room.stage ≡ Key which → (count : ℕ) → ((schema : Schema) → slice_get old.schemas undo.table ≡ Some schema → count ≡ length schema.keys) → count ≤ which → undo.kind ≡ 1 → PutsBack chains place actor undo room (at_stage AwaitRecords room) old old Step
+  pub look_new : room.stage ≡ Key which → (count : ℕ) → ((schema : Schema) → slice_get old.schemas undo.table ≡ Some schema → count ≡ length schema.keys)
+      → count ≤ which → undo.kind ≡ 1 → PutsBack chains place actor undo room (at_stage AwaitRecords room) old old Step
   look_new at count counted more new =
       let all = last_key at count counted more in
-      to_stage room room_leaves AwaitRecords new (λ told. let h = hold (Key which) at told in (h.0, subst (λ (n : ℕ). LagsAt chains place undo is.schema (rows_of old) room.newest.items n h.0) all h.1))
+      to_stage room room_leaves AwaitRecords new
+      (λ told. let h = hold (Key which) at told in
+      (h.0, subst (λ (n : ℕ). LagsAt chains place undo is.schema (rows_of old) room.newest.items n h.0) all h.1))
       (inl (let from = ap (steps_left keys) at in omega (arith, from)))
 
-  pub look_kept : room.stage ≡ Key which → (count : ℕ) → ((schema : Schema) → slice_get old.schemas undo.table ≡ Some schema → count ≡ length schema.keys) → count ≤ which → PutsBack chains place actor undo room (at_stage Record room) old old Step
+  pub look_kept : room.stage ≡ Key which → (count : ℕ) → ((schema : Schema) → slice_get old.schemas undo.table ≡ Some schema → count ≡ length schema.keys)
+      → count ≤ which → PutsBack chains place actor undo room (at_stage Record room) old old Step
   look_kept at count counted more =
       let all = last_key at count counted more in
-      to_stage room room_leaves Record tt (λ told. let h = hold (Key which) at told in (h.0, subst (λ (n : ℕ). LagsAt chains place undo is.schema (rows_of old) room.newest.items n h.0) all h.1))
+      to_stage room room_leaves Record tt (λ told. let h = hold (Key which) at told in
+      (h.0, subst (λ (n : ℕ). LagsAt chains place undo is.schema (rows_of old) room.newest.items n h.0) all h.1))
       (inl (let from = ap (steps_left keys) at in omega (arith, from)))
 
   -- ---- the newest version has no row
@@ -94,33 +113,48 @@ module _ (chains : Chains) (place : Place) (actor : ℕ) (undo : Undo) (room : W
   abbrev MarkIs : Bool → Type 0
   MarkIs result = (marked : Bool) (writer pointer : ℕ) (fields : List ℕ) → room.newest.items ≡ head_code marked writer pointer ++ fields → result ≡ marked
 
-  pub look_gone : room.stage ≡ Key which → which < keys → (marked : Bool) → MarkIs marked → marked ≡ true → PutsBack chains place actor undo room (at_stage (cond (had_row undo) (Unmark which) (Key (which + 1))) room) old old Step
+  pub look_gone : room.stage ≡ Key which → which < keys → (marked : Bool) → MarkIs marked → marked ≡ true
+      → PutsBack chains place actor undo room (at_stage (cond (had_row undo) (Unmark which) (Key (which + 1))) room) old old Step
   look_gone at within marked mark is_marked =
-      to_stage room room_leaves (cond (had_row undo) (Unmark which) (Key (which + 1))) (next_fits chains place undo is.schema which keys within (had_row undo) refl)
+      to_stage room room_leaves (cond (had_row undo) (Unmark which) (Key (which + 1)))
+      (next_fits chains place undo is.schema which keys within (had_row undo) refl)
       (λ told.
       let h = hold (Key which) at told in
-      let gone : h.0.marked ≡ true = sym (mark h.0.marked h.0.writer h.0.pointer (others_code is.schema.primary is.schema.columns h.0.row) (head_is is.schema undo.key room.newest.items h.0 h.1.newest.code_is)) ∙ is_marked in
+      let gone : h.0.marked ≡ true =
+      sym (mark h.0.marked h.0.writer h.0.pointer (others_code is.schema.primary is.schema.columns h.0.row)
+      (head_is is.schema undo.key room.newest.items h.0 h.1.newest.code_is)) ∙ is_marked in
       let clear = clear_unless_row chains place undo is.schema (rows_of old) is.tells room.newest.items h.0 which gone h.1 in
       next_holds chains place undo is.schema (rows_of old) room.newest.items h.0 which is.tells clear (had_row undo) refl)
-      (inl (let less = next_nears chains place undo is.schema which keys within (had_row undo) in let from = ap (steps_left keys) at in omega (arith, less, from)))
+      (inl (let less = next_nears chains place undo is.schema which keys within (had_row undo) in let from = ap (steps_left keys) at in omega
+      (arith, less, from)))
 
   -- ---- the newest row has the value of the row before
 
   abbrev OneEntry : Bool → Type 0
-  OneEntry result = (schema : Schema) (first second : Coded) → slice_get old.schemas undo.table ≡ Some schema → IsVersion first → IsVersion second → IsRecordOf schema first undo.key room.newest.items → IsRecordOf schema second undo.key undo.value
+  OneEntry result =
+      (schema : Schema) (first second : Coded) → slice_get old.schemas undo.table ≡ Some schema → IsVersion first → IsVersion second → IsRecordOf schema
+      first undo.key room.newest.items → IsRecordOf schema second undo.key undo.value
       → length (entry_of schema (which + 1) first.row undo.key) ≤ 67 → length (entry_of schema (which + 1) second.row undo.key) ≤ 67
-      → (IsTrue result → entry_of schema (which + 1) first.row undo.key ≡ entry_of schema (which + 1) second.row undo.key) × (entry_of schema (which + 1) first.row undo.key ≡ entry_of schema (which + 1) second.row undo.key → IsTrue result)
+      → (IsTrue result → entry_of schema (which + 1) first.row undo.key ≡ entry_of schema (which + 1) second.row undo.key) ×
+      (entry_of schema (which + 1) first.row undo.key ≡ entry_of schema (which + 1) second.row undo.key → IsTrue result)
 
-  plain_is : IsTold old → (coded : Coded) → IsCodeOf is.schema undo.key room.newest.items coded → (marked : Bool) → MarkIs marked → marked ≡ false → coded.marked ≡ false
-  plain_is told coded code marked mark not_marked = sym (mark coded.marked coded.writer coded.pointer (others_code is.schema.primary is.schema.columns coded.row) (head_is is.schema undo.key room.newest.items coded code)) ∙ not_marked
+  plain_is : IsTold old → (coded : Coded) → IsCodeOf is.schema undo.key room.newest.items coded → (marked : Bool) → MarkIs marked → marked ≡ false
+      → coded.marked ≡ false
+  plain_is told coded code marked mark not_marked =
+      sym (mark coded.marked coded.writer coded.pointer (others_code is.schema.primary is.schema.columns coded.row)
+      (head_is is.schema undo.key room.newest.items coded code)) ∙ not_marked
 
   was_there : room.stage ≡ Key which → IsTold old → had_row undo ≡ true → WasThere undo is.schema before
   was_there at told had =
       let h = hold (Key which) at told in
-      let read = newest_read undo is.schema place old.schemas is.tells (rows_of old).pairs (rows_of old).kept chains room.newest.items h.0 h.1.coded_but.clustered h.1.newest in
-      ⊎_elim (λ was. was) (λ (was : WasNot undo before). absurd (true≢false (sym had ∙ was.had))) (what_was undo is.schema (rows_of old).kept h.0.pointer before h.1.newest.before read.1)
+      let read =
+      newest_read undo is.schema place old.schemas is.tells (rows_of old).pairs (rows_of old).kept chains room.newest.items h.0 h.1.coded_but.clustered
+      h.1.newest in
+      ⊎_elim (λ was. was) (λ (was : WasNot undo before). absurd (true≢false (sym had ∙ was.had)))
+      (what_was undo is.schema (rows_of old).kept h.0.pointer before h.1.newest.before read.1)
 
-  pub look_same : room.stage ≡ Key which → which < keys → (marked : Bool) → MarkIs marked → marked ≡ false → had_row undo ≡ true → (entry : List ℕ) (same : Bool) → OneEntry same → same ≡ true
+  pub look_same : room.stage ≡ Key which → which < keys → (marked : Bool) → MarkIs marked → marked ≡ false → had_row undo ≡ true
+      → (entry : List ℕ) (same : Bool) → OneEntry same → same ≡ true
       → PutsBack chains place actor undo room (at_stage (Unmark which) (record room { entries = entry })) old old Step
   look_same at within marked mark not_marked had entry same one is_same =
       to_stage (record room { entries = entry }) (written_leaves chains place actor undo room old is which entry) (Unmark which) (within, had)
@@ -131,27 +165,43 @@ module _ (chains : Chains) (place : Place) (actor : ℕ) (undo : Undo) (room : W
       let was = was_there at told had in
       let short = entry_short old.schemas undo is.schema place which coded room.newest.items is.tells within code in
       let short_too = entry_short old.schemas undo is.schema place which was.former undo.value is.tells within was.code_is in
-      let entries = (one is.schema coded was.former is.tells.there code.numbers was.code_is.numbers code.record_is was.code_is.record_is short short_too).0 is_same in
-      let values = values_same is.schema undo.key which is.tells.storable within room.newest.items undo.value coded was.former code was.code_is entries in
-      (coded, clear_of_same chains place undo is.schema (rows_of old) is.tells room.newest.items coded which was within (plain_is told coded code marked mark not_marked) (sym values) h.1))
+      let entries =
+      (one is.schema coded was.former is.tells.there code.numbers was.code_is.numbers code.record_is was.code_is.record_is short short_too).0 is_same in
+      let values = values_same is.schema undo.key which is.tells.storable within room.newest.items undo.value coded was.former code was.code_is entries in (
+        coded,
+        clear_of_same chains place undo is.schema (rows_of old) is.tells room.newest.items coded which was within
+            (plain_is told coded code marked mark not_marked) (sym values) h.1,
+      ))
       (inl (let from = ap (steps_left keys) at in omega (arith, from)))
 
   -- ---- a walk begins
 
   abbrev PointerIs : ℕ → List ℕ → Type 0
-  PointerIs result bytes = (marked : Bool) (writer pointer : ℕ) (fields : List ℕ) → pointer < 2 ^ 64 → bytes ≡ head_code marked writer pointer ++ fields → result ≡ pointer
+  PointerIs result bytes =
+      (marked : Bool) (writer pointer : ℕ) (fields : List ℕ) → pointer < 2 ^ 64 → bytes ≡ head_code marked writer pointer ++ fields → result ≡ pointer
 
-  pub look_on : room.stage ≡ Key which → which < keys → (marked : Bool) → MarkIs marked → marked ≡ false → (pointer : ℕ) → PointerIs pointer room.newest.items → (mid : WorkRoom) → Leave mid → PutsBack chains place actor undo room (at_stage (Walk which pointer) mid) old old Step
+  pub look_on : room.stage ≡ Key which → which < keys → (marked : Bool) → MarkIs marked → marked ≡ false → (pointer : ℕ)
+      → PointerIs pointer room.newest.items → (mid : WorkRoom) → Leave mid
+      → PutsBack chains place actor undo room (at_stage (Walk which pointer) mid) old old Step
   look_on at within marked mark not_marked pointer pointer_is mid leaves =
       to_stage mid leaves (Walk which pointer) within
       (λ told.
       let h = hold (Key which) at told in
       let coded = h.0 in
       let code = h.1.newest.code_is in
-      let read = newest_read undo is.schema place old.schemas is.tells (rows_of old).pairs (rows_of old).kept chains room.newest.items coded h.1.coded_but.clustered h.1.newest in
-      let same : pointer ≡ coded.pointer = pointer_is coded.marked coded.writer coded.pointer (others_code is.schema.primary is.schema.columns coded.row) code.numbers.pointer (head_is is.schema undo.key room.newest.items coded code) in
-      let walk = walk_begins is.schema undo.key (rows_of old).kept which coded before read.1 in
-      (coded, h.1, plain_is told coded code marked mark not_marked, subst (λ (p : ℕ). HasWalked is.schema undo.key (rows_of old).kept which p coded before) (sym same) walk))
+      let read =
+      newest_read undo is.schema place old.schemas is.tells (rows_of old).pairs (rows_of old).kept chains room.newest.items coded h.1.coded_but.clustered
+      h.1.newest in
+      let same : pointer ≡ coded.pointer =
+      pointer_is coded.marked coded.writer coded.pointer (others_code is.schema.primary is.schema.columns coded.row) code.numbers.pointer
+      (head_is is.schema undo.key room.newest.items coded code) in
+      let walk = walk_begins is.schema undo.key (rows_of old).kept which coded before read.1 in (
+        coded,
+        h.1,
+        plain_is told coded code marked mark not_marked,
+        subst (λ (p : ℕ). HasWalked is.schema undo.key (rows_of old).kept which p coded before)
+            (sym same) walk,
+      ))
       (inl (let from = ap (steps_left keys) at in omega (arith, from)))
 
   -- ---- a walk goes on
@@ -162,21 +212,27 @@ module _ (chains : Chains) (place : Place) (actor : ℕ) (undo : Undo) (room : W
         let h = hold (Walk which pointer) at (record { pairs = together told; versions = told }) in
         walk_leads is.schema undo.key old.versions pointer h.3.left h.3.leads
 
-    pub walk_over : (mid : WorkRoom) → Leave mid → (new : WorldState) → IsUnchanged old new → pointer ≡ 0 → PutsBack chains place actor undo room (at_stage (Await which) mid) old new Step
+    pub walk_over : (mid : WorkRoom) → Leave mid → (new : WorldState) → IsUnchanged old new → pointer ≡ 0
+        → PutsBack chains place actor undo room (at_stage (Await which) mid) old new Step
     walk_over mid leaves new same nowhere =
         let stays = unchanged_stays old new same in
-        went_to chains place actor undo room old is which mid leaves (Await which) new (schemas_stay stays) (inl stays) (fitting chains place actor undo room old is which (Walk which pointer) at)
+        went_to chains place actor undo room old is which mid leaves (Await which) new (schemas_stay stays) (inl stays)
+        (fitting chains place actor undo room old is which (Walk which pointer) at)
         (λ told.
         let h = hold (Walk which pointer) at (told_before stays told) in
         let none = walk_ends is.schema undo.key (rows_of old).kept which pointer h.0 before h.3 nowhere in
-        subst (λ (r : Rows). StageHolds chains place undo is.schema r room.newest.items (Await which)) (sym (rows_stay stays told)) (h.0, h.1, record { plain = h.2; found_is = none }))
+        subst (λ (r : Rows). StageHolds chains place undo is.schema r room.newest.items (Await which)) (sym (rows_stay stays told))
+        (h.0, h.1, record { plain = h.2; found_is = none }))
         (inl (let from = ap (steps_left keys) at in omega (arith, from)))
 
-    pub walk_stopped : (mid : WorkRoom) → Leave mid → (new : WorldState) → IsUnchanged old new → (answer : Move) → answer ≢ Done → StopsWalk old new answer → PutsBack chains place actor undo room mid old new answer
+    pub walk_stopped : (mid : WorkRoom) → Leave mid → (new : WorldState) → IsUnchanged old new → (answer : Move) → answer ≢ Done → StopsWalk old new answer
+        → PutsBack chains place actor undo room mid old new answer
     walk_stopped mid leaves new same answer not_done cause =
-        stopped_at chains place actor undo room old is which mid leaves new answer not_done (unchanged_stays old new same) (subst (λ (s : Stage). StopsAt actor undo s old new answer) (sym at) cause)
+        stopped_at chains place actor undo room old is which mid leaves new answer not_done (unchanged_stays old new same)
+        (subst (λ (s : Stage). StopsAt actor undo s old new answer) (sym at) cause)
 
-    module _ (mid : WorkRoom) (leaves : Leave mid) (new : WorldState) (same : IsUnchanged old new) (leads_on : pointer ≢ 0) (bytes : IsTrue old.versions.told → option_map (λ (k : Kept). k.bytes) (old.versions.kept_at pointer) ≡ Some mid.older.items)
+    module _ (mid : WorkRoom) (leaves : Leave mid) (new : WorldState) (same : IsUnchanged old new) (leads_on : pointer ≢ 0)
+        (bytes : IsTrue old.versions.told → option_map (λ (k : Kept). k.bytes) (old.versions.kept_at pointer) ≡ Some mid.older.items)
         (after : WorkRoom) (result : Move) (looks : LooksOn new undo which mid after result) where
       stays : RowsStay old new
       stays = unchanged_stays old new same
@@ -185,38 +241,60 @@ module _ (chains : Chains) (place : Place) (actor : ℕ) (undo : Undo) (room : W
       within = fitting chains place actor undo room old is which (Walk which pointer) at
 
       read_at : (told : IsTold old) → IsRead is.schema undo.key mid.older.items (rows_of old).kept (hold (Walk which pointer) at told).3.left
-      read_at told = let h = hold (Walk which pointer) at told in version_read is.schema undo.key mid.older.items (rows_of old).kept pointer h.3.left h.3.leads leads_on (bytes told.versions)
+      read_at told =
+          let h = hold (Walk which pointer) at told in version_read is.schema undo.key mid.older.items (rows_of old).kept pointer h.3.left h.3.leads leads_on
+          (bytes told.versions)
 
-      looked : (told : IsTold old) → LooksAt which (read_at told).version (entry_of is.schema (which + 1) (hold (Walk which pointer) at told).0.row undo.key) (entry_of is.schema (which + 1) (read_at told).version.row undo.key) after.stage
+      looked : (told : IsTold old)
+          → LooksAt which (read_at told).version (entry_of is.schema (which + 1) (hold (Walk which pointer) at told).0.row undo.key)
+          (entry_of is.schema (which + 1) (read_at told).version.row undo.key) after.stage
       looked told =
           let h = hold (Walk which pointer) at told in
           let read = read_at told in
           let code = h.1.newest.code_is in
           let newest = subst (λ (b : List ℕ). IsRecordOf is.schema h.0 undo.key b) (sym leaves.newest) code.record_is in
-          looks.stage is.schema h.0 read.version (ap (λ (s : List Schema). slice_get s undo.table) (schemas_stay stays) ∙ is.tells.there) code.numbers read.code_is.numbers newest read.code_is.record_is
-          (entry_short old.schemas undo is.schema place which h.0 room.newest.items is.tells within code) (entry_short old.schemas undo is.schema place which read.version mid.older.items is.tells within read.code_is)
+          looks.stage is.schema h.0 read.version (ap (λ (s : List Schema). slice_get s undo.table) (schemas_stay stays) ∙ is.tells.there) code.numbers
+          read.code_is.numbers newest read.code_is.record_is
+          (entry_short old.schemas undo is.schema place which h.0 room.newest.items is.tells within code)
+          (entry_short old.schemas undo is.schema place which read.version mid.older.items is.tells within read.code_is)
 
-      holds_by : (told : IsTold old) (stage : Stage) → LooksAt which (read_at told).version (entry_of is.schema (which + 1) (hold (Walk which pointer) at told).0.row undo.key) (entry_of is.schema (which + 1) (read_at told).version.row undo.key) stage
+      holds_by : (told : IsTold old) (stage : Stage)
+          → LooksAt which (read_at told).version (entry_of is.schema (which + 1) (hold (Walk which pointer) at told).0.row undo.key)
+          (entry_of is.schema (which + 1) (read_at told).version.row undo.key) stage
           → StageHolds chains place undo is.schema (rows_of old) room.newest.items stage
       holds_by told stage (inl found) =
           let h = hold (Walk which pointer) at told in
           let read = read_at told in
-          let here = found_here is.schema undo.key which is.tells.storable within room.newest.items mid.older.items h.0 read.version h.1.newest.code_is read.code_is found.1 found.2 read.rest in
+          let here =
+          found_here is.schema undo.key which is.tells.storable within room.newest.items mid.older.items h.0 read.version h.1.newest.code_is read.code_is
+          found.1 found.2 read.rest in
           let some : some_has is.schema which h.0 before ≡ true = h.3.passed ∙ (ap (some_has is.schema which h.0) read.left_is ∙ here) in
-          subst (λ (s : Stage). StageHolds chains place undo is.schema (rows_of old) room.newest.items s) (sym found.0) (h.0, h.1, record { plain = h.2; found_is = some })
+          subst (λ (s : Stage). StageHolds chains place undo is.schema (rows_of old) room.newest.items s) (sym found.0)
+          (h.0, h.1, record { plain = h.2; found_is = some })
       holds_by told stage (inr on) =
           let h = hold (Walk which pointer) at told in
           let read = read_at told in
-          let past = passed_here is.schema undo.key which is.tells.storable within room.newest.items mid.older.items h.0 read.version h.1.newest.code_is read.code_is on.1 read.rest in
+          let past =
+          passed_here is.schema undo.key which is.tells.storable within room.newest.items mid.older.items h.0 read.version h.1.newest.code_is
+          read.code_is on.1 read.rest in
           let walked : HasWalked is.schema undo.key (rows_of old).kept which read.version.pointer h.0 before
-          = record { left = read.rest; leads = read.leads; fewer = (let all = ap length read.left_is in omega (arith, all, h.3.fewer)); passed = h.3.passed ∙ (ap (some_has is.schema which h.0) read.left_is ∙ past) } in
+          =
+          record {
+            left = read.rest;
+            leads = read.leads;
+            fewer = (let all = ap length read.left_is in omega (arith, all, h.3.fewer));
+            passed = h.3.passed
+                ∙ (ap (some_has is.schema which h.0) read.left_is ∙ past);
+          } in
           subst (λ (s : Stage). StageHolds chains place undo is.schema (rows_of old) room.newest.items s) (sym on.0) (h.0, h.1, h.2, walked)
 
       fits_by : (after.stage ≡ Mark which) ⊎ ((behind : ℕ) × (after.stage ≡ Walk which behind)) → FitsKeys keys undo after.stage
       fits_by (inl mark) = subst (λ (s : Stage). FitsKeys keys undo s) (sym mark) within
       fits_by (inr (behind, walk)) = subst (λ (s : Stage). FitsKeys keys undo s) (sym walk) within
 
-      behind_is : (told : IsTold old) (behind : ℕ) → after.stage ≡ Walk which behind → LooksAt which (read_at told).version (entry_of is.schema (which + 1) (hold (Walk which pointer) at told).0.row undo.key) (entry_of is.schema (which + 1) (read_at told).version.row undo.key) after.stage
+      behind_is : (told : IsTold old) (behind : ℕ) → after.stage ≡ Walk which behind
+          → LooksAt which (read_at told).version (entry_of is.schema (which + 1) (hold (Walk which pointer) at told).0.row undo.key)
+          (entry_of is.schema (which + 1) (read_at told).version.row undo.key) after.stage
           → behind ≡ (read_at told).version.pointer
       behind_is told behind walk (inl found) = absurd (let e : Walk which behind ≡ Mark which = sym walk ∙ found.0 in cc)
       behind_is told behind walk (inr on) = let e : Walk which behind ≡ Walk which (read_at told).version.pointer = sym walk ∙ on.0 in cc
@@ -236,8 +314,10 @@ module _ (chains : Chains) (place : Place) (actor : ℕ) (undo : Undo) (room : W
                 let one = behind_is before_told behind walk (looked before_told) in
                 let Lead : ℕ → List Version → (ℕ → Option Kept) → Type 0 = λ p vs k. LeadTo is.schema undo.key k p vs in
                 let first = subst (λ (k : ℕ → Option Kept). Lead pointer versions k) kept from in
-                let second = subst (λ (p : ℕ). Lead p others old.versions.kept_at) one (subst (λ (k : ℕ → Option Kept). Lead behind others k) kept behind_leads) in
-                walk_shortens is.schema undo.key (rows_of old).kept pointer h.3.left read.version read.rest versions others h.3.leads read.left_is read.leads first second,
+                let second =
+                subst (λ (p : ℕ). Lead p others old.versions.kept_at) one (subst (λ (k : ℕ → Option Kept). Lead behind others k) kept behind_leads) in
+                walk_shortens is.schema undo.key (rows_of old).kept pointer h.3.left read.version read.rest versions others h.3.leads read.left_is read.leads
+                first second,
           )))
 
       pub walk_looks : PutsBack chains place actor undo room after old new result
@@ -255,5 +335,6 @@ module _ (chains : Chains) (place : Place) (actor : ℕ) (undo : Undo) (room : W
           (λ told.
           let before_told = told_before stays told in
           subst (λ (b : List ℕ). StageHolds chains place undo is.schema (rows_of new) b after.stage) (sym items)
-          (subst (λ (r : Rows). StageHolds chains place undo is.schema r room.newest.items after.stage) (sym (rows_stay stays told)) (holds_by before_told after.stage (looked before_told))))
+          (subst (λ (r : Rows). StageHolds chains place undo is.schema r room.newest.items after.stage) (sym (rows_stay stays told))
+          (holds_by before_told after.stage (looked before_told))))
           (nears_by looks.either))

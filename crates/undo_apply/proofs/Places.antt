@@ -35,12 +35,14 @@ module _ (undo : Undo) (schema : Schema) (place : Place) (schemas : List Schema)
       λ i. record { table = table i; key = key i }
 
   -- the record is the newest version, and its pointer leads to the others
-  pub newest_read : (pairs : ℕ → List Pair) (kept : ℕ → Option Kept) (chains : Chains) (bytes : List ℕ) (coded : Coded) → AreClustered schemas pairs kept chains → IsNewest undo schema pairs kept bytes coded
+  pub newest_read : (pairs : ℕ → List Pair) (kept : ℕ → Option Kept) (chains : Chains) (bytes : List ℕ) (coded : Coded)
+      → AreClustered schemas pairs kept chains → IsNewest undo schema pairs kept bytes coded
       → (versions_at place chains ≡ shown coded ∷ versions_before chains place) × LeadTo schema undo.key kept coded.pointer (versions_before chains place)
   newest_read pairs kept chains bytes coded are is =
       let clustered = are.tables undo.table schema tells.there in
       let both = key_there schema undo.key bytes coded clustered.primary clustered.primary_is is.code_is in
-      let At : List ℕ → Type 0 = λ k. IsRecordWith schema k kept (value_of k (pairs (clustered_index undo.table))) (in_table undo.table chains (key_of schema coded.row)) in
+      let At : List ℕ → Type 0 =
+      λ k. IsRecordWith schema k kept (value_of k (pairs (clustered_index undo.table))) (in_table undo.table chains (key_of schema coded.row)) in
       let here = subst At (sym both.1) (clustered.records (key_of schema coded.row) both.0) in
       let found = subst (λ (o : Option (List ℕ)). IsRecordWith schema undo.key kept o (in_table undo.table chains (key_of schema coded.row))) is.there here in
       let at_place = subst (λ (p : Place). IsRecordWith schema undo.key kept (Some bytes) (versions_at p chains)) (place_is bytes coded is.code_is) found in
@@ -48,7 +50,8 @@ module _ (undo : Undo) (schema : Schema) (place : Place) (schemas : List Schema)
 
 -- ---- what was before the change
 
-first_byte : (version : Coded) (fields : List ℕ) → slice_index_or (head_code version.marked version.writer version.pointer ++ fields) 0 1 ≡ mark_code version.marked
+first_byte : (version : Coded) (fields : List ℕ)
+    → slice_index_or (head_code version.marked version.writer version.pointer ++ fields) 0 1 ≡ mark_code version.marked
 first_byte version fields = ap (λ (l : List ℕ). slice_index_or l 0 1) (head_parts version.marked version.writer version.pointer fields)
 
 is_zero : (marked : Bool) → (mark_code marked == 0) ≡ not marked
@@ -98,16 +101,25 @@ before_new undo is = cond-true (undo.kind == 1) None (Some undo.value) (kind_new
 pub before_kept : (undo : Undo) → undo.kind ≡ 2 → was_before undo ≡ Some undo.value
 before_kept undo is = cond-false (undo.kind == 1) None (Some undo.value) (kind_two undo is)
 
-former_row : (undo : Undo) (schema : Schema) (kept : ℕ → Option Kept) (pointer : ℕ) (before : List Version) (former : Kept) → undo.kind ≡ 2 → IsCodeOf schema undo.key undo.value former.version → before ≡ shown former.version ∷ older before
+former_row : (undo : Undo) (schema : Schema) (kept : ℕ → Option Kept) (pointer : ℕ) (before : List Version) (former : Kept) → undo.kind ≡ 2
+    → IsCodeOf schema undo.key undo.value former.version → before ≡ shown former.version ∷ older before
     → (marked : Bool) → former.version.marked ≡ marked → WasThere undo schema before ⊎ WasNot undo before
 former_row undo schema kept pointer before former kind code first true marked =
     let had : had_row undo ≡ false = had_kept undo kind ∙ (mark_read schema undo.key undo.value former.version code ∙ ap not marked) in
     inr (record { had = had; first = ap newest first ∙ no_row_if former.version.marked former.version.row (ap not marked) })
 former_row undo schema kept pointer before former kind code first false marked =
     let had : had_row undo ≡ true = had_kept undo kind ∙ (mark_read schema undo.key undo.value former.version code ∙ ap not marked) in
-    inl (record { former = former.version; code_is = code; plain = marked; had = had; first = ap newest first ∙ row_if former.version.marked former.version.row (ap not marked) })
+    inl (record {
+      former = former.version;
+      code_is = code;
+      plain = marked;
+      had = had;
+      first = ap newest first ∙ row_if former.version.marked
+          former.version.row (ap not marked);
+    })
 
-pub what_was : (undo : Undo) (schema : Schema) (kept : ℕ → Option Kept) (pointer : ℕ) (before : List Version) → LeadsBack undo kept pointer → LeadTo schema undo.key kept pointer before → WasThere undo schema before ⊎ WasNot undo before
+pub what_was : (undo : Undo) (schema : Schema) (kept : ℕ → Option Kept) (pointer : ℕ) (before : List Version) → LeadsBack undo kept pointer
+    → LeadTo schema undo.key kept pointer before → WasThere undo schema before ⊎ WasNot undo before
 what_was undo schema kept pointer before (inl new) leads =
     let none : before ≡ [] = leads_nowhere schema undo.key kept pointer before leads new.1 in
     inr (record { had = had_not_new undo new.0; first = ap newest none })

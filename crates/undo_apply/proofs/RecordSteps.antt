@@ -55,7 +55,8 @@ pub not_new : (undo : Undo) → undo.kind ≢ 1 → was_before undo ≡ Some und
 not_new undo other = cond-false (undo.kind == 1) None (Some undo.value) (ne_eqb undo.kind 1 other)
 
 -- the version before has as many bytes as the newest
-pub as_long : (undo : Undo) (schema : Schema) (kept : ℕ → Option Kept) (bytes : List ℕ) (coded : Coded) (before : List Version) → IsCodeOf schema undo.key bytes coded → LeadTo schema undo.key kept coded.pointer before → LeadsBack undo kept coded.pointer → undo.kind ≢ 1
+pub as_long : (undo : Undo) (schema : Schema) (kept : ℕ → Option Kept) (bytes : List ℕ) (coded : Coded) (before : List Version)
+    → IsCodeOf schema undo.key bytes coded → LeadTo schema undo.key kept coded.pointer before → LeadsBack undo kept coded.pointer → undo.kind ≢ 1
     → length bytes ≡ length undo.value
 as_long undo schema kept bytes coded before code leads_on (inl new) other = absurd (other new.0)
 as_long undo schema kept bytes coded before code leads_on (inr (kind, leads, former, keeps, same)) other =
@@ -84,28 +85,46 @@ module _ (chains : Chains) (place : Place) (actor : ℕ) (undo : Undo) (room : W
 
   -- the room with what was read
   pub read_whole : (read : Vec ℕ Global) → vec_capacity room.newest ≤ vec_capacity read → IsWhole (record room { newest = read })
-  read_whole read holds = record { newest = omega (arith, holds, is.whole.newest); older = is.whole.older; next = is.whole.next; marked = is.whole.marked; unmarked = is.whole.unmarked }
+  read_whole read holds =
+      record {
+        newest = omega (arith, holds, is.whole.newest);
+        older = is.whole.older;
+        next = is.whole.next;
+        marked = is.whole.marked;
+        unmarked =
+            is.whole.unmarked;
+      }
 
   fetched : (read : List ℕ) (new : WorldState) (answer : Move) → Fetching read new answer → RowsStay old new
   fetched read new answer calls = stays_if calls (fetch_keeps actor undo.key read (old.indexes index) (new.indexes index) answer calls.index_is.here)
 
   -- Where the record is what it was before, the change had been taken back.
-  was_back : room.stage ≡ Find → (found : Option (List ℕ)) → IsTold old → value_of undo.key ((rows_of old).pairs index) ≡ found → found ≡ was_before undo → IsTakenBack chains undo (rows_of old)
+  was_back : room.stage ≡ Find → (found : Option (List ℕ)) → IsTold old → value_of undo.key ((rows_of old).pairs index) ≡ found → found ≡ was_before undo
+      → IsTakenBack chains undo (rows_of old)
   was_back at found told there same =
-      ⊎_elim (λ (way : (read : List ℕ) × (coded : Coded) × IsUnderWay chains place undo is.schema (rows_of old) read coded 0 (IsLagging (shown coded) (versions_before chains place))).
-      absurd (stands chains place undo is.schema (rows_of old) way.0 way.1 0 (IsLagging (shown way.1) (versions_before chains place)) is.tells way.2 (there ∙ same))) (λ taken. taken) (hold Find at told)
+      ⊎_elim (λ (way : (read : List ℕ) × (coded : Coded) × IsUnderWay chains place undo is.schema (rows_of old) read coded 0
+      (IsLagging (shown coded) (versions_before chains place))).
+      absurd (stands chains place undo is.schema (rows_of old) way.0 way.1 0 (IsLagging (shown way.1) (versions_before chains place)) is.tells way.2
+      (there ∙ same))) (λ taken. taken) (hold Find at told)
 
-  is_left : room.stage ≡ Find → (mid : WorkRoom) → IsWhole mid → mid.stage ≡ Find → (new : WorldState) → RowsStay old new → (found : Option (List ℕ)) → (IsTold old → value_of undo.key ((rows_of old).pairs index) ≡ found) → (IsTold old → found ≡ was_before undo)
+  is_left : room.stage ≡ Find → (mid : WorkRoom) → IsWhole mid → mid.stage ≡ Find → (new : WorldState) → RowsStay old new → (found : Option (List ℕ))
+      → (IsTold old → value_of undo.key ((rows_of old).pairs index) ≡ found) → (IsTold old → found ≡ was_before undo)
       → PutsBack chains place actor undo room mid old new Done
   is_left at mid whole anew new stays found there same = record {
     changes = inl stays;
     whole = whole;
     anew = anew;
     popped = λ told differs. absurd (let before_told = told_before stays told in differs (there before_told ∙ same before_told));
-    again = λ told gone. let before_told = told_before stays told in (stays, subst (λ (r : Rows). IsTakenBack chains undo r) (sym (rows_stay stays told)) (was_back at found before_told (there before_told) (same before_told)));
+    again =
+        λ told gone. let before_told = told_before stays told in (
+          stays,
+          subst (λ (r : Rows). IsTakenBack chains undo r) (sym (rows_stay stays told))
+              (was_back at found before_told (there before_told) (same before_told)),
+        );
   }
 
-  pub find_again : room.stage ≡ Find → (read : Vec ℕ Global) → vec_capacity room.newest ≤ vec_capacity read → (new : WorldState) → Fetching read.items new Done → Some read.items ≡ was_before undo → PutsBack chains place actor undo (room) (record room { newest = read }) old new Done
+  pub find_again : room.stage ≡ Find → (read : Vec ℕ Global) → vec_capacity room.newest ≤ vec_capacity read → (new : WorldState)
+      → Fetching read.items new Done → Some read.items ≡ was_before undo → PutsBack chains place actor undo (room) (record room { newest = read }) old new Done
   find_again at read holds new calls same =
       is_left at (record room { newest = read }) (read_whole read holds) at new (fetched read.items new Done calls) (Some read.items)
       (λ told. told_of (λ pairs. value_of undo.key pairs ≡ Some read.items) old index told calls.index_is.here.0) (λ told. same)
@@ -113,15 +132,20 @@ module _ (chains : Chains) (place : Place) (actor : ℕ) (undo : Undo) (room : W
   -- no record stands: there was none before, and the change had been taken back
   none_before : room.stage ≡ Find → IsTold old → value_of undo.key ((rows_of old).pairs index) ≡ None → None ≡ was_before undo
   none_before at told none =
-      ⊎_elim (λ (way : (read : List ℕ) × (coded : Coded) × IsUnderWay chains place undo is.schema (rows_of old) read coded 0 (IsLagging (shown coded) (versions_before chains place))).
-      absurd (let e : None ≡ Some way.0 = sym none ∙ way.2.newest.there in cc)) (λ (taken : IsTakenBack chains undo (rows_of old)). sym none ∙ taken.there) (hold Find at told)
+      ⊎_elim (λ (way : (read : List ℕ) × (coded : Coded) × IsUnderWay chains place undo is.schema (rows_of old) read coded 0
+      (IsLagging (shown coded) (versions_before chains place))).
+      absurd (let e : None ≡ Some way.0 = sym none ∙ way.2.newest.there in cc)) (λ (taken : IsTakenBack chains undo (rows_of old)). sym none ∙ taken.there)
+      (hold Find at told)
 
-  pub find_none : room.stage ≡ Find → (read : Vec ℕ Global) → vec_capacity room.newest ≤ vec_capacity read → (new : WorldState) → Fetching read.items new End → PutsBack chains place actor undo room (record room { newest = read }) old new Done
+  pub find_none : room.stage ≡ Find → (read : Vec ℕ Global) → vec_capacity room.newest ≤ vec_capacity read → (new : WorldState)
+      → Fetching read.items new End → PutsBack chains place actor undo room (record room { newest = read }) old new Done
   find_none at read holds new calls =
       let there = λ (told : IsTold old). told_of (λ pairs. value_of undo.key pairs ≡ None) old index told calls.index_is.here.0 in
-      is_left at (record room { newest = read }) (read_whole read holds) at new (fetched read.items new End calls) None there (λ told. none_before at told (there told))
+      is_left at (record room { newest = read }) (read_whole read holds) at new (fetched read.items new End calls) None there
+      (λ told. none_before at told (there told))
 
-  pub find_on : room.stage ≡ Find → (read : Vec ℕ Global) → vec_capacity room.newest ≤ vec_capacity read → (new : WorldState) → Fetching read.items new Done → (Some read.items ≡ was_before undo → ⊥)
+  pub find_on : room.stage ≡ Find → (read : Vec ℕ Global) → vec_capacity room.newest ≤ vec_capacity read → (new : WorldState)
+      → Fetching read.items new Done → (Some read.items ≡ was_before undo → ⊥)
       → PutsBack chains place actor undo room (at_stage (Key 0) (record room { newest = read })) old new Step
   find_on at read holds new calls differs =
       let stays = fetched read.items new Done calls in
@@ -132,18 +156,22 @@ module _ (chains : Chains) (place : Place) (actor : ℕ) (undo : Undo) (room : W
       let before_told = told_before stays told in
       let there = told_of (λ pairs. value_of undo.key pairs ≡ Some read.items) old index before_told calls.index_is.here.0 in
       subst (λ (r : Rows). StageHolds chains place undo is.schema r read.items (Key 0)) (sym (rows_stay stays told))
-      (⊎_elim (λ (way : (bytes : List ℕ) × (coded : Coded) × IsUnderWay chains place undo is.schema (rows_of old) bytes coded 0 (IsLagging (shown coded) (versions_before chains place))).
+      (⊎_elim (λ (way : (bytes : List ℕ) × (coded : Coded) × IsUnderWay chains place undo is.schema (rows_of old) bytes coded 0
+      (IsLagging (shown coded) (versions_before chains place))).
       let some : Some way.0 ≡ Some read.items = sym way.2.newest.there ∙ there in
       let one : way.0 ≡ read.items = cc in
       subst (λ (b : List ℕ). StageHolds chains place undo is.schema (rows_of old) b (Key 0)) one (way.1, way.2))
       (λ (taken : IsTakenBack chains undo (rows_of old)). absurd (differs (sym there ∙ taken.there))) (hold Find at before_told)))
       (inl (let from = ap (steps_left keys) at in omega (arith, from)))
 
-  pub find_stopped : room.stage ≡ Find → (read : Vec ℕ Global) → vec_capacity room.newest ≤ vec_capacity read → (new : WorldState) (answer : Move) → Fetching read.items new answer → read.items ≡ room.newest.items → answer ≢ Done → answer ≢ End
+  pub find_stopped : room.stage ≡ Find → (read : Vec ℕ Global) → vec_capacity room.newest ≤ vec_capacity read → (new : WorldState) (answer : Move)
+      → Fetching read.items new answer → read.items ≡ room.newest.items → answer ≢ Done → answer ≢ End
       → PutsBack chains place actor undo room (record room { newest = read }) old new answer
   find_stopped at read holds new answer calls same not_done not_end =
-      hindered chains place actor undo room old is (record room { newest = read }) new answer not_done (fetched read.items new answer calls) refl same (read_whole read holds)
-      (subst (λ (s : Stage). StopsAt actor undo s old new answer) (sym at) (fetch_stops actor undo.key read.items old new index answer calls.index_is.here not_done not_end))
+      hindered chains place actor undo room old is (record room { newest = read }) new answer not_done (fetched read.items new answer calls) refl same
+      (read_whole read holds)
+      (subst (λ (s : Stage). StopsAt actor undo s old new answer) (sym at)
+      (fetch_stops actor undo.key read.items old new index answer calls.index_is.here not_done not_end))
 
   -- ---- others are kept from changing records
 
@@ -151,16 +179,27 @@ module _ (chains : Chains) (place : Place) (actor : ℕ) (undo : Undo) (room : W
   records_leave read holds = record {
     stage = refl;
     newest = refl;
-    whole = record { newest = is.whole.newest; older = is.whole.older; next = omega (arith, holds, is.whole.next); marked = is.whole.marked; unmarked = is.whole.unmarked };
+    whole =
+        record {
+          newest = is.whole.newest;
+          older = is.whole.older;
+          next = omega (arith, holds, is.whole.next);
+          marked = is.whole.marked;
+          unmarked =
+              is.whole.unmarked;
+        };
   }
 
-  await_went : room.stage ≡ AwaitRecords → (mid : WorkRoom) → Leave mid → (new : WorldState) → RowsStay old new → PutsBack chains place actor undo room (at_stage Record mid) old new Step
+  await_went : room.stage ≡ AwaitRecords → (mid : WorkRoom) → Leave mid → (new : WorldState) → RowsStay old new
+      → PutsBack chains place actor undo room (at_stage Record mid) old new Step
   await_went at mid leaves new stays =
       went_to chains place actor undo room old is 0 mid leaves Record new (schemas_stay stays) (inl stays) tt
-      (λ told. subst (λ (r : Rows). StageHolds chains place undo is.schema r room.newest.items Record) (sym (rows_stay stays told)) (hold AwaitRecords at (told_before stays told)))
+      (λ told. subst (λ (r : Rows). StageHolds chains place undo is.schema r room.newest.items Record) (sym (rows_stay stays told))
+      (hold AwaitRecords at (told_before stays told)))
       (inl (let from = ap (steps_left keys) at in omega (arith, from)))
 
-  pub await_records_step : room.stage ≡ AwaitRecords → (mid : WorkRoom) → Leave mid → (read : List ℕ) (new : WorldState) (answer : Move) → Calls index (λ b a. NextKeys actor undo.key read b a answer) old new
+  pub await_records_step : room.stage ≡ AwaitRecords → (mid : WorkRoom) → Leave mid → (read : List ℕ) (new : WorldState) (answer : Move)
+      → Calls index (λ b a. NextKeys actor undo.key read b a answer) old new
       → (after : WorkRoom) (reached : Move) → WentOnOrEnded Record answer mid after reached → PutsBack chains place actor undo room after old new reached
   await_records_step at mid leaves read new answer calls after reached on = by_answer (done_or_not answer) (end_or_not answer) where
     stays : RowsStay old new
@@ -177,7 +216,8 @@ module _ (chains : Chains) (place : Place) (actor : ℕ) (undo : Undo) (room : W
         let there = went_or_ended_other Record answer mid after reached on other not_end in
         put_as chains place actor undo room old is 0 mid after new answer reached there.0 there.1
         (stopped_at chains place actor undo room old is 0 mid leaves new answer other stays
-        (subst (λ (s : Stage). StopsAt actor undo s old new answer) (sym at) (next_key_stops actor undo.key read old new index answer calls.index_is.here other not_end)))
+        (subst (λ (s : Stage). StopsAt actor undo s old new answer) (sym at)
+        (next_key_stops actor undo.key read old new index answer calls.index_is.here other not_end)))
 
   -- ---- the record is put back
 
@@ -185,20 +225,25 @@ module _ (chains : Chains) (place : Place) (actor : ℕ) (undo : Undo) (room : W
   same_room = record { stage = refl; newest = refl; whole = is.whole }
 
   -- the record is what it was before, and the newest version is gone
-  ended : room.stage ≡ Record → (new : WorldState) → PutsPair index undo.key (was_before undo) old new → PutsBack chains place actor undo room (at_stage Find room) old new Done
+  ended : room.stage ≡ Record → (new : WorldState) → PutsPair index undo.key (was_before undo) old new
+      → PutsBack chains place actor undo room (at_stage Find room) old new Done
   ended at new puts = record {
     changes = inr puts;
     whole = record { newest = is.whole.newest; older = is.whole.older; next = is.whole.next; marked = is.whole.marked; unmarked = is.whole.unmarked };
     anew = refl;
     popped = λ told differs after pops.
         let h = hold Record at (told_before_put puts told) in
-        subst (λ (r : Rows). IsTakenBack after undo r) (sym (rows_after puts told)) (ends chains place undo is.schema (rows_of old) is.tells room.newest.items h.0 h.1 after pops);
+        subst (λ (r : Rows). IsTakenBack after undo r) (sym (rows_after puts told))
+        (ends chains place undo is.schema (rows_of old) is.tells room.newest.items h.0 h.1 after pops);
     again = λ told gone.
         let h = hold Record at (told_before_put puts told) in
-        absurd (stands chains place undo is.schema (rows_of old) room.newest.items h.0 (length is.schema.keys) (IsLagging (shown h.0) (versions_before chains place)) is.tells h.1 gone);
+        absurd (stands chains place undo is.schema (rows_of old) room.newest.items h.0 (length is.schema.keys)
+        (IsLagging (shown h.0) (versions_before chains place)) is.tells h.1 gone);
   }
 
-  pub remove_record : room.stage ≡ Record → undo.kind ≡ 1 → (new : WorldState) (answer : Move) → Calls index (λ b a. Removes actor undo.key b a answer) old new → (after : WorkRoom) (reached : Move) → Ended answer room after reached → PutsBack chains place actor undo room after old new reached
+  pub remove_record : room.stage ≡ Record → undo.kind ≡ 1 → (new : WorldState) (answer : Move)
+      → Calls index (λ b a. Removes actor undo.key b a answer) old new → (after : WorkRoom) (reached : Move) → Ended answer room after reached
+      → PutsBack chains place actor undo room after old new reached
   remove_record at kind new answer calls after reached on = by_answer (done_or_not answer) (end_or_not answer) where
     there : IsTold old → is_some (value_of undo.key ((rows_of old).pairs index)) ≡ true
     there told = ap is_some (hold Record at told).1.newest.there
@@ -209,42 +254,60 @@ module _ (chains : Chains) (place : Place) (actor : ℕ) (undo : Undo) (room : W
     by_answer : (answer ≡ Done) ⊎ (answer ≢ Done) → (answer ≡ End) ⊎ (answer ≢ End) → PutsBack chains place actor undo room after old new reached
     by_answer (inl done) is_end =
         let to = subst (λ (a : Move). Ended a room after reached) done on in
-        put_as chains place actor undo room old is 0 (at_stage Find room) after new Done reached to.0 to.1 (ended at new (gone (subst (λ (a : Move). Calls index (λ b a'. Removes actor undo.key b a' a) old new) done calls)))
+        put_as chains place actor undo room old is 0 (at_stage Find room) after new Done reached to.0 to.1
+        (ended at new (gone (subst (λ (a : Move). Calls index (λ b a'. Removes actor undo.key b a' a) old new) done calls)))
     by_answer (inr other) (inl is_end) =
         let to = ended_other answer room after reached on other in
         let at_end = subst (λ (a : Move). Calls index (λ b a'. Removes actor undo.key b a' a) old new) is_end calls in
         let End_stops : Move → Type 0 = λ a. StopsAt actor undo Record old new a in
         put_as chains place actor undo room old is 0 room after new answer reached to.0 to.1
-        (stopped_at chains place actor undo room old is 0 room same_room new answer other (stays_if calls (remove_keeps actor undo.key (old.indexes index) (new.indexes index) answer calls.index_is.here other))
-        (subst (λ (s : Stage). StopsAt actor undo s old new answer) (sym at) (subst End_stops (sym is_end) (absent_stops actor undo.key old new index there at_end.index_is.here))))
+        (stopped_at chains place actor undo room old is 0 room same_room new answer other
+        (stays_if calls (remove_keeps actor undo.key (old.indexes index) (new.indexes index) answer calls.index_is.here other))
+        (subst (λ (s : Stage). StopsAt actor undo s old new answer) (sym at)
+        (subst End_stops (sym is_end) (absent_stops actor undo.key old new index there at_end.index_is.here))))
     by_answer (inr other) (inr not_end) =
         let to = ended_other answer room after reached on other in
         put_as chains place actor undo room old is 0 room after new answer reached to.0 to.1
-        (stopped_at chains place actor undo room old is 0 room same_room new answer other (stays_if calls (remove_keeps actor undo.key (old.indexes index) (new.indexes index) answer calls.index_is.here other))
-        (subst (λ (s : Stage). StopsAt actor undo s old new answer) (sym at) (remove_stops actor undo.key old new index answer calls.index_is.here other not_end)))
+        (stopped_at chains place actor undo room old is 0 room same_room new answer other
+        (stays_if calls (remove_keeps actor undo.key (old.indexes index) (new.indexes index) answer calls.index_is.here other))
+        (subst (λ (s : Stage). StopsAt actor undo s old new answer) (sym at)
+        (remove_stops actor undo.key old new index answer calls.index_is.here other not_end)))
 
-  pub replace_record : room.stage ≡ Record → undo.kind ≢ 1 → (new : WorldState) (answer : Move) → Changes index actor None (λ b a ans. ReplacesWith None actor undo.key undo.value b a ans) old new answer → (after : WorkRoom) (reached : Move) → Ended answer room after reached
+  pub replace_record : room.stage ≡ Record → undo.kind ≢ 1 → (new : WorldState) (answer : Move)
+      → Changes index actor None (λ b a ans. ReplacesWith None actor undo.key undo.value b a ans) old new answer → (after : WorkRoom) (reached : Move)
+      → Ended answer room after reached
       → PutsBack chains place actor undo room after old new reached
   replace_record at kind new answer changes after reached on = by_answer (done_or_not answer) where
     there : IsTold old → IsThereAs undo.key undo.value old index
     there told =
         let h = hold Record at told in
-        let read = newest_read undo is.schema place old.schemas is.tells (rows_of old).pairs (rows_of old).kept chains room.newest.items h.0 h.1.coded_but.clustered h.1.newest in
-        (room.newest.items, h.1.newest.there, as_long undo is.schema (rows_of old).kept room.newest.items h.0 (versions_before chains place) h.1.newest.code_is read.1 h.1.newest.before kind)
+        let read =
+        newest_read undo is.schema place old.schemas is.tells (rows_of old).pairs (rows_of old).kept chains room.newest.items h.0 h.1.coded_but.clustered
+        h.1.newest in (
+          room.newest.items,
+          h.1.newest.there,
+          as_long undo is.schema (rows_of old).kept room.newest.items h.0 (versions_before chains place)
+              h.1.newest.code_is read.1 h.1.newest.before kind,
+        )
 
-    put : Changes index actor None (λ b a ans. ReplacesWith None actor undo.key undo.value b a ans) old new Done → PutsPair index undo.key (was_before undo) old new
-    put c = subst (λ (v : Option (List ℕ)). PutsPair index undo.key v old new) (sym (not_new undo kind)) (puts_if undo.key (Some undo.value) c c.index_is.here.1)
+    put : Changes index actor None (λ b a ans. ReplacesWith None actor undo.key undo.value b a ans) old new Done
+        → PutsPair index undo.key (was_before undo) old new
+    put c =
+        subst (λ (v : Option (List ℕ)). PutsPair index undo.key v old new) (sym (not_new undo kind)) (puts_if undo.key (Some undo.value) c c.index_is.here.1)
 
     by_answer : (answer ≡ Done) ⊎ (answer ≢ Done) → PutsBack chains place actor undo room after old new reached
     by_answer (inl done) =
         let to = subst (λ (a : Move). Ended a room after reached) done on in
         put_as chains place actor undo room old is 0 (at_stage Find room) after new Done reached to.0 to.1
-        (ended at new (put (subst (λ (a : Move). Changes index actor None (λ b a' ans. ReplacesWith None actor undo.key undo.value b a' ans) old new a) done changes)))
+        (ended at new (put (subst (λ (a : Move). Changes index actor None (λ b a' ans. ReplacesWith None actor undo.key undo.value b a' ans) old new a) done
+        changes)))
     by_answer (inr other) =
         let to = ended_other answer room after reached on other in
         put_as chains place actor undo room old is 0 room after new answer reached to.0 to.1
-        (stopped_at chains place actor undo room old is 0 room same_room new answer other (change_stays_if changes (replace_keeps actor undo.key undo.value (old.indexes index) (new.indexes index) answer changes.index_is.here other))
-        (subst (λ (s : Stage). StopsAt actor undo s old new answer) (sym at) (replace_stops actor undo.key undo.value old new index answer there changes.index_is.here other)))
+        (stopped_at chains place actor undo room old is 0 room same_room new answer other
+        (change_stays_if changes (replace_keeps actor undo.key undo.value (old.indexes index) (new.indexes index) answer changes.index_is.here other))
+        (subst (λ (s : Stage). StopsAt actor undo s old new answer) (sym at)
+        (replace_stops actor undo.key undo.value old new index answer there changes.index_is.here other)))
 
 pub not_done_test : (answer : Move) → answer ≢ Done → is_done answer ≡ false
 not_done_test Done other = absurd (other refl)

@@ -28,24 +28,33 @@ pub set_others : (said : ℕ → List Version) (which : ℕ) (versions : List Ve
 set_others said which versions other differs = cond-false (other == which) versions (said other) (ne_eqb other which differs)
 
 module _ (newest : Version) (before : List Version) (said : ℕ → List Version) (which : ℕ) where
-  pub here_is : (Was Now : List Version → Type 0) → (Was (said which) → Now (said which)) → SayBefore which Was newest before said → SayBefore which Now newest before said
+  pub here_is : (Was Now : List Version → Type 0) → (Was (said which) → Now (said which)) → SayBefore which Was newest before said
+      → SayBefore which Now newest before said
   here_is Was Now step says = record { first = says.first; here = step says.here; others = says.others }
 
-  pub here_now : (Was Now : List Version → Type 0) (versions : List Version) → Now versions → SayBefore which Was newest before said → SayBefore which Now newest before (set_said said which versions)
+  pub here_now : (Was Now : List Version → Type 0) (versions : List Version) → Now versions → SayBefore which Was newest before said
+      → SayBefore which Now newest before (set_said said which versions)
   here_now Was Now versions now says = record {
     first = λ other less. set_others said which versions other (omega arith) ∙ says.first other less;
     here = subst Now (sym (set_here said which versions)) now;
-    others = λ other more. subst (λ (v : List Version). IsLagging newest before v) (sym (set_others said which versions other (omega arith))) (says.others other more);
+    others =
+        λ other more. subst (λ (v : List Version). IsLagging newest before v) (sym (set_others said which versions other (omega arith)))
+        (says.others other more);
   }
 
-  pub one_done : (Was : List Version → Type 0) → SayBefore which Was newest before said → SayBefore (which + 1) (IsLagging newest before) newest before (set_said said which before)
+  pub one_done : (Was : List Version → Type 0) → SayBefore which Was newest before said
+      → SayBefore (which + 1) (IsLagging newest before) newest before (set_said said which before)
   one_done Was says = record {
     first = λ other less. ⊎_elim
         (λ e. ap (λ (k : ℕ). set_said said which before k) e ∙ set_here said which before)
         (λ differs. set_others said which before other differs ∙ says.first other (omega (arith, less, differs)))
         (cases_eq other which);
-    here = subst (λ (v : List Version). IsLagging newest before v) (sym (set_others said which before (which + 1) (omega arith))) (says.others (which + 1) (omega arith));
-    others = λ other more. subst (λ (v : List Version). IsLagging newest before v) (sym (set_others said which before other (omega (arith, more)))) (says.others other (omega (arith, more)));
+    here =
+        subst (λ (v : List Version). IsLagging newest before v) (sym (set_others said which before (which + 1) (omega arith)))
+        (says.others (which + 1) (omega arith));
+    others =
+        λ other more. subst (λ (v : List Version). IsLagging newest before v) (sym (set_others said which before other (omega (arith, more))))
+        (says.others other (omega (arith, more)));
   }
 
 -- ---- what keys say of all places
@@ -59,30 +68,36 @@ lags_there chains place said table which value apart = cond-false (is_same_place
 pub sets_there : (chains : Chains) (place : Place) (said : ℕ → List Version) (which : ℕ) (versions : List Version)
     → SaysNow (said_but chains place said) (said_but chains place (set_said said which versions)) place which versions
 sets_there chains place said which versions table key value = go (key == which) (is_same_place place (at table value)) where
-  go : (b t : Bool) → cond t (cond b versions (said key)) (in_table table chains value) ≡ cond (b && t) versions (cond t (said key) (in_table table chains value))
+  go : (b t : Bool)
+      → cond t (cond b versions (said key)) (in_table table chains value) ≡ cond (b && t) versions (cond t (said key) (in_table table chains value))
   go true true = refl
   go true false = refl
   go false true = refl
   go false false = refl
 
 -- Without its newest version the keys say of the place what they said.
-pub but_after : (schemas : List Schema) (indexes : ℕ → List Pair) (kept : ℕ → Option Kept) (before after : Chains) (place : Place) (said : ℕ → List Version) → Pops before after place
+pub but_after : (schemas : List Schema) (indexes : ℕ → List Pair) (kept : ℕ → Option Kept) (before after : Chains) (place : Place) (said : ℕ → List Version)
+    → Pops before after place
     → AreCodedAs schemas indexes kept after (said_but before place said) → AreCodedBut schemas indexes kept after place said
 but_after schemas indexes kept before after place said pops is =
     said_alike schemas indexes kept after (said_but before place said) (said_but after place said) is
     (λ table which schema key there also value. tells table which key value (is_same_place place (at table value)) refl) where
-      tells : (table which : ℕ) (key : Key) (v : Value) (t : Bool) → is_same_place place (at table v) ≡ t → TellAlike key.column (cond t (said which) (in_table table before v)) (cond t (said which) (in_table table after v))
+      tells : (table which : ℕ) (key : Key) (v : Value) (t : Bool) → is_same_place place (at table v) ≡ t
+          → TellAlike key.column (cond t (said which) (in_table table before v)) (cond t (said which) (in_table table after v))
       tells table which key v true same = λ other. refl
       tells table which key v false apart = λ other. ap (entry_of key.column other) (sym (popped_elsewhere before after place pops (at table v) apart))
 
 -- Each key may be said to say of the place what tells alike.
-pub but_alike : (schemas : List Schema) (indexes : ℕ → List Pair) (kept : ℕ → Option Kept) (chains : Chains) (place : Place) (was now : ℕ → List Version) → AreCodedBut schemas indexes kept chains place was
-    → ((schema : Schema) (which : ℕ) (key : Key) → slice_get schemas place.table ≡ Some schema → slice_get schema.keys which ≡ Some key → TellAlike key.column (was which) (now which))
+pub but_alike : (schemas : List Schema) (indexes : ℕ → List Pair) (kept : ℕ → Option Kept) (chains : Chains) (place : Place) (was now : ℕ → List Version)
+    → AreCodedBut schemas indexes kept chains place was
+    → ((schema : Schema) (which : ℕ) (key : Key) → slice_get schemas place.table ≡ Some schema → slice_get schema.keys which ≡ Some key → TellAlike
+    key.column (was which) (now which))
     → AreCodedBut schemas indexes kept chains place now
 but_alike schemas indexes kept chains place was now is alike =
     said_alike schemas indexes kept chains (said_but chains place was) (said_but chains place now) is
     (λ table which schema key there also value. tells table which schema key there also value (is_same_place place (at table value)) refl) where
-      tells : (table which : ℕ) (schema : Schema) (key : Key) → slice_get schemas table ≡ Some schema → slice_get schema.keys which ≡ Some key → (v : Value) (t : Bool) → is_same_place place (at table v) ≡ t
+      tells : (table which : ℕ) (schema : Schema) (key : Key) → slice_get schemas table ≡ Some schema → slice_get schema.keys which ≡ Some key
+          → (v : Value) (t : Bool) → is_same_place place (at table v) ≡ t
           → TellAlike key.column (cond t (was which) (in_table table chains v)) (cond t (now which) (in_table table chains v))
       tells table which schema key there also v true same =
           let one : place.table ≡ table = ap (λ (p : Place). p.table) (same_place place (at table v) same) in

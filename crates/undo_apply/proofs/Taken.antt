@@ -73,7 +73,8 @@ module _ (column : ℕ) (value : Value) (first : Version) (before : List Version
   unmark_to has said (inr (away, none, same)) = λ other apart. ap (entry_said column other) same ∙ unmarked column value away before has none other apart
 
 shown_has : (column : ℕ) (coded : Coded) → coded.marked ≡ false → has_value column (value_in column coded.row) (row_shown coded.marked coded.row) ≡ true
-shown_has column coded plain = ap (λ (m : Bool). has_value column (value_in column coded.row) (row_shown m coded.row)) plain ∙ value_itself (value_in column coded.row)
+shown_has column coded plain =
+    ap (λ (m : Bool). has_value column (value_in column coded.row) (row_shown m coded.row)) plain ∙ value_itself (value_in column coded.row)
 
 first_has : (column : ℕ) (row : List Value) (found : Option (List Value)) → found ≡ Some row → has_value column (value_in column row) found ≡ true
 first_has column row found is = ap (has_value column (value_in column row)) is ∙ value_itself (value_in column row)
@@ -91,13 +92,17 @@ module _ (chains : Chains) (place : Place) (undo : Undo) (schema : Schema) (rows
   abbrev pub with_entry : ℕ → Coded → Option (List ℕ) → Rows
   with_entry which version value = record rows { pairs = pairs_after (key_index undo.table which) (entry_at which version) value rows.pairs }
 
-  records_same : (which : ℕ) (version : Coded) (value : Option (List ℕ)) → which < length schema.keys → (with_entry which version value).pairs (clustered_index undo.table) ≡ rows.pairs (clustered_index undo.table)
+  records_same : (which : ℕ) (version : Coded) (value : Option (List ℕ)) → which < length schema.keys
+      → (with_entry which version value).pairs (clustered_index undo.table) ≡ rows.pairs (clustered_index undo.table)
   records_same which version value within =
       let few = few_keys schema tells.storable in
-      let differs : clustered_index undo.table ≢ key_index undo.table which = λ same. no_key undo.table undo.table which (omega (arith, within, few)) (sym same) in
-      cond-false (clustered_index undo.table == key_index undo.table which) _ (rows.pairs (clustered_index undo.table)) (ne_eqb (clustered_index undo.table) (key_index undo.table which) differs)
+      let differs : clustered_index undo.table ≢ key_index undo.table which =
+      λ same. no_key undo.table undo.table which (omega (arith, within, few)) (sym same) in
+      cond-false (clustered_index undo.table == key_index undo.table which) _ (rows.pairs (clustered_index undo.table))
+      (ne_eqb (clustered_index undo.table) (key_index undo.table which) differs)
 
-  newest_same : (which : ℕ) (version : Coded) (value : Option (List ℕ)) (bytes : List ℕ) (coded : Coded) → which < length schema.keys → IsNewest undo schema rows.pairs rows.kept bytes coded → IsNewest undo schema (with_entry which version value).pairs rows.kept bytes coded
+  newest_same : (which : ℕ) (version : Coded) (value : Option (List ℕ)) (bytes : List ℕ) (coded : Coded) → which < length schema.keys
+      → IsNewest undo schema rows.pairs rows.kept bytes coded → IsNewest undo schema (with_entry which version value).pairs rows.kept bytes coded
   newest_same which version value bytes coded within is = record {
     there = ap (value_of undo.key) (records_same which version value within) ∙ is.there;
     code_is = is.code_is;
@@ -105,28 +110,35 @@ module _ (chains : Chains) (place : Place) (undo : Undo) (schema : Schema) (rows
   }
 
   -- the entry of a record of the place is changed
-  entry_put : (said : ℕ → List Version) (which : ℕ) (it : IsKeyAt schema which) (indexed : Column) (version : Coded) (bytes : List ℕ) (versions : List Version) (value : Option (List ℕ)) → slice_get schema.columns it.key.column ≡ Some indexed
+  entry_put : (said : ℕ → List Version) (which : ℕ) (it : IsKeyAt schema which) (indexed : Column) (version : Coded) (bytes : List ℕ)
+      (versions : List Version) (value : Option (List ℕ)) → slice_get schema.columns it.key.column ≡ Some indexed
       → AreCodedBut rows.schemas rows.pairs rows.kept chains place said → IsCodeOf schema undo.key bytes version
-      → TellAlikeBut (value_in it.key.column version.row) it.key.column (said which) versions → entry_said it.key.column (value_in it.key.column version.row) versions ≡ value
+      → TellAlikeBut (value_in it.key.column version.row) it.key.column (said which) versions → entry_said it.key.column (value_in it.key.column version.row)
+      versions ≡ value
       → AreCodedBut rows.schemas (with_entry which version value).pairs rows.kept chains place (set_said said which versions)
   entry_put said which it indexed version bytes versions value indexed_is are code alike told =
       let here = place_is undo schema place rows.schemas tells bytes version code in
       let entry = entry_is schema which it.key indexed version undo.key it.key_is indexed_is in
       let changed : Puts rows.pairs (with_entry which version value).pairs (key_index undo.table which) (entry_at which version) value = λ other. refl in
       let Change : List ℕ → Option (List ℕ) → Type 0 = λ e v. Puts rows.pairs (with_entry which version value).pairs (key_index undo.table which) e v in
-      let puts = subst (λ (e : List ℕ). Change e (entry_said it.key.column (value_in it.key.column version.row) versions)) entry (subst (λ (v : Option (List ℕ)). Change (entry_at which version) v) (sym told) changed) in
+      let puts =
+      subst (λ (e : List ℕ). Change e (entry_said it.key.column (value_in it.key.column version.row) versions)) entry
+      (subst (λ (v : Option (List ℕ)). Change (entry_at which version) v) (sym told) changed) in
       let was = said_but chains place said in
       let now = said_but chains place (set_said said which versions) in
       let Alike : List Version → Type 0 = λ v. TellAlikeBut (value_in it.key.column version.row) it.key.column v versions in
       let alike_there = subst (λ (p : Place). Alike (was p.table which p.key)) (sym here) (subst Alike (sym (says_place chains place said which)) alike) in
-      entry_changed rows.schemas rows.pairs (with_entry which version value).pairs rows.kept chains undo.table schema which it.key indexed undo.key bytes version was now versions
-      are tells.there it.key_is indexed_is code alike_there puts (subst (λ (p : Place). SaysNow was now p which versions) (sym here) (sets_there chains place said which versions))
+      entry_changed rows.schemas rows.pairs (with_entry which version value).pairs rows.kept chains undo.table schema which it.key indexed undo.key bytes
+      version was now versions
+      are tells.there it.key_is indexed_is code alike_there puts
+      (subst (λ (p : Place). SaysNow was now p which versions) (sym here) (sets_there chains place said which versions))
 
   abbrev UnderWay : Rows → List ℕ → Coded → ℕ → (List Version → Type 0) → Type 0
   UnderWay now bytes coded done Holds = IsUnderWay chains place undo schema now bytes coded done Holds
 
   -- The newest row's entry is marked, or removed.
-  pub dropped : (bytes : List ℕ) (coded : Coded) (which : ℕ) (found : Bool) → which < length schema.keys → UnderWay rows bytes coded which (IsLagging (shown coded) before) → coded.marked ≡ false → some_has schema which coded before ≡ found
+  pub dropped : (bytes : List ℕ) (coded : Coded) (which : ℕ) (found : Bool) → which < length schema.keys
+      → UnderWay rows bytes coded which (IsLagging (shown coded) before) → coded.marked ≡ false → some_has schema which coded before ≡ found
       → UnderWay (with_entry which coded (cond found (Some (1 ∷ [])) None)) bytes coded which (IsCleared before)
   dropped bytes coded which found within way plain found_is =
       let it = key_at schema which within in
@@ -141,12 +153,15 @@ module _ (chains : Chains) (place : Place) (undo : Undo) (schema : Schema) (rows
       record {
         newest = newest_same which coded (cond found (Some (1 ∷ [])) None) bytes coded within way.newest;
         said = set_said way.said which drop.versions;
-        coded_but = entry_put way.said which it on.column coded bytes drop.versions (cond found (Some (1 ∷ [])) None) on.there way.coded_but way.newest.code_is drop.alike told;
+        coded_but =
+            entry_put way.said which it on.column coded bytes drop.versions (cond found (Some (1 ∷ [])) None) on.there way.coded_but way.newest.code_is
+            drop.alike told;
         says = here_now (shown coded) before way.said which (IsLagging (shown coded) before) (IsCleared before) drop.versions drop.cleared way.says;
       }
 
   -- The entry of the row before is unmarked.
-  pub unmarked_now : (bytes : List ℕ) (coded : Coded) (which : ℕ) (was : WasThere undo schema before) → which < length schema.keys → UnderWay rows bytes coded which (IsCleared before)
+  pub unmarked_now : (bytes : List ℕ) (coded : Coded) (which : ℕ) (was : WasThere undo schema before) → which < length schema.keys
+      → UnderWay rows bytes coded which (IsCleared before)
       → UnderWay (with_entry which was.former (Some (0 ∷ []))) bytes coded (which + 1) (IsLagging (shown coded) before)
   unmarked_now bytes coded which was within way =
       let it = key_at schema which within in
@@ -163,8 +178,10 @@ module _ (chains : Chains) (place : Place) (undo : Undo) (schema : Schema) (rows
       }
 
   -- what a key says may be said otherwise
-  said_now : (bytes : List ℕ) (coded : Coded) (which done : ℕ) (Was Now : List Version → Type 0) (versions : List Version) (way : UnderWay rows bytes coded which Was)
-      → ((key : Key) → slice_get schema.keys which ≡ Some key → TellAlike key.column (way.said which) versions) → SayBefore done Now (shown coded) before (set_said way.said which versions) → UnderWay rows bytes coded done Now
+  said_now : (bytes : List ℕ) (coded : Coded) (which done : ℕ) (Was Now : List Version → Type 0) (versions : List Version)
+      (way : UnderWay rows bytes coded which Was)
+      → ((key : Key) → slice_get schema.keys which ≡ Some key → TellAlike key.column (way.said which) versions) → SayBefore done Now (shown coded) before
+      (set_said way.said which versions) → UnderWay rows bytes coded done Now
   said_now bytes coded which done Was Now versions way alike says = record {
     newest = way.newest;
     said = set_said way.said which versions;
@@ -174,25 +191,30 @@ module _ (chains : Chains) (place : Place) (undo : Undo) (schema : Schema) (rows
         let table : place.table ≡ undo.table = tells.table_is in
         let there_too : slice_get rows.schemas undo.table ≡ Some other = subst (λ (t : ℕ). slice_get rows.schemas t ≡ Some other) table there in
         let one : schema ≡ other = cc (there_too, tells.there) in
-        let key_too : slice_get schema.keys which ≡ Some key = subst (λ (w : ℕ). slice_get schema.keys w ≡ Some key) same (subst (λ (s : Schema). slice_get s.keys at_key ≡ Some key) (sym one) key_is) in
+        let key_too : slice_get schema.keys which ≡ Some key =
+        subst (λ (w : ℕ). slice_get schema.keys w ≡ Some key) same (subst (λ (s : Schema). slice_get s.keys at_key ≡ Some key) (sym one) key_is) in
         subst (λ (w : ℕ). TellAlike key.column (way.said w) (set_said way.said which versions w)) (sym same)
         (subst (λ (v : List Version). TellAlike key.column (way.said which) v) (sym (set_here way.said which versions)) (alike key key_too)))
-        (λ differs. subst (λ (v : List Version). TellAlike key.column (way.said at_key) v) (sym (set_others way.said which versions at_key differs)) (λ value. refl))
+        (λ differs. subst (λ (v : List Version). TellAlike key.column (way.said at_key) v) (sym (set_others way.said which versions at_key differs))
+        (λ value. refl))
         (cases_eq at_key which));
     says = says;
   }
 
   -- Where there was no row before, a cleared key is done.
-  pub passed : (bytes : List ℕ) (coded : Coded) (which : ℕ) → WasNot undo before → UnderWay rows bytes coded which (IsCleared before) → UnderWay rows bytes coded (which + 1) (IsLagging (shown coded) before)
+  pub passed : (bytes : List ℕ) (coded : Coded) (which : ℕ) → WasNot undo before → UnderWay rows bytes coded which (IsCleared before)
+      → UnderWay rows bytes coded (which + 1) (IsLagging (shown coded) before)
   passed bytes coded which was way =
-      said_now bytes coded which (which + 1) (IsCleared before) (IsLagging (shown coded) before) before way (λ key key_is. alike key (way.said which) way.says.here)
+      said_now bytes coded which (which + 1) (IsCleared before) (IsLagging (shown coded) before) before way
+      (λ key key_is. alike key (way.said which) way.says.here)
       (one_done (shown coded) before way.said which (IsCleared before) way.says) where
         alike : (key : Key) (said : List Version) → IsCleared before said → TellAlike key.column said before
         alike key said (inl same) = λ value. ap (entry_said key.column value) same
         alike key said (inr (away, none, same)) = λ value. ap (entry_said key.column value) same ∙ sym (without_row key.column away before none was.first value)
 
   -- Where the newest version has no row, the key is clear.
-  pub clear_unless_row : (bytes : List ℕ) (coded : Coded) (which : ℕ) → coded.marked ≡ true → UnderWay rows bytes coded which (IsLagging (shown coded) before) → UnderWay rows bytes coded which (IsCleared before)
+  pub clear_unless_row : (bytes : List ℕ) (coded : Coded) (which : ℕ) → coded.marked ≡ true
+      → UnderWay rows bytes coded which (IsLagging (shown coded) before) → UnderWay rows bytes coded which (IsCleared before)
   clear_unless_row bytes coded which is_marked way = record {
     newest = way.newest;
     said = way.said;
@@ -207,7 +229,8 @@ module _ (chains : Chains) (place : Place) (undo : Undo) (schema : Schema) (rows
     clear said (inr same) = inr (shown coded, none, same)
 
   -- Where the newest row has the value of the row before, the key is clear.
-  pub clear_of_same : (bytes : List ℕ) (coded : Coded) (which : ℕ) (was : WasThere undo schema before) → which < length schema.keys → coded.marked ≡ false → value_in (column_of schema which) was.former.row ≡ value_in (column_of schema which) coded.row
+  pub clear_of_same : (bytes : List ℕ) (coded : Coded) (which : ℕ) (was : WasThere undo schema before) → which < length schema.keys → coded.marked ≡ false
+      → value_in (column_of schema which) was.former.row ≡ value_in (column_of schema which) coded.row
       → UnderWay rows bytes coded which (IsLagging (shown coded) before) → UnderWay rows bytes coded which (IsCleared before)
   clear_of_same bytes coded which was within plain same way = by_said (way.said which) refl way.says.here where
     shown_row : row_shown coded.marked coded.row ≡ Some coded.row
@@ -216,7 +239,8 @@ module _ (chains : Chains) (place : Place) (undo : Undo) (schema : Schema) (rows
     alike : (key : Key) → slice_get schema.keys which ≡ Some key → TellAlike key.column (shown coded ∷ before) before
     alike key key_is =
         let column = column_is schema which key key_is in
-        let one : value_in key.column was.former.row ≡ value_in key.column coded.row = subst (λ (c : ℕ). value_in c was.former.row ≡ value_in c coded.row) column same in
+        let one : value_in key.column was.former.row ≡ value_in key.column coded.row =
+        subst (λ (c : ℕ). value_in c was.former.row ≡ value_in c coded.row) column same in
         λ value. sym (value_again key.column was.former.row (shown coded) before coded.row was.first shown_row one value)
 
     by_said : (said : List Version) → way.said which ≡ said → IsLagging (shown coded) before said → UnderWay rows bytes coded which (IsCleared before)
@@ -224,7 +248,9 @@ module _ (chains : Chains) (place : Place) (undo : Undo) (schema : Schema) (rows
       newest = way.newest;
       said = way.said;
       coded_but = way.coded_but;
-      says = here_is (shown coded) before way.said which (IsLagging (shown coded) before) (IsCleared before) (λ lags. subst (λ (v : List Version). IsCleared before v) (sym is) cleared) way.says;
+      says =
+          here_is (shown coded) before way.said which (IsLagging (shown coded) before) (IsCleared before)
+          (λ lags. subst (λ (v : List Version). IsCleared before v) (sym is) cleared) way.says;
     }
     by_said said is (inr with_newest) =
         said_now bytes coded which which (IsLagging (shown coded) before) (IsCleared before) before way

@@ -68,13 +68,15 @@ puts_after index key value pairs other = refl
 pub told_before_put : {index : ℕ} {key : List ℕ} {value : Option (List ℕ)} {old new : WorldState} → PutsPair index key value old new → IsTold new → IsTold old
 told_before_put {index} {key} {value} {old} {new} puts told = record {
   pairs = λ other. ⊎_elim
-      (λ e. subst (λ (k : ℕ). IsSome (old.indexes k).pairs) (sym e) (told_from (now_at key value) (old.indexes index).pairs (new.indexes index).pairs puts.here (told.pairs index)))
+      (λ e. subst (λ (k : ℕ). IsSome (old.indexes k).pairs) (sym e)
+      (told_from (now_at key value) (old.indexes index).pairs (new.indexes index).pairs puts.here (told.pairs index)))
       (λ differs. told_from same (old.indexes other).pairs (new.indexes other).pairs (puts.elsewhere other differs) (told.pairs other))
       (cases_eq other index);
   versions = puts.versions.told told.versions;
 }
 
-put_at : (index : ℕ) (key : List ℕ) (value : Option (List ℕ)) (old new : WorldState) (puts : PutsPair index key value old new) (told : IsTold new) (other : ℕ) → (other ≡ index) ⊎ (other ≢ index)
+put_at : (index : ℕ) (key : List ℕ) (value : Option (List ℕ)) (old new : WorldState) (puts : PutsPair index key value old new) (told : IsTold new)
+    (other : ℕ) → (other ≡ index) ⊎ (other ≢ index)
     → pairs_of new other ≡ pairs_after index key value (rows_of old).pairs other
 put_at index key value old new puts told other (inl one) =
     let At : ℕ → Type 0 = λ k. pairs_of new k ≡ pairs_after index key value (rows_of old).pairs k in
@@ -85,7 +87,8 @@ put_at index key value old new puts told other (inr differs) =
     goes_from same (old.indexes other).pairs (new.indexes other).pairs (puts.elsewhere other differs) (told.pairs other)
     ∙ sym (cond-false (other == index) (with_value key value ((rows_of old).pairs index)) ((rows_of old).pairs other) (ne_eqb other index differs))
 
-pub rows_after : {index : ℕ} {key : List ℕ} {value : Option (List ℕ)} {old new : WorldState} → PutsPair index key value old new → IsTold new → rows_of new ≡ record (rows_of old) { pairs = pairs_after index key value (rows_of old).pairs }
+pub rows_after : {index : ℕ} {key : List ℕ} {value : Option (List ℕ)} {old new : WorldState} → PutsPair index key value old new → IsTold new
+    → rows_of new ≡ record (rows_of old) { pairs = pairs_after index key value (rows_of old).pairs }
 rows_after {index} {key} {value} {old} {new} puts told =
     let schemas = schemas_after puts in
     let pairs : (other : ℕ) → pairs_of new other ≡ pairs_after index key value (rows_of old).pairs other

@@ -47,7 +47,9 @@ module _ (chains : Chains) (place : Place) (undo : Undo) (schema : Schema) (rows
 
   -- what is known at a stage where all is told
   abbrev pub StageHolds : Stage → Type 0
-  StageHolds Find = ((read : List ℕ) × (coded : Coded) × IsUnderWay chains place undo schema rows read coded 0 (IsLagging (shown coded) (versions_before chains place))) ⊎ IsTakenBack chains undo rows
+  StageHolds Find =
+      ((read : List ℕ) × (coded : Coded) × IsUnderWay chains place undo schema rows read coded 0 (IsLagging (shown coded) (versions_before chains place))) ⊎
+      IsTakenBack chains undo rows
   StageHolds (Key which) = (coded : Coded) × LagsAt which coded
   StageHolds (Walk which pointer) =
       (coded : Coded) × LagsAt which coded × (coded.marked ≡ false) × HasWalked schema undo.key rows.kept which pointer coded (versions_before chains place)
@@ -71,12 +73,14 @@ pub record IsPuttingBack (chains : Chains) (place : Place) (undo : Undo) (room :
 -- one entry of a key of the table was changed, or none
 abbrev pub ChangesOneEntry : Schema → Undo → WorldState → WorldState → Type 0
 ChangesOneEntry schema undo old new =
-    RowsStay old new ⊎ ((which : ℕ) × (which < length schema.keys) × (entry : List ℕ) × (value : Option (List ℕ)) × PutsPair (key_index undo.table which) entry value old new)
+    RowsStay old new ⊎ ((which : ℕ) × (which < length schema.keys) × (entry : List ℕ) × (value : Option (List ℕ)) × PutsPair (key_index undo.table which)
+    entry value old new)
 
 -- a walk goes on where fewer versions are left
 abbrev pub WalksOn : Schema → Undo → WorldState → Stage → Stage → Type 0
 WalksOn schema undo state (Walk which pointer) (Walk next behind) =
-    (next ≡ which) × (IsTold state → (versions others : List Version) → LeadTo schema undo.key state.versions.kept_at pointer versions → LeadTo schema undo.key state.versions.kept_at behind others → length others < length versions)
+    (next ≡ which) × (IsTold state → (versions others : List Version) → LeadTo schema undo.key state.versions.kept_at pointer versions → LeadTo schema
+    undo.key state.versions.kept_at behind others → length others < length versions)
 WalksOn schema undo state stage other = ⊥
 
 -- fewer steps are left, or fewer versions of a walk
@@ -139,7 +143,8 @@ pub record IsDone (chains : Chains) (place : Place) (undo : Undo) (room next : W
   pub anew : next.stage ≡ Find
   pub popped : IsTold new → value_of undo.key ((rows_of old).pairs (clustered_index undo.table)) ≢ was_before undo
       → (after : Chains) → Pops chains after place → IsTakenBack after undo (rows_of new)
-  pub again : IsTold new → value_of undo.key ((rows_of old).pairs (clustered_index undo.table)) ≡ was_before undo → RowsStay old new × IsTakenBack chains undo (rows_of new)
+  pub again : IsTold new → value_of undo.key ((rows_of old).pairs (clustered_index undo.table)) ≡ was_before undo
+      → RowsStay old new × IsTakenBack chains undo (rows_of new)
 
 abbrev pub PutsBack : Chains → Place → ℕ → Undo → WorkRoom → WorkRoom → WorldState → WorldState → Move → Type 0
 PutsBack chains place actor undo room next old new Done = IsDone chains place undo room next old new

@@ -78,7 +78,8 @@ pub record SayBefore (done : ℕ) (Holds : List Version → Type 0) (newest : Ve
   pub others : (which : ℕ) → done < which → IsLagging newest before (said which)
 
 -- The change of the place is being taken back, and so many keys are done.
-pub record IsUnderWay (chains : Chains) (place : Place) (undo : Undo) (schema : Schema) (rows : Rows) (bytes : List ℕ) (coded : Coded) (done : ℕ) (Holds : List Version → Type 0) : Type 0 where
+pub record IsUnderWay (chains : Chains) (place : Place) (undo : Undo) (schema : Schema) (rows : Rows) (bytes : List ℕ) (coded : Coded) (done : ℕ)
+    (Holds : List Version → Type 0) : Type 0 where
   pub newest : IsNewest undo schema rows.pairs rows.kept bytes coded
   pub said : ℕ → List Version
   pub coded_but : AreCodedBut rows.schemas rows.pairs rows.kept chains place said
@@ -97,7 +98,8 @@ column_of schema which = place_if (slice_get schema.keys which)
 
 -- whether one of these versions has the value that this row has in the key's column
 abbrev pub some_has : Schema → ℕ → Coded → List Version → Bool
-some_has schema which coded versions = list_any (λ version. has_value (column_of schema which) (value_in (column_of schema which) coded.row) version.row) versions
+some_has schema which coded versions =
+    list_any (λ version. has_value (column_of schema which) (value_in (column_of schema which) coded.row) version.row) versions
 
 -- The walk has come to this pointer, and none of the versions that it passed has the value. Those that are left are among
 -- the versions before the change.

@@ -35,7 +35,8 @@ with_opening db rows state = record state { past = Opened db ∷ state.past; row
 
 -- a session that has just joined
 abbrev pub fresh_session : Session
-fresh_session = record { setting = at_first; work = None; can_reply = false; can_ack = false; can_begin = false; can_change = false; undo_room = 0; next_pointer = 0 }
+fresh_session =
+    record { setting = at_first; work = None; can_reply = false; can_ack = false; can_begin = false; can_change = false; undo_room = 0; next_pointer = 0 }
 
 -- another session, which has set nothing
 abbrev pub joined : List ℕ → WorldState → WorldState
@@ -50,9 +51,9 @@ abbrev pub item_ended : ℕ → ℕ → Reply → Session → WorldState → Wor
 item_ended s j reply session state =
     record (with_entry (Ended s j reply) (with_session s (record session { can_reply = false }) state)) { rows = state.rows + rows_of_reply reply }
 
--- the commit is acknowledged, at no moment that anybody has measured
-abbrev pub acknowledged : ℕ → Session → WorldState → WorldState
-acknowledged s session state = with_entry (Acked s 0) (with_session s (record session { can_ack = false }) state)
+-- the commit is acknowledged, at this moment
+abbrev pub acknowledged : ℕ → ℕ → Session → WorldState → WorldState
+acknowledged s moment session state = with_entry (Acked s moment) (with_session s (record session { can_ack = false }) state)
 
 -- the session has set what a statement sets that was done
 abbrev pub with_setting : ℕ → Stmt → Session → WorldState → WorldState

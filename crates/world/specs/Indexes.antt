@@ -75,7 +75,9 @@ pub record IsLogged (actor : ℕ) (undo : Undo) (old new : WorldState) : Type 0 
   pub has_work : HasWork actor session work old
   pub next : ℕ
   pub kept : KeepsIf (undo.kind == 2) old.schemas session.next_pointer undo old.versions new.versions
-  pub rest : new ≡ record (with_work actor (record session { undo_room = 0; next_pointer = next }) (record work { log = record { pointer = session.next_pointer; undo = undo } ∷ work.log }) old) { indexes = new.indexes; versions = new.versions; paged = new.paged }
+  pub rest : new ≡ record (with_work actor (record session { undo_room = 0; next_pointer = next })
+      (record work { log = record { pointer = session.next_pointer; undo = undo } ∷ work.log }) old)
+      { indexes = new.indexes; versions = new.versions; paged = new.paged }
 
 -- no undo record comes, and all but indexes is as it was
 pub record StaysBeside (old new : WorldState) : Type 0 where

@@ -14,8 +14,14 @@ fresh_work txn level = record { txn = txn; level = level; id = 0; own = 0; view 
 -- the session has opened the next transaction
 abbrev pub begun : ℕ → Level → Session → WorldState → WorldState
 begun s level session state =
-    record (with_session s (record session { setting = at_begin session.setting; work = Some (fresh_work (state.txns.begun + 1) level) }) state)
-    { txns = record { open_txns = state.txns.open_txns ++ (state.txns.begun + 1, record { session = s; level = level; id = 0 }) ∷ []; begun = state.txns.begun + 1; next = state.txns.next } }
+    record (with_session s (record session { setting = at_begin session.setting; work = Some (fresh_work (state.txns.begun + 1) level) }) state) {
+      txns = record {
+        open_txns = state.txns.open_txns ++ (state.txns.begun + 1, record { session = s; level = level; id = 0 }) ∷ [];
+        begun =
+            state.txns.begun + 1;
+        next = state.txns.next;
+      };
+    }
 
 -- the session whose open transaction has this number is changed so
 abbrev pub of_txn : ℕ → (Session → Session) → Session → Option Work → Session
@@ -48,12 +54,18 @@ ended txn state =
 -- the transaction has a savepoint of this name, in place of an older one
 abbrev pub with_save : ℕ → List ℕ → ℕ → WorldState → WorldState
 with_save txn name made state =
-    record state { sessions = change_txn txn (λ session. record session { setting = record session.setting { saves = saved name made true session.setting.saves } }) state.sessions }
+    record state {
+      sessions = change_txn txn (λ session. record session
+          { setting = record session.setting { saves = saved name made true session.setting.saves } }) state.sessions;
+    }
 
 -- the savepoints behind this one are gone
 abbrev pub back_at_save : ℕ → List ℕ → WorldState → WorldState
 back_at_save txn name state =
-    record state { sessions = change_txn txn (λ session. record session { setting = record session.setting { saves = back_to name session.setting.saves } }) state.sessions }
+    record state {
+      sessions = change_txn txn (λ session. record session { setting = record session.setting { saves = back_to name session.setting.saves } })
+          state.sessions;
+    }
 
 -- the history has room for a Begin, and for a change with its Undone
 abbrev pub with_room : ℕ → Session → WorldState → WorldState
@@ -64,12 +76,14 @@ begin_added s txn level session work state =
     with_entry (Begin s txn level) (with_work s (record session { can_begin = false }) (record work { can_end = true }) state)
 
 abbrev pub view_added : ℕ → List ℕ → ℕ → Session → Work → WorldState → WorldState
-view_added s active next session work state = with_entry (View s) (with_work s session (record work { view = Some (record { active = active; next = next }) }) state)
+view_added s active next session work state =
+    with_entry (View s) (with_work s session (record work { view = Some (record { active = active; next = next }) }) state)
 
 -- A change of a row, which puts so many rows.
 abbrev pub change_added : ℕ → Change → ℕ → Session → Work → WorldState → WorldState
 change_added s change rows session work state =
-    record (with_entry (Changed s change) (with_work s (record session { can_change = false }) (record work { own = work.own + 1 }) state)) { rows = state.rows + rows }
+    record (with_entry (Changed s change) (with_work s (record session { can_change = false }) (record work { own = work.own + 1 }) state))
+    { rows = state.rows + rows }
 
 abbrev pub undone_added : ℕ → ℕ → Session → Work → WorldState → WorldState
 undone_added s keep session work state = with_entry (Undone s keep) (with_work s session (record work { own = work.own - 1 }) state)

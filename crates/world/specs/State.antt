@@ -110,7 +110,14 @@ own_of (Some work) = work.own
 -- the open transaction's level, or else the next one's
 abbrev pub standing_of : Session → Standing
 standing_of session =
-    record { txn = txn_of session.work; level = level_of session.setting session.work; autocommit = session.setting.autocommit; id = id_of session.work; own = own_of session.work }
+    record {
+      txn = txn_of session.work;
+      level = level_of session.setting session.work;
+      autocommit = session.setting.autocommit;
+      id = id_of session.work;
+      own
+          = own_of session.work;
+    }
 
 -- ---- what a call changes
 

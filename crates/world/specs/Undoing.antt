@@ -66,7 +66,8 @@ abbrev pub IsRead : Option Undo → Undo → Bool → Type 0
 IsRead found read there = (there ≡ is_some found) × (IsTrue there → found ≡ Some read)
 
 abbrev pub ReadsLast : ℕ → ℕ → Undo → Bool → WorldState → WorldState → Move → Type 0
-ReadsLast actor slot read there old new Done = ((session : Session) (work : Work) → HasWork slot session work old → IsRead (newest work.log) read there) × IsUnchanged old new
+ReadsLast actor slot read there old new Done =
+    ((session : Session) (work : Work) → HasWork slot session work old → IsRead (newest work.log) read there) × IsUnchanged old new
 ReadsLast actor slot read there old new other = Delays actor old new other
 
 -- The newest record of the log is gone. What stands behind other pointers stands there still.
@@ -82,7 +83,8 @@ pub record IsCutBack (slot : ℕ) (old new : WorldState) : Type 0 where
   -- a record of kind 1 keeps no version
   pub behind_new : gone.undo.kind ≡ 1 → IsTrue new.versions.told → new.versions.kept_at gone.pointer ≡ old.versions.kept_at gone.pointer
   pub next : ℕ
-  pub rest : new ≡ record (with_work slot (record session { undo_room = 0; next_pointer = next }) (record work { log = log }) old) { versions = new.versions; paged = new.paged }
+  pub rest : new ≡ record (with_work slot (record session { undo_room = 0; next_pointer = next }) (record work { log = log }) old)
+      { versions = new.versions; paged = new.paged }
 
 abbrev pub CutsBack : ℕ → ℕ → WorldState → WorldState → Move → Type 0
 CutsBack actor slot old new Done = IsCutBack slot old new

@@ -59,10 +59,10 @@ pub trait EngineWorld: World + Drop {
         requires few { (Self.state self.old).rows + rows_of_reply reply < 2 ^ 63 }
         ensures { (session : Session) → IsSession s session (Self.state self.old) → Self.state self.new ≡ item_ended s j reply session (Self.state self.old) };
 
-    /// Acknowledges the session's commit. It takes no memory.
-    fn ack(&mut self, s: u32)
+    /// Acknowledges the session's commit, at a moment of the disk. It takes no memory.
+    fn ack(&mut self, s: u32, moment: u64)
         requires { (session : Session) × IsSession s session (Self.state self.old) × (session.can_ack ≡ true) }
-        ensures { (session : Session) → IsSession s session (Self.state self.old) → Self.state self.new ≡ acknowledged s session (Self.state self.old) };
+        ensures { (session : Session) → IsSession s session (Self.state self.old) → Self.state self.new ≡ acknowledged s moment session (Self.state self.old) };
 
     /// Sets what a statement sets that was done, other than a savepoint of an open transaction. It takes no memory.
     fn set(&mut self, s: u32, stmt: &Stmt)

@@ -46,28 +46,36 @@ pub record Begins (s : ℕ) (change : Change) (old new : Lists) : Type 0 where
 
 -- ---- the table
 
-pub one_there : (schemas : List Schema) (n : ℕ) (schema found : Schema) → slice_get schemas n ≡ Some schema → found ≡ slice_index_or schemas n found → schema ≡ found
+pub one_there : (schemas : List Schema) (n : ℕ) (schema found : Schema) → slice_get schemas n ≡ Some schema → found ≡ slice_index_or schemas n found
+    → schema ≡ found
 one_there [] n schema found is at = absurd (cc)
 one_there (first ∷ schemas) zero schema found is at = let same : first ≡ schema = cc in let also : found ≡ first = at in cc
 one_there (first ∷ schemas) (suc n) schema found is at = one_there schemas n schema found is at
 
 -- the item of a slice that is the tables
-pub item_of : (schemas tables slice : List Schema) (n : ℕ) (found : Schema) → found ≡ slice_index_or slice n found → slice ≡ tables → tables ≡ schemas → found ≡ slice_index_or schemas n found
+pub item_of : (schemas tables slice : List Schema) (n : ℕ) (found : Schema) → found ≡ slice_index_or slice n found → slice ≡ tables → tables ≡ schemas
+    → found ≡ slice_index_or schemas n found
 item_of schemas tables slice n found at same also = at ∙ ap (λ (list : List Schema). slice_index_or list n found) (same ∙ also)
 
 -- the table that is found has its primary column
-pub keyed_at : (state : WorldState) (table : ℕ) (edit : RowEdit) (found : Schema) → IsEditable state table edit → found ≡ slice_index_or state.schemas table found
+pub keyed_at : (state : WorldState) (table : ℕ) (edit : RowEdit) (found : Schema) → IsEditable state table edit
+    → found ≡ slice_index_or state.schemas table found
     → (column : Column) × (slice_get found.columns found.primary ≡ Some column) × IsOfKind column.kind (primary_of found edit)
 keyed_at state table edit found can at =
-    subst (λ (schema : Schema). (column : Column) × (slice_get schema.columns schema.primary ≡ Some column) × IsOfKind column.kind (primary_of schema edit)) (one_there state.schemas table can.schema found can.there at)
+    subst (λ (schema : Schema). (column : Column) × (slice_get schema.columns schema.primary ≡ Some column) × IsOfKind column.kind (primary_of schema edit))
+    (one_there state.schemas table can.schema found can.there at)
     (can.column, can.primary, can.of_kind)
 
-pub there_at : (state : WorldState) (table : ℕ) (edit : RowEdit) (found : Schema) → IsEditable state table edit → found ≡ slice_index_or state.schemas table found → slice_get state.schemas table ≡ Some found
-there_at state table edit found can at = subst (λ (schema : Schema). slice_get state.schemas table ≡ Some schema) (one_there state.schemas table can.schema found can.there at) can.there
+pub there_at : (state : WorldState) (table : ℕ) (edit : RowEdit) (found : Schema) → IsEditable state table edit
+    → found ≡ slice_index_or state.schemas table found → slice_get state.schemas table ≡ Some found
+there_at state table edit found can at =
+    subst (λ (schema : Schema). slice_get state.schemas table ≡ Some schema) (one_there state.schemas table can.schema found can.there at) can.there
 
 -- ---- the change
 
-module _ (state : WorldState) (s : ℕ) (writer : Option ℕ) (made : Bool) (desks : List Desk) (cuts : ℕ) (undo : UndoRoom) (room : WorkRoom) (left : ℕ) (change : Change) (held : IsHeld state writer made desks cuts undo room) (may : MayBegin s change (lists_of state writer desks left)) (table : ℕ) (edit : RowEdit) (is : change_of table edit ≡ change) where
+module _ (state : WorldState) (s : ℕ) (writer : Option ℕ) (made : Bool) (desks : List Desk) (cuts : ℕ) (undo : UndoRoom) (room : WorkRoom) (left : ℕ)
+    (change : Change) (held : IsHeld state writer made desks cuts undo room) (may : MayBegin s change (lists_of state writer desks left)) (table : ℕ)
+    (edit : RowEdit) (is : change_of table edit ≡ change) where
   held_mine : IsHeld state (Some s) made desks cuts undo room
   held_mine = subst (λ (w : Option ℕ). IsHeld state w made desks cuts undo room) may.locked held
 
@@ -80,7 +88,8 @@ module _ (state : WorldState) (s : ℕ) (writer : Option ℕ) (made : Bool) (des
   pub can_edit : IsEditable state table edit
   can_edit = can_be_keyed state s made desks cuts undo room held_mine table edit fits_mine
 
-  module _ (found : Schema) (at : found ≡ slice_index_or state.schemas table found) (key : List ℕ) (spelled : IsKeyOfEdit found edit key) (first : RowChange) (is_first : first ≡ begun table edit key) (later : List Desk) (gives_first : later ≡ with_doing s (Changing first) desks) where
+  module _ (found : Schema) (at : found ≡ slice_index_or state.schemas table found) (key : List ℕ) (spelled : IsKeyOfEdit found edit key) (first : RowChange)
+      (is_first : first ≡ begun table edit key) (later : List Desk) (gives_first : later ≡ with_doing s (Changing first) desks) where
     gives : later ≡ with_doing s (Changing (begun table edit key)) desks
     gives = subst (λ (c : RowChange). later ≡ with_doing s (Changing c) desks) is_first gives_first
 
@@ -88,7 +97,8 @@ module _ (state : WorldState) (s : ℕ) (writer : Option ℕ) (made : Bool) (des
     begun_held =
         subst (λ (w : Option ℕ). IsHeld state w made later cuts undo room) (sym may.locked)
         (subst (λ (ds : List Desk). IsHeld state (Some s) made ds cuts undo room) (sym gives)
-        (begins state s made desks cuts undo room held_mine table found edit key (nothing_if state writer desks left s may.idle) may.is_open fits_mine (there_at state table edit found can_edit at) spelled))
+        (begins state s made desks cuts undo room held_mine table found edit key (nothing_if state writer desks left s may.idle) may.is_open fits_mine
+        (there_at state table edit found can_edit at) spelled))
 
     pub begun_shows : Begins s change (lists_of state writer desks left) (lists_of state writer later left)
     begun_shows =

@@ -26,10 +26,14 @@ table_there : (s : ℕ) (chains : Chains) (state : WorldState) (change : RowChan
 table_there s chains state (Record change key after) is = few_keys change.table is.0.schema state is.0.table
 table_there s chains state (Keys change) is = few_keys change.table is.schema state is.table
 
-still_changing : (s : ℕ) (chains : Chains) (old new : WorldState) (change same : RowChange) (why : Move) → ChangesRow s chains old new change (Hindered same why) → IsChangingRow s chains new change
+still_changing : (s : ℕ) (chains : Chains) (old new : WorldState) (change same : RowChange) (why : Move)
+    → ChangesRow s chains old new change (Hindered same why) → IsChangingRow s chains new change
 still_changing s chains old new (Record change key after) same why is = is.1
 still_changing s chains old new (Keys change) same why is = is.1
 
-pub table_left : (s : ℕ) (old new : WorldState) (change same : RowChange) (reached : Reached RowChange) (why : Move) → ((chains : Chains) × IsChangingRow s chains old change) → ((chains : Chains) → IsChangingRow s chains old change → ChangesRow s chains old new change reached) → reached ≡ Hindered same why → HasTable (table_of change) new
+pub table_left : (s : ℕ) (old new : WorldState) (change same : RowChange) (reached : Reached RowChange) (why : Move)
+    → ((chains : Chains) × IsChangingRow s chains old change)
+    → ((chains : Chains) → IsChangingRow s chains old change → ChangesRow s chains old new change reached) → reached ≡ Hindered same why
+    → HasTable (table_of change) new
 table_left s old new change same reached why may made is =
     table_there s may.0 new change (still_changing s may.0 old new change same why (subst (ChangesRow s may.0 old new change) is (made may.0 may.1)))

@@ -66,7 +66,8 @@ pub of_ok : {T E : Type 0} {P : Type 0} (result : Result T E) (value : T) → re
 of_ok (Ok x) value is holds = holds
 of_ok (Err e) value is holds = absurd (cc)
 
-pub pushed : {X : Type 0} {T E : Type 0} (result : Result T E) (value : T) (items more less : X) → result ≡ Ok value → items ≡ (if is_ok result then more else less) → items ≡ more
+pub pushed : {X : Type 0} {T E : Type 0} (result : Result T E) (value : T) (items more less : X) → result ≡ Ok value
+    → items ≡ (if is_ok result then more else less) → items ≡ more
 pushed (Ok x) value items more less is items_are = items_are
 pushed (Err e) value items more less is items_are = absurd (cc)
 
@@ -92,32 +93,39 @@ module _ (s : ℕ) (old : WorldState) (writer : Option ℕ) (made : Bool) (desks
 
   -- ---- what callers see
 
-  pub adds : (e : Event) (new target : WorldState) (now : List Desk) → new ≡ target → target.names ≡ old.names → target.past ≡ e ∷ old.past → target.schemas ≡ old.schemas → target.versions ≡ old.versions
+  pub adds : (e : Event) (new target : WorldState) (now : List Desk) → new ≡ target → target.names ≡ old.names → target.past ≡ e ∷ old.past
+      → target.schemas ≡ old.schemas → target.versions ≡ old.versions
       → ((u : ℕ) → doing_at u now ≡ doing_at u desks) → Adds e s lists.state (seen_of undo.table room.stage new writer now).state
   adds e new target now is names past schemas versions doing =
       subst (λ (l : Lists). Adds e s l.state (seen_of undo.table room.stage new writer now).state) view_is
       (now_of s undo.table room.stage old new writer writer desks now (e ∷ old.past)
-      (ap (λ (w : WorldState). w.names) is ∙ names) (ap (λ (w : WorldState). w.past) is ∙ past) (ap (λ (w : WorldState). w.schemas) is ∙ schemas) (ap (λ (w : WorldState). w.versions) is ∙ versions) doing)
+      (ap (λ (w : WorldState). w.names) is ∙ names) (ap (λ (w : WorldState). w.past) is ∙ past) (ap (λ (w : WorldState). w.schemas) is ∙ schemas)
+      (ap (λ (w : WorldState). w.versions) is ∙ versions) doing)
 
-  pub closes : (e : Event) (new target : WorldState) → new ≡ target → target.names ≡ old.names → target.past ≡ e ∷ old.past → target.schemas ≡ old.schemas → target.versions ≡ old.versions
+  pub closes : (e : Event) (new target : WorldState) → new ≡ target → target.names ≡ old.names → target.past ≡ e ∷ old.past → target.schemas ≡ old.schemas
+      → target.versions ≡ old.versions
       → Closes e s lists.state (seen_of undo.table room.stage new (writer_without writer s) desks).state
   closes e new target is names past schemas versions =
       subst (λ (l : Lists). Closes e s l.state (seen_of undo.table room.stage new (writer_without writer s) desks).state) view_is
       (now_of s undo.table room.stage old new writer (writer_without writer s) desks desks (e ∷ old.past)
-      (ap (λ (w : WorldState). w.names) is ∙ names) (ap (λ (w : WorldState). w.past) is ∙ past) (ap (λ (w : WorldState). w.schemas) is ∙ schemas) (ap (λ (w : WorldState). w.versions) is ∙ versions) (λ u. refl))
+      (ap (λ (w : WorldState). w.names) is ∙ names) (ap (λ (w : WorldState). w.past) is ∙ past) (ap (λ (w : WorldState). w.schemas) is ∙ schemas)
+      (ap (λ (w : WorldState). w.versions) is ∙ versions) (λ u. refl))
 
-  pub stays : (new target : WorldState) → new ≡ target → target.names ≡ old.names → target.past ≡ old.past → target.schemas ≡ old.schemas → target.versions ≡ old.versions
+  pub stays : (new target : WorldState) → new ≡ target → target.names ≡ old.names → target.past ≡ old.past → target.schemas ≡ old.schemas
+      → target.versions ≡ old.versions
       → Stays s lists.state (seen_of undo.table room.stage new writer desks).state
   stays new target is names past schemas versions =
       subst (λ (l : Lists). Stays s l.state (seen_of undo.table room.stage new writer desks).state) view_is
       (now_of s undo.table room.stage old new writer writer desks desks old.past
-      (ap (λ (w : WorldState). w.names) is ∙ names) (ap (λ (w : WorldState). w.past) is ∙ past) (ap (λ (w : WorldState). w.schemas) is ∙ schemas) (ap (λ (w : WorldState). w.versions) is ∙ versions) (λ u. refl))
+      (ap (λ (w : WorldState). w.names) is ∙ names) (ap (λ (w : WorldState). w.past) is ∙ past) (ap (λ (w : WorldState). w.schemas) is ∙ schemas)
+      (ap (λ (w : WorldState). w.versions) is ∙ versions) (λ u. refl))
 
   pub stays_same : (new : WorldState) → new ≡ old → Stays s lists.state (seen_of undo.table room.stage new writer desks).state
   stays_same new is = stays new old is refl refl refl refl
 
   -- a session with the same setting, or with another one
-  pub unset : (new : WorldState) (sessions : List Session) → new.sessions ≡ sessions → settings_of sessions ≡ settings_of old.sessions → settings_of new.sessions ≡ lists.settings
+  pub unset : (new : WorldState) (sessions : List Session) → new.sessions ≡ sessions → settings_of sessions ≡ settings_of old.sessions
+      → settings_of new.sessions ≡ lists.settings
   unset new sessions is same = ap settings_of is ∙ same ∙ ap (λ (l : Lists). l.settings) view_is
 
   pub reset : (new : WorldState) (sessions : List Session) (f : Setting → Setting) → new.sessions ≡ sessions
@@ -130,51 +138,67 @@ module _ (s : ℕ) (old : WorldState) (writer : Option ℕ) (made : Bool) (desks
 
   -- ---- what is held
 
-  module _ (idle : task_of s lists.state ≡ Idle) (told : IsTold old) (joined : s < length lists.state.names) (session : Session) (is : IsSession s session old) (new : WorldState) where
+  module _ (idle : task_of s lists.state ≡ Idle) (told : IsTold old) (joined : s < length lists.state.names) (session : Session)
+      (is : IsSession s session old) (new : WorldState) where
     few_by : (e : Event) (target : WorldState) → new ≡ target → target.past ≡ e ∷ old.past → length new.past < 2 ^ 63 → length old.past + 1 < 2 ^ 63
     few_by e target new_is past few = few_more old.past e new few (ap (λ (w : WorldState). w.past) new_is ∙ past)
 
-    pub acked_made : MayCome lists.state.past (Acked s 0) → length new.past < 2 ^ 63 → new ≡ acknowledged s session old → IsHeld new writer made desks cuts undo room
-    acked_made may few new_is =
+    pub acked_made : (moment : ℕ) → MayCome lists.state.past (Acked s moment) → length new.past < 2 ^ 63 → new ≡ acknowledged s moment session old
+        → IsHeld new writer made desks cuts undo room
+    acked_made moment may few new_is =
         subst (λ (w : WorldState). IsHeld w writer made desks cuts undo room) (sym new_is)
-        (acked_held writer made cuts undo room old desks held s (at_rest idle) told session is (joined_here joined) (past_here (λ h. MayCome h (Acked s 0)) may) (few_by (Acked s 0) (acknowledged s session old) new_is refl few))
+        (acked_held writer made cuts undo room old desks held s (at_rest idle) told session is moment (joined_here joined)
+        (past_here (λ h. MayCome h (Acked s moment)) may) (few_by (Acked s moment) (acknowledged s moment session old) new_is refl few))
 
-    pub ended_made : (j : ℕ) (reply : Reply) → MayCome lists.state.past (Ended s j reply) → length new.past < 2 ^ 63 → new ≡ item_ended s j reply session old → IsHeld new writer made desks cuts undo room
+    pub ended_made : (j : ℕ) (reply : Reply) → MayCome lists.state.past (Ended s j reply) → length new.past < 2 ^ 63
+        → new ≡ item_ended s j reply session old → IsHeld new writer made desks cuts undo room
     ended_made j reply may few new_is =
         subst (λ (w : WorldState). IsHeld w writer made desks cuts undo room) (sym new_is)
-        (ended_held writer made cuts undo room old desks held s (at_rest idle) told session is j reply (old.rows + rows_of_reply reply) (joined_here joined) (past_here (λ h. MayCome h (Ended s j reply)) may) (few_by (Ended s j reply) (item_ended s j reply session old) new_is refl few))
+        (ended_held writer made cuts undo room old desks held s (at_rest idle) told session is j reply (old.rows + rows_of_reply reply) (joined_here joined)
+        (past_here (λ h. MayCome h (Ended s j reply)) may) (few_by (Ended s j reply) (item_ended s j reply session old) new_is refl few))
 
-    pub started_made : (j : ℕ) (item : Item) → under_way s lists.state.past ≡ None → j ≡ started s lists.state.past + 1 → length new.past < 2 ^ 63 → new ≡ item_started s j item session old → IsHeld new writer made (with_start s desks) cuts undo room
+    pub started_made : (j : ℕ) (item : Item) → under_way s lists.state.past ≡ None → j ≡ started s lists.state.past + 1 → length new.past < 2 ^ 63
+        → new ≡ item_started s j item session old → IsHeld new writer made (with_start s desks) cuts undo room
     started_made j item none j_is few new_is =
         subst (λ (w : WorldState). IsHeld w writer made (with_start s desks) cuts undo room) (sym new_is)
-        (started_held writer made cuts undo room old desks held s (at_rest idle) told session is j item (joined_here joined) (past_here (λ h. under_way s h ≡ None) none) (past_here (λ h. j ≡ started s h + 1) j_is) (few_by (Started s j item) (item_started s j item session old) new_is refl few))
+        (started_held writer made cuts undo room old desks held s (at_rest idle) told session is j item (joined_here joined)
+        (past_here (λ h. under_way s h ≡ None) none) (past_here (λ h. j ≡ started s h + 1) j_is)
+        (few_by (Started s j item) (item_started s j item session old) new_is refl few))
 
     pub set_made : (stmt : Stmt) → new ≡ with_setting s stmt session old → IsHeld new writer made desks cuts undo room
     set_made stmt new_is =
         subst (λ (w : WorldState). IsHeld w writer made desks cuts undo room) (sym new_is)
-        (unentered_held writer made cuts undo room old desks held s (at_rest idle) told session is (record session { setting = set_by stmt 0 false session.setting }) refl refl refl)
+        (unentered_held writer made cuts undo room old desks held s (at_rest idle) told session is
+        (record session { setting = set_by stmt 0 false session.setting }) refl refl refl)
 
-    pub saved_made : (name : List ℕ) (count : ℕ) (work : Work) → session.work ≡ Some work → new ≡ with_save work.txn name count old → IsHeld new writer made desks cuts undo room
+    pub saved_made : (name : List ℕ) (count : ℕ) (work : Work) → session.work ≡ Some work → new ≡ with_save work.txn name count old
+        → IsHeld new writer made desks cuts undo room
     saved_made name count work has new_is =
         subst (λ (w : WorldState). IsHeld w writer made desks cuts undo room) (sym new_is)
         (saved_held writer made cuts undo room old desks held s (at_rest idle) told session is work has name count)
 
-    pub viewed_made : (work : Work) → session.work ≡ Some work → length new.past < 2 ^ 63 → new ≡ viewed s session work old → IsHeld new writer made desks cuts undo room
+    pub viewed_made : (work : Work) → session.work ≡ Some work → length new.past < 2 ^ 63 → new ≡ viewed s session work old
+        → IsHeld new writer made desks cuts undo room
     viewed_made work has few new_is =
         subst (λ (w : WorldState). IsHeld w writer made desks cuts undo room) (sym new_is)
-        (viewed_held writer made cuts undo room old desks held s (at_rest idle) told session is work has (few_by (View s) (viewed s session work old) new_is refl few))
+        (viewed_held writer made cuts undo room old desks held s (at_rest idle) told session is work has
+        (few_by (View s) (viewed s session work old) new_is refl few))
 
-    pub committed_made : (now : Bool) (work : Work) → session.work ≡ Some work → (writer ≡ Some s → now ≡ false) → (writer ≢ Some s → now ≡ made) → length new.past < 2 ^ 63 → new ≡ committed s session work old
+    pub committed_made : (now : Bool) (work : Work) → session.work ≡ Some work → (writer ≡ Some s → now ≡ false) → (writer ≢ Some s → now ≡ made)
+        → length new.past < 2 ^ 63 → new ≡ committed s session work old
         → IsHeld new (writer_without writer s) now desks cuts undo room
     committed_made now work has mine theirs few new_is =
         subst (λ (w : WorldState). IsHeld w (writer_without writer s) now desks cuts undo room) (sym new_is)
-        (committed_held writer made cuts undo room old desks held s (at_rest idle) told session is work has now mine theirs (few_by (Committed s) (committed s session work old) new_is refl few))
+        (committed_held writer made cuts undo room old desks held s (at_rest idle) told session is work has now mine theirs
+        (few_by (Committed s) (committed s session work old) new_is refl few))
 
-    pub rolled_back_made : (now : Bool) (work : Work) → session.work ≡ Some work → own s lists.state.past ≡ [] → (writer ≡ Some s → now ≡ false) → (writer ≢ Some s → now ≡ made) → length new.past < 2 ^ 63 → new ≡ rolled_back s session work old
+    pub rolled_back_made : (now : Bool) (work : Work) → session.work ≡ Some work → own s lists.state.past ≡ [] → (writer ≡ Some s → now ≡ false)
+        → (writer ≢ Some s → now ≡ made) → length new.past < 2 ^ 63 → new ≡ rolled_back s session work old
         → IsHeld new (writer_without writer s) now desks cuts undo room
     rolled_back_made now work has none mine theirs few new_is =
         subst (λ (w : WorldState). IsHeld w (writer_without writer s) now desks cuts undo room) (sym new_is)
-        (rolled_back_held writer made cuts undo room old desks held s (at_rest idle) told session is work has now (past_here (λ h. own s h ≡ []) none) mine theirs (few_by (RolledBack s) (rolled_back s session work old) new_is refl few))
+        (rolled_back_held writer made cuts undo room old desks held s (at_rest idle) told session is work has now (past_here (λ h. own s h ≡ []) none) mine
+        theirs (few_by (RolledBack s) (rolled_back s session work old) new_is refl few))
 
   -- the session's open transaction is among the open ones
   pub its_listed : (session : Session) (work : Work) → HasWork s session work old → IsListed s work old
@@ -185,17 +209,23 @@ module _ (s : ℕ) (old : WorldState) (writer : Option ℕ) (made : Bool) (desks
 
   pub its_txn : (session : Session) (work : Work) → HasWork s session work old → txn s lists.state.past ≡ work.txn
   its_txn session work has =
-      sym (ap (λ (l : Lists). txn s l.state.past) view_is) ∙ txn_is old writer made desks cuts undo room held s session has.session_is work.txn (ap txn_of has.work_is)
+      sym (ap (λ (l : Lists). txn s l.state.past) view_is) ∙ txn_is old writer made desks cuts undo room held s session has.session_is work.txn
+      (ap txn_of has.work_is)
 
   -- ---- what sessions have set, where a transaction's session is another now
 
-  pub txn_settings : (session : Session) (work : Work) → HasWork s session work old → (base : List Session) (first : Session) (now : Work) (F : Session → Session) (f : Setting → Setting)
-      → length base ≡ length old.sessions → slice_get base s ≡ Some first → first.work ≡ Some now → now.txn ≡ work.txn → ((u : ℕ) → u ≢ s → slice_get base u ≡ slice_get old.sessions u)
+  pub txn_settings : (session : Session) (work : Work) → HasWork s session work old
+      → (base : List Session) (first : Session) (now : Work) (F : Session → Session) (f : Setting → Setting)
+      → length base ≡ length old.sessions → slice_get base s ≡ Some first → first.work ≡ Some now → now.txn ≡ work.txn →
+      ((u : ℕ) → u ≢ s → slice_get base u ≡ slice_get old.sessions u)
       → (F first).setting ≡ f session.setting
       → settings_of (change_txn work.txn F base) ≡ slice_set (settings_of old.sessions) s (f (slice_index_or (settings_of old.sessions) s at_first))
   txn_settings session work has base first now F f long here its same others set =
-      settings_by old.sessions (change_txn work.txn F base) s session (F first) f (length-map base _ ∙ long) has.session_is (txn_here s work.txn first now F base here its same) set
-      (λ u differ. txn_elsewhere work.txn u F base (λ x other there' theirs is. differ ((its_listed session work has).alone u x other (record { session_is = sym (others u differ) ∙ there'; work_is = theirs }) is)) ∙ others u differ)
+      settings_by old.sessions (change_txn work.txn F base) s session (F first) f (length-map base _ ∙ long) has.session_is
+      (txn_here s work.txn first now F base here its same) set
+      (λ u differ. txn_elsewhere work.txn u F base
+      (λ x other there' theirs is. differ ((its_listed session work has).alone u x other
+      (record { session_is = sym (others u differ) ∙ there'; work_is = theirs }) is)) ∙ others u differ)
 
   -- ---- what is read of desks
 
@@ -207,19 +237,23 @@ module _ (s : ℕ) (old : WorldState) (writer : Option ℕ) (made : Bool) (desks
     desk_started read is =
         ap (λ (desk : Desk). desk.started) (desk_read desks s read within is) ∙ sym (held.started s) ∙ ap (λ (l : Lists). started s l.state.past) view_is
 
-    pub desks_started : (read other : Desk) → read ≡ get_or desks s read → other ≡ get_or desks s other → slice_set desks s (record { started = read.started + 1; doing = other.doing }) ≡ with_start s desks
+    pub desks_started : (read other : Desk) → read ≡ get_or desks s read → other ≡ get_or desks s other
+        → slice_set desks s (record { started = read.started + 1; doing = other.doing }) ≡ with_start s desks
     desks_started read other is other_is =
         ap (λ (desk : Desk). slice_set desks s (record { started = desk.started + 1; doing = other.doing })) (desk_read desks s read within is)
-        ∙ ap (λ (desk : Desk). slice_set desks s (record { started = (desk_at s desks).started + 1; doing = desk.doing })) (desk_read desks s other within other_is)
+        ∙ ap (λ (desk : Desk). slice_set desks s (record { started = (desk_at s desks).started + 1; doing = desk.doing }))
+        (desk_read desks s other within other_is)
 
     pub doing_started : (u : ℕ) → doing_at u (with_start s desks) ≡ doing_at u desks
     doing_started u = elim (eqb_tells u s) [
-      | inl same ↦ ap (λ v. doing_at v (with_start s desks)) same.1 ∙ ap (λ (desk : Desk). desk.doing) (start_here desks s within) ∙ ap (λ v. doing_at v desks) (sym same.1)
+      | inl same ↦ ap (λ v. doing_at v (with_start s desks)) same.1 ∙ ap (λ (desk : Desk). desk.doing) (start_here desks s within) ∙ ap
+          (λ v. doing_at v desks) (sym same.1)
       | inr differ ↦ ap (λ (desk : Desk). desk.doing) (get_or-set_other desks s u _ fresh_desk differ.1)
     ]
 
   -- what the sessions have under way, whoever has joined
-  pub tasks_same : (new : WorldState) (now : List Desk) → new.schemas ≡ old.schemas → new.versions ≡ old.versions → ((u : ℕ) → doing_at u now ≡ doing_at u desks)
+  pub tasks_same : (new : WorldState) (now : List Desk) → new.schemas ≡ old.schemas → new.versions ≡ old.versions
+      → ((u : ℕ) → doing_at u now ≡ doing_at u desks)
       → (u : ℕ) → task_of u (seen_of undo.table room.stage new writer now).state ≡ task_of u lists.state
   tasks_same new now schemas versions doing u =
       task_is u (undo_left_in undo.table room.stage new) new writer now
@@ -231,8 +265,8 @@ module _ (s : ℕ) (old : WorldState) (writer : Option ℕ) (made : Bool) (desks
 
   -- ---- a session has room for its entries
 
-  pub may_ack : (session : Session) → IsSession s session old → MayCome lists.state.past (Acked s 0) → session.can_ack ≡ true
-  may_ack session is may = held.has_room.acks s session is (past_here (λ h. awaits_ack (of_item s h) ≡ true) may.0)
+  pub may_ack : (session : Session) (moment : ℕ) → IsSession s session old → MayCome lists.state.past (Acked s moment) → session.can_ack ≡ true
+  may_ack session moment is may = held.has_room.acks s session is (past_here (λ h. awaits_ack (of_item s h) ≡ true) may.0)
 
   pub may_reply : (session : Session) → IsSession s session old → (item : Item) → under_way s lists.state.past ≡ Some item → session.can_reply ≡ true
   may_reply session is item busy = held.has_room.replies s session is (ap is_some (past_here (λ h. under_way s h ≡ Some item) busy))

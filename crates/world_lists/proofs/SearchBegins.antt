@@ -45,7 +45,8 @@ pub reads_by_view : (s : ℕ) (state : WorldState) (writer : Option ℕ) (readin
 reads_by_view s state writer reading sight given same is own =
     subst (ReadsBy s state writer reading) (sym (same ∙ own.2)) (own.3, sym is)
 
-pub reads_newest : (s : ℕ) (state : WorldState) (writer : Option ℕ) (reading : Reading) (sight : Sight) → sight ≡ sights.Newest → reading ≡ readings.Newest → writer ≡ Some s → ReadsBy s state writer reading sight
+pub reads_newest : (s : ℕ) (state : WorldState) (writer : Option ℕ) (reading : Reading) (sight : Sight) → sight ≡ sights.Newest → reading ≡ readings.Newest
+    → writer ≡ Some s → ReadsBy s state writer reading sight
 reads_newest s state writer reading sight same is mine = subst (ReadsBy s state writer reading) (sym same) (mine, sym is)
 
 -- ---- who has an open transaction has joined
@@ -54,17 +55,22 @@ none_open : (found : Option Level) → found ≡ None → is_some found ≡ true
 none_open found none some = cc
 
 module _ (w : ℕ) (chains : Chains) (writer : Option ℕ) (state : WorldState) (agrees : Agrees chains writer state) (open_w : IsOpen w state.past) where
-  within : (found : Option Session) → slice_get state.sessions w ≡ found → SlotAgrees state.schemas state.past w (slot_if state.past state.schemas w found) → w < length state.sessions
+  within : (found : Option Session) → slice_get state.sessions w ≡ found → SlotAgrees state.schemas state.past w (slot_if state.past state.schemas w found)
+      → w < length state.sessions
   within None at agreed = absurd (none_open (level w state.past) agreed.work_is.level_is open_w)
   within (Some session) at agreed = slice_get_within state.sessions w session at
 
   open_within : w < length state.sessions
-  open_within = within (slice_get state.sessions w) refl (subst (SlotAgrees state.schemas state.past w) (slot_at w state.past state.schemas state.sessions) (agrees.lists.sessions w))
+  open_within =
+      within (slice_get state.sessions w) refl (subst (SlotAgrees state.schemas state.past w) (slot_at w state.past state.schemas state.sessions)
+      (agrees.lists.sessions w))
 
-pub copied : (tables : List Schema) (table : ℕ) (schema copy found : Schema) → slice_get tables table ≡ Some schema → copy ≡ found → found ≡ get_or tables table found → copy ≡ schema
+pub copied : (tables : List Schema) (table : ℕ) (schema copy found : Schema) → slice_get tables table ≡ Some schema → copy ≡ found
+    → found ≡ get_or tables table found → copy ≡ schema
 copied tables table schema copy found there same read = same ∙ (read ∙ get_or_from_slice_get tables table schema found there)
 
-module _ (s : ℕ) (state : WorldState) (writer : Option ℕ) (made : Bool) (desks : List Desk) (cuts : ℕ) (undo : UndoRoom) (room : WorkRoom) (lists : Lists) (held : IsHeld state writer made desks cuts undo room) (view : seen_of undo.table room.stage state writer desks ≡ lists) where
+module _ (s : ℕ) (state : WorldState) (writer : Option ℕ) (made : Bool) (desks : List Desk) (cuts : ℕ) (undo : UndoRoom) (room : WorkRoom) (lists : Lists)
+    (held : IsHeld state writer made desks cuts undo room) (view : seen_of undo.table room.stage state writer desks ≡ lists) where
   pub writer_within : IfSome writer (λ w. w < length desks)
   writer_within = by writer (held.agrees.lists.writes) where
     by : (who : Option ℕ) → WriterAgrees state.past who → IfSome who (λ w. w < length desks)
@@ -75,7 +81,8 @@ module _ (s : ℕ) (state : WorldState) (writer : Option ℕ) (made : Bool) (des
   joined_within joined = omega (arith, joined, held.count, ap (λ (l : Lists). length l.state.names) view)
 
   pub table_there : (table : ℕ) (schema : Schema) → slice_get (created lists.state.past) table ≡ Some schema → slice_get state.schemas table ≡ Some schema
-  table_there table schema there = ap (λ (tables : List Schema). slice_get tables table) (held.agrees.lists.tables ∙ ap (λ (l : Lists). created l.state.past) view) ∙ there
+  table_there table schema there =
+      ap (λ (tables : List Schema). slice_get tables table) (held.agrees.lists.tables ∙ ap (λ (l : Lists). created l.state.past) view) ∙ there
 
   pub idle_now : task_of s lists.state ≡ tasks.Idle → doing_at s desks ≡ Nothing
   idle_now task =
@@ -92,8 +99,10 @@ module _ (s : ℕ) (state : WorldState) (writer : Option ℕ) (made : Bool) (des
 
   -- ---- a search that begins
 
-  module _ (table : ℕ) (plan : Plan) (reading : Reading) (sight : Sight) (on : TableSearch) (is : IsBegun table plan sight on.schema cuts on) (after : List Desk) (at : after ≡ with_doing s (Searching on) desks) (reads : ReadsBy s state writer reading sight) where
-    pub begun_held : IsTold state → doing_at s desks ≡ Nothing → slice_get state.schemas table ≡ Some on.schema → plan.which ≤ length on.schema.keys → IsHeld state writer made after cuts undo room
+  module _ (table : ℕ) (plan : Plan) (reading : Reading) (sight : Sight) (on : TableSearch) (is : IsBegun table plan sight on.schema cuts on)
+      (after : List Desk) (at : after ≡ with_doing s (Searching on) desks) (reads : ReadsBy s state writer reading sight) where
+    pub begun_held : IsTold state → doing_at s desks ≡ Nothing → slice_get state.schemas table ≡ Some on.schema → plan.which ≤ length on.schema.keys
+        → IsHeld state writer made after cuts undo room
     begun_held told idle there le =
         subst (λ (d : List Desk). IsHeld state writer made d cuts undo room) (sym at)
         (begun s table state writer made desks cuts undo room plan sight on.schema on held told idle there le reads.0 is)
@@ -101,6 +110,8 @@ module _ (s : ℕ) (state : WorldState) (writer : Option ℕ) (made : Bool) (des
     pub begun_seen : s < length desks → Turns s (tasks.Searching table plan reading) lists.state (seen_of undo.table room.stage state writer after).state
     begun_seen mine =
         subst (λ (l : Lists). Turns s (tasks.Searching table plan reading) l.state (seen_of undo.table room.stage state writer after).state) view
-        (subst (λ (r : Reading). Turns s (tasks.Searching table plan r) (seen_of undo.table room.stage state writer desks).state (seen_of undo.table room.stage state writer after).state) reads.1
-        (subst (λ (d : List Desk). Turns s (tasks.Searching table plan (reading_of sight)) (seen_of undo.table room.stage state writer desks).state (seen_of undo.table room.stage state writer d).state) (sym at)
+        (subst (λ (r : Reading). Turns s (tasks.Searching table plan r) (seen_of undo.table room.stage state writer desks).state
+        (seen_of undo.table room.stage state writer after).state) reads.1
+        (subst (λ (d : List Desk). Turns s (tasks.Searching table plan (reading_of sight)) (seen_of undo.table room.stage state writer desks).state
+        (seen_of undo.table room.stage state writer d).state) (sym at)
         (turns_to_search s undo.table room.stage writer desks state table cuts plan sight on.schema on mine is)))

@@ -27,22 +27,30 @@ nothing_changes : (s : ℕ) (state : State) → Stays s state state
 nothing_changes s state = record { names_are = refl; past_is = refl; writer_is = refl; task_is = refl; others = λ t differs. refl }
 
 -- what holds of the rows that were found holds of those that are answered
-pub answered : {E : Type 0} (found : List (List Value)) (answer : Result (List (List Value)) E) (IsRight : List (List Value) → Type 0) → IfOk answer (λ rows. rows ≡ found) → IsRight found → IfOk answer IsRight
+pub answered : {E : Type 0} (found : List (List Value)) (answer : Result (List (List Value)) E) (IsRight : List (List Value) → Type 0)
+    → IfOk answer (λ rows. rows ≡ found) → IsRight found → IfOk answer IsRight
 answered found (Ok rows) IsRight is right = subst IsRight (sym is) right
 answered found (Err why) IsRight is right = record {}
 
-module _ (s : ℕ) (state : WorldState) (writer : Option ℕ) (made : Bool) (desks : List Desk) (cuts : ℕ) (undo : UndoRoom) (room : WorkRoom) (lists : Lists) (held : IsHeld state writer made desks cuts undo room) (view : seen_of undo.table room.stage state writer desks ≡ lists) where
+module _ (s : ℕ) (state : WorldState) (writer : Option ℕ) (made : Bool) (desks : List Desk) (cuts : ℕ) (undo : UndoRoom) (room : WorkRoom) (lists : Lists)
+    (held : IsHeld state writer made desks cuts undo room) (view : seen_of undo.table room.stage state writer desks ≡ lists) where
   pub nothing_seen : (new : WorldState) → MovesPlaces s state new → IsTold new → Stays s lists.state (seen_of undo.table room.stage new writer desks).state
   nothing_seen new moves told =
       subst (λ (l : Lists). Stays s lists.state l.state)
-      (sym (seen_stay s (undo_left_in undo.table room.stage state) state new writer desks moves undo.table room.stage refl told ∙ view)) (nothing_changes s lists.state)
+      (sym (seen_stay s (undo_left_in undo.table room.stage state) state new writer desks moves undo.table room.stage refl told ∙ view))
+      (nothing_changes s lists.state)
 
-  module _ (table : ℕ) (plan by : Plan) (schema : Schema) (told : IsTold state) (there : slice_get state.schemas table ≡ Some schema) (le : plan.which ≤ length schema.keys) (by_is : by ≡ plan_read (is_quiet writer desks) plan) where
+  module _ (table : ℕ) (plan by : Plan) (schema : Schema) (told : IsTold state) (there : slice_get state.schemas table ≡ Some schema)
+      (le : plan.which ≤ length schema.keys) (by_is : by ≡ plan_read (is_quiet writer desks) plan) where
     pub tells_now : TellsTable held.chains table by schema state
-    tells_now = subst (λ (p : Plan). TellsTable held.chains table p schema state) (sym by_is) (tells_held state writer made desks cuts undo room table plan schema held told there le)
+    tells_now =
+        subst (λ (p : Plan). TellsTable held.chains table p schema state) (sym by_is)
+        (tells_held state writer made desks cuts undo room table plan schema held told there le)
 
     pub read_now : (rows : List FoundRow) → ((chains : Chains) → TellsTable chains table by schema state → AreRead chains table by schema state rows)
         → (w : ℕ) → ((u : ℕ) → u ≢ w → own u lists.state.past ≡ []) → AreNewestRows table plan lists.state.past w (map (λ (found : FoundRow). found.row) rows)
     read_now rows read =
-        subst (λ (l : Lists). (w : ℕ) → ((u : ℕ) → u ≢ w → own u l.state.past ≡ []) → AreNewestRows table plan l.state.past w (map (λ (found : FoundRow). found.row) rows)) view
-        (are_newest state writer made desks cuts undo room table plan schema held rows (subst (λ (p : Plan). AreRead held.chains table p schema state rows) by_is (read held.chains tells_now)))
+        subst (λ (l : Lists). (w : ℕ) → ((u : ℕ) → u ≢ w → own u l.state.past ≡ []) → AreNewestRows table plan l.state.past w
+        (map (λ (found : FoundRow). found.row) rows)) view
+        (are_newest state writer made desks cuts undo room table plan schema held rows
+        (subst (λ (p : Plan). AreRead held.chains table p schema state rows) by_is (read held.chains tells_now)))

@@ -36,11 +36,13 @@ use Rattle.law_held_searches.proofs.Callers.{turns_now, search_shown, has_desk, 
 use Rattle.law_held_searches.proofs.Stepping.{steps, went, ended, waited, given_up}
 
 -- what stands at desks after the session's task was taken and another given
-pub desks_given : (s : ℕ) (doing : Doing) (desks between after : List Desk) → between ≡ with_doing s Nothing desks → after ≡ with_doing s doing between → after ≡ with_doing s doing desks
+pub desks_given : (s : ℕ) (doing : Doing) (desks between after : List Desk) → between ≡ with_doing s Nothing desks → after ≡ with_doing s doing between
+    → after ≡ with_doing s doing desks
 desks_given s doing desks between after taken given = given ∙ (ap (with_doing s doing) taken ∙ doing_twice s Nothing doing desks)
 
 -- by whether it comes to its pair anew
-pub taken_by : (anew : Bool) (cuts : ℕ) (on : TableSearch) (search : RowSearch) → (anew ≡ false → on.cuts ≡ cuts) → (anew ≡ false → search ≡ on.search) → (anew ≡ true → ComesAnew on.search search) → IsTakenUp cuts on search
+pub taken_by : (anew : Bool) (cuts : ℕ) (on : TableSearch) (search : RowSearch) → (anew ≡ false → on.cuts ≡ cuts) → (anew ≡ false → search ≡ on.search)
+    → (anew ≡ true → ComesAnew on.search search) → IsTakenUp cuts on search
 taken_by false cuts on search same was comes = inl (same refl, was refl)
 taken_by true cuts on search same was comes = inr (comes refl)
 
@@ -48,13 +50,16 @@ one_search : (on by : TableSearch) → Searching on ≡ Searching by → by ≡ 
 one_search on by same = cc
 
 -- what a search that is over answers, and what callers see of it
-over_by : (table : ℕ) (plan : Plan) (reading : Reading) (s : ℕ) (old new : State) (rows : List (List Value)) (answer : Searched) → ((given : List (List Value)) → answer ≡ searched.Found given → given ≡ rows) → answer ≢ searched.Went
+over_by : (table : ℕ) (plan : Plan) (reading : Reading) (s : ℕ) (old new : State) (rows : List (List Value)) (answer : Searched)
+    → ((given : List (List Value)) → answer ≡ searched.Found given → given ≡ rows) → answer ≢ searched.Went
     → Turns s tasks.Idle old new → AreFoundBy reading table plan old.past s rows → Searches table plan reading s old new answer
 over_by table plan reading s old new rows searched.Went is over turns found = absurd (over refl)
-over_by table plan reading s old new rows (searched.Found given) is over turns found = (turns, subst (AreFoundBy reading table plan old.past s) (sym (is given refl)) found)
+over_by table plan reading s old new rows (searched.Found given) is over turns found =
+    (turns, subst (AreFoundBy reading table plan old.past s) (sym (is given refl)) found)
 over_by table plan reading s old new rows searched.NoMemory is over turns found = turns
 
-found_as : (table : ℕ) (plan : Plan) (reading : Reading) (s : ℕ) (past : List Event) (rows : List (List Value)) (on : TableSearch) → IsSearchOf (Searching on) table plan reading
+found_as : (table : ℕ) (plan : Plan) (reading : Reading) (s : ℕ) (past : List Event) (rows : List (List Value)) (on : TableSearch)
+    → IsSearchOf (Searching on) table plan reading
     → AreFoundBy (reading_of on.search.scan.sight) on.search.scan.table (plan_of on) past s rows → AreFoundBy reading table plan past s rows
 found_as table plan reading s past rows on is found =
     let one : is.0 ≡ on = one_search on is.0 is.1 in
@@ -64,28 +69,33 @@ found_as table plan reading s past rows on is found =
     (subst (λ (p : Plan). AreFoundBy (reading_of is.0.search.scan.sight) table p past s rows) (sym is.3)
     (subst (λ (n : ℕ). AreFoundBy (reading_of is.0.search.scan.sight) n (plan_of is.0) past s rows) (sym is.2) by))
 
-module _ (s : ℕ) (old : WorldState) (writer : Option ℕ) (made : Bool) (desks : List Desk) (cuts : ℕ) (undo : UndoRoom) (room : WorkRoom) (lists : Lists) (held : IsHeld old writer made desks cuts undo room) (view : seen_of undo.table room.stage old writer desks ≡ lists) where
+module _ (s : ℕ) (old : WorldState) (writer : Option ℕ) (made : Bool) (desks : List Desk) (cuts : ℕ) (undo : UndoRoom) (room : WorkRoom) (lists : Lists)
+    (held : IsHeld old writer made desks cuts undo room) (view : seen_of undo.table room.stage old writer desks ≡ lists) where
   abbrev now_in : WorldState → List Desk → State
   now_in state at = (seen_of undo.table room.stage state writer at).state
 
   module _ (on : TableSearch) (is : doing_at s desks ≡ Searching on) where
-    pub stays_held : (new : WorldState) (after : List Desk) (doing : Doing) → after ≡ with_doing s doing desks → IsHeld new writer made (with_doing s doing desks) cuts undo room → IsHeld new writer made after cuts undo room
+    pub stays_held : (new : WorldState) (after : List Desk) (doing : Doing) → after ≡ with_doing s doing desks
+        → IsHeld new writer made (with_doing s doing desks) cuts undo room → IsHeld new writer made after cuts undo room
     stays_held new after doing at now = subst (λ (d : List Desk). IsHeld new writer made d cuts undo room) (sym at) now
 
     -- it is over, or given up
-    turns_idle : (new : WorldState) (after : List Desk) → after ≡ with_doing s Nothing desks → MovesPlaces s old new → IsTold new → Turns s tasks.Idle lists.state (now_in new after)
+    turns_idle : (new : WorldState) (after : List Desk) → after ≡ with_doing s Nothing desks → MovesPlaces s old new → IsTold new
+        → Turns s tasks.Idle lists.state (now_in new after)
     turns_idle new after at moves told =
         subst (λ (l : Lists). Turns s tasks.Idle l.state (now_in new after)) view
         (subst (λ (d : List Desk). Turns s tasks.Idle (now_in old desks) (now_in new d)) (sym at)
         (turns_now s undo.table room.stage old new writer desks Nothing (has_desk s desks on is) moves told))
 
-    search_of : (table : ℕ) (plan : Plan) (reading : Reading) → task_of s lists.state ≡ tasks.Searching table plan reading → IsSearchOf (Searching on) table plan reading
+    search_of : (table : ℕ) (plan : Plan) (reading : Reading) → task_of s lists.state ≡ tasks.Searching table plan reading
+        → IsSearchOf (Searching on) table plan reading
     search_of table plan reading task =
         subst (λ (d : Doing). IsSearchOf d table plan reading) is
         (search_shown (undo_left_in undo.table room.stage old) old.schemas (doing_at s desks) table plan reading
         (sym (task_is s (undo_left_in undo.table room.stage old) old writer desks) ∙ (ap (λ (l : Lists). task_of s l.state) view ∙ task)))
 
-    module _ (index : ℕ) (between later : WorldState) (moves : MovesPlaces s old between) (leaves : Calls index (Leaves s) between later) (told : IsTold later) (after : List Desk) (at : after ≡ with_doing s Nothing desks) where
+    module _ (index : ℕ) (between later : WorldState) (moves : MovesPlaces s old between) (leaves : Calls index (Leaves s) between later)
+        (told : IsTold later) (after : List Desk) (at : after ≡ with_doing s Nothing desks) where
       pub given_up_held : IsHeld later writer made after cuts undo room
       given_up_held = stays_held later after Nothing at (given_up s old writer made desks cuts undo room on held is index between later moves leaves told).0
 
@@ -97,7 +107,8 @@ module _ (s : ℕ) (old : WorldState) (writer : Option ℕ) (made : Bool) (desks
       may_step_now told = steps s old writer made desks cuts undo room on held is search taken told
 
       module _ (new : WorldState) (told : IsTold new) (after : List Desk) where
-        module _ (next : RowSearch) (goes : GoesOn s on.schema old new search next) (at : after ≡ with_doing s (Searching (record on { search = next; cuts = cuts })) desks) where
+        module _ (next : RowSearch) (goes : GoesOn s on.schema old new search next)
+            (at : after ≡ with_doing s (Searching (record on { search = next; cuts = cuts })) desks) where
           pub went_held : IsHeld new writer made after cuts undo room
           went_held =
               stays_held new after (Searching (record on { search = next; cuts = cuts })) at
@@ -114,13 +125,17 @@ module _ (s : ℕ) (old : WorldState) (writer : Option ℕ) (made : Bool) (desks
           pub ended_held : IsHeld new writer made after cuts undo room
           ended_held = stays_held new after Nothing at (ended s old writer made desks cuts undo room on held is search taken new told found ends).0
 
-          pub ended_seen : (answer : Searched) → ((rows : List (List Value)) → answer ≡ searched.Found rows → rows ≡ map (λ (f : FoundRow). f.row) found) → answer ≢ searched.Went
-              → (table : ℕ) (plan : Plan) (reading : Reading) → task_of s lists.state ≡ tasks.Searching table plan reading → Searches table plan reading s lists.state (now_in new after) answer
+          pub ended_seen : (answer : Searched) → ((rows : List (List Value)) → answer ≡ searched.Found rows → rows ≡ map (λ (f : FoundRow). f.row) found)
+              → answer ≢ searched.Went
+              → (table : ℕ) (plan : Plan) (reading : Reading) → task_of s lists.state ≡ tasks.Searching table plan reading → Searches table plan reading s
+              lists.state (now_in new after) answer
           ended_seen answer rows over table plan reading task =
               let on_now = ended s old writer made desks cuts undo room on held is search taken new told found ends in
-              over_by table plan reading s lists.state (now_in new after) (map (λ (f : FoundRow). f.row) found) answer rows over (turns_idle new after at on_now.1 told)
+              over_by table plan reading s lists.state (now_in new after) (map (λ (f : FoundRow). f.row) found) answer rows over
+              (turns_idle new after at on_now.1 told)
               (found_as table plan reading s lists.state.past (map (λ (f : FoundRow). f.row) found) on (search_of table plan reading task)
-              (subst (λ (l : Lists). AreFoundBy (reading_of on.search.scan.sight) on.search.scan.table (plan_of on) l.state.past s (map (λ (f : FoundRow). f.row) found)) view on_now.2))
+              (subst (λ (l : Lists). AreFoundBy (reading_of on.search.scan.sight) on.search.scan.table (plan_of on) l.state.past s
+              (map (λ (f : FoundRow). f.row) found)) view on_now.2))
 
         pub hindered_moves : (same : RowSearch) (why : Move) → Waits s on.schema old new search same why → MovesPlaces s old new
         hindered_moves same why waits = (waited s old writer made desks cuts undo room on held is search taken new told same why waits).1

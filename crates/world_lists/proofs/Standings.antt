@@ -24,7 +24,8 @@ there_at (first ∷ sessions) (suc s) within = there_at sessions s (omega (arith
 none_some : {X : Type 0} (x : X) → None ≡ Some x → ⊥
 none_some x same = cc
 
-module _ (state : WorldState) (writer : Option ℕ) (made : Bool) (desks : List Desk) (cuts : ℕ) (undo : UndoRoom) (room : WorkRoom) (held : IsHeld state writer made desks cuts undo room) where
+module _ (state : WorldState) (writer : Option ℕ) (made : Bool) (desks : List Desk) (cuts : ℕ) (undo : UndoRoom) (room : WorkRoom)
+    (held : IsHeld state writer made desks cuts undo room) where
   pub as_many : length state.sessions ≡ length state.names
   as_many = held.agrees.count
 

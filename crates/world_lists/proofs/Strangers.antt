@@ -14,5 +14,6 @@ owes None changes waits item none is = cc
 pub joined_of_open : (state : WorldState) (w : ℕ) → (length state.names ≤ w → owed_by state.past w ≡ 0) → IsOpen w state.past → w < length state.names
 joined_of_open state w strangers open_is = elim (cases_lt w (length state.names)) [
   | inl joined ↦ joined
-  | inr stranger ↦ absurd (owes (level w state.past) (length (own w state.past)) (awaits_ack (of_item w state.past)) (owed_by_item (under_way w state.past)) (strangers stranger) open_is)
+  | inr stranger ↦ absurd (owes (level w state.past) (length (own w state.past)) (awaits_ack (of_item w state.past)) (owed_by_item (under_way w state.past))
+      (strangers stranger) open_is)
 ]

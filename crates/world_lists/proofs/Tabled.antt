@@ -74,10 +74,12 @@ module _ (s : ℕ) (schema : Schema) (old mid : WorldState) (makes : MakesTable 
   id_was id read = read makes.session makes.has_work.session_is ∙ ap id_of makes.has_work.work_is
 
   -- its id is given then, where it had none
-  pub given : (new : WorldState) (id txn : ℕ) → id ≡ makes.work.id → txn ≡ makes.work.txn → (id ≡ 0 → new ≡ identified txn mid) → (id ≢ 0 → new ≡ mid) → GivesId s session1 work1 mid new
+  pub given : (new : WorldState) (id txn : ℕ) → id ≡ makes.work.id → txn ≡ makes.work.txn → (id ≡ 0 → new ≡ identified txn mid) → (id ≢ 0 → new ≡ mid)
+      → GivesId s session1 work1 mid new
   given new id txn id_is txn_is first later = elim (eqb_tells id 0) [
     | inl none ↦ gives_new_id s session1 work1 mid new has1 listed1 (sym id_is ∙ none.1) (first none.1 ∙ ap (λ n. identified n mid) txn_is)
-    | inr has ↦ subst (λ (w : WorldState). GivesId s session1 work1 mid w) (sym (later has.1)) (keeps_id s session1 work1 mid has1 (λ none. has.1 (id_is ∙ none)))
+    | inr has ↦ subst (λ (w : WorldState). GivesId s session1 work1 mid w) (sym (later has.1))
+        (keeps_id s session1 work1 mid has1 (λ none. has.1 (id_is ∙ none)))
   ]
 
   module _ (new : WorldState) (gives : GivesId s session1 work1 mid new) where
@@ -136,21 +138,25 @@ module _ (s : ℕ) (schema : Schema) (old mid : WorldState) (makes : MakesTable 
     -- what sessions have set is as it was
     pub settings_are : settings_of new.sessions ≡ settings_of old.sessions
     settings_are =
-        Rattle.law_held_entries.proofs.Seen.settings_by old.sessions new.sessions s makes.session session_now (λ x. x) same_count makes.has_work.session_is gives.now refl same_else
+        Rattle.law_held_entries.proofs.Seen.settings_by old.sessions new.sessions s makes.session session_now (λ x. x) same_count makes.has_work.session_is
+        gives.now refl same_else
         ∙ set-get_or (settings_of old.sessions) s at_first
 
-    pub created_now : (had : Bool) (cuts : ℕ) (undo : UndoRoom) (room : WorkRoom) (desks : List Desk) → IsHeld old (Some s) had desks cuts undo room → doing_at s desks ≡ Nothing → IsTold old → IsTold new
+    pub created_now : (had : Bool) (cuts : ℕ) (undo : UndoRoom) (room : WorkRoom) (desks : List Desk) → IsHeld old (Some s) had desks cuts undo room
+        → doing_at s desks ≡ Nothing → IsTold old → IsTold new
         → IsStorable schema → length new.past < 2 ^ 63 → own s old.past ≡ [] → IsHeld new (Some s) true desks cuts undo room
     created_now had cuts undo room desks held rests told told_now storable few none =
         created_held had cuts undo room old new desks s schema held rests told told_now changed_by rooms
         (λ index. ap (λ (w : WorldState). w.indexes index) gives.rest ∙ makes.same index)
         (ap (λ (w : WorldState). w.versions) gives.rest ∙ ap (λ (w : WorldState). w.versions) makes.rest)
-        (λ which within. ap (λ (w : WorldState). w.indexes (Rattle.world.specs.State.index_of (length old.schemas) which)) gives.rest ∙ makes.empty which within)
+        (λ which within. ap (λ (w : WorldState). w.indexes (Rattle.world.specs.State.index_of (length old.schemas) which)) gives.rest ∙ makes.empty which
+        within)
         storable (few_more old.past (Changed s (Create schema)) new few past_is) none
 
 -- ---- what callers see
 
-quiet_shown : (schemas others : List Schema) (left other : ℕ) (doing : Doing) → is_quiet_doing doing ≡ true → shown schemas left doing ≡ shown others other doing
+quiet_shown : (schemas others : List Schema) (left other : ℕ) (doing : Doing) → is_quiet_doing doing ≡ true
+    → shown schemas left doing ≡ shown others other doing
 quiet_shown schemas others left other Nothing quiet = refl
 quiet_shown schemas others left other (Searching on) quiet = refl
 quiet_shown schemas others left other (Changing change) quiet = absurd (cc)
@@ -168,7 +174,8 @@ module _ (s table : ℕ) (stage : Stage) (old : WorldState) (desks : List Desk) 
     | inr differ ↦ quiet u (λ same. differ.1 (sym (some_number s u same)))
   ]
 
-  pub table_seen : (e : Event) (new : WorldState) → new.names ≡ old.names → new.past ≡ e ∷ old.past → Adds e s lists.state (seen_of table stage new (Some s) desks).state
+  pub table_seen : (e : Event) (new : WorldState) → new.names ≡ old.names → new.past ≡ e ∷ old.past
+      → Adds e s lists.state (seen_of table stage new (Some s) desks).state
   table_seen e new names past =
       let same : (u : ℕ) → task_of u (seen_of table stage new (Some s) desks).state ≡ task_of u (seen_of table stage old (Some s) desks).state
       = λ u. task_is u (undo_left_in table stage new) new (Some s) desks

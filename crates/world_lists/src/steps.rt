@@ -162,8 +162,8 @@ impl<W: EngineWorld> SharedLists for WorldLists<W> {
         is_short(&self.world);
     }
 
-    fn ack(&mut self, session: u32) {
-        self.world.ack(session);
+    fn ack(&mut self, session: u32, moment: u64) {
+        self.world.ack(session, moment);
         is_short(&self.world);
     }
 

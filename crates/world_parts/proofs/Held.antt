@@ -42,7 +42,8 @@ pub one_holder : (txn s t : ℕ) (x y : Session) (sessions : List Session) → A
 one_holder txn s t x y sessions apart there-x there-y is-x is-y =
     apart t s txn (ap txn_in there-y ∙ txn_is txn y.work is-y) (ap txn_in there-x ∙ txn_is txn x.work is-x)
 
-others_stay : (txn s : ℕ) (f : Session → Session) (x : Session) (sessions : List Session) → AreApart sessions → slice_get sessions s ≡ Some x → is_of txn x.work ≡ true
+others_stay : (txn s : ℕ) (f : Session → Session) (x : Session) (sessions : List Session) → AreApart sessions → slice_get sessions s ≡ Some x
+    → is_of txn x.work ≡ true
     → (k : ℕ) (y : Session) → slice_get sessions k ≡ Some y → k ≢ s → of_txn txn f y y.work ≡ y
 others_stay txn s f x sessions apart there is k y at other = elim (cases_Bool (is_of txn y.work)) [
   | inl also ↦ absurd (other (one_holder txn s k x y sessions apart there at is also))
@@ -50,7 +51,8 @@ others_stay txn s f x sessions apart there is k y at other = elim (cases_Bool (i
 ]
 
 -- where a session holds the transaction, it alone changes
-pub held : (txn s : ℕ) (f : Session → Session) (x : Session) (sessions : List Session) → AreApart sessions → slice_get sessions s ≡ Some x → is_of txn x.work ≡ true
+pub held : (txn s : ℕ) (f : Session → Session) (x : Session) (sessions : List Session) → AreApart sessions → slice_get sessions s ≡ Some x
+    → is_of txn x.work ≡ true
     → change_txn txn f sessions ≡ slice_set sessions s (f x)
 held txn s f x sessions apart there is =
     map_one (λ y. of_txn txn f y y.work) sessions s x there (others_stay txn s f x sessions apart there is)

@@ -12,10 +12,12 @@ bit_le weight true = omega arith
 bit_le weight false = omega arith
 
 -- a transaction that stays open is the same
-pub same_txn : (session : Session) (change : Work → Work) → ((work : Work) → (change work).txn ≡ work.txn) → txn_of (option_map change session.work) ≡ txn_of session.work
+pub same_txn : (session : Session) (change : Work → Work) → ((work : Work) → (change work).txn ≡ work.txn)
+    → txn_of (option_map change session.work) ≡ txn_of session.work
 same_txn session change same = elim session.work as (λ w. txn_of (option_map change w) ≡ txn_of w) [ None ↦ refl | Some work ↦ ap Some (same work) ]
 
-pub same_owed : (work : Option Work) (change : Work → Work) → ((w : Work) → ((change w).own ≡ w.own) × ((change w).can_end ≡ w.can_end)) → owed_by_work (option_map change work) ≡ owed_by_work work
+pub same_owed : (work : Option Work) (change : Work → Work) → ((w : Work) → ((change w).own ≡ w.own) × ((change w).can_end ≡ w.can_end))
+    → owed_by_work (option_map change work) ≡ owed_by_work work
 same_owed None change same = refl
 same_owed (Some work) change same = rw ((same work).0, (same work).1) refl
 
@@ -30,12 +32,14 @@ same_txn_id (Some work) id = refl
 owed_open : (work : Option Work) (w : Work) → work ≡ Some w → owed_by_work work ≡ w.own + bit 2 w.can_end
 owed_open work w is = rw is refl
 
-changed_open : (work : Option Work) (w : Work) (change : Work → Work) → work ≡ Some w → owed_by_work (option_map change work) ≡ (change w).own + bit 2 (change w).can_end
+changed_open : (work : Option Work) (w : Work) (change : Work → Work) → work ≡ Some w
+    → owed_by_work (option_map change work) ≡ (change w).own + bit 2 (change w).can_end
 changed_open work w change is = rw is refl
 
 pub owes_begun : (session : Session) (work : Work) → session.work ≡ Some work
     → owed_of (working (λ w. record w { can_end = true }) (record session { can_begin = false })) + bit 3 session.can_begin ≤ owed_of session + 2
-owes_begun session work is = omega (arith, owed_open session.work work is, changed_open session.work work (λ w. record w { can_end = true }) is, bit_le 2 work.can_end)
+owes_begun session work is =
+    omega (arith, owed_open session.work work is, changed_open session.work work (λ w. record w { can_end = true }) is, bit_le 2 work.can_end)
 
 pub owes_changed : (session : Session) (work : Work) → session.work ≡ Some work
     → owed_of (working (λ w. record w { own = w.own + 1 }) (record session { can_change = false })) + bit 2 session.can_change ≡ owed_of session + 1
@@ -51,11 +55,13 @@ owes_undone session work is some = omega (arith, owed_open session.work work is,
 
 pub owes_committed : (session : Session) (work : Work) → session.work ≡ Some work → work.can_end ≡ true
     → owed_of (working (λ w. record w { can_end = false }) (record session { can_ack = true })) + 1 ≤ owed_of session
-owes_committed session work is ends = omega (arith, rw ends at (owed_open session.work work is), changed_open session.work work (λ w. record w { can_end = false }) is)
+owes_committed session work is ends =
+    omega (arith, rw ends at (owed_open session.work work is), changed_open session.work work (λ w. record w { can_end = false }) is)
 
 pub owes_rolled_back : (session : Session) (work : Work) → session.work ≡ Some work → work.can_end ≡ true
     → owed_of (working (λ w. record w { can_end = false }) session) + 1 ≤ owed_of session
-owes_rolled_back session work is ends = omega (arith, rw ends at (owed_open session.work work is), changed_open session.work work (λ w. record w { can_end = false }) is)
+owes_rolled_back session work is ends =
+    omega (arith, rw ends at (owed_open session.work work is), changed_open session.work work (λ w. record w { can_end = false }) is)
 
 -- some changes stand, so something is owed
 pub owes_own : (session : Session) (work : Work) → session.work ≡ Some work → work.own ≤ owed_of session

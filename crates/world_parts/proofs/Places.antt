@@ -59,7 +59,8 @@ pub kept_elsewhere : (slots : List (Option Kept)) (pointer other : ℕ) (kept : 
     → kept_behind (slice_set slots (pointer - 1) (Some kept)) other ≡ kept_behind slots other
 kept_elsewhere slots zero other kept above another = absurd (omega arith)
 kept_elsewhere slots (suc place) zero kept above another = refl
-kept_elsewhere slots (suc place) (suc other) kept above another = simp unary_clauses (ap filled (get_set_elsewhere slots place other (Some kept) (λ same. another (ap suc same))))
+kept_elsewhere slots (suc place) (suc other) kept above another =
+    simp unary_clauses (ap filled (get_set_elsewhere slots place other (Some kept) (λ same. another (ap suc same))))
 
 short_filled_at : (slots : List (Option Kept)) (pointer : ℕ) (kept : Kept) → AreShort slots → IsShort kept → 0 < pointer → pointer ≤ length slots
     → (other : ℕ) (found : Kept) → kept_behind (slice_set slots (pointer - 1) (Some kept)) other ≡ Some found → IsShort found

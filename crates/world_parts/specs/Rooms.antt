@@ -7,7 +7,8 @@ use Rattle.world.specs.State.{Work, Session, Seen, Logged}
 
 -- its log is seen the newest first
 abbrev pub work_of : OpenWork → Work
-work_of work = record { txn = work.txn; level = work.level; id = work.id; own = work.own; view = work.view; log = reverse work.log.items; can_end = work.can_end }
+work_of work =
+    record { txn = work.txn; level = work.level; id = work.id; own = work.own; view = work.view; log = reverse work.log.items; can_end = work.can_end }
 
 -- the log takes one record more without memory
 abbrev pub HasLogRoom : Option OpenWork → Type 0

@@ -51,7 +51,8 @@ All-behind P (change ∷ before) later all = All-behind P before later (All-tail
 
 -- ---- the tables that they are of
 
-tabled_in : (schemas : List Schema) (before : List Change) (change : Change) (later : List Change) → AreOfTables schemas (before ++ change ∷ later) → IsTabled (length schemas) change
+tabled_in : (schemas : List Schema) (before : List Change) (change : Change) (later : List Change) → AreOfTables schemas (before ++ change ∷ later)
+    → IsTabled (length schemas) change
 tabled_in schemas [] (Create schema) later of-tables = tt
 tabled_in schemas [] (Put table row) later of-tables = of-tables.0
 tabled_in schemas [] (Remove table key) later of-tables = of-tables.0
@@ -60,14 +61,16 @@ tabled_in schemas (Put table row ∷ before) change later of-tables = tabled_in 
 tabled_in schemas (Remove table key ∷ before) change later of-tables = tabled_in schemas before change later of-tables.1
 
 -- what makes a table alone makes no change of a row
-alone_created : (tables : ℕ) (schema : Schema) (before : List Change) (change : Change) (later : List Change) → before ++ change ∷ later ≡ Create schema ∷ [] → IsTabled tables change
+alone_created : (tables : ℕ) (schema : Schema) (before : List Change) (change : Change) (later : List Change)
+    → before ++ change ∷ later ≡ Create schema ∷ [] → IsTabled tables change
 alone_created tables schema [] (Create other) later is = tt
 alone_created tables schema [] (Put table row) later is = cc
 alone_created tables schema [] (Remove table key) later is = cc
 alone_created tables schema (first ∷ []) change later is = cc
 alone_created tables schema (first ∷ second ∷ before) change later is = cc
 
-tabled_of : (db : Database) (changes before : List Change) (change : Change) (later : List Change) → AreApplicable db changes → changes ≡ before ++ change ∷ later → IsTabled (length db.schemas) change
+tabled_of : (db : Database) (changes before : List Change) (change : Change) (later : List Change) → AreApplicable db changes
+    → changes ≡ before ++ change ∷ later → IsTabled (length db.schemas) change
 tabled_of db changes before change later applicable is =
     elim applicable [
       | inl of-tables ↦ tabled_in db.schemas before change later (subst (AreOfTables db.schemas) is of-tables)
@@ -77,7 +80,8 @@ tabled_of db changes before change later applicable is =
 -- ---- the next change
 
 -- what the history holds with the entry
-pub with_entry : (s rows : ℕ) (change : Change) (h : List Event) → rows ≡ rows_of_entry (events.Changed s change) → rows_kept h + rows ≤ most_rows → rows_kept (events.Changed s change ∷ h) ≤ most_rows
+pub with_entry : (s rows : ℕ) (change : Change) (h : List Event) → rows ≡ rows_of_entry (events.Changed s change) → rows_kept h + rows ≤ most_rows
+    → rows_kept (events.Changed s change ∷ h) ≤ most_rows
 with_entry s rows change h is fits = omega (arith, is, fits, sum_by-cons rows_of_entry (events.Changed s change) h)
 
 changes_by : (s : ℕ) (past : List Event) (statement : Stmt) → IsWriting statement → ChangesBy s statement past
@@ -91,14 +95,16 @@ no_table_more t (Create schema) h of-row = absurd of-row
 no_table_more t (Put table row) h of-row = refl
 no_table_more t (Remove table key) h of-row = refl
 
-module _ (past : List Event) (writer : Option ℕ) (s : ℕ) (work : Work) (todo : List Change) (change : Change) (r : IsChanging past writer s work (todo ++ change ∷ [])) where
+module _ (past : List Event) (writer : Option ℕ) (s : ℕ) (work : Work) (todo : List Change) (change : Change)
+    (r : IsChanging past writer s work (todo ++ change ∷ [])) where
   pub parts_are : (outcome r.statement (base s past)).changes ≡ r.made ++ change ∷ reverse todo
   parts_are = r.parts ∙ ap (λ later. r.made ++ later) (next_first todo change)
 
   pub tabled : IsTabled (length (created past)) change
   tabled =
       subst (λ (schemas : List Schema). IsTabled (length schemas) change) (sym r.tables)
-      (tabled_of (base s past) (outcome r.statement (base s past)).changes r.made change (reverse todo) (outcome-AreApplicable r.statement (base s past)) parts_are)
+      (tabled_of (base s past) (outcome r.statement (base s past)).changes r.made change (reverse todo) (outcome-AreApplicable r.statement (base s past))
+      parts_are)
 
   pub may_change : rows_kept (events.Changed s change ∷ past) ≤ most_rows → MayChange Spells s change past
   may_change within =
@@ -117,8 +123,10 @@ module _ (past : List Event) (writer : Option ℕ) (s : ℕ) (work : Work) (todo
   fits then ordered in-order =
       let coded = latest_coded past s (reverse r.made) then ordered in-order r.own_is r.tables in
       let stores = spelled-Has64Bits r.working.takes.asks.0 r.statement r.working.takes.asks.2 in
-      let all : All (FitsWell (base s past).schemas) (r.made ++ change ∷ reverse todo) = subst (All (FitsWell (base s past).schemas)) parts_are (statement_fits r.statement (base s past) coded stores) in
-      subst (λ (schemas : List Schema). FitsWell schemas change) (sym r.tables) (All-head (FitsWell (base s past).schemas) change (reverse todo) (All-behind (FitsWell (base s past).schemas) r.made (change ∷ reverse todo) all))
+      let all : All (FitsWell (base s past).schemas) (r.made ++ change ∷ reverse todo) =
+      subst (All (FitsWell (base s past).schemas)) parts_are (statement_fits r.statement (base s past) coded stores) in
+      subst (λ (schemas : List Schema). FitsWell schemas change) (sym r.tables)
+      (All-head (FitsWell (base s past).schemas) change (reverse todo) (All-behind (FitsWell (base s past).schemas) r.made (change ∷ reverse todo) all))
 
   -- the history tells it
   module _ (of-row : IsOfRow change) where
@@ -148,7 +156,12 @@ module _ (past : List Event) (writer : Option ℕ) (s : ℕ) (work : Work) (todo
         record {
           statement = r.statement;
           working = working_own (events.Changed s change) past s mine refl refl refl refl refl refl rows_alone r.statement work.alone r.working;
-          goes_on = record { not_over = over_same (events.Changed s change) past s mine refl refl refl ∙ r.goes_on.not_over; not_undone = did_same (events.Changed s change) past s mine refl refl undoes refl ∙ r.goes_on.not_undone };
+          goes_on =
+              record {
+                not_over = over_same (events.Changed s change) past s mine refl refl refl ∙ r.goes_on.not_over;
+                not_undone = did_same
+                    (events.Changed s change) past s mine refl refl undoes refl ∙ r.goes_on.not_undone;
+              };
           right = record { locked = r.right.locked; alone = others_none };
           before_is = r.before_is;
           same = r.same;

@@ -23,14 +23,18 @@ use Rattle.sql_history.specs.Waiting.{is_victim}
 use Rattle.law_past_agreement.specs.Order.{IsOfRow}
 use Rattle.shared_lists.specs.Tasks.{Idle}
 use Rattle.shared_lists.specs.State.{State, Adds, Closes, task_of}
-use Rattle.sql_lists.specs.Kept.{MayReply}
-use Rattle.sql_lists.specs.Steps.{Moves}
+use Rattle.sql_lists.specs.Kept.{MayReply, OwesAck}
+use Rattle.sql_lists.specs.Going.{NearsAcked}
+use Rattle.sql_lists.specs.Steps.{Moves, GoesOnAcked}
 use Rattle.sql_lists.proofs.Staying.{point_now, point_stays}
 use Rattle.write_statement.specs.declared.machine.Work.{Work}
+use Rattle.write_statement.specs.declared.machine.WriteStatement.{WriteStatement}
+use Rattle.write_statement.specs.declared.machine.WriteStatement.TheVariants as machine
+use Rattle.write_statement.specs.Going.{to_go}
 use Rattle.write_statement.specs.Settling.{IsPlain}
-use Rattle.write_statement.specs.Running.{InTxn, IsChanging, is_count, is_refusal, MayAnswer, HasReply, IsClosing}
+use Rattle.write_statement.specs.Running.{InTxn, IsChanging, is_count, is_refusal, MayAnswer, HasReply, IsClosing, IsRunning, owes_ack, acked}
 use Rattle.write_statement.proofs.Writing.{of_writing, some_of, sees_base}
-use Rattle.sql_lists.proofs.Moving.{moves_adds, moves_closes}
+use Rattle.sql_lists.proofs.Moving.{moves_closes, below_phase}
 use Rattle.write_statement.proofs.Replies.{reply_stays}
 use Rattle.write_statement.proofs.Ends.{rolls_back_on, txn_ends_on}
 use Rattle.write_statement.proofs.Own.{acked_of, did_same, did_now, over_now, over_still, entries_are, some_on, takes_own, reply_closed}
@@ -41,7 +45,8 @@ count_of (replies.Count n) plain is = (n, refl)
 count_of (replies.Fail error) plain is = absurd (false≢true (sym is))
 count_of other plain is = absurd plain
 
-makes_all : (s n : ℕ) (kept : Reply) (changes : List Change) (at : List Event) → kept ≡ replies.Count n → HasMade (length changes) s changes at → MakesFor kept s changes at
+makes_all : (s n : ℕ) (kept : Reply) (changes : List Change) (at : List Event) → kept ≡ replies.Count n → HasMade (length changes) s changes at
+    → MakesFor kept s changes at
 makes_all s n kept changes at is made = subst (λ (reply : Reply). MakesFor reply s changes at) (sym is) made
 
 never_refused : (n : ℕ) (kept : Reply) (error : SqlError) → kept ≡ replies.Count n → kept ≡ replies.Fail error → ⊥
@@ -73,7 +78,9 @@ module _ (h : List Event) (writer : Option ℕ) (s : ℕ) (work : Work) (r : IsC
   answer_then = r.answer ∙ ap (λ p. (outcome r.statement (base s p)).reply) (sym now)
 
   answers_then : MayAnswer s r.statement (length (outcome r.statement (base s (point s h))).changes) work.kept h
-  answers_then = subst (λ (kept : Reply). MayAnswer s r.statement (length (outcome r.statement (base s (point s h))).changes) kept h) (sym counted.1) (sym counted.1 ∙ answer_then, refl)
+  answers_then =
+      subst (λ (kept : Reply). MayAnswer s r.statement (length (outcome r.statement (base s (point s h))).changes) kept h) (sym counted.1)
+      (sym counted.1 ∙ answer_then, refl)
 
   reply : HasReply s r.statement work.kept h
   reply =
@@ -97,17 +104,33 @@ module _ (h : List Event) (writer : Option ℕ) (s : ℕ) (work : Work) (r : IsC
     goes_open = elim txn_open [
       | inl joins ↦
           let l = some_of (level s (before_item s h)) joins.was_open in
-          let here : Goes (Some l.0) r.working.takes.setting.autocommit s h = (record { stays = joins.stays; not_begun = joins.not_begun; not_committed = r.working.not_committed; not_rolled_back = r.working.not_rolled_back }, r.goes_on.not_undone) in
+          let here : Goes (Some l.0) r.working.takes.setting.autocommit s h = (
+            record {
+              stays = joins.stays;
+              not_begun = joins.not_begun;
+              not_committed = r.working.not_committed;
+              not_rolled_back =
+                  r.working.not_rolled_back;
+            },
+            r.goes_on.not_undone,
+          ) in
           subst (λ o. Goes o r.working.takes.setting.autocommit s h) (sym l.1) here
       | inr opened ↦
-          let here : Goes None false s h = (record { is_open = r.working.is_open; begun = opened.0.begun; not_rolled_back = r.working.not_rolled_back }, r.working.not_committed, r.goes_on.not_undone) in
-          subst (λ o. Goes o r.working.takes.setting.autocommit s h) (sym opened.0.was_closed) (subst (λ autocommit. Goes None autocommit s h) (sym opened.1) here)
+          let here : Goes None false s h = (
+            record { is_open = r.working.is_open; begun = opened.0.begun; not_rolled_back = r.working.not_rolled_back },
+            r.working.not_committed,
+            r.goes_on.not_undone,
+          ) in
+          subst (λ o. Goes o r.working.takes.setting.autocommit s h) (sym opened.0.was_closed)
+          (subst (λ autocommit. Goes None autocommit s h) (sym opened.1) here)
     ]
 
     pub may_end : MayReply s work.kept h
     may_end =
         may_reply s r.statement h r.working.takes r.working.writes r.working.no_victim work.kept reply
-        (subst (λ b. Either b (Goes (level s (before_item s h)) r.working.takes.setting.autocommit s h) (BacksOut (level s (before_item s h)) r.working.takes.setting.autocommit s h)) (sym is_counted) goes_open) (λ no-count. absurd (false≢true (sym no-count ∙ is_counted))) (acked_of (of_item s h) r.working.not_committed)
+        (subst (λ b. Either b (Goes (level s (before_item s h)) r.working.takes.setting.autocommit s h)
+        (BacksOut (level s (before_item s h)) r.working.takes.setting.autocommit s h)) (sym is_counted) goes_open)
+        (λ no-count. absurd (false≢true (sym no-count ∙ is_counted))) (acked_of (of_item s h) r.working.not_committed)
 
   -- ---- in one of its own
 
@@ -137,7 +160,10 @@ module _ (h : List Event) (writer : Option ℕ) (s : ℕ) (work : Work) (r : IsC
         }
 
     commits_by : CommitsBy s r.working.takes.setting r.statement h
-    commits_by = of_writing (λ statement. IsSettled s r.working.takes.setting statement h → CommitsBy s r.working.takes.setting statement h) (λ table columns tuples is. (refl, is)) (λ table sets condition is. (refl, is)) (λ table condition is. (refl, is)) r.statement r.working.writes settled
+    commits_by =
+        of_writing (λ statement. IsSettled s r.working.takes.setting statement h → CommitsBy s r.working.takes.setting statement h)
+        (λ table columns tuples is. (refl, is)) (λ table sets condition is. (refl, is)) (λ table condition is. (refl, is)) r.statement r.working.writes
+        settled
 
     pub may_commit : MayCommit Spells s h
     may_commit = record { is_open = r.working.is_open; statement = r.statement; takes = r.working.takes; by = commits_by }
@@ -155,8 +181,14 @@ module _ (h : List Event) (writer : Option ℕ) (s : ℕ) (work : Work) (r : IsC
 
     goes : Goes (level s (before_item s after)) r.working.takes.setting.autocommit s after
     goes =
-        let here : Goes None true s after = (commits, did_same (events.Committed s) h s mine refl refl begins_txn refl ∙ txn.0.begun, did_same (events.Committed s) h s mine refl refl undoes refl ∙ r.goes_on.not_undone) in
-        subst (λ l. Goes l r.working.takes.setting.autocommit s after) (sym txn.0.was_closed) (subst (λ autocommit. Goes None autocommit s after) (sym txn.1) here)
+        let here : Goes None true s after = (
+          commits,
+          did_same (events.Committed s) h s mine refl refl begins_txn refl ∙ txn.0.begun,
+          did_same (events.Committed s) h s mine refl refl undoes
+              refl ∙ r.goes_on.not_undone,
+        ) in
+        subst (λ l. Goes l r.working.takes.setting.autocommit s after) (sym txn.0.was_closed)
+        (subst (λ autocommit. Goes None autocommit s after) (sym txn.1) here)
 
     closing : IsClosing s work.kept work.given after
     closing =
@@ -169,34 +201,40 @@ module _ (h : List Event) (writer : Option ℕ) (s : ℕ) (work : Work) (r : IsC
           no_victim = did_same (events.Committed s) h s mine refl refl is_victim refl ∙ r.working.no_victim;
           rows_alone = (let none : own s after ≡ [] = rw mine refl in subst (AllByRecursion IsOfRow) (sym none) tt);
           reply = reply_closed (events.Committed s) h s mine refl refl refl r.statement work.kept reply;
-          ends = subst (λ b. Either b (Goes (level s (before_item s after)) r.working.takes.setting.autocommit s after) (BacksOut (level s (before_item s after)) r.working.takes.setting.autocommit s after)) (sym is_counted) goes;
+          ends =
+              subst (λ b. Either b (Goes (level s (before_item s after)) r.working.takes.setting.autocommit s after)
+              (BacksOut (level s (before_item s after)) r.working.takes.setting.autocommit s after)) (sym is_counted) goes;
           leaves = λ no-count. absurd (false≢true (sym no-count ∙ is_counted));
         }
 
     pub closing_then : IsClosing s work.kept work.given after × (awaits_ack (of_item s after) ≡ true) × IsClosed s after
     closing_then = (closing, ap awaits_ack (entries_are (events.Committed s) h s mine refl refl), commits.closed)
 
-pub committed : (old new : State) (s : ℕ) (work : Work) (r : IsChanging old.past old.writer s work []) (accepted : is_refusal work.kept ≡ false) (its-own : work.alone ≡ true) → task_of s old ≡ Idle → Closes (events.Committed s) s old new
-    → Moves s old new × (IsClosing s work.kept work.given new.past × (awaits_ack (of_item s new.past) ≡ true) × IsClosed s new.past × (task_of s new ≡ Idle)) × (started s new.past ≡ started s old.past)
+pub committed : (old new : State) (s : ℕ) (work : Work) (r : IsChanging old.past old.writer s work []) (accepted : is_refusal work.kept ≡ false)
+    (its-own : work.alone ≡ true) → task_of s old ≡ Idle → Closes (events.Committed s) s old new
+    → Moves s old new × (IsClosing s work.kept work.given new.past × (awaits_ack (of_item s new.past) ≡ true) × IsClosed s new.past × (task_of s new ≡ Idle))
+    × (started s new.past ≡ started s old.past)
 committed old new s work r accepted its-own idle closes-it =
-    let then = subst (λ h. IsClosing s work.kept work.given h × (awaits_ack (of_item s h) ≡ true) × IsClosed s h) (sym closes-it.past_is) (closing_then old.past old.writer s work r accepted its-own) in (
-      moves_closes s (events.Committed s) old new (grind (arith, nat_tests)) refl closes-it,
+    let then =
+    subst (λ h. IsClosing s work.kept work.given h × (awaits_ack (of_item s h) ≡ true) × IsClosed s h) (sym closes-it.past_is)
+    (closing_then old.past old.writer s work r accepted its-own) in (
+      moves_closes s (events.Committed s) old new (grind (arith, nat_tests)) refl refl closes-it,
       (then.0, then.1, then.2, closes-it.task_is ∙ idle),
       ap (started s) closes-it.past_is,
     )
 
 -- ---- a transaction of its own that has ended
 
-module _ (past : List Event) (s : ℕ) (kept given : Reply) (c : IsClosing s kept given past) where
+module _ (past : List Event) (s moment : ℕ) (kept given : Reply) (c : IsClosing s kept given past) where
   its : eqb s s ≡ true
   its = grind (arith, nat_tests)
 
-  abbrev acked : List Event
-  acked = events.Acked s 0 ∷ past
+  abbrev then_acked : List Event
+  then_acked = events.Acked s moment ∷ past
 
-  closing_acked : IsClosing s kept given acked
+  closing_acked : IsClosing s kept given then_acked
   closing_acked =
-      let e = events.Acked s 0 in
+      let e = events.Acked s moment in
       record {
         same = c.same;
         statement = c.statement;
@@ -205,25 +243,39 @@ module _ (past : List Event) (s : ℕ) (kept given : Reply) (c : IsClosing s kep
         over = over_still e past s its refl refl c.over;
         no_victim = did_same e past s its refl refl is_victim refl ∙ c.no_victim;
         rows_alone = c.rows_alone;
-        reply = reply_stays s past acked (some_on e past s its refl refl) (point_stays e past s c.over (over_still e past s its refl refl c.over)) c.statement kept c.reply;
-        ends = txn_ends_on past acked s refl refl refl (did_same e past s its refl refl begins_txn refl) (did_same e past s its refl refl commits_txn refl) (did_same e past s its refl refl rolls_back_txn refl) (did_same e past s its refl refl undoes refl) kept c.takes.setting c.ends;
-        leaves = λ no-count. rolls_back_on past acked s refl refl refl (did_same e past s its refl refl begins_txn refl) (did_same e past s its refl refl commits_txn refl) (did_same e past s its refl refl rolls_back_txn refl) (did_same e past s its refl refl undoes refl) (c.leaves no-count);
+        reply =
+            reply_stays s past then_acked (some_on e past s its refl refl) (point_stays e past s c.over (over_still e past s its refl refl c.over))
+            c.statement kept c.reply;
+        ends =
+            txn_ends_on past then_acked s refl refl refl (did_same e past s its refl refl begins_txn refl) (did_same e past s its refl refl commits_txn refl)
+            (did_same e past s its refl refl rolls_back_txn refl) (did_same e past s its refl refl undoes refl) kept c.takes.setting c.ends;
+        leaves =
+            λ no-count. rolls_back_on past then_acked s refl refl refl (did_same e past s its refl refl begins_txn refl)
+            (did_same e past s its refl refl commits_txn refl) (did_same e past s its refl refl rolls_back_txn refl)
+            (did_same e past s its refl refl undoes refl) (c.leaves no-count);
       }
 
-  pub acknowledged_then : IsClosing s kept given acked × (awaits_ack (of_item s acked) ≡ false)
-  acknowledged_then = (closing_acked, ap awaits_ack (entries_are (events.Acked s 0) past s its refl refl))
+  pub acknowledged_then : IsClosing s kept given then_acked × (awaits_ack (of_item s then_acked) ≡ false)
+  acknowledged_then = (closing_acked, ap awaits_ack (entries_are (events.Acked s moment) past s its refl refl))
 
+module _ (past : List Event) (s : ℕ) (kept given : Reply) (c : IsClosing s kept given past) where
   pub closing_ends : awaits_ack (of_item s past) ≡ false → MayReply s kept past
   closing_ends acks = may_reply s c.statement past c.takes c.writes c.no_victim kept c.reply c.ends (λ no-count. inl (c.leaves no-count)) acks
 
   pub closing_not_done : kept ≡ replies.Done → ⊥
   closing_not_done is = not_done s c.statement past kept c.reply is
 
-pub acknowledged : (old new : State) (s : ℕ) (kept given : Reply) → IsClosing s kept given old.past → task_of s old ≡ Idle → Adds (events.Acked s 0) s old new
-    → Moves s old new × (IsClosing s kept given new.past × (awaits_ack (of_item s new.past) ≡ false) × (task_of s new ≡ Idle)) × (started s new.past ≡ started s old.past)
-acknowledged old new s kept given c idle adds =
-    let then = subst (λ h. IsClosing s kept given h × (awaits_ack (of_item s h) ≡ false)) (sym adds.past_is) (acknowledged_then old.past s kept given c) in (
-      moves_adds s (events.Acked s 0) old new (grind (arith, nat_tests)) (λ writes. absurd (false≢true writes)) adds,
-      (then.0, then.1, adds.task_is ∙ idle),
-      ap (started s) adds.past_is,
-    )
+pub owes_it : (state : State) (s : ℕ) (m : WriteStatement) → owes_ack m ≡ true → IsRunning state s m → OwesAck s state.past
+owes_it state s (machine.Unacked kept given) owes r = record { owed = r.1; closed = r.2 }
+owes_it state s m owes r = absurd (false≢true owes)
+
+pub goes_on_acked : (m : WriteStatement) → owes_ack m ≡ true → GoesOnAcked IsRunning m (acked m)
+goes_on_acked (machine.Unacked kept given) owes old new s moment r adds =
+    let then =
+    subst (λ h. IsClosing s kept given h × (awaits_ack (of_item s h) ≡ false)) (sym adds.past_is) (acknowledged_then old.past s moment kept given r.0) in
+    (then.0, then.1, adds.task_is ∙ r.3)
+goes_on_acked m owes old new s moment r adds = absurd (false≢true owes)
+
+pub acked_nears : (m : WriteStatement) → owes_ack m ≡ true → NearsAcked to_go m (acked m)
+acked_nears (machine.Unacked kept given) owes old new s = below_phase 2 1 _ _ _ _ _ _ (omega arith)
+acked_nears m owes old new s = absurd (false≢true owes)

@@ -14,13 +14,22 @@ either_on : (b : Bool) (A B A' B' : Type 0) → (A → A') → (B → B') → Ei
 either_on true A B A' B' f g x = f x
 either_on false A B A' B' f g x = g x
 
-module _ (old new : List Event) (s : ℕ) (level-is : level s new ≡ level s old) (own-is : own s new ≡ own s old) (before-is : before_item s new ≡ before_item s old)
-    (begins : did begins_txn s new ≡ did begins_txn s old) (commits : did commits_txn s new ≡ did commits_txn s old) (rolls : did rolls_back_txn s new ≡ did rolls_back_txn s old) (undone : did undoes s new ≡ did undoes s old) where
+module _ (old new : List Event) (s : ℕ) (level-is : level s new ≡ level s old) (own-is : own s new ≡ own s old)
+    (before-is : before_item s new ≡ before_item s old)
+    (begins : did begins_txn s new ≡ did begins_txn s old) (commits : did commits_txn s new ≡ did commits_txn s old)
+    (rolls : did rolls_back_txn s new ≡ did rolls_back_txn s old) (undone : did undoes s new ≡ did undoes s old) where
   was_level : level s (before_item s new) ≡ level s (before_item s old)
   was_level = ap (level s) before-is
 
   stays_in_on : StaysIn s old → StaysIn s new
-  stays_in_on x = record { stays = level-is ∙ (x.stays ∙ sym was_level); not_begun = begins ∙ x.not_begun; not_committed = commits ∙ x.not_committed; not_rolled_back = rolls ∙ x.not_rolled_back }
+  stays_in_on x =
+      record {
+        stays = level-is ∙ (x.stays ∙ sym was_level);
+        not_begun = begins ∙ x.not_begun;
+        not_committed = commits ∙ x.not_committed;
+        not_rolled_back =
+            rolls ∙ x.not_rolled_back;
+      }
 
   opens_on : Opens s old → Opens s new
   opens_on x = record { is_open = ap is_some level-is ∙ x.is_open; begun = begins ∙ x.begun; not_rolled_back = rolls ∙ x.not_rolled_back }
@@ -43,6 +52,8 @@ module _ (old new : List Event) (s : ℕ) (level-is : level s new ≡ level s ol
 
   pub txn_ends_on : (kept : Reply) (setting : Setting) → EndsTxn kept setting s old → EndsTxn kept setting s new
   txn_ends_on kept setting =
-      either_on (is_count kept) (Goes (level s (before_item s old)) setting.autocommit s old) (BacksOut (level s (before_item s old)) setting.autocommit s old) (Goes (level s (before_item s new)) setting.autocommit s new) (BacksOut (level s (before_item s new)) setting.autocommit s new)
+      either_on (is_count kept) (Goes (level s (before_item s old)) setting.autocommit s old)
+      (BacksOut (level s (before_item s old)) setting.autocommit s old) (Goes (level s (before_item s new)) setting.autocommit s new)
+      (BacksOut (level s (before_item s new)) setting.autocommit s new)
       (λ goes. subst (λ l. Goes l setting.autocommit s new) (sym was_level) (goes_at (level s (before_item s old)) setting.autocommit goes))
       (λ backs. subst (λ l. BacksOut l setting.autocommit s new) (sym was_level) (backs_at (level s (before_item s old)) setting.autocommit backs))

@@ -24,34 +24,50 @@ use Rattle.write_statement.proofs.Changes.{with_entry, tabled, may_change, chang
 use Rattle.write_statement.proofs.Turning.{changing_given_up}
 
 -- the change that is asked for may come
-pub may_make : (past : List Event) (writer : Option ℕ) (task : Task) (s : ℕ) (work : Work) (todo : List Change) (rows : ℕ) → IsMaking past writer task s work todo rows → rows_kept past + rows ≤ most_rows
+pub may_make : (past : List Event) (writer : Option ℕ) (task : Task) (s : ℕ) (work : Work) (todo : List Change) (rows : ℕ)
+    → IsMaking past writer task s work todo rows → rows_kept past + rows ≤ most_rows
     → (change : Change) → asked task ≡ Some change → MayChange Spells s change past × IsTabled (length (created past)) change × IsOfRow change
 may_make past writer task s work todo rows r within change is =
     let same = same_Some r.change change (sym r.asked_is ∙ is) in
-    subst (λ (x : Change). MayChange Spells s x past × IsTabled (length (created past)) x × IsOfRow x) same
-    (may_change past writer s work todo r.change r.changing (with_entry s rows r.change past r.rows_are within), tabled past writer s work todo r.change r.changing, r.of_row)
+    subst (λ (x : Change). MayChange Spells s x past × IsTabled (length (created past)) x × IsOfRow x) same (
+      may_change past writer s work todo r.change r.changing (with_entry s rows r.change past r.rows_are within),
+      tabled past writer s work todo r.change
+          r.changing,
+      r.of_row,
+    )
 
 -- the history tells it
-pub entered : (s : ℕ) (old new : State) (work : Work) (todo : List Change) (rows : ℕ) → IsMaking old.past old.writer (task_of s old) s work todo rows → Enters s old new
+pub entered : (s : ℕ) (old new : State) (work : Work) (todo : List Change) (rows : ℕ) → IsMaking old.past old.writer (task_of s old) s work todo rows
+    → Enters s old new
     → Moves s old new × IsFinishing new.past new.writer (task_of s new) s work todo × (started s new.past ≡ started s old.past)
 entered s old new work todo rows r enters =
     let same : enters.change ≡ r.change = same_Some enters.change r.change (sym enters.asked_was ∙ r.asked_is) in
     let past-is : new.past ≡ events.Changed s r.change ∷ old.past = enters.now.past_is ∙ ap (λ x. events.Changed s x ∷ old.past) same in
     let changing : IsChanging new.past new.writer s work todo =
     subst (λ h. IsChanging h new.writer s work todo) (sym past-is)
-    (subst (λ w. IsChanging (events.Changed s r.change ∷ old.past) w s work todo) (sym enters.now.writer_is) (changing_then old.past old.writer s work todo r.change r.changing r.of_row)) in
-    let stands : work.before < length (own s new.past) = subst (λ (h : List Event). work.before < length (own s h)) (sym past-is) (stands_now old.past old.writer s work todo r.change r.changing r.of_row) in
-    (moves_enters s old new r.changing.right.locked enters, record { changing = changing; under_way = enters.still; told = enters.asked_is; stands = stands }, ap (started s) past-is)
+    (subst (λ w. IsChanging (events.Changed s r.change ∷ old.past) w s work todo) (sym enters.now.writer_is)
+    (changing_then old.past old.writer s work todo r.change r.changing r.of_row)) in
+    let stands : work.before < length (own s new.past) =
+    subst (λ (h : List Event). work.before < length (own s h)) (sym past-is) (stands_now old.past old.writer s work todo r.change r.changing r.of_row) in (
+      moves_enters s old new r.changing.right.locked enters,
+      record
+          { changing = changing; under_way = enters.still; told = enters.asked_is; stands = stands },
+      ap (started s) past-is,
+    )
 
 -- ---- for want of memory
 
 -- what the history doesn't tell was never made
-pub making_given_up : (s : ℕ) (old new : State) (work : Work) (todo : List Change) (rows : ℕ) (m : WriteStatement) (a : Advance) → IsMaking old.past old.writer (task_of s old) s work todo rows → Turns s (left_by (asked (task_of s old))) old new
+pub making_given_up : (s : ℕ) (old new : State) (work : Work) (todo : List Change) (rows : ℕ) (m : WriteStatement) (a : Advance)
+    → IsMaking old.past old.writer (task_of s old) s work todo rows → Turns s (left_by (asked (task_of s old))) old new
     → m ≡ machine.BackingOut (given_up work.alone work.before) → a ≡ advance.NoMemory → Steps IsRunning s old new m a
-making_given_up s old new work todo rows m a r turns state answer = changing_given_up s old new (left_by (asked (task_of s old))) work (todo ++ r.change ∷ []) m a r.changing turns (inl (ap left_by r.asked_is)) state answer
+making_given_up s old new work todo rows m a r turns state answer =
+    changing_given_up s old new (left_by (asked (task_of s old))) work (todo ++ r.change ∷ []) m a r.changing turns (inl (ap left_by r.asked_is)) state answer
 
 -- and what it tells is to be taken back
-pub finishing_given_up : (s : ℕ) (old new : State) (work : Work) (todo : List Change) (m : WriteStatement) (a : Advance) → IsFinishing old.past old.writer (task_of s old) s work todo → Turns s (left_by (asked (task_of s old))) old new
+pub finishing_given_up : (s : ℕ) (old new : State) (work : Work) (todo : List Change) (m : WriteStatement) (a : Advance)
+    → IsFinishing old.past old.writer (task_of s old) s work todo → Turns s (left_by (asked (task_of s old))) old new
     → m ≡ machine.BackingOut (given_up work.alone work.before) → a ≡ advance.NoMemory → Steps IsRunning s old new m a
 finishing_given_up s old new work todo m a r turns state answer =
-    changing_given_up s old new (left_by (asked (task_of s old))) work todo m a r.changing turns (inr (subst MayTakeBack (sym (ap left_by r.told)) tt, r.stands)) state answer
+    changing_given_up s old new (left_by (asked (task_of s old))) work todo m a r.changing turns
+    (inr (subst MayTakeBack (sym (ap left_by r.told)) tt, r.stands)) state answer

@@ -50,12 +50,14 @@ use Rattle.write_statement.specs.Settling.{IsSettledBy}
 
 schemas_after : (db : Database) (changes : List Change) → (changed db changes).schemas ≡ db.schemas ++ made changes
 schemas_after db [] = sym (append-nil db.schemas)
-schemas_after db (Create schema ∷ changes) = ap (λ (schemas : List Schema). schemas ++ schema ∷ []) (schemas_after db changes) ∙ append_assoc db.schemas (made changes) (schema ∷ [])
+schemas_after db (Create schema ∷ changes) =
+    ap (λ (schemas : List Schema). schemas ++ schema ∷ []) (schemas_after db changes) ∙ append_assoc db.schemas (made changes) (schema ∷ [])
 schemas_after db (Put table row ∷ changes) = schemas_after db changes
 schemas_after db (Remove table key ∷ changes) = schemas_after db changes
 
 module _ (db : Database) (tables : List Schema) where
-  key_same : (more : List Schema) (earlier : List Change) (table : ℕ) (row : List Value) → tables ≡ (db.schemas ++ made earlier) ++ more → table < length (db.schemas ++ made earlier)
+  key_same : (more : List Schema) (earlier : List Change) (table : ℕ) (row : List Value) → tables ≡ (db.schemas ++ made earlier) ++ more
+      → table < length (db.schemas ++ made earlier)
       → key_in (changed (record db { schemas = tables }) earlier).schemas table row ≡ key_in (changed db earlier).schemas table row
   key_same more earlier table row is lt =
       let within : table < length tables = omega (arith, lt, ap length is, length-append (db.schemas ++ made earlier) more) in
@@ -65,19 +67,24 @@ module _ (db : Database) (tables : List Schema) where
       ∙ (key_stays (db.schemas ++ made earlier) more table row lt
       ∙ sym (ap (λ (l : List Schema). key_in l table row) (schemas_after db earlier)))))
 
-  rows_same : (more : List Schema) (changes : List Change) → tables ≡ (db.schemas ++ made changes) ++ more → AreInOrder db.schemas changes → (changed (record db { schemas = tables }) changes).rows ≡ (changed db changes).rows
+  rows_same : (more : List Schema) (changes : List Change) → tables ≡ (db.schemas ++ made changes) ++ more → AreInOrder db.schemas changes
+      → (changed (record db { schemas = tables }) changes).rows ≡ (changed db changes).rows
   rows_same more [] is in-order = refl
   rows_same more (Create schema ∷ earlier) is in-order =
-      let later : tables ≡ (db.schemas ++ made earlier) ++ (schema ∷ more) = is ∙ (ap (λ (l : List Schema). l ++ more) (sym (append_assoc db.schemas (made earlier) (schema ∷ []))) ∙ append_assoc (db.schemas ++ made earlier) (schema ∷ []) more) in
+      let later : tables ≡ (db.schemas ++ made earlier) ++ (schema ∷ more) =
+      is ∙ (ap (λ (l : List Schema). l ++ more) (sym (append_assoc db.schemas (made earlier) (schema ∷ []))) ∙ append_assoc (db.schemas ++ made earlier)
+      (schema ∷ []) more) in
       rows_same (schema ∷ more) earlier later in-order.1
   rows_same more (Put table row ∷ earlier) is in-order =
-      ap (λ (rows : RowMap). insert rows (table, key_in (changed (record db { schemas = tables }) earlier).schemas table row) row) (rows_same more earlier is in-order.1)
+      ap (λ (rows : RowMap). insert rows (table, key_in (changed (record db { schemas = tables }) earlier).schemas table row) row)
+      (rows_same more earlier is in-order.1)
       ∙ ap (λ (key : Value). insert (changed db earlier).rows (table, key) row) (key_same more earlier table row is in-order.0)
   rows_same more (Remove table key ∷ earlier) is in-order = ap (λ (rows : RowMap). remove rows (table, key)) (rows_same more earlier is in-order.1)
 
 -- ---- the latest rows, before the statement changed any
 
-module _ (past : List Event) (writer : Option ℕ) (s : ℕ) (right : HasRight s past writer) (unchanged : own s past ≡ own_before s past) (stands : AreStanding past) where
+module _ (past : List Event) (writer : Option ℕ) (s : ℕ) (right : HasRight s past writer) (unchanged : own s past ≡ own_before s past)
+    (stands : AreStanding past) where
   base_seen : base s past ≡ changed (opening past) (seen past s (commits past))
   base_seen = ap (λ changes. changed (opening past) (changes ++ committed (commits past) past)) (sym unchanged)
 
@@ -89,8 +96,11 @@ module _ (past : List Event) (writer : Option ℕ) (s : ℕ) (right : HasRight s
 
   rows_are : IsInOrder past → (table : ℕ) → rows_of table (changed (with_all_tables past) (seen past s (commits past))) ≡ rows_of table (base s past)
   rows_are in-order table =
-      let is : created past ≡ ((opening past).schemas ++ made (seen past s (commits past))) ++ [] = tables_now ∙ (schemas_after (opening past) (seen past s (commits past)) ∙ sym (append-nil ((opening past).schemas ++ made (seen past s (commits past))))) in
-      ap (λ (rows : RowMap). rows_of table (record { schemas = []; rows = rows })) (rows_same (opening past) (created past) [] (seen past s (commits past)) is (in-order s))
+      let is : created past ≡ ((opening past).schemas ++ made (seen past s (commits past))) ++ [] =
+      tables_now ∙ (schemas_after (opening past) (seen past s (commits past)) ∙ sym
+      (append-nil ((opening past).schemas ++ made (seen past s (commits past))))) in
+      ap (λ (rows : RowMap). rows_of table (record { schemas = []; rows = rows }))
+      (rows_same (opening past) (created past) [] (seen past s (commits past)) is (in-order s))
       ∙ ap (λ (db : Database). rows_of table db) (sym base_seen)
 
 -- ---- what a statement reads by its plan
@@ -104,28 +114,34 @@ and_right : (a b : Bool) → a && b ≡ true → b ≡ true
 and_right true b is = is
 and_right false b is = cc
 
-update_fits : (sets : List Set) (filter_by : Filter) (schema : Schema) → update_refusal sets (Some filter_by) schema ≡ None → filter_fits schema.columns filter_by ≡ true
+update_fits : (sets : List Set) (filter_by : Filter) (schema : Schema) → update_refusal sets (Some filter_by) schema ≡ None
+    → filter_fits schema.columns filter_by ≡ true
 update_fits sets filter_by schema is =
     and_right (list_all (set_fits schema) sets) (filter_fits schema.columns filter_by)
-    (passed_both (list_all (set_known schema.columns) sets && where_known schema.columns (Some filter_by)) (list_all (set_fits schema) sets && where_fits schema.columns (Some filter_by)) NoColumn (Syntax 0) is)
+    (passed_both (list_all (set_known schema.columns) sets && where_known schema.columns (Some filter_by))
+    (list_all (set_fits schema) sets && where_fits schema.columns (Some filter_by)) NoColumn (Syntax 0) is)
 
 delete_fits : (filter_by : Filter) (schema : Schema) → delete_refusal (Some filter_by) schema ≡ None → filter_fits schema.columns filter_by ≡ true
 delete_fits filter_by schema is = passed_both (where_known schema.columns (Some filter_by)) (where_fits schema.columns (Some filter_by)) NoColumn (Syntax 0) is
 
-module _ (db : Database) (n : ℕ) (schema : Schema) (plan : Plan) (there : slice_get db.schemas n ≡ Some schema) (fit : All (IsRowOf schema.columns) (rows_of n db)) where
+module _ (db : Database) (n : ℕ) (schema : Schema) (plan : Plan) (there : slice_get db.schemas n ≡ Some schema)
+    (fit : All (IsRowOf schema.columns) (rows_of n db)) where
   abbrev in_range : List Value → Bool
   in_range row = is_within plan.range (index_key schema plan.which row)
 
   -- with the rows of its plan alone it has the same outcome
   abbrev HasSameOutcome : Stmt → Type 0
-  HasSameOutcome statement = (rows : RowMap) × (rows_of n (record db { rows = rows }) ≡ filter in_range (rows_of n db)) × (outcome statement (record db { rows = rows }) ≡ outcome statement db)
+  HasSameOutcome statement =
+      (rows : RowMap) × (rows_of n (record db { rows = rows }) ≡ filter in_range (rows_of n db)) ×
+      (outcome statement (record db { rows = rows }) ≡ outcome statement db)
 
   -- what is refused reads no row
   refused_anyway : (statement : Stmt) (error : SqlError) → refusal db.schemas statement ≡ Some error → HasSameOutcome statement
   refused_anyway statement error is = (
     passing_map in_range db.rows,
     rows_of-passing in_range n db,
-    ap (λ o. unless_refused o (answer_to statement (record db { rows = passing_map in_range db.rows }))) is ∙ sym (ap (λ o. unless_refused o (answer_to statement db)) is),
+    ap (λ o. unless_refused o (answer_to statement (record db { rows = passing_map in_range db.rows }))) is ∙ sym
+        (ap (λ o. unless_refused o (answer_to statement db)) is),
   )
 
   by_condition : (statement : Stmt) (table : List ℕ) (filter_by : Filter) → SearchesFor statement table filter_by → table_place db.schemas table ≡ Some n
@@ -143,11 +159,14 @@ module _ (db : Database) (n : ℕ) (schema : Schema) (plan : Plan) (there : slic
   found_named : (table : List ℕ) → table_place db.schemas table ≡ Some n → schema_named db.schemas table ≡ Some schema
   found_named table at = ap (schema_at db.schemas) at ∙ there
 
-  same_outcome : (statement : Stmt) → IsWriting statement → HoldsMatches schema statement plan → table_read db.schemas statement ≡ Some n → HasSameOutcome statement
+  same_outcome : (statement : Stmt) → IsWriting statement → HoldsMatches schema statement plan → table_read db.schemas statement ≡ Some n
+      → HasSameOutcome statement
   same_outcome (stmt.Update table sets (Some filter_by)) writes holds at =
-      by_condition (stmt.Update table sets (Some filter_by)) table filter_by (refl, refl) at (λ is. update_fits sets filter_by schema (sym (ap (λ o. on_table o (update_refusal sets (Some filter_by))) (found_named table at)) ∙ is)) holds
+      by_condition (stmt.Update table sets (Some filter_by)) table filter_by (refl, refl) at
+      (λ is. update_fits sets filter_by schema (sym (ap (λ o. on_table o (update_refusal sets (Some filter_by))) (found_named table at)) ∙ is)) holds
   same_outcome (stmt.Delete table (Some filter_by)) writes holds at =
-      by_condition (stmt.Delete table (Some filter_by)) table filter_by (refl, refl) at (λ is. delete_fits filter_by schema (sym (ap (λ o. on_table o (delete_refusal (Some filter_by))) (found_named table at)) ∙ is)) holds
+      by_condition (stmt.Delete table (Some filter_by)) table filter_by (refl, refl) at
+      (λ is. delete_fits filter_by schema (sym (ap (λ o. on_table o (delete_refusal (Some filter_by))) (found_named table at)) ∙ is)) holds
   same_outcome (stmt.Update table sets None) writes holds at = all_read (stmt.Update table sets None) holds
   same_outcome (stmt.Delete table None) writes holds at = all_read (stmt.Delete table None) holds
   same_outcome (stmt.Insert table columns tuples) writes holds at = all_read (stmt.Insert table columns tuples) holds
@@ -161,7 +180,8 @@ same_number a b is = cc
 never : {P : Type 0} (n : ℕ) (o : Option ℕ) → o ≡ None → o ≡ Some n → P
 never n o none some = cc
 
-pub found_enough : (state : State) (s : ℕ) (search : Search) (rows : List (List Value)) → IsFound state s search rows → AreStanding state.past → IsOrdered state.past → IsInOrder state.past → FitsThen state.past → AreEnough s search.stmt rows state.past
+pub found_enough : (state : State) (s : ℕ) (search : Search) (rows : List (List Value)) → IsFound state s search rows → AreStanding state.past
+    → IsOrdered state.past → IsInOrder state.past → FitsThen state.past → AreEnough s search.stmt rows state.past
 found_enough state s search rows r stands ordered in-order fits =
     let past = state.past in
     let read = r.reading in
@@ -174,7 +194,8 @@ found_enough state s search rows r stands ordered in-order fits =
     let fit = fitting_rows_fit db read.table read.schema coded.fitting coded.numbers there in
     let known = same_outcome db read.table read.schema read.plan there fit search.stmt read.early.working.writes read.enough at in
     let passes : List Value → Bool = λ row. is_within read.plan.range (index_key read.schema read.plan.which row) in
-    let rows-there : rows_of read.table (record db { rows = known.0 }) ≡ rows = known.1 ∙ (ap (filter passes) (sym (rows_are past state.writer s read.right same stands in-order read.table)) ∙ sym (r.found read.schema read.there)) in
+    let rows-there : rows_of read.table (record db { rows = known.0 }) ≡ rows = known.1 ∙
+    (ap (filter passes) (sym (rows_are past state.writer s read.right same stands in-order read.table)) ∙ sym (r.found read.schema read.there)) in
     record {
       tables = tables;
       db = record db { rows = known.0 };
@@ -186,7 +207,8 @@ found_enough state s search rows r stands ordered in-order fits =
     }
 
 -- a table that isn't there has no rows
-pub none_enough : (past : List Event) (writer : Option ℕ) (s : ℕ) (statement : Stmt) → HasRight s past writer → own s past ≡ own_before s past → AreStanding past → table_read (created past) statement ≡ None → AreEnough s statement [] past
+pub none_enough : (past : List Event) (writer : Option ℕ) (s : ℕ) (statement : Stmt) → HasRight s past writer → own s past ≡ own_before s past
+    → AreStanding past → table_read (created past) statement ≡ None → AreEnough s statement [] past
 none_enough past writer s statement right unchanged stands none =
     let tables = tables_are past writer s right unchanged stands in
     record {
@@ -200,8 +222,10 @@ none_enough past writer s statement right unchanged stands none =
     }
 
 -- its reply and its changes are those of the outcome over the latest rows
-pub settled : (past : List Event) (writer : Option ℕ) (s : ℕ) (statement : Stmt) (alone : Bool) (before : ℕ) (rows : List (List Value)) (found : Settled) → IsEarly s statement alone past → HasRight s past writer → before ≡ length (own s past)
-    → (enough : AreEnough s statement rows past) → IsSettledBy statement enough.db found → IsChanging past writer s (record { alone = alone; before = before; kept = found.kept; given = found.given }) found.todo.items
+pub settled : (past : List Event) (writer : Option ℕ) (s : ℕ) (statement : Stmt) (alone : Bool) (before : ℕ) (rows : List (List Value)) (found : Settled)
+    → IsEarly s statement alone past → HasRight s past writer → before ≡ length (own s past)
+    → (enough : AreEnough s statement rows past) → IsSettledBy statement enough.db found → IsChanging past writer s
+    (record { alone = alone; before = before; kept = found.kept; given = found.given }) found.todo.items
 settled past writer s statement alone before rows found early right before-is enough is =
     record {
       statement = statement;

@@ -50,7 +50,8 @@ use Rattle.write_statement.proofs.Removing.{RemovesAlone, no_put, removes}
 -- ---- from where it is given up
 
 -- it has changed nothing yet, and finds no memory
-early_given_up : (h : List Event) (writer : Option ℕ) (s : ℕ) (statement : Stmt) (work : Work) → IsEarly s statement work.alone h → work.before ≡ length (own s h) → work.kept ≡ replies.NoMemory → work.given ≡ replies.NoMemory → IsBackingOut h writer s work
+early_given_up : (h : List Event) (writer : Option ℕ) (s : ℕ) (statement : Stmt) (work : Work) → IsEarly s statement work.alone h
+    → work.before ≡ length (own s h) → work.kept ≡ replies.NoMemory → work.given ≡ replies.NoMemory → IsBackingOut h writer s work
 early_given_up h writer s statement work early before-is kept-is given-is =
     let now = point_now h s early.goes_on.not_over in
     record {
@@ -75,7 +76,8 @@ module _ (g : List Event) (writer : Option ℕ) (s : ℕ) (work : Work) (todo : 
   made_now = r.own_is ∙ ap (λ changes. reverse changes ++ own_before s g) (sym (ap (take (length r.made)) r.parts ∙ taken r.made (reverse todo)))
 
   -- with another reply, for which it may be given up
-  pub gives_up : (other : Work) → other.alone ≡ work.alone → other.before ≡ work.before → other.given ≡ other.kept → is_count other.kept ≡ false → MayAnswer s r.statement (length r.made) other.kept g → IsBackingOut g writer s other
+  pub gives_up : (other : Work) → other.alone ≡ work.alone → other.before ≡ work.before → other.given ≡ other.kept → is_count other.kept ≡ false
+      → MayAnswer s r.statement (length r.made) other.kept g → IsBackingOut g writer s other
   gives_up other same-alone same-before same no-count answers =
       let now = point_now g s r.goes_on.not_over in
       record {
@@ -98,7 +100,8 @@ module _ (g : List Event) (writer : Option ℕ) (s : ℕ) (work : Work) (todo : 
   answer_now : work.kept ≡ (outcome r.statement (base s (point s g))).reply
   answer_now = r.answer ∙ ap (λ p. (outcome r.statement (base s p)).reply) (sym (point_now g s r.goes_on.not_over))
 
-  refused_answers : (kept : Reply) → is_refusal kept ≡ true → kept ≡ (outcome r.statement (base s (point s g))).reply → (is_count kept ≡ false) × MayAnswer s r.statement (length r.made) kept g
+  refused_answers : (kept : Reply) → is_refusal kept ≡ true → kept ≡ (outcome r.statement (base s (point s g))).reply
+      → (is_count kept ≡ false) × MayAnswer s r.statement (length r.made) kept g
   refused_answers (replies.Fail error) is answer = (refl, answer)
   refused_answers other is answer = absurd (false≢true is)
 
@@ -113,8 +116,11 @@ now_so P s (e ∷ h) is-open here = inl here
 
 -- ---- taking changes back
 
-undoes_by : (s keep : ℕ) (setting : Setting) (past : List Event) → length (own_before s past) ≤ keep → (statement : Stmt) → IsWriting statement → UndoesBy s keep setting statement past
-undoes_by s keep setting past le = of_writing (λ statement. UndoesBy s keep setting statement past) (λ table columns tuples. (refl, inl le)) (λ table sets condition. (refl, inl le)) (λ table condition. (refl, inl le))
+undoes_by : (s keep : ℕ) (setting : Setting) (past : List Event) → length (own_before s past) ≤ keep → (statement : Stmt) → IsWriting statement
+    → UndoesBy s keep setting statement past
+undoes_by s keep setting past le =
+    of_writing (λ statement. UndoesBy s keep setting statement past) (λ table columns tuples. (refl, inl le)) (λ table sets condition. (refl, inl le))
+    (λ table condition. (refl, inl le))
 
 undoable_of : (changes : List Change) → AllByRecursion IsOfRow changes → 0 < length changes → IsUndoable (length changes - 1) changes
 undoable_of [] all lt = absurd (omega (arith, lt))
@@ -139,7 +145,8 @@ rows_after n changes all = dropped (length changes - n) changes all where
   dropped (suc k) (x ∷ xs) rows = dropped k xs rows.1
 
 may_leave_open : (setting : Setting) → setting.autocommit ≡ false → (statement : Stmt) → IsWriting statement → MayLeaveOpen setting statement
-may_leave_open setting off = of_writing (λ statement. MayLeaveOpen setting statement) (λ table columns tuples. off) (λ table sets condition. off) (λ table condition. off)
+may_leave_open setting off =
+    of_writing (λ statement. MayLeaveOpen setting statement) (λ table columns tuples. off) (λ table sets condition. off) (λ table condition. off)
 
 module _ (h : List Event) (writer : Option ℕ) (s : ℕ) (work : Work) (r : IsBackingOut h writer s work) where
   mine : eqb s s ≡ true
@@ -170,13 +177,17 @@ module _ (h : List Event) (writer : Option ℕ) (s : ℕ) (work : Work) (r : IsB
     own_now = rw mine refl
 
     left_over : (later : List Change) × (oldest keep (own s h) ≡ later ++ own_before s h)
-    left_over = subst (λ (changes : List Change). (later : List Change) × (oldest (length changes - 1) changes ≡ later ++ own_before s h)) (sym r.own_is) (popped r.rest (own_before s h) (subst (λ (changes : List Change). length (own_before s h) < length changes) r.own_is had_fewer))
+    left_over =
+        subst (λ (changes : List Change). (later : List Change) × (oldest (length changes - 1) changes ≡ later ++ own_before s h)) (sym r.own_is)
+        (popped r.rest (own_before s h) (subst (λ (changes : List Change). length (own_before s h) < length changes) r.own_is had_fewer))
 
     pub backing_then : IsBackingOut after writer s work
     backing_then =
         record {
           statement = r.statement;
-          working = working_own (events.Undone s keep) h s mine refl refl refl refl refl refl (subst (AllByRecursion IsOfRow) (sym own_now) (rows_after keep (own s h) r.working.rows_alone)) r.statement work.alone r.working;
+          working =
+              working_own (events.Undone s keep) h s mine refl refl refl refl refl refl
+              (subst (AllByRecursion IsOfRow) (sym own_now) (rows_after keep (own s h) r.working.rows_alone)) r.statement work.alone r.working;
           before_is = r.before_is;
           same = r.same;
           backs = r.backs;
@@ -216,7 +227,10 @@ module _ (h : List Event) (writer : Option ℕ) (s : ℕ) (work : Work) (r : IsB
       alone_now = ap (λ b. b && is_none (level s (before_item s h))) txn.1 ∙ ap is_none txn.0.was_closed
 
       rolls_back_by : RollsBackBy s r.working.takes.setting r.statement h
-      rolls_back_by = of_writing (λ statement. is_alone s r.working.takes.setting h ≡ true → RollsBackBy s r.working.takes.setting statement h) (λ table columns tuples alone. (refl, inr alone)) (λ table sets condition alone. (refl, inr alone)) (λ table condition alone. (refl, inr alone)) r.statement r.working.writes alone_now
+      rolls_back_by =
+          of_writing (λ statement. is_alone s r.working.takes.setting h ≡ true → RollsBackBy s r.working.takes.setting statement h)
+          (λ table columns tuples alone. (refl, inr alone)) (λ table sets condition alone. (refl, inr alone))
+          (λ table condition alone. (refl, inr alone)) r.statement r.working.writes alone_now
 
       pub may_roll_back : MayRollBack Spells s h
       may_roll_back = record { is_open = r.working.is_open; all_undone = own_none; by = inr (r.statement, r.working.takes, rolls_back_by) }
@@ -232,7 +246,8 @@ module _ (h : List Event) (writer : Option ℕ) (s : ℕ) (work : Work) (r : IsB
       backs : BacksOut (level s (before_item s gone)) r.working.takes.setting.autocommit s gone
       backs =
           let here : BacksOut None true s gone = (did_same (events.RolledBack s) h s mine refl refl begins_txn refl ∙ txn.0.begun, rolled_back) in
-          subst (λ l. BacksOut l r.working.takes.setting.autocommit s gone) (sym txn.0.was_closed) (subst (λ autocommit. BacksOut None autocommit s gone) (sym txn.1) here)
+          subst (λ l. BacksOut l r.working.takes.setting.autocommit s gone) (sym txn.0.was_closed)
+          (subst (λ autocommit. BacksOut None autocommit s gone) (sym txn.1) here)
 
       closing_then : IsClosing s work.kept work.given gone
       closing_then =
@@ -245,7 +260,9 @@ module _ (h : List Event) (writer : Option ℕ) (s : ℕ) (work : Work) (r : IsB
             no_victim = did_same (events.RolledBack s) h s mine refl refl is_victim refl ∙ r.working.no_victim;
             rows_alone = (let none : own s gone ≡ [] = rw mine refl in subst (AllByRecursion IsOfRow) (sym none) tt);
             reply = reply_closed (events.RolledBack s) h s mine refl refl refl r.statement work.kept r.reply;
-            ends = subst (λ b. Either b (Goes (level s (before_item s gone)) r.working.takes.setting.autocommit s gone) (BacksOut (level s (before_item s gone)) r.working.takes.setting.autocommit s gone)) (sym r.backs) backs;
+            ends =
+                subst (λ b. Either b (Goes (level s (before_item s gone)) r.working.takes.setting.autocommit s gone)
+                (BacksOut (level s (before_item s gone)) r.working.takes.setting.autocommit s gone)) (sym r.backs) backs;
             leaves = λ no-count. rolled_back;
           }
 
@@ -261,11 +278,25 @@ module _ (h : List Event) (writer : Option ℕ) (s : ℕ) (work : Work) (r : IsB
       backs_open = elim txn_open [
         | inl joins ↦
             let l = some_of (level s (before_item s h)) joins.was_open in
-            let here : BacksOut (Some l.0) r.working.takes.setting.autocommit s h = (record { stays = joins.stays; not_begun = joins.not_begun; not_committed = r.working.not_committed; not_rolled_back = r.working.not_rolled_back }, own_was) in
+            let here : BacksOut (Some l.0) r.working.takes.setting.autocommit s h = (
+              record {
+                stays = joins.stays;
+                not_begun = joins.not_begun;
+                not_committed = r.working.not_committed;
+                not_rolled_back =
+                    r.working.not_rolled_back;
+              },
+              own_was,
+            ) in
             subst (λ o. BacksOut o r.working.takes.setting.autocommit s h) (sym l.1) here
         | inr opened ↦
-            let here : BacksOut None false s h = (record { is_open = r.working.is_open; begun = opened.0.begun; not_rolled_back = r.working.not_rolled_back }, r.working.not_committed, own_was ∙ opened.0.had_none) in
-            subst (λ o. BacksOut o r.working.takes.setting.autocommit s h) (sym opened.0.was_closed) (subst (λ autocommit. BacksOut None autocommit s h) (sym opened.1) here)
+            let here : BacksOut None false s h = (
+              record { is_open = r.working.is_open; begun = opened.0.begun; not_rolled_back = r.working.not_rolled_back },
+              r.working.not_committed,
+              own_was ∙ opened.0.had_none,
+            ) in
+            subst (λ o. BacksOut o r.working.takes.setting.autocommit s h) (sym opened.0.was_closed)
+            (subst (λ autocommit. BacksOut None autocommit s h) (sym opened.1) here)
       ]
 
       leaves : LeavesIt Spells s h
@@ -284,16 +315,22 @@ module _ (h : List Event) (writer : Option ℕ) (s : ℕ) (work : Work) (r : IsB
       pub may_end : MayReply s work.kept h
       may_end =
           may_reply s r.statement h r.working.takes r.working.writes r.working.no_victim work.kept r.reply
-          (subst (λ b. Either b (Goes (level s (before_item s h)) r.working.takes.setting.autocommit s h) (BacksOut (level s (before_item s h)) r.working.takes.setting.autocommit s h)) (sym r.backs) backs_open) (λ no-count. inr leaves) (acked_of (of_item s h) r.working.not_committed)
+          (subst (λ b. Either b (Goes (level s (before_item s h)) r.working.takes.setting.autocommit s h)
+          (BacksOut (level s (before_item s h)) r.working.takes.setting.autocommit s h)) (sym r.backs) backs_open) (λ no-count. inr leaves)
+          (acked_of (of_item s h) r.working.not_committed)
 
   pub ends_not_done : work.kept ≡ replies.Done → ⊥
   ends_not_done is = not_done s r.statement h work.kept r.reply is
 
-pub rolled : (old new : State) (s : ℕ) (work : Work) (r : IsBackingOut old.past old.writer s work) (undone-all : own s old.past ≡ own_before s old.past) (its-own : work.alone ≡ true) → task_of s old ≡ Idle → Closes (events.RolledBack s) s old new
-    → Moves s old new × (IsClosing s work.kept work.given new.past × (awaits_ack (of_item s new.past) ≡ false) × (task_of s new ≡ Idle)) × (started s new.past ≡ started s old.past)
+pub rolled : (old new : State) (s : ℕ) (work : Work) (r : IsBackingOut old.past old.writer s work) (undone-all : own s old.past ≡ own_before s old.past)
+    (its-own : work.alone ≡ true) → task_of s old ≡ Idle → Closes (events.RolledBack s) s old new
+    → Moves s old new × (IsClosing s work.kept work.given new.past × (awaits_ack (of_item s new.past) ≡ false) × (task_of s new ≡ Idle)) ×
+    (started s new.past ≡ started s old.past)
 rolled old new s work r undone-all its-own idle closes-it =
-    let then = subst (λ h. IsClosing s work.kept work.given h × (awaits_ack (of_item s h) ≡ false)) (sym closes-it.past_is) (rolled_then old.past old.writer s work r undone-all its-own) in (
-      moves_closes s (events.RolledBack s) old new (grind (arith, nat_tests)) refl closes-it,
+    let then =
+    subst (λ h. IsClosing s work.kept work.given h × (awaits_ack (of_item s h) ≡ false)) (sym closes-it.past_is)
+    (rolled_then old.past old.writer s work r undone-all its-own) in (
+      moves_closes s (events.RolledBack s) old new (grind (arith, nat_tests)) refl refl closes-it,
       (then.0, then.1, closes-it.task_is ∙ idle),
       ap (started s) closes-it.past_is,
     )
@@ -314,7 +351,8 @@ made_a_step answer made is = elim made [
   | inr back ↦ (let e : undone.Undone ≡ undone.NoMemory = sym back ∙ is in cc)
 ]
 
-module _ (old new : State) (s : ℕ) (work : Work) (r : IsBackingOut old.past old.writer s work) (back : MayGoBack work.before s old.past (task_of s old)) (more : work.before < length (own s old.past)) where
+module _ (old new : State) (s : ℕ) (work : Work) (r : IsBackingOut old.past old.writer s work) (back : MayGoBack work.before s old.past (task_of s old))
+    (more : work.before < length (own s old.past)) where
   -- it is taken back
   abbrev Backs : Type 0
   Backs = IsBackingOut new.past new.writer s work × MayGoBack work.before s new.past (task_of s new)
@@ -328,48 +366,61 @@ module _ (old new : State) (s : ℕ) (work : Work) (r : IsBackingOut old.past ol
   backs_on undone.Went takes = unchanged takes.0.past_is takes.0.writer_is (inr (subst MayTakeBack (sym takes.1.1) tt, more))
   backs_on undone.Undone takes = (
     subst (λ h. IsBackingOut h new.writer s work) (sym takes.past_is)
-        (subst (λ w. IsBackingOut (events.Undone s (length (own s old.past) - 1) ∷ old.past) w s work) (sym takes.writer_is) (backing_then old.past old.writer s work r more)),
+        (subst (λ w. IsBackingOut (events.Undone s (length (own s old.past) - 1) ∷ old.past) w s work) (sym takes.writer_is)
+        (backing_then old.past old.writer s work r more)),
     inl takes.task_is,
   )
   backs_on undone.NoMemory takes = unchanged takes.past_is takes.writer_is (subst (MayGoBack work.before s old.past) (sym takes.task_is) back)
 
-  pub went_back : (answer : Undone) → answer ≢ undone.NoMemory → TakesBack s (length (own s old.past) - 1) old new answer → Steps IsRunning s old new (BackingOut work) advance.Went
-  went_back answer went takes = (moves_takes_back s (length (own s old.past) - 1) old new answer takes, backs_on answer takes, starts_no_item answer takes) where
-    starts_no_item : (answer : Undone) → TakesBack s (length (own s old.past) - 1) old new answer → started s new.past ≡ started s old.past
-    starts_no_item undone.Went takes = ap (started s) takes.0.past_is
-    starts_no_item undone.Undone takes = ap (started s) takes.past_is
-    starts_no_item undone.NoMemory takes = ap (started s) takes.past_is
+  pub went_back : (answer : Undone) → answer ≢ undone.NoMemory → TakesBack s (length (own s old.past) - 1) old new answer
+      → Steps IsRunning s old new (BackingOut work) advance.Went
+  went_back answer went takes =
+      (moves_takes_back s (length (own s old.past) - 1) old new answer takes, backs_on answer takes, starts_no_item answer takes) where
+        starts_no_item : (answer : Undone) → TakesBack s (length (own s old.past) - 1) old new answer → started s new.past ≡ started s old.past
+        starts_no_item undone.Went takes = ap (started s) takes.0.past_is
+        starts_no_item undone.Undone takes = ap (started s) takes.past_is
+        starts_no_item undone.NoMemory takes = ap (started s) takes.past_is
 
   pub stood_still : TakesBack s (length (own s old.past) - 1) old new undone.NoMemory → Steps IsRunning s old new (BackingOut work) advance.NoMemory
   stood_still takes = (moves_takes_back s (length (own s old.past) - 1) old new undone.NoMemory takes, backs_on undone.NoMemory takes, takes.past_is)
 
-  pub nearer : (answer : Undone) → answer ≢ undone.NoMemory → TakesBack s (length (own s old.past) - 1) old new answer → IsBelow (to_go s new (BackingOut work)) (to_go s old (BackingOut work))
+  pub nearer : (answer : Undone) → answer ≢ undone.NoMemory → TakesBack s (length (own s old.past) - 1) old new answer
+      → IsBelow (to_go s new (BackingOut work)) (to_go s old (BackingOut work))
   nearer undone.Went went takes = below_second 3 _ _ _ _ _ _ (ap (λ h. length (own s h)) takes.0.past_is) takes.2
   nearer undone.Undone went takes =
-      below_first 3 _ _ _ _ _ _ (subst (λ (h : List Event). length (own s h) < length (own s old.past)) (sym takes.past_is) (fewer_stand s old.past (omega (arith, more))))
+      below_first 3 _ _ _ _ _ _ (subst (λ (h : List Event). length (own s h) < length (own s old.past)) (sym takes.past_is)
+      (fewer_stand s old.past (omega (arith, more))))
   nearer undone.NoMemory went takes = absurd (went refl)
 
 -- ---- for want of memory
 
 -- nothing is changed yet
-pub early_no_memory : (past : List Event) (writer : Option ℕ) (task : Task) (s : ℕ) (statement : Stmt) (alone : Bool) (before : ℕ) → IsEarly s statement alone past → before ≡ length (own s past) → task ≡ Idle → IsBackingOut past writer s (given_up alone before) × MayGoBack before s past task
-early_no_memory past writer task s statement alone before early before-is idle = (early_given_up past writer s statement (given_up alone before) early before-is refl refl, inl idle)
+pub early_no_memory : (past : List Event) (writer : Option ℕ) (task : Task) (s : ℕ) (statement : Stmt) (alone : Bool) (before : ℕ)
+    → IsEarly s statement alone past → before ≡ length (own s past) → task ≡ Idle
+    → IsBackingOut past writer s (given_up alone before) × MayGoBack before s past task
+early_no_memory past writer task s statement alone before early before-is idle =
+    (early_given_up past writer s statement (given_up alone before) early before-is refl refl, inl idle)
 
-pub changing_no_memory : (past : List Event) (writer : Option ℕ) (s : ℕ) (work : Work) (todo : List Change) → IsChanging past writer s work todo → IsBackingOut past writer s (given_up work.alone work.before)
+pub changing_no_memory : (past : List Event) (writer : Option ℕ) (s : ℕ) (work : Work) (todo : List Change) → IsChanging past writer s work todo
+    → IsBackingOut past writer s (given_up work.alone work.before)
 changing_no_memory past writer s work todo r = gives_up past writer s work todo r (given_up work.alone work.before) refl refl refl refl tt
 
 -- ---- for want of rows
 
-puts_rows : (db : Database) (statement : Stmt) (before : List Change) (table : ℕ) (row : List Value) (later : List Change) → IsWriting statement → (outcome statement db).changes ≡ before ++ Put table row ∷ later → PutsRows statement
+puts_rows : (db : Database) (statement : Stmt) (before : List Change) (table : ℕ) (row : List Value) (later : List Change) → IsWriting statement
+    → (outcome statement db).changes ≡ before ++ Put table row ∷ later → PutsRows statement
 puts_rows db (stmt.Insert name columns tuples) before table row later writes is = tt
 puts_rows db (stmt.Update name sets condition) before table row later writes is = tt
-puts_rows db (stmt.Delete name condition) before table row later writes is = absurd (no_put before table row later (subst RemovesAlone is (removes db name condition)))
+puts_rows db (stmt.Delete name condition) before table row later writes is =
+    absurd (no_put before table row later (subst RemovesAlone is (removes db name condition)))
 puts_rows db other before table row later writes is = absurd writes
 
 abbrev pub broken_off : Work → ℕ → Work
 broken_off work rows = record { alone = work.alone; before = work.before; kept = replies.RunLimit rows; given = replies.RunLimit rows }
 
-pub overfull : (past : List Event) (writer : Option ℕ) (s : ℕ) (work : Work) (todo : List Change) (table : ℕ) (row : List Value) (rows : ℕ) → IsChanging past writer s work (todo ++ Put table row ∷ []) → most_rows < rows → rows ≡ rows_kept past + 1 → IsBackingOut past writer s (broken_off work rows)
+pub overfull : (past : List Event) (writer : Option ℕ) (s : ℕ) (work : Work) (todo : List Change) (table : ℕ) (row : List Value) (rows : ℕ)
+    → IsChanging past writer s work (todo ++ Put table row ∷ []) → most_rows < rows → rows ≡ rows_kept past + 1
+    → IsBackingOut past writer s (broken_off work rows)
 overfull past writer s work todo table row rows r many count =
     let puts = puts_rows (base s past) r.statement r.made table row (reverse todo) r.working.writes (parts_are past writer s work todo (Put table row) r) in
     gives_up past writer s work (todo ++ Put table row ∷ []) r (broken_off work rows) refl refl refl refl

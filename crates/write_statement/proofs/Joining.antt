@@ -33,7 +33,8 @@ use Rattle.sql_lists.proofs.Moving.{moves_adds}
 not_mine : (e : Event) (h : List Event) (s : ℕ) → starts s e ≡ false → of_item s (e ∷ h) ≡ [] → is_of s e ≡ false
 not_mine e h s goes none = grind (arith, nat_tests, goes, none)
 
-started_cases : {X : Type 0} (e : Event) (h : List Event) (s : ℕ) (f : List Event → X) → ((t j : ℕ) (item : _) → f (events.Started t j item ∷ h) ≡ f h) → starts s e ≡ true → f (e ∷ h) ≡ f (before_item s (e ∷ h))
+started_cases : {X : Type 0} (e : Event) (h : List Event) (s : ℕ) (f : List Event → X) → ((t j : ℕ) (item : _) → f (events.Started t j item ∷ h) ≡ f h)
+    → starts s e ≡ true → f (e ∷ h) ≡ f (before_item s (e ∷ h))
 started_cases (events.Started t j item) h s f same is = let here : h ≡ before_item s (events.Started t j item ∷ h) = rw is refl in same t j item ∙ ap f here
 started_cases e h s f same is = absurd (false≢true is)
 
@@ -62,7 +63,8 @@ turn_started e h s is = absurd (false≢true is)
 turn_nothing : (s : ℕ) (h : List Event) → of_item s h ≡ [] → (of_turn s h ≡ []) × (before_turn s h ≡ before_item s h)
 turn_nothing s [] none = (refl, refl)
 turn_nothing s (e ∷ h) none = go (turn_nothing s h) (starts s e) refl where
-  go : (of_item s h ≡ [] → (of_turn s h ≡ []) × (before_turn s h ≡ before_item s h)) → (b : Bool) → starts s e ≡ b → (of_turn s (e ∷ h) ≡ []) × (before_turn s (e ∷ h) ≡ before_item s (e ∷ h))
+  go : (of_item s h ≡ [] → (of_turn s h ≡ []) × (before_turn s h ≡ before_item s h)) → (b : Bool) → starts s e ≡ b
+      → (of_turn s (e ∷ h) ≡ []) × (before_turn s (e ∷ h) ≡ before_item s (e ∷ h))
   go rest true is = turn_started e h s is
   go rest false is =
       let mine = not_mine e h s is none in
@@ -94,12 +96,23 @@ set_nothing s (e ∷ h) x none held = go (set_nothing s h x) (starts s e) refl w
       subst (λ p. HasSet Spells s p x) (sym same.before) (rest (sym same.entries ∙ none) (set_back e h s x mine held))
 
 -- no setting refuses a statement that changes rows
-pub refused_alike : (s : ℕ) (x y : Setting) (h : List Event) (statement : Stmt) → IsWriting statement → Sometime (λ g. refused_at_once s x statement g ≡ None) s h → Sometime (λ g. refused_at_once s y statement g ≡ None) s h
-refused_alike s x y h = of_writing (λ statement. Sometime (λ g. refused_at_once s x statement g ≡ None) s h → Sometime (λ g. refused_at_once s y statement g ≡ None) s h) (λ table columns tuples was. was) (λ table sets condition was. was) (λ table condition was. was)
+pub refused_alike : (s : ℕ) (x y : Setting) (h : List Event) (statement : Stmt) → IsWriting statement
+    → Sometime (λ g. refused_at_once s x statement g ≡ None) s h → Sometime (λ g. refused_at_once s y statement g ≡ None) s h
+refused_alike s x y h =
+    of_writing (λ statement. Sometime (λ g. refused_at_once s x statement g ≡ None) s h → Sometime (λ g. refused_at_once s y statement g ≡ None) s h)
+    (λ table columns tuples was. was) (λ table sets condition was. was) (λ table condition was. was)
 
 -- the statement with what its session has set now
-abbrev pub retake : (s : ℕ) (statement : Stmt) (h : List Event) (x : Setting) → IsWriting statement → IsTaken s statement h → HasSet Spells s h x → Takes Spells s statement h
-retake s statement h x writes taken held = record { asks = taken.takes.asks; setting = x; is_set = set_nothing s h x taken.nothing held; not_refused = refused_alike s taken.takes.setting x h statement writes taken.takes.not_refused }
+abbrev pub retake : (s : ℕ) (statement : Stmt) (h : List Event) (x : Setting) → IsWriting statement → IsTaken s statement h → HasSet Spells s h x
+    → Takes Spells s statement h
+retake s statement h x writes taken held =
+    record {
+      asks = taken.takes.asks;
+      setting = x;
+      is_set = set_nothing s h x taken.nothing held;
+      not_refused = refused_alike s taken.takes.setting x h
+          statement writes taken.takes.not_refused;
+    }
 
 did_none : (test : Event → Bool) (s : ℕ) (h : List Event) → of_item s h ≡ [] → did test s h ≡ false
 did_none test s h none = ap (list_any test) none
@@ -118,7 +131,13 @@ joined s statement h writes taken is-open =
       working = record {
         takes = taken.takes;
         writes = writes;
-        in_txn = inl (record { was_open = ap is_some (sym (level_nothing s h none)) ∙ is-open; stays = level_nothing s h none; not_begun = did_none begins_txn s h none });
+        in_txn =
+            inl (record {
+              was_open = ap is_some (sym (level_nothing s h none)) ∙ is-open;
+              stays = level_nothing s h none;
+              not_begun = did_none begins_txn s h
+                  none;
+            });
         is_open = is-open;
         not_committed = did_none commits_txn s h none;
         not_rolled_back = did_none rolls_back_txn s h none;
@@ -135,7 +154,8 @@ joined s statement h writes taken is-open =
 begins_by : (s : ℕ) (x : Setting) (h : List Event) (statement : Stmt) → IsWriting statement → BeginsBy s x statement h
 begins_by s x h = of_writing (λ statement. BeginsBy s x statement h) (λ table columns tuples. refl) (λ table sets condition. refl) (λ table condition. refl)
 
-pub may_begin : (s : ℕ) (statement : Stmt) (h : List Event) (x : Setting) (l : Level) → IsWriting statement → IsTaken s statement h → HasSet Spells s h x → IsClosed s h → l ≡ next_level x → MayBegin Spells s (begins h + 1) l h
+pub may_begin : (s : ℕ) (statement : Stmt) (h : List Event) (x : Setting) (l : Level) → IsWriting statement → IsTaken s statement h → HasSet Spells s h x
+    → IsClosed s h → l ≡ next_level x → MayBegin Spells s (begins h + 1) l h
 may_begin s statement h x l writes taken held closed level-is =
     record {
       numbered = refl;
@@ -148,7 +168,8 @@ may_begin s statement h x l writes taken held closed level-is =
       by = begins_by s x h statement writes;
     }
 
-module _ (s n : ℕ) (l : Level) (statement : Stmt) (h : List Event) (x : Setting) (writes : IsWriting statement) (taken : IsTaken s statement h) (held : HasSet Spells s h x) (closed : IsClosed s h) (none : own s h ≡ []) where
+module _ (s n : ℕ) (l : Level) (statement : Stmt) (h : List Event) (x : Setting) (writes : IsWriting statement) (taken : IsTaken s statement h)
+    (held : HasSet Spells s h x) (closed : IsClosed s h) (none : own s h ≡ []) where
   abbrev begun : List Event
   begun = events.Begin s n l ∷ h
 
@@ -164,7 +185,13 @@ module _ (s n : ℕ) (l : Level) (statement : Stmt) (h : List Event) (x : Settin
   entries = rw mine (ap (λ es. events.Begin s n l ∷ es) taken.nothing)
 
   has_opened : HasOpened s begun
-  has_opened = record { was_closed = sym (level_nothing s h taken.nothing) ∙ closed; had_none = sym (own_nothing s h taken.nothing) ∙ none; begun = ap (list_any begins_txn) entries }
+  has_opened =
+      record {
+        was_closed = sym (level_nothing s h taken.nothing) ∙ closed;
+        had_none = sym (own_nothing s h taken.nothing) ∙ none;
+        begun = ap
+            (list_any begins_txn) entries;
+      }
 
   in_txn : (alone : Bool) → x.autocommit ≡ alone → InTxn alone x s begun
   in_txn true is = (has_opened, is)
@@ -189,7 +216,12 @@ module _ (s n : ℕ) (l : Level) (statement : Stmt) (h : List Event) (x : Settin
           had = had ∙ sym has_opened.had_none;
           rows_alone = subst (AllByRecursion IsOfRow) (sym nothing_own) tt;
         };
-        goes_on = record { not_over = (let none_yet : of_turn s begun ≡ [] = rw mine refl in ap (list_any closes) none_yet); not_undone = ap (list_any undoes) entries };
+        goes_on =
+            record {
+              not_over = (let none_yet : of_turn s begun ≡ [] = rw mine refl in ap (list_any closes) none_yet);
+              not_undone = ap (list_any undoes)
+                  entries;
+            };
         unchanged = nothing_own ∙ sym had;
       }
 
@@ -214,12 +246,19 @@ wants_memory : (s : ℕ) (h : List Event) → of_item s h ≡ [] → WantsMemory
 wants_memory s h none = record { leaves = inr (inr (inr (leaves_nothing s h none))); made = inl (made_nothing s h none) }
 
 pub unopened_ends : (s : ℕ) (statement : Stmt) (h : List Event) → IsTaken s statement h → MayReply s NoMemory h
-unopened_ends s statement h taken = record { item = Sql taken.takes.asks.0; asked = taken.takes.asks.1; ends = (acked_none s h taken.nothing, inl refl, inr (inr (wants_memory s h taken.nothing))) }
+unopened_ends s statement h taken =
+    record {
+      item = Sql taken.takes.asks.0;
+      asked = taken.takes.asks.1;
+      ends =
+          (acked_none s h taken.nothing, inl refl, inr (inr (wants_memory s h taken.nothing)));
+    }
 
-pub opened : (s n : ℕ) (l : Level) (statement : Stmt) (alone : Bool) (x : Setting) (old new : State) → IsWriting statement → IsTaken s statement old.past → HasSet Spells s old.past x → IsClosed s old.past → own s old.past ≡ [] → x.autocommit ≡ alone → Adds (events.Begin s n l) s old new
+pub opened : (s n : ℕ) (l : Level) (statement : Stmt) (alone : Bool) (x : Setting) (old new : State) → IsWriting statement → IsTaken s statement old.past
+    → HasSet Spells s old.past x → IsClosed s old.past → own s old.past ≡ [] → x.autocommit ≡ alone → Adds (events.Begin s n l) s old new
     → Moves s old new × IsEarly s statement alone new.past × (started s new.past ≡ started s old.past)
 opened s n l statement alone x old new writes taken held closed none is adds = (
-  moves_adds s (events.Begin s n l) old new (grind (arith, nat_tests)) (λ changes. absurd (false≢true changes)) adds,
+  moves_adds s (events.Begin s n l) old new (grind (arith, nat_tests)) refl (λ changes. absurd (false≢true changes)) adds,
   subst (IsEarly s statement alone) (sym adds.past_is) (opened_early s n l statement old.past x writes taken held closed none alone is),
   ap (started s) adds.past_is,
 )

@@ -22,7 +22,8 @@ use Rattle.sql_history.specs.Waiting.{is_victim}
 use Rattle.shared_lists.specs.Tasks.{Idle, is_changing, asked, MayTakeBack}
 use Rattle.shared_lists.specs.State.{State, task_of}
 use Rattle.law_past_agreement.specs.Order.{created, IsOfRow}
-use Rattle.sql_lists.specs.Steps.{Adding, IsTaken, StaysRunning, changes_rows}
+use Rattle.sql_lists.specs.Steps.{IsTaken, StaysRunning, changes_rows}
+use Rattle.sql_lists.proofs.Moving.{AddingOne, stays_running}
 use Rattle.sql_lists.proofs.Staying.{other_of, not_starting, at_work, point_now, point_stays, IsSteady, steady_on, base_on}
 use Rattle.write_statement.specs.declared.machine.Search.{Search}
 use Rattle.write_statement.specs.declared.machine.Work.{Work}
@@ -44,7 +45,8 @@ no_table_more (events.Opened db) h t mine spares = cc
 no_table_more (events.Changed u change) h t mine spares = cc
 no_table_more e h t mine spares = refl
 
-module _ (old new : State) (t s : ℕ) (differ : t ≢ s) (adding : Adding t old new) (keeps : old.writer ≡ Some s → new.writer ≡ Some s) (task-is : task_of s new ≡ task_of s old) where
+module _ (old new : State) (t s : ℕ) (differ : t ≢ s) (adding : AddingOne t old new) (keeps : old.writer ≡ Some s → new.writer ≡ Some s)
+    (task-is : task_of s new ≡ task_of s old) where
   other : (e : Event) → is_of t e ≡ true → is_of s e ≡ false
   other e mine = other_of e t s mine (λ is. differ (sym is))
 
@@ -75,10 +77,16 @@ module _ (old new : State) (t s : ℕ) (differ : t ≢ s) (adding : Adding t old
   did_is test = ap (list_any test) entries_are
 
   some_on : (P : List Event → Type 0) → Sometime P s old.past → Sometime P s new.past
-  some_on P was = elim adding [ inl same ↦ subst (Sometime P s) (sym same) was | inr a ↦ subst (Sometime P s) (sym a.2) (inr (not_starting a.0 s (other a.0 a.1), was)) ]
+  some_on P was =
+      elim adding [ inl same ↦ subst (Sometime P s) (sym same) was | inr a ↦ subst (Sometime P s) (sym a.2) (inr (not_starting a.0 s (other a.0 a.1), was)) ]
 
   point_is : is_over s old.past ≡ true → point s new.past ≡ point s old.past
-  point_is over = elim adding [ inl same ↦ ap (point s) same | inr a ↦ ap (point s) a.2 ∙ point_stays a.0 old.past s over ((at_work a.0 old.past s (other a.0 a.1)).over ∙ over) ]
+  point_is over =
+      elim adding [
+        | inl same ↦ ap (point s) same
+        | inr a ↦ ap (point s) a.2 ∙ point_stays a.0 old.past s over
+            ((at_work a.0 old.past s (other a.0 a.1)).over ∙ over)
+      ]
 
   -- ---- what all share, while the session alone may write
 
@@ -119,7 +127,8 @@ module _ (old new : State) (t s : ℕ) (differ : t ≢ s) (adding : Adding t old
   opened_on o = record { was_closed = was_level ∙ o.was_closed; had_none = had_own ∙ o.had_none; begun = did_is begins_txn ∙ o.begun }
 
   joins_on : Joins s old.past → Joins s new.past
-  joins_on j = record { was_open = ap is_some was_level ∙ j.was_open; stays = level_is ∙ (j.stays ∙ sym was_level); not_begun = did_is begins_txn ∙ j.not_begun }
+  joins_on j =
+      record { was_open = ap is_some was_level ∙ j.was_open; stays = level_is ∙ (j.stays ∙ sym was_level); not_begun = did_is begins_txn ∙ j.not_begun }
 
   in_txn_on : (alone : Bool) (setting : Setting) → InTxn alone setting s old.past → InTxn alone setting s new.past
   in_txn_on true setting txn = (opened_on txn.0, txn.1)
@@ -143,10 +152,17 @@ module _ (old new : State) (t s : ℕ) (differ : t ≢ s) (adding : Adding t old
   goes_on g = record { not_over = over_is ∙ g.not_over; not_undone = did_is undoes ∙ g.not_undone }
 
   taken_on : (statement : Stmt) → IsTaken s statement old.past → IsTaken s statement new.past
-  taken_on statement taken = record { takes = takes_on statement taken.takes; nothing = entries_are ∙ taken.nothing; rows_alone = subst (AllByRecursion IsOfRow) (sym own_is) taken.rows_alone }
+  taken_on statement taken =
+      record {
+        takes = takes_on statement taken.takes;
+        nothing = entries_are ∙ taken.nothing;
+        rows_alone = subst (AllByRecursion IsOfRow) (sym own_is)
+            taken.rows_alone;
+      }
 
   early_on : (statement : Stmt) (alone : Bool) → IsEarly s statement alone old.past → IsEarly s statement alone new.past
-  early_on statement alone e = record { working = working_on statement alone e.working; goes_on = goes_on e.goes_on; unchanged = own_is ∙ (e.unchanged ∙ sym had_is) }
+  early_on statement alone e =
+      record { working = working_on statement alone e.working; goes_on = goes_on e.goes_on; unchanged = own_is ∙ (e.unchanged ∙ sym had_is) }
 
   -- ---- its states
 
@@ -182,7 +198,8 @@ module _ (old new : State) (t s : ℕ) (differ : t ≢ s) (adding : Adding t old
         own_is = own_is ∙ (r.own_is ∙ ap (λ changes. reverse r.made ++ changes) (sym had_is));
       }
 
-  making_on : (work : Work) (todo : List Change) (rows : ℕ) → IsMaking old.past old.writer (task_of s old) s work todo rows → IsMaking new.past new.writer (task_of s new) s work todo rows
+  making_on : (work : Work) (todo : List Change) (rows : ℕ) → IsMaking old.past old.writer (task_of s old) s work todo rows
+      → IsMaking new.past new.writer (task_of s new) s work todo rows
   making_on work todo rows r =
       record {
         change = r.change;
@@ -193,7 +210,8 @@ module _ (old new : State) (t s : ℕ) (differ : t ≢ s) (adding : Adding t old
         asked_is = ap asked task-is ∙ r.asked_is;
       }
 
-  finishing_on : (work : Work) (todo : List Change) → IsFinishing old.past old.writer (task_of s old) s work todo → IsFinishing new.past new.writer (task_of s new) s work todo
+  finishing_on : (work : Work) (todo : List Change) → IsFinishing old.past old.writer (task_of s old) s work todo
+      → IsFinishing new.past new.writer (task_of s new) s work todo
   finishing_on work todo r =
       record {
         changing = changing_on work todo r.changing;
@@ -203,10 +221,13 @@ module _ (old new : State) (t s : ℕ) (differ : t ≢ s) (adding : Adding t old
       }
 
   back_on : (before : ℕ) → MayGoBack before s old.past (task_of s old) → MayGoBack before s new.past (task_of s new)
-  back_on before back = subst (λ (changes : List Change). (task_of s new ≡ Idle) ⊎ (MayTakeBack (task_of s new) × (before < length changes))) (sym own_is) (subst (MayGoBack before s old.past) (sym task-is) back)
+  back_on before back =
+      subst (λ (changes : List Change). (task_of s new ≡ Idle) ⊎ (MayTakeBack (task_of s new) × (before < length changes))) (sym own_is)
+      (subst (MayGoBack before s old.past) (sym task-is) back)
 
   module _ (work : Work) (r : IsBackingOut old.past old.writer s work) where
-    backing_with : (reply : HasReply s r.statement work.kept new.past) → (is_over s new.past ≡ true) ⊎ MovesOn reply.count work.kept new.past new.writer s → IsBackingOut new.past new.writer s work
+    backing_with : (reply : HasReply s r.statement work.kept new.past) → (is_over s new.past ≡ true) ⊎ MovesOn reply.count work.kept new.past new.writer s
+        → IsBackingOut new.past new.writer s work
     backing_with reply moves =
         record {
           statement = r.statement;
@@ -223,7 +244,8 @@ module _ (old new : State) (t s : ℕ) (differ : t ≢ s) (adding : Adding t old
     -- its changes at a point that goes on with the past
     made_on : is_over s old.past ≡ false → HasMade r.reply.count s (outcome r.statement (base s old.past)).changes new.past
     made_on not-over =
-        let was : HasMade r.reply.count s (outcome r.statement (base s old.past)).changes old.past = subst (λ p. HasMade r.reply.count s (outcome r.statement (base s p)).changes p) (point_now old.past s not-over) r.reply.made in
+        let was : HasMade r.reply.count s (outcome r.statement (base s old.past)).changes old.past =
+        subst (λ p. HasMade r.reply.count s (outcome r.statement (base s p)).changes p) (point_now old.past s not-over) r.reply.made in
         own_is ∙ (was ∙ ap (λ changes. reverse (take r.reply.count (outcome r.statement (base s old.past)).changes) ++ changes) (sym had_is))
 
     moves_on : MovesOn r.reply.count work.kept old.past old.writer s → IsBackingOut new.past new.writer s work
@@ -236,17 +258,21 @@ module _ (old new : State) (t s : ℕ) (differ : t ≢ s) (adding : Adding t old
               record {
                 was_open = ap (λ p. is_some (level s p)) (point_now new.past s not-over) ∙ is-open;
                 count = 0;
-                made = subst (λ p. HasMade 0 s (outcome r.statement (base s p)).changes p) (sym (point_now new.past s not-over)) (own_is ∙ (nothing_made none.1 ∙ sym had_is));
+                made =
+                    subst (λ p. HasMade 0 s (outcome r.statement (base s p)).changes p) (sym (point_now new.past s not-over))
+                    (own_is ∙ (nothing_made none.1 ∙ sym had_is));
                 answers = subst (λ (kept : Reply). MayAnswer s r.statement 0 kept new.past) (sym none.0) tt;
               } in
               backing_with reply (inr (record { not_over = not-over; stays = inl (none.0, refl) }))
           | inr right ↦
-              backing_with (reply_goes_on s old.past new.past some_on (point_now old.past s m.not_over) (point_now new.past s not-over) (base_is right) is-open r.statement work.kept r.reply (made_on m.not_over))
+              backing_with (reply_goes_on s old.past new.past some_on (point_now old.past s m.not_over) (point_now new.past s not-over) (base_is right)
+              is-open r.statement work.kept r.reply (made_on m.not_over))
               (inr (record { not_over = not-over; stays = inr (right_on right) }))
         ] where
           nothing_made : r.reply.count ≡ 0 → own s old.past ≡ own_before s old.past
           nothing_made none =
-              let was : HasMade r.reply.count s (outcome r.statement (base s old.past)).changes old.past = subst (λ p. HasMade r.reply.count s (outcome r.statement (base s p)).changes p) (point_now old.past s m.not_over) r.reply.made in
+              let was : HasMade r.reply.count s (outcome r.statement (base s old.past)).changes old.past =
+              subst (λ p. HasMade r.reply.count s (outcome r.statement (base s p)).changes p) (point_now old.past s m.not_over) r.reply.made in
               subst (λ n. HasMade n s (outcome r.statement (base s old.past)).changes old.past) none was
 
     backing_on : IsBackingOut new.past new.writer s work
@@ -258,7 +284,9 @@ module _ (old new : State) (t s : ℕ) (differ : t ≢ s) (adding : Adding t old
   -- ---- a transaction that has ended
 
   ends_on : (kept : Reply) (setting : Setting) → EndsTxn kept setting s old.past → EndsTxn kept setting s new.past
-  ends_on kept setting ends = txn_ends_on old.past new.past s level_is own_is before_is (did_is begins_txn) (did_is commits_txn) (did_is rolls_back_txn) (did_is undoes) kept setting ends
+  ends_on kept setting ends =
+      txn_ends_on old.past new.past s level_is own_is before_is (did_is begins_txn) (did_is commits_txn) (did_is rolls_back_txn) (did_is undoes) kept setting
+      ends
 
   closing_on : (kept given : Reply) → IsClosing s kept given old.past → IsClosing s kept given new.past
   closing_on kept given c =
@@ -272,7 +300,9 @@ module _ (old new : State) (t s : ℕ) (differ : t ≢ s) (adding : Adding t old
         rows_alone = subst (AllByRecursion IsOfRow) (sym own_is) c.rows_alone;
         reply = reply_stays s old.past new.past some_on (point_is c.over) c.statement kept c.reply;
         ends = ends_on kept c.takes.setting c.ends;
-        leaves = λ no-count. rolls_back_on old.past new.past s level_is own_is before_is (did_is begins_txn) (did_is commits_txn) (did_is rolls_back_txn) (did_is undoes) (c.leaves no-count);
+        leaves =
+            λ no-count. rolls_back_on old.past new.past s level_is own_is before_is (did_is begins_txn) (did_is commits_txn) (did_is rolls_back_txn)
+            (did_is undoes) (c.leaves no-count);
       }
 
   acks_are : awaits_ack (of_item s new.past) ≡ awaits_ack (of_item s old.past)
@@ -291,5 +321,5 @@ module _ (old new : State) (t s : ℕ) (differ : t ≢ s) (adding : Adding t old
   running_on (machine.Unacked kept given) r = (closing_on kept given r.0, acks_are ∙ r.1, level_is ∙ r.2, task-is ∙ r.3)
   running_on (machine.Ending kept given) r = (closing_on kept given r.0, acks_are ∙ r.1, task-is ∙ r.2)
 
-pub stays_running : StaysRunning IsRunning
-stays_running old new t s m differ adding keeps task-is running = running_on old new t s differ adding keeps task-is m running
+pub stays : StaysRunning IsRunning
+stays = stays_running IsRunning (λ old new t s m differ adding keeps task-is running. running_on old new t s differ adding keeps task-is m running)

@@ -88,18 +88,30 @@ module _ (e : Event) (h : List Event) (s : ℕ) (mine : is_of s e ≡ true) (wit
   reply_closed is statement kept reply = reply_stays s h (e ∷ h) some_on (point_same is) statement kept reply
 
   opened_own : HasOpened s h → HasOpened s (e ∷ h)
-  opened_own o = record { was_closed = ap (level s) before_same ∙ o.was_closed; had_none = ap (own s) before_same ∙ o.had_none; begun = did_same begins_txn goes ∙ o.begun }
+  opened_own o =
+      record {
+        was_closed = ap (level s) before_same ∙ o.was_closed;
+        had_none = ap (own s) before_same ∙ o.had_none;
+        begun = did_same begins_txn goes ∙
+            o.begun;
+      }
 
   -- an entry that leaves the transaction open
   module _ (same-level : level s (e ∷ h) ≡ level s h) where
     joins_own : Joins s h → Joins s (e ∷ h)
-    joins_own j = record { was_open = ap (λ p. is_some (level s p)) before_same ∙ j.was_open; stays = same-level ∙ (j.stays ∙ ap (level s) (sym before_same)); not_begun = did_same begins_txn goes ∙ j.not_begun }
+    joins_own j =
+        record {
+          was_open = ap (λ p. is_some (level s p)) before_same ∙ j.was_open;
+          stays = same-level ∙ (j.stays ∙ ap (level s) (sym before_same));
+          not_begun = did_same begins_txn goes ∙ j.not_begun;
+        }
 
     in_txn_own : (alone : Bool) (setting : Setting) → InTxn alone setting s h → InTxn alone setting s (e ∷ h)
     in_txn_own true setting txn = (opened_own txn.0, txn.1)
     in_txn_own false setting txn = elim txn [ inl j ↦ inl (joins_own j) | inr o ↦ inr (opened_own o.0, o.1) ]
 
-    pub working_own : commits_txn e ≡ false → rolls_back_txn e ≡ false → is_victim e ≡ false → AllByRecursion IsOfRow (own s (e ∷ h)) → (statement : Stmt) (alone : Bool) → IsWorking s statement alone h → IsWorking s statement alone (e ∷ h)
+    pub working_own : commits_txn e ≡ false → rolls_back_txn e ≡ false → is_victim e ≡ false → AllByRecursion IsOfRow (own s (e ∷ h))
+        → (statement : Stmt) (alone : Bool) → IsWorking s statement alone h → IsWorking s statement alone (e ∷ h)
     working_own commits rolls victim rows statement alone w =
         record {
           takes = takes_own statement w.takes;

@@ -25,11 +25,13 @@ key_index : (keys : List Key) (place which : ℕ) (o : Option ℕ) → key_on ke
 key_index keys place which None found is = cc
 key_index keys place which (Some k) found is = subst (λ n. n ≤ length keys) (same_Some (k + 1) which is) (omega (arith, key_within keys place k found))
 
-index_if : (schema : Schema) (place which : ℕ) (b : Bool) → (if b then Some 0 else after_clustered (key_on schema.keys place)) ≡ Some which → which ≤ length schema.keys
+index_if : (schema : Schema) (place which : ℕ) (b : Bool) → (if b then Some 0 else after_clustered (key_on schema.keys place)) ≡ Some which
+    → which ≤ length schema.keys
 index_if schema place which true is = subst (λ n. n ≤ length schema.keys) (same_Some 0 which is) (omega arith)
 index_if schema place which false is = key_index schema.keys place which (key_on schema.keys place) refl is
 
-planned : (schema : Schema) (place : ℕ) (column : Option Column) (which : Option ℕ) (values : Interval Value) → index_on schema place ≡ which → (plan_if column which values).which ≤ length schema.keys
+planned : (schema : Schema) (place : ℕ) (column : Option Column) (which : Option ℕ) (values : Interval Value) → index_on schema place ≡ which
+    → (plan_if column which values).which ≤ length schema.keys
 planned schema place None which values is = omega arith
 planned schema place (Some column) None values is = omega arith
 planned schema place (Some column) (Some which) values is = index_if schema place which (place == schema.primary) is
@@ -53,10 +55,15 @@ pub which_is : (schema : Schema) (statement : Stmt) (plan : Plan) → plan ≡ p
 which_is schema statement plan is = subst (λ (p : Plan). p.which ≤ length schema.keys) (sym is) (within_keys schema statement)
 
 -- the schema of a table, and what is known of its plan
-pub named_schema : (schemas found : List Schema) (place table : ℕ) (schema : Schema) → found ≡ schemas → place ≡ table → place < length found → schema ≡ get_or found place schema → slice_get schemas table ≡ Some schema
+pub named_schema : (schemas found : List Schema) (place table : ℕ) (schema : Schema) → found ≡ schemas → place ≡ table → place < length found
+    → schema ≡ get_or found place schema → slice_get schemas table ≡ Some schema
 named_schema schemas found place table schema same number within is =
-    ap (slice_get schemas) (sym number) ∙ (ap (λ (l : List Schema). slice_get l place) (sym same) ∙ (slice_get-get_or found place schema within ∙ ap Some (sym is)))
+    ap (slice_get schemas) (sym number) ∙ (ap (λ (l : List Schema). slice_get l place) (sym same) ∙
+    (slice_get-get_or found place schema within ∙ ap Some (sym is)))
 
-pub plan_known : {E : Type 0} (r : Result Plan E) (schemas : List Schema) (table : ℕ) (statement : Stmt) (schema : Schema) → slice_get schemas table ≡ Some schema → IfOk r (λ plan. plan ≡ plan_for schema statement) → IfOk r (HoldsMatches schema statement) → IfOk r (IsPlanFor schemas table statement)
-plan_known (Ok plan) schemas table statement schema there chosen enough = record { schema = schema; there = there; chosen = chosen; which = which_is schema statement plan chosen; enough = enough }
+pub plan_known : {E : Type 0} (r : Result Plan E) (schemas : List Schema) (table : ℕ) (statement : Stmt) (schema : Schema)
+    → slice_get schemas table ≡ Some schema → IfOk r (λ plan. plan ≡ plan_for schema statement) → IfOk r (HoldsMatches schema statement)
+    → IfOk r (IsPlanFor schemas table statement)
+plan_known (Ok plan) schemas table statement schema there chosen enough =
+    record { schema = schema; there = there; chosen = chosen; which = which_is schema statement plan chosen; enough = enough }
 plan_known (Err e) schemas table statement schema there chosen enough = tt

@@ -36,31 +36,38 @@ turns_none s state idle = record { names_are = refl; past_is = refl; writer_is =
 
 -- where nothing has changed, nothing is under way still
 pub turns_stayed : (s : ℕ) (old new : State) → Stays s old new → task_of s old ≡ Idle → Turns s Idle old new
-turns_stayed s old new stays idle = record { names_are = stays.names_are; past_is = stays.past_is; writer_is = stays.writer_is; task_is = stays.task_is ∙ idle; others = stays.others }
+turns_stayed s old new stays idle =
+    record { names_are = stays.names_are; past_is = stays.past_is; writer_is = stays.writer_is; task_is = stays.task_is ∙ idle; others = stays.others }
 
 -- ---- given up
 
-pub early_given_up : (s : ℕ) (old new : State) (statement : Stmt) (alone : Bool) (before : ℕ) (m : WriteStatement) (a : Advance) → IsEarly s statement alone old.past → before ≡ length (own s old.past) → Turns s Idle old new
+pub early_given_up : (s : ℕ) (old new : State) (statement : Stmt) (alone : Bool) (before : ℕ) (m : WriteStatement) (a : Advance)
+    → IsEarly s statement alone old.past → before ≡ length (own s old.past) → Turns s Idle old new
     → m ≡ machine.BackingOut (given_up alone before) → a ≡ advance.NoMemory → Steps IsRunning s old new m a
 early_given_up s old new statement alone before m a early before-is turns state answer =
     steps_as IsRunning s old new m (machine.BackingOut (given_up alone before)) a advance.NoMemory state answer (
       moves_turns s Idle old new turns,
-      early_no_memory new.past new.writer (task_of s new) s statement alone before (subst (IsEarly s statement alone) (sym turns.past_is) early) (before-is ∙ ap (λ h. length (own s h)) (sym turns.past_is)) turns.task_is,
+      early_no_memory new.past new.writer (task_of s new) s statement alone before (subst (IsEarly s statement alone) (sym turns.past_is) early)
+          (before-is ∙ ap (λ h. length (own s h)) (sym turns.past_is)) turns.task_is,
       turns.past_is,
     )
 
 -- amid its changes
-pub changing_given_up : (s : ℕ) (old new : State) (task : Task) (work : Work) (todo : List Change) (m : WriteStatement) (a : Advance) → IsChanging old.past old.writer s work todo → Turns s task old new → MayGoBack work.before s old.past task
+pub changing_given_up : (s : ℕ) (old new : State) (task : Task) (work : Work) (todo : List Change) (m : WriteStatement) (a : Advance)
+    → IsChanging old.past old.writer s work todo → Turns s task old new → MayGoBack work.before s old.past task
     → m ≡ machine.BackingOut (given_up work.alone work.before) → a ≡ advance.NoMemory → Steps IsRunning s old new m a
 changing_given_up s old new task work todo m a r turns back state answer =
     let given : IsBackingOut new.past new.writer s (given_up work.alone work.before) =
     subst (λ h. IsBackingOut h new.writer s (given_up work.alone work.before)) (sym turns.past_is)
     (subst (λ w. IsBackingOut old.past w s (given_up work.alone work.before)) (sym turns.writer_is) (changing_no_memory old.past old.writer s work todo r)) in
-    let goes : MayGoBack work.before s new.past (task_of s new) = subst (λ h. MayGoBack work.before s h (task_of s new)) (sym turns.past_is) (subst (MayGoBack work.before s old.past) (sym turns.task_is) back) in
-    steps_as IsRunning s old new m (machine.BackingOut (given_up work.alone work.before)) a advance.NoMemory state answer (moves_turns s task old new turns, (given, goes), turns.past_is)
+    let goes : MayGoBack work.before s new.past (task_of s new) =
+    subst (λ h. MayGoBack work.before s h (task_of s new)) (sym turns.past_is) (subst (MayGoBack work.before s old.past) (sym turns.task_is) back) in
+    steps_as IsRunning s old new m (machine.BackingOut (given_up work.alone work.before)) a advance.NoMemory state answer
+    (moves_turns s task old new turns, (given, goes), turns.past_is)
 
 -- its reply is that the history would hold too many rows
-pub broke_off : (s : ℕ) (state : State) (work : Work) (todo : List Change) (change : Change) (table : ℕ) (row : List Value) (rows : ℕ) (m : WriteStatement) (a : Advance) → IsChanging state.past state.writer s work (todo ++ change ∷ []) → task_of s state ≡ Idle → change ≡ Put table row
+pub broke_off : (s : ℕ) (state : State) (work : Work) (todo : List Change) (change : Change) (table : ℕ) (row : List Value) (rows : ℕ) (m : WriteStatement)
+    (a : Advance) → IsChanging state.past state.writer s work (todo ++ change ∷ []) → task_of s state ≡ Idle → change ≡ Put table row
     → most_rows < rows → rows ≡ rows_kept state.past + 1 → m ≡ machine.BackingOut (broken_off work rows) → a ≡ advance.Went → Steps IsRunning s state state m a
 broke_off s state work todo change table row rows m a r idle puts many count answer-state answer =
     let here = subst (λ (x : Change). IsChanging state.past state.writer s work (todo ++ x ∷ [])) puts r in
@@ -69,8 +76,10 @@ broke_off s state work todo change table row rows m a r idle puts many count ans
 
 -- ---- the search
 
-pub begins_search : (s : ℕ) (old new : State) (statement : Stmt) (alone : Bool) (before table : ℕ) (plan : Plan) (schemas : List Schema) → IsEarly s statement alone old.past → HasRight s old.past old.writer → before ≡ length (own s old.past)
-    → table_read (created old.past) statement ≡ Some table → schemas ≡ created old.past → IsPlanFor schemas table statement plan → Turns s (Searching table plan Newest) old new
+pub begins_search : (s : ℕ) (old new : State) (statement : Stmt) (alone : Bool) (before table : ℕ) (plan : Plan) (schemas : List Schema)
+    → IsEarly s statement alone old.past → HasRight s old.past old.writer → before ≡ length (own s old.past)
+    → table_read (created old.past) statement ≡ Some table → schemas ≡ created old.past → IsPlanFor schemas table statement plan → Turns s
+    (Searching table plan Newest) old new
     → Steps IsRunning s old new (machine.Searching (record { stmt = statement; alone = alone; before = before; visited = 0 })) advance.Went
 begins_search s old new statement alone before table plan schemas early right before-is table-is tables p turns =
     let sought : Search = record { stmt = statement; alone = alone; before = before; visited = 0 } in
@@ -91,11 +100,13 @@ begins_search s old new statement alone before table plan schemas early right be
     } in
     let there : IsSearching new.past new.writer (task_of s new) s sought =
     subst (λ h. IsSearching h new.writer (task_of s new) s sought) (sym turns.past_is)
-    (subst (λ w. IsSearching old.past w (task_of s new) s sought) (sym turns.writer_is) (subst (λ task. IsSearching old.past old.writer task s sought) (sym turns.task_is) here)) in
+    (subst (λ w. IsSearching old.past w (task_of s new) s sought) (sym turns.writer_is)
+    (subst (λ task. IsSearching old.past old.writer task s sought) (sym turns.task_is) here)) in
     (moves_turns s (Searching table plan Newest) old new turns, there, ap (started s) turns.past_is)
 
 -- one step more
-counted : (past : List Event) (writer : Option ℕ) (task : Task) (s : ℕ) (sought : Search) (count : ℕ) → IsSearching past writer task s sought → IsSearching past writer task s (record sought { visited = count })
+counted : (past : List Event) (writer : Option ℕ) (task : Task) (s : ℕ) (sought : Search) (count : ℕ) → IsSearching past writer task s sought
+    → IsSearching past writer task s (record sought { visited = count })
 counted past writer task s sought count r =
     let read = r.reading in
     record {
@@ -113,25 +124,31 @@ counted past writer task s sought count r =
       task_is = r.task_is;
     }
 
-pub search_went : (s : ℕ) (old new : State) (sought : Search) (count : ℕ) (m : WriteStatement) (a : Advance) → IsSearching old.past old.writer (task_of s old) s sought → Stays s old new
+pub search_went : (s : ℕ) (old new : State) (sought : Search) (count : ℕ) (m : WriteStatement) (a : Advance)
+    → IsSearching old.past old.writer (task_of s old) s sought → Stays s old new
     → m ≡ machine.Searching (record sought { visited = count }) → a ≡ advance.Went → Steps IsRunning s old new m a
 search_went s old new sought count m a r stays state answer =
     steps_as IsRunning s old new m (machine.Searching (record sought { visited = count })) a advance.Went state answer (
       moves_stays s old new stays,
-      carried (λ h w task. IsSearching h w task s (record sought { visited = count })) s old new stays (counted old.past old.writer (task_of s old) s sought count r),
+      carried (λ h w task. IsSearching h w task s (record sought { visited = count })) s old new stays
+          (counted old.past old.writer (task_of s old) s sought count r),
       ap (started s) stays.past_is,
     )
 
 -- what is known of a search, by its answer
-pub searches_as : (s : ℕ) (old new : State) (sought : Search) (answer other : Searched) → (r : IsSearching old.past old.writer (task_of s old) s sought) → answer ≡ other → Searches r.reading.table r.reading.plan Newest s old new answer → Searches r.reading.table r.reading.plan Newest s old new other
+pub searches_as : (s : ℕ) (old new : State) (sought : Search) (answer other : Searched) → (r : IsSearching old.past old.writer (task_of s old) s sought)
+    → answer ≡ other → Searches r.reading.table r.reading.plan Newest s old new answer → Searches r.reading.table r.reading.plan Newest s old new other
 searches_as s old new sought answer other r is searches = subst (Searches r.reading.table r.reading.plan Newest s old new) is searches
 
 -- its rows
 abbrev HasFound : (s : ℕ) (sought : Search) (rows : List (List Value)) (past : List Event) (writer : Option ℕ) → Type 0
 HasFound s sought rows past writer = (reading : IsReading past writer s sought) × AreRowsSeen reading.table reading.plan past s (commits past) rows
 
-pub search_found : (s : ℕ) (old new : State) (sought : Search) (rows : List (List Value)) (r : IsSearching old.past old.writer (task_of s old) s sought) → Searches r.reading.table r.reading.plan Newest s old new (searched.Found rows) → IsFound new s sought rows
+pub search_found : (s : ℕ) (old new : State) (sought : Search) (rows : List (List Value)) (r : IsSearching old.past old.writer (task_of s old) s sought)
+    → Searches r.reading.table r.reading.plan Newest s old new (searched.Found rows) → IsFound new s sought rows
 search_found s old new sought rows r searches =
     let turns = searches.0 in
-    let there : HasFound s sought rows new.past new.writer = subst (λ h. HasFound s sought rows h new.writer) (sym turns.past_is) (subst (λ w. HasFound s sought rows old.past w) (sym turns.writer_is) (r.reading, searches.1)) in
+    let there : HasFound s sought rows new.past new.writer =
+    subst (λ h. HasFound s sought rows h new.writer) (sym turns.past_is)
+    (subst (λ w. HasFound s sought rows old.past w) (sym turns.writer_is) (r.reading, searches.1)) in
     record { reading = there.0; idle = turns.task_is; found = there.1 }

@@ -22,7 +22,10 @@ use Rattle.sql_history.specs.LooseReading.{IsLooseReading}
 use Rattle.sql_history.specs.Answers.{MaySee, IsSameWhere, ChangesLatest}
 use Rattle.sql_history.specs.Legal.{IsWriting, sight_in}
 
-pub of_writing : (P : Stmt → Type 0) → ((table : List ℕ) (columns : Option (List (List ℕ))) (tuples : List (List Literal)) → P (stmt.Insert table columns tuples)) → ((table : List ℕ) (sets : List Set) (condition : Option Filter) → P (stmt.Update table sets condition)) → ((table : List ℕ) (condition : Option Filter) → P (stmt.Delete table condition)) → (statement : Stmt) → IsWriting statement → P statement
+pub of_writing : (P : Stmt → Type 0)
+    → ((table : List ℕ) (columns : Option (List (List ℕ))) (tuples : List (List Literal)) → P (stmt.Insert table columns tuples))
+    → ((table : List ℕ) (sets : List Set) (condition : Option Filter) → P (stmt.Update table sets condition))
+    → ((table : List ℕ) (condition : Option Filter) → P (stmt.Delete table condition)) → (statement : Stmt) → IsWriting statement → P statement
 of_writing P insert update delete (stmt.Insert table columns tuples) writes = insert table columns tuples
 of_writing P insert update delete (stmt.Update table sets condition) writes = update table sets condition
 of_writing P insert update delete (stmt.Delete table condition) writes = delete table condition
@@ -46,16 +49,22 @@ reads_base s [] is-open = absurd (false≢true is-open)
 reads_base s (e ∷ past) is-open = record { tables = refl; still = λ place row was quiet. was.0; moved = λ place. inr (inl refl) }
 
 -- a statement that reads rows at moments of its own may see the latest ones
-sees_locking : (l : Level) (s : ℕ) (statement : Stmt) (at : List Event) → MaySee Sight.of_moments s statement (base s at) at → MaySee (locking_sight l) s statement (base s at) at
+sees_locking : (l : Level) (s : ℕ) (statement : Stmt) (at : List Event) → MaySee Sight.of_moments s statement (base s at) at
+    → MaySee (locking_sight l) s statement (base s at) at
 sees_locking ReadUncommitted s statement at sees = sees
 sees_locking ReadCommitted s statement at sees = sees
 sees_locking RepeatableRead s statement at sees = refl
 sees_locking Serializable s statement at sees = refl
 
-pub sees_base : (l : Level) (s : ℕ) (setting : Setting) (past at : List Event) → IsOpen s at → (statement : Stmt) → IsWriting statement → MaySee (sight_in l s setting statement past) s statement (base s at) at
+pub sees_base : (l : Level) (s : ℕ) (setting : Setting) (past at : List Event) → IsOpen s at → (statement : Stmt) → IsWriting statement
+    → MaySee (sight_in l s setting statement past) s statement (base s at) at
 sees_base l s setting past at is-open (stmt.Insert table columns tuples) writes = refl
-sees_base l s setting past at is-open (stmt.Update table sets condition) writes = sees_locking l s (stmt.Update table sets condition) at (reads_base s at is-open, latest_itself (base s at) (outcome (stmt.Update table sets condition) (base s at)).changes)
-sees_base l s setting past at is-open (stmt.Delete table condition) writes = sees_locking l s (stmt.Delete table condition) at (reads_base s at is-open, latest_itself (base s at) (outcome (stmt.Delete table condition) (base s at)).changes)
+sees_base l s setting past at is-open (stmt.Update table sets condition) writes =
+    sees_locking l s (stmt.Update table sets condition) at
+    (reads_base s at is-open, latest_itself (base s at) (outcome (stmt.Update table sets condition) (base s at)).changes)
+sees_base l s setting past at is-open (stmt.Delete table condition) writes =
+    sees_locking l s (stmt.Delete table condition) at
+    (reads_base s at is-open, latest_itself (base s at) (outcome (stmt.Delete table condition) (base s at)).changes)
 sees_base l s setting past at is-open other writes = absurd writes
 
 locks_no_view : (l : Level) → locking_sight l ≡ Sight.of_view → ⊥
@@ -65,7 +74,8 @@ locks_no_view RepeatableRead is = cc
 locks_no_view Serializable is = cc
 
 -- it reads by no view
-pub no_view : (l : Level) (s : ℕ) (setting : Setting) (past : List Event) (statement : Stmt) → IsWriting statement → sight_in l s setting statement past ≡ Sight.of_view → ⊥
+pub no_view : (l : Level) (s : ℕ) (setting : Setting) (past : List Event) (statement : Stmt) → IsWriting statement
+    → sight_in l s setting statement past ≡ Sight.of_view → ⊥
 no_view l s setting past (stmt.Insert table columns tuples) writes is = cc
 no_view l s setting past (stmt.Update table sets condition) writes is = locks_no_view l is
 no_view l s setting past (stmt.Delete table condition) writes is = locks_no_view l is

@@ -227,6 +227,16 @@ pub record IsUnopened (s : ℕ) (past : List Event) : Type 0 where
   pub statement : Stmt
   pub taken : IsTaken s statement past
 
+-- its commit is yet to be acknowledged
+abbrev pub owes_ack : WriteStatement → Bool
+owes_ack (machine.Unacked kept given) = true
+owes_ack other = false
+
+-- the statement behind that
+abbrev pub acked : WriteStatement → WriteStatement
+acked (machine.Unacked kept given) = machine.Ending kept given
+acked other = other
+
 abbrev pub IsRunning : State → ℕ → WriteStatement → Type 0
 IsRunning state s (machine.Fresh stmt) = IsTaken s stmt state.past × IsWriting stmt × (task_of s state ≡ Idle)
 IsRunning state s machine.Unopened = IsUnopened s state.past × (task_of s state ≡ Idle)
@@ -236,5 +246,6 @@ IsRunning state s (machine.Changing work todo) = IsChanging state.past state.wri
 IsRunning state s (machine.Making work todo rows) = IsMaking state.past state.writer (task_of s state) s work todo.items rows
 IsRunning state s (machine.Finishing work todo) = IsFinishing state.past state.writer (task_of s state) s work todo.items
 IsRunning state s (machine.BackingOut work) = IsBackingOut state.past state.writer s work × MayGoBack work.before s state.past (task_of s state)
-IsRunning state s (machine.Unacked kept given) = IsClosing s kept given state.past × (awaits_ack (of_item s state.past) ≡ true) × IsClosed s state.past × (task_of s state ≡ Idle)
+IsRunning state s (machine.Unacked kept given) =
+    IsClosing s kept given state.past × (awaits_ack (of_item s state.past) ≡ true) × IsClosed s state.past × (task_of s state ≡ Idle)
 IsRunning state s (machine.Ending kept given) = IsClosing s kept given state.past × (awaits_ack (of_item s state.past) ≡ false) × (task_of s state ≡ Idle)

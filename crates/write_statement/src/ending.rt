@@ -47,21 +47,6 @@ pub fn step_unopened<L: SharedLists>(
     end(Reply::NoMemory, Reply::NoMemory, session, lists)
 }
 
-pub fn step_unacked<L: SharedLists>(
-    kept: Reply,
-    given: Reply,
-    session: u32,
-    lists: &mut SqlLists<L>,
-) -> (WriteStatement, Advance)
-    requires joined { session < length lists.old.names }
-    requires running { IsRunning lists.old session (WriteStatement.Unacked kept given) }
-    ensures steps { Steps IsRunning session lists.old lists.new result.0 result.1 }
-    ensures nears { Nears to_go session lists.old (WriteStatement.Unacked kept given) lists.new result.0 result.1 }
-{
-    lists.ack(session);
-    (WriteStatement::Ending { kept, given }, Advance::Went)
-}
-
 pub fn step_ending<L: SharedLists>(
     kept: Reply,
     given: Reply,

@@ -1,17 +1,18 @@
 //! The states of the machine, and its step.
 
-ghost use Rattle.std.specs.Prelude.{◌≡◌, ◌<◌, length};
+ghost use Rattle.std.specs.Prelude.{◌≡◌, ◌<◌, ℕ, length, true, false};
 ghost use Rattle.shared_lists.specs.Tasks.{Idle};
-ghost use Rattle.shared_lists.specs.State.{task_of};
+ghost use Rattle.shared_lists.specs.State.{State, task_of};
 ghost use Rattle.sql_history.specs.Legal.{IsWriting};
-ghost use Rattle.sql_lists.specs.Steps.{Steps, IsTaken, StaysRunning};
-ghost use Rattle.sql_lists.specs.Going.{Nears};
+ghost use Rattle.sql_lists.specs.Kept.{OwesAck};
+ghost use Rattle.sql_lists.specs.Steps.{Steps, IsTaken, StaysRunning, GoesOnAcked};
+ghost use Rattle.sql_lists.specs.Going.{Nears, NearsAcked};
 ghost use Rattle.write_statement.specs.Going.{to_go};
-ghost use Rattle.write_statement.specs.Running.{IsRunning};
+ghost use Rattle.write_statement.specs.Running.{IsRunning, owes_ack, acked};
 
 use crate::backing::step_backing;
 use crate::changing::step_changing;
-use crate::ending::{step_ending, step_unacked, step_unopened};
+use crate::ending::{step_ending, step_unopened};
 use crate::making::{step_finishing, step_making};
 use crate::opening::{step_fresh, step_locking};
 use crate::searching::step_searching;
@@ -108,6 +109,23 @@ impl WriteStatement {
         WriteStatement::Fresh { stmt }
     }
 
+    /// Whether the statement's commit is yet to be acknowledged. It makes no step before that.
+    pub fn owes_ack(&self) -> bool
+        ensures { result ≡ owes_ack self.now }
+    {
+        matches!(self, WriteStatement::Unacked { .. })
+    }
+
+    /// The statement after the acknowledgement of its commit.
+    pub fn acked(self) -> Self
+        ensures { result ≡ acked self }
+    {
+        match self {
+            WriteStatement::Unacked { kept, given } => WriteStatement::Ending { kept, given },
+            other => other,
+        }
+    }
+
     /// One step of the session's statement.
     pub fn step<L: SharedLists>(
         self,
@@ -117,6 +135,7 @@ impl WriteStatement {
     ) -> (WriteStatement, Advance)
         requires joined { session < length lists.old.names }
         requires running { IsRunning lists.old session self }
+        requires acked { owes_ack self ≡ false }
         ensures steps { Steps IsRunning session lists.old lists.new result.0 result.1 }
         ensures nears { Nears to_go session lists.old self lists.new result.0 result.1 }
     {
@@ -133,11 +152,18 @@ impl WriteStatement {
             }
             WriteStatement::Finishing { work, todo } => step_finishing(work, todo, session, lists),
             WriteStatement::BackingOut(work) => step_backing(work, session, lists),
-            WriteStatement::Unacked { kept, given } => step_unacked(kept, given, session, lists),
+            WriteStatement::Unacked { .. } => unreachable!(),
             WriteStatement::Ending { kept, given } => step_ending(kept, given, session, lists),
         }
     }
 }
+
+/// A commit that is owed stands in the past, and its acknowledgement brings the statement nearer to its end.
+pub fn an_acknowledgement_moves_it_on()
+    ensures owed { (state : State) (s : ℕ) (m : WriteStatement) → owes_ack m ≡ true → IsRunning state s m → OwesAck s state.past }
+    ensures runs { (m : WriteStatement) → owes_ack m ≡ true → GoesOnAcked IsRunning m (acked m) }
+    ensures nears { (m : WriteStatement) → owes_ack m ≡ true → NearsAcked to_go m (acked m) }
+{}
 
 /// An entry of another session leaves what the machine knows.
 pub fn others_leave_it()

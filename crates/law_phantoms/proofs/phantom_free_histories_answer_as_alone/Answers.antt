@@ -6,4 +6,5 @@ use Rattle.law_phantoms.proofs.phantom_free_histories_answer_as_alone.Goals as g
 
 pub returns : goal.returns
 returns c past legal serializable set free =
-    calm_alone Spells spells_one past legal (phantoms_calm Spells spells_one past (record { legal = legal; serializable = serializable; is_set_up = set; free = free })).calm
+    calm_alone Spells spells_one past legal (phantoms_calm Spells spells_one past
+    (record { legal = legal; serializable = serializable; is_set_up = set; free = free })).calm

@@ -7,4 +7,5 @@ use Rattle.law_serial.proofs.Calm.{serial_calm}
 use Rattle.law_serial.proofs.a_session_alone_answers_as_alone.Goals as goal
 
 pub returns : goal.returns
-returns c = λ s past legal mine. calm_alone Spells spells_one past legal (all_calm Spells past (serial_calm Spells spells_one past legal (one_serial s past mine)))
+returns c =
+    λ s past legal mine. calm_alone Spells spells_one past legal (all_calm Spells past (serial_calm Spells spells_one past legal (one_serial s past mine)))

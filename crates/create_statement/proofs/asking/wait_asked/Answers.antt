@@ -6,7 +6,8 @@ use Rattle.create_statement.proofs.asking.wait_asked.Goals as goal
 pub returns-in-Ok-clause-steps : goal.returns-in-Ok-clause-steps
 returns-in-Ok-clause-steps g c =
     let held = c.requires.held in
-    waits c.args.session c.args.lists.now (machine.Asked c.args.stmt c.args.level) c.args.by c.in-Ok.blockers held.0 held.1 held.2 c.in-Ok.ensures c.requires.running
+    waits c.args.session c.args.lists.now (machine.Asked c.args.stmt c.args.level) c.args.by c.in-Ok.blockers held.0 held.1 held.2 c.in-Ok.ensures
+    c.requires.running
 
 pub returns-in-Err-clause-steps : goal.returns-in-Err-clause-steps
 returns-in-Err-clause-steps g c =

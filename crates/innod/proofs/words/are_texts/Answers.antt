@@ -13,10 +13,12 @@ returns-then-not-is_text c = λ all.
 pub loop-word-preserved : goal.loop-word-preserved
 loop-word-preserved c =
     subst (All IsText) (sym (one_more c.loop-word.word-index c.args.words.now c.word-item.result c.loop-word-test.true))
-    (All-push IsText (take c.loop-word.word-index c.args.words.now) _ c.loop-word.invariant (subst IsText (c.as_slice.ensures ∙ c.word-item.is) c.if-not-is_text.ensures))
+    (All-push IsText (take c.loop-word.word-index c.args.words.now) _ c.loop-word.invariant
+    (subst IsText (c.as_slice.ensures ∙ c.word-item.is) c.if-not-is_text.ensures))
 
 pub returns : goal.returns
 returns c = λ k d h.
     let i = c.loop-word.word-index in
     let words = c.args.words.now in
-    subst IsText (get_or-take i words k d (omega (arith, h, c.loop-word-test.false))) (c.loop-word.invariant k d (omega (arith, h, c.loop-word-test.false, length-take i words)))
+    subst IsText (get_or-take i words k d (omega (arith, h, c.loop-word-test.false)))
+    (c.loop-word.invariant k d (omega (arith, h, c.loop-word-test.false, length-take i words)))

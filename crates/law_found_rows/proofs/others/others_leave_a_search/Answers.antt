@@ -5,7 +5,8 @@ pub returns-clause-kept : goal.returns-clause-kept
 returns-clause-kept c = keeps_finding
 
 pub returns-clause-gone : goal.returns-clause-gone
-returns-clause-gone c = λ s schema old new before after search leaves is. finds_anew s schema old new before after search leaves (may_come_anew s schema old before search is)
+returns-clause-gone c =
+    λ s schema old new before after search leaves is. finds_anew s schema old new before after search leaves (may_come_anew s schema old before search is)
 
 pub returns-clause-anew : goal.returns-clause-anew
 returns-clause-anew c = finds_anew

@@ -11,4 +11,5 @@ pub returns-clause-more : goal.returns-clause-more
 returns-clause-more c = left_then
 
 pub returns-clause-held : goal.returns-clause-held
-returns-clause-held c = λ s writer made desks cuts undo room old new held none leaves told. held_left s writer old new leaves made desks cuts undo room held none told
+returns-clause-held c =
+    λ s writer made desks cuts undo room old new held none leaves told. held_left s writer old new leaves made desks cuts undo room held none told

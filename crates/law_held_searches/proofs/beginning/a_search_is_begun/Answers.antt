@@ -11,4 +11,6 @@ pub returns-clause-tables : goal.returns-clause-tables
 returns-clause-tables c = λ state writer made desks cuts undo room held. held.agrees.lists.tables
 
 pub returns-clause-few : goal.returns-clause-few
-returns-clause-few c = λ state writer made desks cuts undo room table schema held told there. (columns_held state writer made desks cuts undo room table schema held told there).few
+returns-clause-few c =
+    λ state writer made desks cuts undo room table schema held told there.
+    (columns_held state writer made desks cuts undo room table schema held told there).few

@@ -8,7 +8,8 @@ use Rattle.law_held_searches.proofs.seen.what_callers_see_of_a_search.Goals as g
 
 pub returns-clause-searching : goal.returns-clause-searching
 returns-clause-searching c = λ s table stage state writer desks found plan reading is.
-    search_shown (undo_left_in table stage state) state.schemas (doing_at s desks) found plan reading (sym (task_is s (undo_left_in table stage state) state writer desks) ∙ is)
+    search_shown (undo_left_in table stage state) state.schemas (doing_at s desks) found plan reading
+    (sym (task_is s (undo_left_in table stage state) state writer desks) ∙ is)
 
 pub returns-clause-idle : goal.returns-clause-idle
 returns-clause-idle c = λ s table stage state writer desks is.
@@ -24,4 +25,5 @@ pub returns-clause-went : goal.returns-clause-went
 returns-clause-went c = λ s table stage old new writer desks. searches_on s table stage writer desks old new
 
 pub returns-clause-over : goal.returns-clause-over
-returns-clause-over c = λ s table stage old new writer desks on is moves told. turns_now s table stage old new writer desks Nothing (has_desk s desks on is) moves told
+returns-clause-over c =
+    λ s table stage old new writer desks on is moves told. turns_now s table stage old new writer desks Nothing (has_desk s desks on is) moves told

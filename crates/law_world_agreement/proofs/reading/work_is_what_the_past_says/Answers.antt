@@ -15,4 +15,5 @@ pub returns-clause-idle : goal.returns-clause-idle
 returns-clause-idle c = λ chains writer state agrees s session there none. idle_of chains writer state s session agrees there none
 
 pub returns-clause-alone : goal.returns-clause-alone
-returns-clause-alone c = λ chains writer state agrees s u session other work also has too same. one_session_of chains writer state s u session other work also agrees has too same
+returns-clause-alone c =
+    λ chains writer state agrees s u session other work also has too same. one_session_of chains writer state s u session other work also agrees has too same

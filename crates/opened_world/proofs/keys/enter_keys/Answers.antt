@@ -9,4 +9,6 @@ returns-in-Done c = record {
 }
 
 pub loop-preserved : goal.loop-preserved
-loop-preserved c = taking_next _ (world_of c.args.world.now) (world_of c.loop.world) (world_of c.step.new.world) c.loop.change c.loop.invariant c.in-Went.next c.in-Went.ensures
+loop-preserved c =
+    taking_next _ (world_of c.args.world.now) (world_of c.loop.world) (world_of c.step.new.world) c.loop.change c.loop.invariant c.in-Went.next
+    c.in-Went.ensures

@@ -26,4 +26,5 @@ pub returns-clause-steps : goal.returns-clause-steps
 returns-clause-steps g c =
     let rows : is_rows c.args.settled.kept ≡ true = cc in
     commit_steps c.args.session c.args.lists.now c.commit.new.self c.args.settled.kept c.args.settled.given rows
-    (answered_at c.args.session c.args.lists.now.past c.args.alone c.args.settled.kept c.args.settled.given c.requires.answered true c.if-not-alone.false) c.requires.idle c.commit.ensures
+    (answered_at c.args.session c.args.lists.now.past c.args.alone c.args.settled.kept c.args.settled.given c.requires.answered true c.if-not-alone.false)
+    c.requires.idle c.commit.ensures

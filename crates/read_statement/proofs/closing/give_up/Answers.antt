@@ -7,4 +7,5 @@ roll_back-requires-clause-may g c = rolls_back_own c.args.session c.args.lists.n
 
 pub returns-clause-steps : goal.returns-clause-steps
 returns-clause-steps g c =
-    roll_back_steps c.args.session c.args.lists.now c.roll_back.new.self c.args.kept c.args.given c.requires.no_rows c.requires.answered c.requires.idle c.roll_back.ensures
+    roll_back_steps c.args.session c.args.lists.now c.roll_back.new.self c.args.kept c.args.given c.requires.no_rows c.requires.answered c.requires.idle
+    c.roll_back.ensures

@@ -1,5 +1,5 @@
-use Rattle.read_statement.proofs.Staying.{stays_running}
+use Rattle.read_statement.proofs.Staying.{stays}
 use Rattle.read_statement.proofs.machine.others_leave_it.Goals as goal
 
 pub returns : goal.returns
-returns c = stays_running
+returns c = stays

@@ -16,4 +16,5 @@ returns-then-has_view-clause-steps g c =
 pub returns-in-Some-Serializable-clause-steps : goal.returns-in-Some-Serializable-clause-steps
 returns-in-Some-Serializable-clause-steps g c =
     let r = c.requires.running in
-    fails c.args.session c.args.lists.now c.args.lists.now c.args.stmt c.args.alone (rests c.args.session c.args.lists.now c.args.lists.now r.3 (stays_none c.args.session c.args.lists.now)) r.0 (λ is. r.1)
+    fails c.args.session c.args.lists.now c.args.lists.now c.args.stmt c.args.alone
+    (rests c.args.session c.args.lists.now c.args.lists.now r.3 (stays_none c.args.session c.args.lists.now)) r.0 (λ is. r.1)

@@ -20,9 +20,12 @@ pub returns-in-Ok-clause-steps : goal.returns-in-Ok-clause-steps
 returns-in-Ok-clause-steps g c =
     let none : is_some (level c.args.session c.args.lists.now.past) ≡ false = cc in
     let closed = none_of (level c.args.session c.args.lists.now.past) none in
-    let no-own = subst (λ (x : State). level c.args.session x.past ≡ None → own c.args.session x.past ≡ []) c.lists.ensures.same c.level.ensures.closed closed in
+    let no-own =
+    subst (λ (x : State). level c.args.session x.past ≡ None → own c.args.session x.past ≡ []) c.lists.ensures.same c.level.ensures.closed closed in
     begun c.args.session _ _ c.args.lists.now c.begin.new.self c.args.asked c.requires.running.0 closed no-own c.requires.running.1 c.in-Ok.ensures.ok
 
 pub returns-in-Err-clause-steps : goal.returns-in-Err-clause-steps
 returns-in-Err-clause-steps g c =
-    fails c.args.session c.args.lists.now c.begin.new.self c.args.asked.stmt false (rests c.args.session c.args.lists.now c.begin.new.self c.requires.running.1 c.in-Err.ensures.err) (early_in c.args.session c.args.lists.now.past c.args.asked c.requires.running.0) (λ is. never is)
+    fails c.args.session c.args.lists.now c.begin.new.self c.args.asked.stmt false
+    (rests c.args.session c.args.lists.now c.begin.new.self c.requires.running.1 c.in-Err.ensures.err)
+    (early_in c.args.session c.args.lists.now.past c.args.asked c.requires.running.0) (λ is. never is)

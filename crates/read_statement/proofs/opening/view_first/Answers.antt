@@ -9,4 +9,5 @@ returns-in-Ok-clause-steps g c =
 pub returns-in-Err-clause-steps : goal.returns-in-Err-clause-steps
 returns-in-Err-clause-steps g c =
     let r = c.requires.running in
-    fails c.args.session c.args.lists.now c.take_view.new.self c.args.stmt c.args.alone (rests c.args.session c.args.lists.now c.take_view.new.self r.3 c.in-Err.ensures.err) r.0 (λ is. r.1)
+    fails c.args.session c.args.lists.now c.take_view.new.self c.args.stmt c.args.alone
+    (rests c.args.session c.args.lists.now c.take_view.new.self r.3 c.in-Err.ensures.err) r.0 (λ is. r.1)

@@ -29,4 +29,5 @@ returns-in-Found-clause-steps g c =
 pub returns-in-NoMemory-clause-steps : goal.returns-in-NoMemory-clause-steps
 returns-in-NoMemory-clause-steps g c =
     let is = c.requires.running in
-    fails c.args.session c.args.lists.now c.search.new.self c.args.read.stmt c.args.read.alone (c.in-NoMemory.ensures.searches is.table is.plan View is.task_is) is.early (λ alone. is.is_open)
+    fails c.args.session c.args.lists.now c.search.new.self c.args.read.stmt c.args.read.alone
+    (c.in-NoMemory.ensures.searches is.table is.plan View is.task_is) is.early (λ alone. is.is_open)

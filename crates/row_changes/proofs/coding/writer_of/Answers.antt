@@ -9,4 +9,5 @@ returns-then-own-ne0 g c = λ session work has.
 
 abbrev pub returns : goal.returns
 returns g c = λ session work has.
-    c.next_id.ensures ∙ sym (id_new work.id _ (sym (tells_id _ session work _ has) ∙ sym (ap (λ s. s.id) (c.session-own.ensures session has.session_is)) ∙ c.if-own-ne0.false))
+    c.next_id.ensures ∙ sym (id_new work.id _
+    (sym (tells_id _ session work _ has) ∙ sym (ap (λ s. s.id) (c.session-own.ensures session has.session_is)) ∙ c.if-own-ne0.false))

@@ -6,13 +6,15 @@ use Rattle.row_changes.proofs.Ids.{tells_txn, told_id, told_txn, gives_told, kee
 abbrev pub give_id-requires-clause-there : goal.give_id-requires-clause-there
 give_id-requires-clause-there g c =
     let has = c.requires.2 in
-    subst (λ txn. is_there txn (g.W.World.state c.args.world.now).txns.open_txns) (sym (told_txn _ _ _ _ _ _ has (c.session-standing.ensures _ has.session_is) c.in-Some.is)) c.requires.3.there
+    subst (λ txn. is_there txn (g.W.World.state c.args.world.now).txns.open_txns)
+    (sym (told_txn _ _ _ _ _ _ has (c.session-standing.ensures _ has.session_is) c.in-Some.is)) c.requires.3.there
 
 abbrev pub give_id-requires-clause-none : goal.give_id-requires-clause-none
 give_id-requires-clause-none g c =
     let has = c.requires.2 in
     let standing = c.session-standing.ensures _ has.session_is in
-    ap (λ txn. id_at txn (g.W.World.state c.args.world.now).txns.open_txns) (told_txn _ _ _ _ _ _ has standing c.in-Some.is) ∙ c.requires.3.id ∙ sym (told_id _ _ _ _ _ has standing) ∙ c.if-standing-ne0.false
+    ap (λ txn. id_at txn (g.W.World.state c.args.world.now).txns.open_txns) (told_txn _ _ _ _ _ _ has standing c.in-Some.is) ∙ c.requires.3.id ∙ sym
+    (told_id _ _ _ _ _ has standing) ∙ c.if-standing-ne0.false
 
 abbrev pub returns-then-standing-ne0 : goal.returns-then-standing-ne0
 returns-then-standing-ne0 g c = λ session work has.
@@ -20,7 +22,9 @@ returns-then-standing-ne0 g c = λ session work has.
 
 abbrev pub returns-in-Some : goal.returns-in-Some
 returns-in-Some g c = λ session work has.
-    gives_told _ _ _ _ _ _ _ _ _ c.requires.2 c.requires.3 has (c.session-standing.ensures _ c.requires.2.session_is) c.in-Some.is c.if-standing-ne0.false c.give_id.ensures.given
+    gives_told _ _ _ _ _ _ _ _ _ c.requires.2 c.requires.3 has (c.session-standing.ensures _ c.requires.2.session_is) c.in-Some.is c.if-standing-ne0.false
+    c.give_id.ensures.given
 
 abbrev pub returns-in_default : goal.returns-in_default
-returns-in_default g c = λ session work has. absurd (c.in_default.not-Some work.txn (ap (λ s. s.txn) (c.session-standing.ensures session has.session_is) ∙ tells_txn _ _ _ _ has))
+returns-in_default g c =
+    λ session work has. absurd (c.in_default.not-Some work.txn (ap (λ s. s.txn) (c.session-standing.ensures session has.session_is) ∙ tells_txn _ _ _ _ has))

@@ -9,6 +9,8 @@ put_entry-requires c =
 
 abbrev pub returns : goal.returns
 returns c =
-    entry_in c.args.schema.now c.args.which c.from-place.result c.args.row.now c.args.primary.now c.new-entry.result c.put_entry.new.out c.in-Some.key.now c.in-Some-get.column.now c.in_ok-value.value
+    entry_in c.args.schema.now c.args.which c.from-place.result c.args.row.now c.args.primary.now c.new-entry.result c.put_entry.new.out c.in-Some.key.now
+    c.in-Some-get.column.now c.in_ok-value.value
     (item_at _ _ _ _ c.as_slice.ensures c.in-Some.ensures.lookup.3.0 c.in-Some.ensures.lookup.1) c.from-place.ensures
-    (item_at _ _ _ _ c.as_slice-2.ensures c.in-Some-get.ensures.lookup.3.0 c.in-Some-get.ensures.lookup.1) (c.in_ok-value.ensures ∙ c.at_place.ensures) c.new-entry.ensures c.in_ok-put_entry.ensures.ok
+    (item_at _ _ _ _ c.as_slice-2.ensures c.in-Some-get.ensures.lookup.3.0 c.in-Some-get.ensures.lookup.1) (c.in_ok-value.ensures ∙ c.at_place.ensures)
+    c.new-entry.ensures c.in_ok-put_entry.ensures.ok

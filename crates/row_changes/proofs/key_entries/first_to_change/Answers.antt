@@ -4,7 +4,8 @@ use Rattle.row_changes.proofs.KeyLists.{more_stay, stay_to_end, none_at_end, ite
 
 abbrev pub loop-which-preserved : goal.loop-which-preserved
 loop-which-preserved c =
-    more_stay c.args.schema.now c.args.from c.loop-which.which c.args.before.now c.args.after.now (get_or c.as_slice-keys.result.now c.loop-which.which c.index-keys-which.result) c.loop-which.invariant
+    more_stay c.args.schema.now c.args.from c.loop-which.which c.args.before.now c.args.after.now
+    (get_or c.as_slice-keys.result.now c.loop-which.which c.index-keys-which.result) c.loop-which.invariant
     (item_there c.args.schema.now.keys c.as_slice-keys.result.now c.loop-which.which c.index-keys-which.result c.as_slice-keys.ensures c.loop-which-test.true)
     (sym c.value_stays.ensures ∙ c.if-not-value_stays.false)
 
@@ -14,6 +15,8 @@ returns c =
     record {
       from_there = omega arith;
       within = omega arith;
-      stay = stay_to_end c.args.schema.now c.args.from c.loop-which.which (length c.as_slice-keys.result.now) c.args.before.now c.args.after.now c.loop-which.invariant (omega arith);
+      stay =
+          stay_to_end c.args.schema.now c.args.from c.loop-which.which (length c.as_slice-keys.result.now) c.args.before.now c.args.after.now
+          c.loop-which.invariant (omega arith);
       changes = none_at_end c.args.schema.now (length c.as_slice-keys.result.now) c.args.before.now c.args.after.now ends;
     }

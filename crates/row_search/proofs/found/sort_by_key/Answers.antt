@@ -15,10 +15,12 @@ on_ok : {T E : Type 0} {P Q : Type 0} (answer : Result T E) → (P → Q) → On
 on_ok (Ok x) f p = f p
 on_ok (Err e) f p = tt
 
-by_key : (rows : List FoundRow) → IsSortedBy (λ (a b : FoundRow). is_lt (slice_cmp nat_cmp a.key b.key)) rows → IsSortedBy (λ (a b : FoundRow). is_lt (key_cmp a.key b.key)) rows
+by_key : (rows : List FoundRow) → IsSortedBy (λ (a b : FoundRow). is_lt (slice_cmp nat_cmp a.key b.key)) rows
+    → IsSortedBy (λ (a b : FoundRow). is_lt (key_cmp a.key b.key)) rows
 by_key rows up = λ k d low high. ap is_lt (key_cmp_is (slice_index_or rows (k + 1) d).key (slice_index_or rows k d).key) ∙ up k d low high
 
 pub returns-clause-ok : goal.returns-clause-ok
 returns-clause-ok c =
     on_ok c.sort_by.result
-    (λ up. by_key c.sort_by.new.self.items (up (λ a b. is_lt (slice_cmp nat_cmp a.key b.key)) (ranks_by (lists_total nat_cmp_total) (λ f. f.key)) (always_returns_same _ _ _ (λ a r q k. search rules)))) c.sort_by.ensures.sorted
+    (λ up. by_key c.sort_by.new.self.items (up (λ a b. is_lt (slice_cmp nat_cmp a.key b.key)) (ranks_by (lists_total nat_cmp_total) (λ f. f.key))
+    (always_returns_same _ _ _ (λ a r q k. search rules)))) c.sort_by.ensures.sorted

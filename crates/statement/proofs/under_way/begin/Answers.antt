@@ -2,13 +2,21 @@ use Rattle.statement.proofs.Looking.{taken_with}
 use Rattle.statement.proofs.under_way.begin.Goals as goal
 
 pub new-requires-clause-taken : goal.new-requires-clause-taken
-new-requires-clause-taken g c = (taken_with c.args.session c.requires.running.0 c.args.stmt c.args.lists.now.past c.requires.running.1 c.requires.running.2 c.args.autocommit c.args.level c.requires.ready).taken
+new-requires-clause-taken g c =
+    (taken_with c.args.session c.requires.running.0 c.args.stmt c.args.lists.now.past c.requires.running.1 c.requires.running.2 c.args.autocommit
+    c.args.level c.requires.ready).taken
 
 pub new-requires-in-Read-clause-taken : goal.new-requires-in-Read-clause-taken
-new-requires-in-Read-clause-taken g c = taken_with c.args.session c.requires.running.0 c.args.stmt c.args.lists.now.past c.requires.running.1 c.requires.running.2 c.args.autocommit c.args.level c.requires.ready
+new-requires-in-Read-clause-taken g c =
+    taken_with c.args.session c.requires.running.0 c.args.stmt c.args.lists.now.past c.requires.running.1 c.requires.running.2 c.args.autocommit c.args.level
+    c.requires.ready
 
 pub new-requires-in-Write-clause-taken : goal.new-requires-in-Write-clause-taken
-new-requires-in-Write-clause-taken g c = (taken_with c.args.session c.requires.running.0 c.args.stmt c.args.lists.now.past c.requires.running.1 c.requires.running.2 c.args.autocommit c.args.level c.requires.ready).taken
+new-requires-in-Write-clause-taken g c =
+    (taken_with c.args.session c.requires.running.0 c.args.stmt c.args.lists.now.past c.requires.running.1 c.requires.running.2 c.args.autocommit
+    c.args.level c.requires.ready).taken
 
 pub new-requires-in-Transaction-clause-taken : goal.new-requires-in-Transaction-clause-taken
-new-requires-in-Transaction-clause-taken g c = (taken_with c.args.session c.requires.running.0 c.args.stmt c.args.lists.now.past c.requires.running.1 c.requires.running.2 c.args.autocommit c.args.level c.requires.ready).taken
+new-requires-in-Transaction-clause-taken g c =
+    (taken_with c.args.session c.requires.running.0 c.args.stmt c.args.lists.now.past c.requires.running.1 c.requires.running.2 c.args.autocommit
+    c.args.level c.requires.ready).taken

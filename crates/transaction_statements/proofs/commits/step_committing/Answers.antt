@@ -6,13 +6,16 @@ pub returns-then-is_none-clause-steps : goal.returns-then-is_none-clause-steps
 returns-then-is_none-clause-steps g c =
     let closed = c.if-is_none.ensures {u = tt} in
     skips_commit c.args.session c.args.lists.now c.args.committer c.requires.running
-    (closed_as_told c.args.session (g.L.SharedLists.lists c.lists.result.now).state c.args.lists.now c.level.result c.lists.ensures.same c.level.ensures.level closed)
-    (own_as_told c.args.session (g.L.SharedLists.lists c.lists.result.now).state c.args.lists.now c.level.result c.lists.ensures.same c.level.ensures.level closed c.level.ensures.closed)
+    (closed_as_told c.args.session (g.L.SharedLists.lists c.lists.result.now).state c.args.lists.now c.level.result c.lists.ensures.same
+    c.level.ensures.level closed)
+    (own_as_told c.args.session (g.L.SharedLists.lists c.lists.result.now).state c.args.lists.now c.level.result c.lists.ensures.same c.level.ensures.level
+    closed c.level.ensures.closed)
 
 pub commit-requires-clause-may : goal.commit-requires-clause-may
 commit-requires-clause-may g c =
     may_commit c.args.session c.args.lists.now.past c.args.committer
-    (open_as_told c.args.session (g.L.SharedLists.lists c.lists.result.now).state c.args.lists.now c.level.result c.lists.ensures.same c.level.ensures.level (c.if-is_none.ensures {u = tt})) c.requires.running.0.0 c.requires.running.0.1
+    (open_as_told c.args.session (g.L.SharedLists.lists c.lists.result.now).state c.args.lists.now c.level.result c.lists.ensures.same c.level.ensures.level
+    (c.if-is_none.ensures {u = tt})) c.requires.running.0.0 c.requires.running.0.1
 
 pub returns-clause-steps : goal.returns-clause-steps
 returns-clause-steps g c = commits c.args.session c.args.lists.now c.commit.new.self c.args.committer c.requires.running c.commit.ensures

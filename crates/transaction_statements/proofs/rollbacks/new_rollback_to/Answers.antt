@@ -12,7 +12,8 @@ returns-in-Some g c =
     let name = c.args.savepoint in
     let knows : made_at name c.setting.result.now.saves ≡ Some c.in-Some.made = sym c.made_at.ensures ∙ c.in-Some.is in (
       (
-        retaken s (stmt.RollbackTo name) (λ setting. made_at name setting.saves ≡ Some c.in-Some.made) past c.setting.result.now c.requires.taken c.setting.ensures (λ h found. rw knows refl) knows,
+        retaken s (stmt.RollbackTo name) (λ setting. made_at name setting.saves ≡ Some c.in-Some.made) past c.setting.result.now c.requires.taken
+            c.setting.ensures (λ h found. rw knows refl) knows,
         back_first s c.in-Some.made past c.requires.taken.nothing,
       ),
       takes_none c.in-Some.made _ _ c.requires.idle,

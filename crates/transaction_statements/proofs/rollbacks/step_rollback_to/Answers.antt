@@ -12,9 +12,13 @@ finish-requires-clause-finished g c =
     let s = c.args.session in
     let past = c.args.lists.now.past in
     let few : length (own s past) ≤ c.args.made = elim c.else-is_some.branch [
-      | else-is_some-via-then-is_some+else-change_count-made w ↦ few_as_told s w.change_count.result (g.L.SharedLists.lists w.lists-then-is_some.result.now).state c.args.lists.now w.lists-then-is_some.ensures.same w.change_count.ensures c.args.made w.if-change_count-made.false
+      | else-is_some-via-then-is_some+else-change_count-made w ↦ few_as_told s w.change_count.result
+          (g.L.SharedLists.lists w.lists-then-is_some.result.now).state c.args.lists.now w.lists-then-is_some.ensures.same w.change_count.ensures c.args.made
+          w.if-change_count-made.false
       | else-is_some-via-else-is_some w ↦
-          let none : own s past ≡ [] = own_as_told s (g.L.SharedLists.lists c.lists.result.now).state c.args.lists.now c.level.result c.lists.ensures.same c.level.ensures.level (sym c.is_some.ensures ∙ w.if-is_some.false) c.level.ensures.closed in
+          let none : own s past ≡ [] =
+          own_as_told s (g.L.SharedLists.lists c.lists.result.now).state c.args.lists.now c.level.result c.lists.ensures.same c.level.ensures.level
+          (sym c.is_some.ensures ∙ w.if-is_some.false) c.level.ensures.closed in
           subst (λ n. n ≤ c.args.made) (sym (ap length none)) (omega arith)
     ] in
     finishes_rollback_to s past c.args.savepoint c.args.made c.requires.running.0.0 c.requires.running.0.1 few
@@ -24,9 +28,13 @@ finish-requires-clause-idle g c =
     let s = c.args.session in
     let past = c.args.lists.now.past in
     let few : length (own s past) ≤ c.args.made = elim c.else-is_some.branch [
-      | else-is_some-via-then-is_some+else-change_count-made w ↦ few_as_told s w.change_count.result (g.L.SharedLists.lists w.lists-then-is_some.result.now).state c.args.lists.now w.lists-then-is_some.ensures.same w.change_count.ensures c.args.made w.if-change_count-made.false
+      | else-is_some-via-then-is_some+else-change_count-made w ↦ few_as_told s w.change_count.result
+          (g.L.SharedLists.lists w.lists-then-is_some.result.now).state c.args.lists.now w.lists-then-is_some.ensures.same w.change_count.ensures c.args.made
+          w.if-change_count-made.false
       | else-is_some-via-else-is_some w ↦
-          let none : own s past ≡ [] = own_as_told s (g.L.SharedLists.lists c.lists.result.now).state c.args.lists.now c.level.result c.lists.ensures.same c.level.ensures.level (sym c.is_some.ensures ∙ w.if-is_some.false) c.level.ensures.closed in
+          let none : own s past ≡ [] =
+          own_as_told s (g.L.SharedLists.lists c.lists.result.now).state c.args.lists.now c.level.result c.lists.ensures.same c.level.ensures.level
+          (sym c.is_some.ensures ∙ w.if-is_some.false) c.level.ensures.closed in
           subst (λ n. n ≤ c.args.made) (sym (ap length none)) (omega arith)
     ] in
     rests c.args.made (length (own s past)) (task_of s c.args.lists.now) c.requires.running.1 few

@@ -11,7 +11,8 @@ use Rattle.transaction_statements.proofs.Stepping.{undoable}
 use Rattle.transaction_statements.proofs.rollbacks.undo_one.Goals as goal
 
 pub undo-undone-requires-clause-may : goal.undo-undone-requires-clause-may
-undo-undone-requires-clause-may g c = may_undo_to c.args.session c.args.lists.now.past c.args.savepoint c.args.made c.requires.running.0 c.requires.is_open c.requires.more
+undo-undone-requires-clause-may g c =
+    may_undo_to c.args.session c.args.lists.now.past c.args.savepoint c.args.made c.requires.running.0 c.requires.is_open c.requires.more
 
 pub undo-undone-requires-clause-of_row : goal.undo-undone-requires-clause-of_row
 undo-undone-requires-clause-of_row g c = undoable c.args.session c.args.lists.now.past c.requires.running.0.0.rows_alone (omega (arith, c.requires.more))
@@ -23,7 +24,8 @@ pub returns-clause-steps : goal.returns-clause-steps
 returns-clause-steps g c =
     let m : TransactionStatement = statements.RollbackTo c.args.savepoint c.args.made in
     subst (Steps IsRunning c.args.session c.args.lists.now c.undo-undone.new.self m) (sym c.how_far.ensures)
-    (undoes_to c.args.session c.args.lists.now c.undo-undone.new.self c.undo-undone.result c.undo-undone.ensures.takes c.args.savepoint c.args.made c.requires.running c.requires.more)
+    (undoes_to c.args.session c.args.lists.now c.undo-undone.new.self c.undo-undone.result c.undo-undone.ensures.takes c.args.savepoint c.args.made
+    c.requires.running c.requires.more)
 
 pub returns-clause-nears : goal.returns-clause-nears
 returns-clause-nears g c =

@@ -8,10 +8,12 @@ use Rattle.transaction_statements.proofs.savepoints.new_savepoint.Goals as goal
 pub returns-then-autocommit : goal.returns-then-autocommit
 returns-then-autocommit g c = (
   (
-    retaken c.args.session (stmt.Savepoint c.args.savepoint) (SetsAlone (stmt.Savepoint c.args.savepoint)) c.args.lists.now.past c.setting-setting.result.now c.requires.taken c.setting-setting.ensures (λ h found. found)
+    retaken c.args.session (stmt.Savepoint c.args.savepoint) (SetsAlone (stmt.Savepoint c.args.savepoint)) c.args.lists.now.past c.setting-setting.result.now
+        c.requires.taken c.setting-setting.ensures (λ h found. found)
         (sym c.autocommit.ensures ∙ c.if-autocommit.true),
     c.requires.taken.nothing,
-    closed_as_told c.args.session (g.L.SharedLists.lists c.lists.result.now).state c.args.lists.now c.level.result c.lists.ensures.same c.level.ensures.level (sym (c.if-is_some.ensures {u = tt})),
+    closed_as_told c.args.session (g.L.SharedLists.lists c.lists.result.now).state c.args.lists.now c.level.result c.lists.ensures.same c.level.ensures.level
+        (sym (c.if-is_some.ensures {u = tt})),
   ),
   c.requires.idle,
 )
@@ -20,11 +22,14 @@ pub returns : goal.returns
 returns g c =
     let closed = sym (c.if-is_some.ensures {u = tt}) in (
       (
-        retaken c.args.session (stmt.Savepoint c.args.savepoint) (λ setting. (setting.autocommit ≡ false) × (c.next_level-level.result ≡ next_level setting)) c.args.lists.now.past c.setting-setting.result.now c.requires.taken c.setting-setting.ensures (λ h found. found)
+        retaken c.args.session (stmt.Savepoint c.args.savepoint) (λ setting. (setting.autocommit ≡ false) × (c.next_level-level.result ≡ next_level setting))
+            c.args.lists.now.past c.setting-setting.result.now c.requires.taken c.setting-setting.ensures (λ h found. found)
             (sym c.autocommit.ensures ∙ c.if-autocommit.false, c.next_level-level.ensures),
         c.requires.taken.nothing,
-        closed_as_told c.args.session (g.L.SharedLists.lists c.lists.result.now).state c.args.lists.now c.level.result c.lists.ensures.same c.level.ensures.level closed,
-        own_as_told c.args.session (g.L.SharedLists.lists c.lists.result.now).state c.args.lists.now c.level.result c.lists.ensures.same c.level.ensures.level closed c.level.ensures.closed,
+        closed_as_told c.args.session (g.L.SharedLists.lists c.lists.result.now).state c.args.lists.now c.level.result c.lists.ensures.same
+            c.level.ensures.level closed,
+        own_as_told c.args.session (g.L.SharedLists.lists c.lists.result.now).state c.args.lists.now c.level.result c.lists.ensures.same
+            c.level.ensures.level closed c.level.ensures.closed,
       ),
       c.requires.idle,
     )

@@ -11,7 +11,10 @@ pub end_savepoint-requires-clause-is_open : goal.end_savepoint-requires-clause-i
 end_savepoint-requires-clause-is_open g c = open_saving c.args.session c.args.lists.now.past c.args.opened c.requires.running.0.1
 
 pub returns-in-Ok-clause-steps : goal.returns-in-Ok-clause-steps
-returns-in-Ok-clause-steps g c = ends c.args.session c.args.lists.now c.end_savepoint.new.self statements.Failed Done c.in-Ok.ensures.ok c.requires.running.0.0.rows_alone c.requires.running.1
+returns-in-Ok-clause-steps g c =
+    ends c.args.session c.args.lists.now c.end_savepoint.new.self statements.Failed Done c.in-Ok.ensures.ok c.requires.running.0.0.rows_alone
+    c.requires.running.1
 
 pub returns-clause-steps : goal.returns-clause-steps
-returns-clause-steps g c = lacks_saving c.args.session c.args.lists.now c.end_savepoint.new.self c.args.savepoint c.args.opened c.requires.running c.in-Err.ensures.err
+returns-clause-steps g c =
+    lacks_saving c.args.session c.args.lists.now c.end_savepoint.new.self c.args.savepoint c.args.opened c.requires.running c.in-Err.ensures.err

@@ -9,9 +9,11 @@ use Rattle.transaction_statements.proofs.statement.new_autocommit.Goals as goal
 
 pub returns-then-not-autocommit : goal.returns-then-not-autocommit
 returns-then-not-autocommit g c =
-    let taken : IsTaken c.args.session (stmt.SetAutocommit true) c.args.lists.now.past = subst (λ on. IsTaken c.args.session (stmt.SetAutocommit on) c.args.lists.now.past) c.if-on.true c.requires.taken in (
+    let taken : IsTaken c.args.session (stmt.SetAutocommit true) c.args.lists.now.past =
+    subst (λ on. IsTaken c.args.session (stmt.SetAutocommit on) c.args.lists.now.past) c.if-on.true c.requires.taken in (
       (
-        retaken c.args.session (stmt.SetAutocommit true) (Fits committers.TurnOn) c.args.lists.now.past c.setting.result.now taken c.setting.ensures (λ h found. found) (sym c.autocommit.ensures ∙ c.if-not-autocommit.true),
+        retaken c.args.session (stmt.SetAutocommit true) (Fits committers.TurnOn) c.args.lists.now.past c.setting.result.now taken c.setting.ensures
+            (λ h found. found) (sym c.autocommit.ensures ∙ c.if-not-autocommit.true),
         taken.nothing,
       ),
       c.requires.idle,
@@ -22,7 +24,8 @@ returns g c =
     elim c.else-on.branch [
       | else-on-via-then-on+else-not-autocommit w ↦ (
         (
-          retaken c.args.session (stmt.SetAutocommit c.args.on) (SetsAlone (stmt.SetAutocommit c.args.on)) c.args.lists.now.past w.setting.result.now c.requires.taken w.setting.ensures (λ h found. found)
+          retaken c.args.session (stmt.SetAutocommit c.args.on) (SetsAlone (stmt.SetAutocommit c.args.on)) c.args.lists.now.past w.setting.result.now
+              c.requires.taken w.setting.ensures (λ h found. found)
               (inl (sym w.autocommit.ensures ∙ w.if-not-autocommit.false)),
           c.requires.taken.nothing,
           tt,
@@ -31,7 +34,8 @@ returns g c =
       )
       | else-on-via-else-on w ↦ (
         (
-          taken_as c.args.session (stmt.SetAutocommit c.args.on) (SetsAlone (stmt.SetAutocommit c.args.on)) c.args.lists.now.past c.requires.taken (inr w.if-on.false),
+          taken_as c.args.session (stmt.SetAutocommit c.args.on) (SetsAlone (stmt.SetAutocommit c.args.on)) c.args.lists.now.past c.requires.taken
+              (inr w.if-on.false),
           c.requires.taken.nothing,
           tt,
         ),

@@ -4,12 +4,16 @@ use Rattle.turn_engine.proofs.turn.split_turn.Goals as goal
 
 pub returns-in-Ok-clause-given : goal.returns-in-Ok-clause-given
 returns-in-Ok-clause-given g c =
-    let r = split_given g.E.Recorded.board c.args.name.now _ _ _ _ _ _ _ _ _ _ c.requires.rests c.take_turn-engine.ensures.turn c.in-Ok.ensures.ok c.in-Ok.ensures.number c.put.ensures.rest c.publish.ensures.seen c.split-other.ensures.gate.2 c.depart.ensures.rest c.split-other.ensures.given.1 in
+    let r =
+    split_given g.E.Recorded.board c.args.name.now _ _ _ _ _ _ _ _ _ _ c.requires.rests c.take_turn-engine.ensures.turn c.in-Ok.ensures.ok
+    c.in-Ok.ensures.number c.put.ensures.rest c.publish.ensures.seen c.split-other.ensures.gate.2 c.depart.ensures.rest c.split-other.ensures.given.1 in
     (c.split-other.ensures.given.0 ∙ (c.publish.ensures.gate.0 ∙ (c.put.ensures.gate.0 ∙ c.take_turn-engine.ensures.gate.0)), r.0, r.1)
 
 pub returns-in-Ok-clause-ok : goal.returns-in-Ok-clause-ok
 returns-in-Ok-clause-ok g c =
-    split_joined g.E.Recorded.board c.args.name.now _ _ _ _ _ _ _ _ _ c.requires.rests c.take_turn-engine.ensures.turn c.in-Ok.ensures.ok c.in-Ok.ensures.number c.put.ensures.rest c.publish.ensures.seen c.split-other.ensures.gate.2 c.depart.ensures.rest
+    split_joined g.E.Recorded.board c.args.name.now _ _ _ _ _ _ _ _ _ c.requires.rests c.take_turn-engine.ensures.turn c.in-Ok.ensures.ok
+    c.in-Ok.ensures.number c.put.ensures.rest c.publish.ensures.seen c.split-other.ensures.gate.2 c.depart.ensures.rest
 
 pub returns-in-Err-clause-err : goal.returns-in-Err-clause-err
-returns-in-Err-clause-err g c = join_refused g.E.Recorded.board _ _ _ _ _ c.requires.rests c.take_turn-engine.ensures.turn c.hand_back.ensures.seen c.in-Err.ensures.err
+returns-in-Err-clause-err g c =
+    join_refused g.E.Recorded.board _ _ _ _ _ c.requires.rests c.take_turn-engine.ensures.turn c.hand_back.ensures.seen c.in-Err.ensures.err

@@ -15,15 +15,18 @@ pub returns-then-undo-eq-NEW_ROW : goal.returns-then-undo-eq-NEW_ROW
 returns-then-undo-eq-NEW_ROW g c = λ chains place actor is.
     let old = g.W.World.state c.args.world.now in
     let more : c.number_of_keys.result ≤ c.args.which = omega (arith, c.if-from-number_of_keys.true, c.from.ensures) in
-    put_as chains place actor c.args.undo.now c.args.room.now old is c.args.which (at_stage AwaitRecords c.args.room.now) c.go_to.new.room old Step c.go_to.result c.go_to.ensures.step c.go_to.ensures.room
-    (look_new chains place actor c.args.undo.now c.args.room.now old is c.args.which c.requires.stage c.number_of_keys.result c.number_of_keys.ensures more c.if-undo-eq-NEW_ROW.true)
+    put_as chains place actor c.args.undo.now c.args.room.now old is c.args.which (at_stage AwaitRecords c.args.room.now) c.go_to.new.room old Step
+    c.go_to.result c.go_to.ensures.step c.go_to.ensures.room
+    (look_new chains place actor c.args.undo.now c.args.room.now old is c.args.which c.requires.stage c.number_of_keys.result c.number_of_keys.ensures more
+    c.if-undo-eq-NEW_ROW.true)
 
 pub returns-then-from-number_of_keys : goal.returns-then-from-number_of_keys
 returns-then-from-number_of_keys g c = λ chains place actor is.
     let old = g.W.World.state c.args.world.now in
     let more : c.number_of_keys.result ≤ c.args.which = omega (arith, c.if-from-number_of_keys.true, c.from.ensures) in
     let to = c.go_to-then-from-number_of_keys in
-    put_as chains place actor c.args.undo.now c.args.room.now old is c.args.which (at_stage Record c.args.room.now) to.new.room old Step to.result to.ensures.step to.ensures.room
+    put_as chains place actor c.args.undo.now c.args.room.now old is c.args.which (at_stage Record c.args.room.now) to.new.room old Step to.result
+    to.ensures.step to.ensures.room
     (look_kept chains place actor c.args.undo.now c.args.room.now old is c.args.which c.requires.stage c.number_of_keys.result c.number_of_keys.ensures more)
 
 pub returns-then-is_marked : goal.returns-then-is_marked
@@ -31,8 +34,11 @@ returns-then-is_marked g c = λ chains place actor is.
     let old = g.W.World.state c.args.world.now in
     let room = c.args.room.now in
     let less : c.args.which < c.number_of_keys.result = omega (arith, c.if-from-number_of_keys.false, c.from.ensures) in
-    let within = within_key chains place actor c.args.undo.now room old is c.args.which c.requires.stage c.number_of_keys.result c.number_of_keys.ensures less in
-    let mark = subst (λ (v : List ℕ). (marked : Bool) (writer pointer : ℕ) (fields : List ℕ) → v ≡ head_code marked writer pointer ++ fields → c.is_marked.result ≡ marked) c.deref.ensures.value c.is_marked.ensures in
+    let within =
+    within_key chains place actor c.args.undo.now room old is c.args.which c.requires.stage c.number_of_keys.result c.number_of_keys.ensures less in
+    let mark =
+    subst (λ (v : List ℕ). (marked : Bool) (writer pointer : ℕ) (fields : List ℕ) → v ≡ head_code marked writer pointer ++ fields → c.is_marked.result ≡
+    marked) c.deref.ensures.value c.is_marked.ensures in
     let to = c.go_to-then-is_marked in
     let at = subst (λ (s : Stage). to.new.room ≡ at_stage s room) c.after_entry.ensures to.ensures.room in
     put_as chains place actor c.args.undo.now room old is c.args.which _ to.new.room old Step to.result to.ensures.step at
@@ -43,7 +49,9 @@ have_one_entry-requires g c =
     let old = g.W.World.state c.args.world.now in
     let is = c.requires.under_way.2 in
     let less : c.args.which < c.number_of_keys.result = omega (arith, c.if-from-number_of_keys.false, c.from.ensures) in
-    let within = within_key c.requires.under_way.0 c.requires.under_way.1 0 c.args.undo.now c.args.room.now old is c.args.which c.requires.stage c.number_of_keys.result c.number_of_keys.ensures less in
+    let within =
+    within_key c.requires.under_way.0 c.requires.under_way.1 0 c.args.undo.now c.args.room.now old is c.args.which c.requires.stage
+    c.number_of_keys.result c.number_of_keys.ensures less in
     has_key_at old.schemas old c.args.undo.now is.schema c.requires.under_way.1 c.args.which refl is.tells within
 
 pub returns-then-have_one_entry : goal.returns-then-have_one_entry
@@ -53,14 +61,21 @@ returns-then-have_one_entry g c = λ chains place actor is.
     let room = c.args.room.now in
     let less : c.args.which < c.number_of_keys.result = omega (arith, c.if-from-number_of_keys.false, c.from.ensures) in
     let within = within_key chains place actor undo room old is c.args.which c.requires.stage c.number_of_keys.result c.number_of_keys.ensures less in
-    let mark = subst (λ (v : List ℕ). (marked : Bool) (writer pointer : ℕ) (fields : List ℕ) → v ≡ head_code marked writer pointer ++ fields → c.is_marked.result ≡ marked) c.deref.ensures.value c.is_marked.ensures in
+    let mark =
+    subst (λ (v : List ℕ). (marked : Bool) (writer pointer : ℕ) (fields : List ℕ) → v ≡ head_code marked writer pointer ++ fields → c.is_marked.result ≡
+    marked) c.deref.ensures.value c.is_marked.ensures in
     let entry = c.have_one_entry.new.entries in
     let to = c.go_to-then-have_one_entry in
     let had = sym c.had_row.ensures ∙ c.if-had_row.true in
-    put_as chains place actor undo room old is c.args.which (at_stage (Unmark c.args.which) (record room { entries = entry })) to.new.room old Step to.result to.ensures.step to.ensures.room
-    (look_same chains place actor undo room old is c.args.which c.requires.stage within c.is_marked.result mark c.if-is_marked.false had entry c.have_one_entry.result
+    put_as chains place actor undo room old is c.args.which (at_stage (Unmark c.args.which) (record room { entries = entry })) to.new.room old Step to.result
+    to.ensures.step to.ensures.room
+    (look_same chains place actor undo room old is c.args.which c.requires.stage within c.is_marked.result mark c.if-is_marked.false had entry
+    c.have_one_entry.result
     (λ schema first second there f s record_f record_s short short_too.
-    let both = c.have_one_entry.ensures schema first second there f s (subst (λ (v : List ℕ). IsRecordOf schema first undo.key v) (sym c.deref-then-had_row.ensures.value) record_f) (subst (λ (v : List ℕ). IsRecordOf schema second undo.key v) (sym c.as_slice.ensures) record_s) short short_too in
+    let both =
+    c.have_one_entry.ensures schema first second there f s
+    (subst (λ (v : List ℕ). IsRecordOf schema first undo.key v) (sym c.deref-then-had_row.ensures.value) record_f)
+    (subst (λ (v : List ℕ). IsRecordOf schema second undo.key v) (sym c.as_slice.ensures) record_s) short short_too in
     both) c.if-have_one_entry.true)
 
 pub returns : goal.returns
@@ -71,12 +86,20 @@ returns g c = λ chains place actor is.
     let mid = c.else-had_row.room in
     let less : c.args.which < c.number_of_keys.result = omega (arith, c.if-from-number_of_keys.false, c.from.ensures) in
     let within = within_key chains place actor undo room old is c.args.which c.requires.stage c.number_of_keys.result c.number_of_keys.ensures less in
-    let mark = subst (λ (v : List ℕ). (marked : Bool) (writer pointer : ℕ) (fields : List ℕ) → v ≡ head_code marked writer pointer ++ fields → c.is_marked.result ≡ marked) c.deref.ensures.value c.is_marked.ensures in
-    let pointer = subst (λ (v : List ℕ). (marked : Bool) (writer pointer : ℕ) (fields : List ℕ) → pointer < 2 ^ 64 → v ≡ head_code marked writer pointer ++ fields → c.pointer_of-pointer.result ≡ pointer) c.deref-2.ensures.value c.pointer_of-pointer.ensures in
+    let mark =
+    subst (λ (v : List ℕ). (marked : Bool) (writer pointer : ℕ) (fields : List ℕ) → v ≡ head_code marked writer pointer ++ fields → c.is_marked.result ≡
+    marked) c.deref.ensures.value c.is_marked.ensures in
+    let pointer =
+    subst (λ (v : List ℕ). (marked : Bool) (writer pointer : ℕ) (fields : List ℕ) → pointer < 2 ^ 64 → v ≡ head_code marked writer pointer ++ fields →
+    c.pointer_of-pointer.result ≡ pointer) c.deref-2.ensures.value c.pointer_of-pointer.ensures in
     let leaves : Leaves chains place actor undo room old is c.args.which mid
     = elim c.else-had_row.branch [
-      | else-had_row-via-then-had_row+else-have_one_entry w ↦ subst (λ (m : WorkRoom). Leaves chains place actor undo room old is c.args.which m) (sym w.room-is) (written_leaves chains place actor undo room old is c.args.which w.have_one_entry.new.entries)
-      | else-had_row-via-else-had_row w ↦ subst (λ (m : WorkRoom). Leaves chains place actor undo room old is c.args.which m) (sym w.room-is) (room_leaves chains place actor undo room old is c.args.which)
+      | else-had_row-via-then-had_row+else-have_one_entry w ↦ subst (λ (m : WorkRoom). Leaves chains place actor undo room old is c.args.which m)
+          (sym w.room-is) (written_leaves chains place actor undo room old is c.args.which w.have_one_entry.new.entries)
+      | else-had_row-via-else-had_row w ↦ subst (λ (m : WorkRoom). Leaves chains place actor undo room old is c.args.which m) (sym w.room-is)
+          (room_leaves chains place actor undo room old is c.args.which)
     ] in
-    put_as chains place actor undo room old is c.args.which (at_stage (Walk c.args.which c.pointer_of-pointer.result) mid) c.go_to-2.new.room old Step c.go_to-2.result c.go_to-2.ensures.step c.go_to-2.ensures.room
-    (look_on chains place actor undo room old is c.args.which c.requires.stage within c.is_marked.result mark c.if-is_marked.false c.pointer_of-pointer.result pointer mid leaves)
+    put_as chains place actor undo room old is c.args.which (at_stage (Walk c.args.which c.pointer_of-pointer.result) mid) c.go_to-2.new.room old Step
+    c.go_to-2.result c.go_to-2.ensures.step c.go_to-2.ensures.room
+    (look_on chains place actor undo room old is c.args.which c.requires.stage within c.is_marked.result mark c.if-is_marked.false
+    c.pointer_of-pointer.result pointer mid leaves)

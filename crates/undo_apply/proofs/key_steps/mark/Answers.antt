@@ -13,10 +13,17 @@ returns g c = λ chains place is.
     let room = c.args.room.now in
     let entry = c.write_entry.new.entries in
     let writes = subst (λ (v : List ℕ). Writes old undo c.args.which v entry c.write_entry.result) c.deref.ensures.value c.write_entry.ensures in
-    let by_index = subst (λ (i : ℕ). Changes i c.args.actor None (λ b a ans. ReplacesWith None c.args.actor c.entry.result.now room.marked b a ans) old new c.replace-answer.result) c.entries_of.ensures c.replace-answer.ensures in
-    let changes = subst (λ (e : List ℕ). Changes (8 * undo.table + (1 + c.args.which)) c.args.actor None (λ b a ans. ReplacesWith None c.args.actor e room.marked b a ans) old new c.replace-answer.result) c.entry.ensures by_index in
-    let on = subst (λ (s : Stage). WentOn s c.replace-answer.result (record room { entries = entry }) c.go_on.new.room c.go_on.result) c.after_entry.ensures c.go_on.ensures in
-    mark_step chains place c.args.actor undo room old is c.args.which c.requires.stage entry c.write_entry.result writes new c.replace-answer.result changes c.go_on.new.room c.go_on.result on
+    let by_index =
+    subst (λ (i : ℕ). Changes i c.args.actor None (λ b a ans. ReplacesWith None c.args.actor c.entry.result.now room.marked b a ans) old new
+    c.replace-answer.result) c.entries_of.ensures c.replace-answer.ensures in
+    let changes =
+    subst (λ (e : List ℕ). Changes (8 * undo.table + (1 + c.args.which)) c.args.actor None
+    (λ b a ans. ReplacesWith None c.args.actor e room.marked b a ans) old new c.replace-answer.result) c.entry.ensures by_index in
+    let on =
+    subst (λ (s : Stage). WentOn s c.replace-answer.result (record room { entries = entry }) c.go_on.new.room c.go_on.result) c.after_entry.ensures
+    c.go_on.ensures in
+    mark_step chains place c.args.actor undo room old is c.args.which c.requires.stage entry c.write_entry.result writes new c.replace-answer.result changes
+    c.go_on.new.room c.go_on.result on
 
 pub returns-then-not-write_entry : goal.returns-then-not-write_entry
 returns-then-not-write_entry g c = λ chains place is.
@@ -24,4 +31,5 @@ returns-then-not-write_entry g c = λ chains place is.
     let undo = c.args.undo.now in
     let entry = c.write_entry.new.entries in
     let writes = subst (λ (v : List ℕ). Writes old undo c.args.which v entry c.write_entry.result) c.deref.ensures.value c.write_entry.ensures in
-    mark_unwritten chains place c.args.actor undo c.args.room.now old is c.args.which c.requires.stage entry c.write_entry.result writes c.if-not-write_entry.true
+    mark_unwritten chains place c.args.actor undo c.args.room.now old is c.args.which c.requires.stage entry c.write_entry.result writes
+    c.if-not-write_entry.true

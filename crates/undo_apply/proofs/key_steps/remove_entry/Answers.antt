@@ -14,10 +14,17 @@ returns g c = λ chains place is.
     let room = c.args.room.now in
     let entry = c.write_entry.new.entries in
     let writes = subst (λ (v : List ℕ). Writes old undo c.args.which v entry c.write_entry.result) c.deref.ensures.value c.write_entry.ensures in
-    let by_index = subst (λ (i : ℕ). Calls i (λ b a. Removes c.args.actor c.entry.result.now b a c.remove-answer.result) old new) c.entries_of.ensures c.remove-answer.ensures in
-    let calls = subst (λ (e : List ℕ). Calls (8 * undo.table + (1 + c.args.which)) (λ b a. Removes c.args.actor e b a c.remove-answer.result) old new) c.entry.ensures by_index in
-    let on = subst (λ (s : Stage). WentOnOrEnded s c.remove-answer.result (record room { entries = entry }) c.go_on_or_end.new.room c.go_on_or_end.result) c.after_entry.ensures c.go_on_or_end.ensures in
-    remove_step chains place c.args.actor undo room old is c.args.which c.requires.stage entry c.write_entry.result writes new c.remove-answer.result calls c.go_on_or_end.new.room c.go_on_or_end.result on
+    let by_index =
+    subst (λ (i : ℕ). Calls i (λ b a. Removes c.args.actor c.entry.result.now b a c.remove-answer.result) old new) c.entries_of.ensures
+    c.remove-answer.ensures in
+    let calls =
+    subst (λ (e : List ℕ). Calls (8 * undo.table + (1 + c.args.which)) (λ b a. Removes c.args.actor e b a c.remove-answer.result) old new)
+    c.entry.ensures by_index in
+    let on =
+    subst (λ (s : Stage). WentOnOrEnded s c.remove-answer.result (record room { entries = entry }) c.go_on_or_end.new.room c.go_on_or_end.result)
+    c.after_entry.ensures c.go_on_or_end.ensures in
+    remove_step chains place c.args.actor undo room old is c.args.which c.requires.stage entry c.write_entry.result writes new c.remove-answer.result calls
+    c.go_on_or_end.new.room c.go_on_or_end.result on
 
 pub returns-then-not-write_entry : goal.returns-then-not-write_entry
 returns-then-not-write_entry g c = λ chains place is.
@@ -25,4 +32,5 @@ returns-then-not-write_entry g c = λ chains place is.
     let undo = c.args.undo.now in
     let entry = c.write_entry.new.entries in
     let writes = subst (λ (v : List ℕ). Writes old undo c.args.which v entry c.write_entry.result) c.deref.ensures.value c.write_entry.ensures in
-    remove_unwritten chains place c.args.actor undo c.args.room.now old is c.args.which c.requires.stage entry c.write_entry.result writes c.if-not-write_entry.true
+    remove_unwritten chains place c.args.actor undo c.args.room.now old is c.args.which c.requires.stage entry c.write_entry.result writes
+    c.if-not-write_entry.true

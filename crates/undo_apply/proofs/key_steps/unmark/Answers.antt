@@ -11,9 +11,14 @@ returns g c = λ chains place is.
     let room = c.args.room.now in
     let entry = c.write_entry.new.entries in
     let writes = subst (λ (v : List ℕ). Writes old undo c.args.which v entry c.write_entry.result) c.as_slice.ensures c.write_entry.ensures in
-    let by_index = subst (λ (i : ℕ). Changes i c.args.actor None (λ b a ans. ReplacesWith None c.args.actor c.entry.result.now room.unmarked b a ans) old new c.replace-answer.result) c.entries_of.ensures c.replace-answer.ensures in
-    let changes = subst (λ (e : List ℕ). Changes (8 * undo.table + (1 + c.args.which)) c.args.actor None (λ b a ans. ReplacesWith None c.args.actor e room.unmarked b a ans) old new c.replace-answer.result) c.entry.ensures by_index in
-    unmark_step chains place c.args.actor undo room old is c.args.which c.requires.stage entry c.write_entry.result writes new c.replace-answer.result changes c.go_on.new.room c.go_on.result c.go_on.ensures
+    let by_index =
+    subst (λ (i : ℕ). Changes i c.args.actor None (λ b a ans. ReplacesWith None c.args.actor c.entry.result.now room.unmarked b a ans) old new
+    c.replace-answer.result) c.entries_of.ensures c.replace-answer.ensures in
+    let changes =
+    subst (λ (e : List ℕ). Changes (8 * undo.table + (1 + c.args.which)) c.args.actor None
+    (λ b a ans. ReplacesWith None c.args.actor e room.unmarked b a ans) old new c.replace-answer.result) c.entry.ensures by_index in
+    unmark_step chains place c.args.actor undo room old is c.args.which c.requires.stage entry c.write_entry.result writes new c.replace-answer.result
+    changes c.go_on.new.room c.go_on.result c.go_on.ensures
 
 pub returns-then-not-write_entry : goal.returns-then-not-write_entry
 returns-then-not-write_entry g c = λ chains place is.
@@ -21,4 +26,5 @@ returns-then-not-write_entry g c = λ chains place is.
     let undo = c.args.undo.now in
     let entry = c.write_entry.new.entries in
     let writes = subst (λ (v : List ℕ). Writes old undo c.args.which v entry c.write_entry.result) c.as_slice.ensures c.write_entry.ensures in
-    unmark_unwritten chains place c.args.actor undo c.args.room.now old is c.args.which c.requires.stage entry c.write_entry.result writes c.if-not-write_entry.true
+    unmark_unwritten chains place c.args.actor undo c.args.room.now old is c.args.which c.requires.stage entry c.write_entry.result writes
+    c.if-not-write_entry.true

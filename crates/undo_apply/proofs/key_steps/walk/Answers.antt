@@ -13,15 +13,19 @@ use Rattle.undo_apply.proofs.key_steps.walk.Goals as goal
 
 pub value-requires-clause-pointer : goal.value-requires-clause-pointer
 value-requires-clause-pointer g c =
-    walk_pointer c.requires.under_way.0 c.requires.under_way.1 0 c.args.undo.now c.args.room.now (g.W.World.state c.args.world.now) c.requires.under_way.2 c.args.which c.args.pointer c.requires.stage c.requires.together
+    walk_pointer c.requires.under_way.0 c.requires.under_way.1 0 c.args.undo.now c.args.room.now (g.W.World.state c.args.world.now) c.requires.under_way.2
+    c.args.which c.args.pointer c.requires.stage c.requires.together
 
 pub look_at_version-requires : goal.look_at_version-requires
 look_at_version-requires g c =
     let old = g.W.World.state c.args.world.now in
     let new = g.W.World.state c.value.new.self in
     let is = c.requires.under_way.2 in
-    let within = fitting c.requires.under_way.0 c.requires.under_way.1 0 c.args.undo.now c.args.room.now old is c.args.which (Walk c.args.which c.args.pointer) c.requires.stage in
-    has_key_at old.schemas new c.args.undo.now is.schema c.requires.under_way.1 c.args.which (schemas_stay (unchanged_stays old new c.value.ensures.rest)) is.tells within
+    let within =
+    fitting c.requires.under_way.0 c.requires.under_way.1 0 c.args.undo.now c.args.room.now old is c.args.which (Walk c.args.which c.args.pointer)
+    c.requires.stage in
+    has_key_at old.schemas new c.args.undo.now is.schema c.requires.under_way.1 c.args.which (schemas_stay (unchanged_stays old new c.value.ensures.rest))
+    is.tells within
 
 pub returns-in-Ok-true : goal.returns-in-Ok-true
 returns-in-Ok-true g c = λ chains place actor is.
@@ -30,8 +34,10 @@ returns-in-Ok-true g c = λ chains place actor is.
     let read = c.value.new.into in
     let mid = record c.args.room.now { older = read } in
     let leaves = older_leaves chains place actor c.args.undo.now c.args.room.now old is c.args.which read c.value.ensures.room in
-    let shows = subst (λ (b : Bool). ShowsBytes c.args.pointer read.items old.versions new.versions (Ok b)) c.in-Ok-true.field-0-test c.in-Ok-true.ensures.answer in
-    walk_looks chains place actor c.args.undo.now c.args.room.now old is c.args.which c.args.pointer c.requires.stage mid leaves new c.value.ensures.rest shows.0 shows.1 c.look_at_version.new.room c.look_at_version.result c.look_at_version.ensures
+    let shows =
+    subst (λ (b : Bool). ShowsBytes c.args.pointer read.items old.versions new.versions (Ok b)) c.in-Ok-true.field-0-test c.in-Ok-true.ensures.answer in
+    walk_looks chains place actor c.args.undo.now c.args.room.now old is c.args.which c.args.pointer c.requires.stage mid leaves new c.value.ensures.rest
+    shows.0 shows.1 c.look_at_version.new.room c.look_at_version.result c.look_at_version.ensures
 
 pub returns-in-Ok-false : goal.returns-in-Ok-false
 returns-in-Ok-false g c = λ chains place actor is.
@@ -40,9 +46,12 @@ returns-in-Ok-false g c = λ chains place actor is.
     let read = c.value.new.into in
     let mid = record c.args.room.now { older = read } in
     let leaves = older_leaves chains place actor c.args.undo.now c.args.room.now old is c.args.which read c.value.ensures.room in
-    let shows = subst (λ (b : Bool). ShowsBytes c.args.pointer read.items old.versions new.versions (Ok b)) c.in-Ok-false.field-0-test c.in-Ok-false.ensures.answer in
-    put_as chains place actor c.args.undo.now c.args.room.now old is c.args.which (at_stage (Await c.args.which) mid) c.go_to.new.room new Step c.go_to.result c.go_to.ensures.step c.go_to.ensures.room
-    (walk_over chains place actor c.args.undo.now c.args.room.now old is c.args.which c.args.pointer c.requires.stage mid leaves new c.value.ensures.rest shows.0)
+    let shows =
+    subst (λ (b : Bool). ShowsBytes c.args.pointer read.items old.versions new.versions (Ok b)) c.in-Ok-false.field-0-test c.in-Ok-false.ensures.answer in
+    put_as chains place actor c.args.undo.now c.args.room.now old is c.args.which (at_stage (Await c.args.which) mid) c.go_to.new.room new Step
+    c.go_to.result c.go_to.ensures.step c.go_to.ensures.room
+    (walk_over chains place actor c.args.undo.now c.args.room.now old is c.args.which c.args.pointer c.requires.stage mid leaves new c.value.ensures.rest
+    shows.0)
 
 pub returns-in-Err-Failed : goal.returns-in-Err-Failed
 returns-in-Err-Failed g c = λ chains place actor is.
@@ -51,7 +60,8 @@ returns-in-Err-Failed g c = λ chains place actor is.
     let read = c.value.new.into in
     let leaves = older_leaves chains place actor c.args.undo.now c.args.room.now old is c.args.which read c.value.ensures.room in
     let why = subst (λ (v : Visit). IsUnseen old.versions new.versions v) c.in-Err-Failed.field-0-is c.in-Err-Failed.ensures.answer in
-    walk_stopped chains place actor c.args.undo.now c.args.room.now old is c.args.which c.args.pointer c.requires.stage (record c.args.room.now { older = read }) leaves new c.value.ensures.rest Failed (λ e. cc) why
+    walk_stopped chains place actor c.args.undo.now c.args.room.now old is c.args.which c.args.pointer c.requires.stage
+    (record c.args.room.now { older = read }) leaves new c.value.ensures.rest Failed (λ e. cc) why
 
 pub returns-in-Err-Again : goal.returns-in-Err-Again
 returns-in-Err-Again g c = λ chains place actor is.
@@ -60,7 +70,8 @@ returns-in-Err-Again g c = λ chains place actor is.
     let read = c.value.new.into in
     let leaves = older_leaves chains place actor c.args.undo.now c.args.room.now old is c.args.which read c.value.ensures.room in
     let why = subst (λ (v : Visit). IsUnseen old.versions new.versions v) c.in-Err-Again.field-0-is c.in-Err-Again.ensures.answer in
-    walk_stopped chains place actor c.args.undo.now c.args.room.now old is c.args.which c.args.pointer c.requires.stage (record c.args.room.now { older = read }) leaves new c.value.ensures.rest Again (λ e. cc) why
+    walk_stopped chains place actor c.args.undo.now c.args.room.now old is c.args.which c.args.pointer c.requires.stage
+    (record c.args.room.now { older = read }) leaves new c.value.ensures.rest Again (λ e. cc) why
 
 pub returns-in-Err-Bad : goal.returns-in-Err-Bad
 returns-in-Err-Bad g c = λ chains place actor is.
@@ -69,4 +80,5 @@ returns-in-Err-Bad g c = λ chains place actor is.
     let read = c.value.new.into in
     let leaves = older_leaves chains place actor c.args.undo.now c.args.room.now old is c.args.which read c.value.ensures.room in
     let why = subst (λ (v : Visit). IsUnseen old.versions new.versions v) c.in-Err-Bad.field-0-is c.in-Err-Bad.ensures.answer in
-    walk_stopped chains place actor c.args.undo.now c.args.room.now old is c.args.which c.args.pointer c.requires.stage (record c.args.room.now { older = read }) leaves new c.value.ensures.rest (Bad c.in-Err-Bad.page c.in-Err-Bad.rule) (λ e. cc) why
+    walk_stopped chains place actor c.args.undo.now c.args.room.now old is c.args.which c.args.pointer c.requires.stage
+    (record c.args.room.now { older = read }) leaves new c.value.ensures.rest (Bad c.in-Err-Bad.page c.in-Err-Bad.rule) (λ e. cc) why

@@ -15,8 +15,11 @@ returns-then-is_version_before g c = λ chains place is.
     let old = g.W.World.state c.args.world.now in
     let new = g.W.World.state c.fetch.new.self in
     let read = c.fetch.new.into in
-    let calls = subst (λ (i : ℕ). Calls i (λ b a. Fetches c.args.actor c.args.undo.now.key read.items b a Done) old new) c.records_of.ensures c.in-Done.ensures.answer in
-    let same = subst (λ (v : List ℕ). Some v ≡ was_before c.args.undo.now) c.as_slice.ensures.value (c.is_version_before.ensures.0 c.if-is_version_before.true) in
+    let calls =
+    subst (λ (i : ℕ). Calls i (λ b a. Fetches c.args.actor c.args.undo.now.key read.items b a Done) old new) c.records_of.ensures
+    c.in-Done.ensures.answer in
+    let same =
+    subst (λ (v : List ℕ). Some v ≡ was_before c.args.undo.now) c.as_slice.ensures.value (c.is_version_before.ensures.0 c.if-is_version_before.true) in
     find_again chains place c.args.actor c.args.undo.now c.args.room.now old is c.requires.stage read c.fetch.ensures.room new calls same
 
 pub returns-else-is_version_before : goal.returns-else-is_version_before
@@ -25,9 +28,15 @@ returns-else-is_version_before g c = λ chains place is.
     let new = g.W.World.state c.fetch.new.self in
     let read = c.fetch.new.into in
     let room = c.args.room.now in
-    let calls = subst (λ (i : ℕ). Calls i (λ b a. Fetches c.args.actor c.args.undo.now.key read.items b a Done) old new) c.records_of.ensures c.in-Done.ensures.answer in
-    let differs = λ (same : Some read.items ≡ was_before c.args.undo.now). true≢false (sym (c.is_version_before.ensures.1 (subst (λ (v : List ℕ). Some v ≡ was_before c.args.undo.now) (sym c.as_slice.ensures.value) same)) ∙ c.if-is_version_before.false) in
-    put_as chains place c.args.actor c.args.undo.now room old is 0 (at_stage (Key 0) (record room { newest = read })) c.go_to.new.room new Step c.go_to.result c.go_to.ensures.step c.go_to.ensures.room
+    let calls =
+    subst (λ (i : ℕ). Calls i (λ b a. Fetches c.args.actor c.args.undo.now.key read.items b a Done) old new) c.records_of.ensures
+    c.in-Done.ensures.answer in
+    let differs =
+    λ (same : Some read.items ≡ was_before c.args.undo.now). true≢false
+    (sym (c.is_version_before.ensures.1 (subst (λ (v : List ℕ). Some v ≡ was_before c.args.undo.now) (sym c.as_slice.ensures.value) same)) ∙
+    c.if-is_version_before.false) in
+    put_as chains place c.args.actor c.args.undo.now room old is 0 (at_stage (Key 0) (record room { newest = read })) c.go_to.new.room new Step
+    c.go_to.result c.go_to.ensures.step c.go_to.ensures.room
     (find_on chains place c.args.actor c.args.undo.now room old is c.requires.stage read c.fetch.ensures.room new calls differs)
 
 pub returns-in-End : goal.returns-in-End
@@ -35,7 +44,8 @@ returns-in-End g c = λ chains place is.
     let old = g.W.World.state c.args.world.now in
     let new = g.W.World.state c.fetch.new.self in
     let read = c.fetch.new.into in
-    let calls = subst (λ (i : ℕ). Calls i (λ b a. Fetches c.args.actor c.args.undo.now.key read.items b a End) old new) c.records_of.ensures c.in-End.ensures.answer in
+    let calls =
+    subst (λ (i : ℕ). Calls i (λ b a. Fetches c.args.actor c.args.undo.now.key read.items b a End) old new) c.records_of.ensures c.in-End.ensures.answer in
     find_none chains place c.args.actor c.args.undo.now c.args.room.now old is c.requires.stage read c.fetch.ensures.room new calls
 
 pub returns-in_default : goal.returns-in_default
@@ -43,5 +53,8 @@ returns-in_default g c = λ chains place is.
     let old = g.W.World.state c.args.world.now in
     let new = g.W.World.state c.fetch.new.self in
     let read = c.fetch.new.into in
-    let calls = subst (λ (i : ℕ). Calls i (λ b a. Fetches c.args.actor c.args.undo.now.key read.items b a c.fetch.result) old new) c.records_of.ensures c.fetch.ensures.answer in
-    find_stopped chains place c.args.actor c.args.undo.now c.args.room.now old is c.requires.stage read c.fetch.ensures.room new c.fetch.result calls (c.fetch.ensures.untouched (not_done_test c.fetch.result c.in_default.not-Done)) c.in_default.not-Done c.in_default.not-End
+    let calls =
+    subst (λ (i : ℕ). Calls i (λ b a. Fetches c.args.actor c.args.undo.now.key read.items b a c.fetch.result) old new) c.records_of.ensures
+    c.fetch.ensures.answer in
+    find_stopped chains place c.args.actor c.args.undo.now c.args.room.now old is c.requires.stage read c.fetch.ensures.room new c.fetch.result calls
+    (c.fetch.ensures.untouched (not_done_test c.fetch.result c.in_default.not-Done)) c.in_default.not-Done c.in_default.not-End

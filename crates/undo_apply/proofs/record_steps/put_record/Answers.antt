@@ -16,13 +16,19 @@ pub returns-then-undo-eq-NEW_ROW : goal.returns-then-undo-eq-NEW_ROW
 returns-then-undo-eq-NEW_ROW g c = λ chains place is.
     let old = g.W.World.state c.args.world.now in
     let new = g.W.World.state c.remove-answer.new.self in
-    let calls = subst (λ (i : ℕ). Calls i (λ b a. Removes c.args.actor c.args.undo.now.key b a c.remove-answer.result) old new) c.records_of.ensures c.remove-answer.ensures in
-    remove_record chains place c.args.actor c.args.undo.now c.args.room.now old is c.requires.stage c.if-undo-eq-NEW_ROW.true new c.remove-answer.result calls c.end.new.room c.end.result c.end.ensures
+    let calls =
+    subst (λ (i : ℕ). Calls i (λ b a. Removes c.args.actor c.args.undo.now.key b a c.remove-answer.result) old new) c.records_of.ensures
+    c.remove-answer.ensures in
+    remove_record chains place c.args.actor c.args.undo.now c.args.room.now old is c.requires.stage c.if-undo-eq-NEW_ROW.true new c.remove-answer.result
+    calls c.end.new.room c.end.result c.end.ensures
 
 pub returns : goal.returns
 returns g c = λ chains place is.
     let old = g.W.World.state c.args.world.now in
     let new = g.W.World.state c.replace-answer.new.self in
     let undo = c.args.undo.now in
-    let changes = subst (λ (i : ℕ). Changes i c.args.actor None (λ b a ans. ReplacesWith None c.args.actor undo.key undo.value b a ans) old new c.replace-answer.result) c.records_of-2.ensures c.replace-answer.ensures in
-    replace_record chains place c.args.actor undo c.args.room.now old is c.requires.stage c.if-undo-eq-NEW_ROW.false new c.replace-answer.result changes c.end-2.new.room c.end-2.result c.end-2.ensures
+    let changes =
+    subst (λ (i : ℕ). Changes i c.args.actor None (λ b a ans. ReplacesWith None c.args.actor undo.key undo.value b a ans) old new
+    c.replace-answer.result) c.records_of-2.ensures c.replace-answer.ensures in
+    replace_record chains place c.args.actor undo c.args.room.now old is c.requires.stage c.if-undo-eq-NEW_ROW.false new c.replace-answer.result changes
+    c.end-2.new.room c.end-2.result c.end-2.ensures

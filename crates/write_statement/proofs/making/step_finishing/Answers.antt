@@ -3,4 +3,5 @@ use Rattle.write_statement.proofs.making.step_finishing.Goals as goal
 
 pub returns-in-NoMemory-clause-steps : goal.returns-in-NoMemory-clause-steps
 returns-in-NoMemory-clause-steps g c =
-    finishing_given_up c.args.session c.args.lists.now c.change.new.self c.args.work c.args.todo.items c.give_up.result.0 c.give_up.result.1 c.requires.running c.in-NoMemory.ensures.changes c.give_up.ensures.state c.give_up.ensures.answer
+    finishing_given_up c.args.session c.args.lists.now c.change.new.self c.args.work c.args.todo.items c.give_up.result.0 c.give_up.result.1
+    c.requires.running c.in-NoMemory.ensures.changes c.give_up.ensures.state c.give_up.ensures.answer

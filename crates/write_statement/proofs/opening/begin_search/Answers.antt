@@ -10,9 +10,14 @@ use Rattle.write_statement.proofs.opening.begin_search.Goals as goal
 
 pub answer-answered-requires-clause-enough : goal.answer-answered-requires-clause-enough
 answer-answered-requires-clause-enough g c =
-    let none = ap (λ schemas. table_read schemas c.args.stmt) (sym (c.schemas.ensures ∙ ap (λ (st : State). created st.past) c.lists-tables.ensures.same)) ∙ (sym c.table_number.ensures ∙ c.in-None.is) in
+    let none =
+    ap (λ schemas. table_read schemas c.args.stmt) (sym (c.schemas.ensures ∙ ap (λ (st : State). created st.past) c.lists-tables.ensures.same)) ∙
+    (sym c.table_number.ensures ∙ c.in-None.is) in
     subst (λ rows. AreEnough c.args.session c.args.stmt rows c.args.lists.now.past) (sym c.new-rows.ensures)
-    (none_enough c.args.lists.now.past c.args.lists.now.writer c.args.session c.args.stmt c.requires.right c.requires.running.0.unchanged c.lists-tables.ensures.tables none)
+    (none_enough c.args.lists.now.past c.args.lists.now.writer c.args.session c.args.stmt c.requires.right c.requires.running.0.unchanged
+    c.lists-tables.ensures.tables none)
 
 pub returns-in-None-clause-nears : goal.returns-in-None-clause-nears
-returns-in-None-clause-nears g c = nears_of c.args.session c.args.lists.now (Locking c.args.stmt c.args.alone) c.args.lists.now c.answer-answered.result.0 c.answer-answered.result.1 (c.answer-answered.ensures.nears 6 (omega arith) _ _)
+returns-in-None-clause-nears g c =
+    nears_of c.args.session c.args.lists.now (Locking c.args.stmt c.args.alone) c.args.lists.now c.answer-answered.result.0 c.answer-answered.result.1
+    (c.answer-answered.ensures.nears 6 (omega arith) _ _)

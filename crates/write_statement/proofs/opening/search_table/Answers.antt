@@ -8,19 +8,26 @@ use Rattle.write_statement.proofs.opening.search_table.Goals as goal
 
 pub plan_in-requires : goal.plan_in-requires
 plan_in-requires g c =
-    record { storable = subst AreStorable (sym (c.schemas.ensures ∙ ap (λ (st : State). created st.past) c.lists.ensures.same)) (tables_storable c.args.lists.now.past c.lists.ensures.fits) }
+    record {
+      storable = subst AreStorable (sym (c.schemas.ensures ∙ ap (λ (st : State). created st.past) c.lists.ensures.same))
+          (tables_storable c.args.lists.now.past c.lists.ensures.fits);
+    }
 
 pub returns-in_default-clause-steps : goal.returns-in_default-clause-steps
 returns-in_default-clause-steps g c =
-    early_given_up c.args.session c.args.lists.now c.args.lists.now c.args.stmt c.args.alone c.args.before c.give_up.result.0 c.give_up.result.1 c.requires.running.0 c.requires.before_is (turns_none c.args.session c.args.lists.now c.requires.running.1)
+    early_given_up c.args.session c.args.lists.now c.args.lists.now c.args.stmt c.args.alone c.args.before c.give_up.result.0 c.give_up.result.1
+    c.requires.running.0 c.requires.before_is (turns_none c.args.session c.args.lists.now c.requires.running.1)
     c.give_up.ensures.state c.give_up.ensures.answer
 
 pub returns-in-Ok-begin_search-clause-steps : goal.returns-in-Ok-begin_search-clause-steps
 returns-in-Ok-begin_search-clause-steps g c =
-    begins_search c.args.session c.args.lists.now c.begin_search.new.self c.args.stmt c.args.alone c.args.before c.args.table c.in-Ok.plan c.schemas.result.now c.requires.running.0 c.requires.right c.requires.before_is c.requires.table_is
+    begins_search c.args.session c.args.lists.now c.begin_search.new.self c.args.stmt c.args.alone c.args.before c.args.table c.in-Ok.plan
+    c.schemas.result.now c.requires.running.0 c.requires.right c.requires.before_is c.requires.table_is
     (c.schemas.ensures ∙ ap (λ (st : State). created st.past) c.lists.ensures.same) c.in-Ok.ensures c.in-Ok-begin_search.ensures.ok
 
 pub returns-in-Err-clause-steps : goal.returns-in-Err-clause-steps
 returns-in-Err-clause-steps g c =
-    early_given_up c.args.session c.args.lists.now c.begin_search.new.self c.args.stmt c.args.alone c.args.before c.give_up-in-Err.result.0 c.give_up-in-Err.result.1 c.requires.running.0 c.requires.before_is
-    (turns_stayed c.args.session c.args.lists.now c.begin_search.new.self c.in-Err.ensures.err c.requires.running.1) c.give_up-in-Err.ensures.state c.give_up-in-Err.ensures.answer
+    early_given_up c.args.session c.args.lists.now c.begin_search.new.self c.args.stmt c.args.alone c.args.before c.give_up-in-Err.result.0
+    c.give_up-in-Err.result.1 c.requires.running.0 c.requires.before_is
+    (turns_stayed c.args.session c.args.lists.now c.begin_search.new.self c.in-Err.ensures.err c.requires.running.1) c.give_up-in-Err.ensures.state
+    c.give_up-in-Err.ensures.answer

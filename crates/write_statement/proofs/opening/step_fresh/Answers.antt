@@ -9,13 +9,21 @@ use Rattle.write_statement.proofs.opening.step_fresh.Goals as goal
 
 pub returns-then-is_some-clause-steps : goal.returns-then-is_some-clause-steps
 returns-then-is_some-clause-steps g c =
-    let is-open : is_some (level c.args.session c.args.lists.now.past) ≡ true = ap (λ (st : State). is_some (level c.args.session st.past)) (sym c.lists.ensures.same) ∙ (ap is_some (sym c.level.ensures.level) ∙ sym c.if-is_some.ensures) in
-    (moves_none c.args.session c.args.lists.now, (joined c.args.session c.args.stmt c.args.lists.now.past c.requires.running.1 c.requires.running.0 is-open, c.requires.running.2), refl)
+    let is-open : is_some (level c.args.session c.args.lists.now.past) ≡ true =
+    ap (λ (st : State). is_some (level c.args.session st.past)) (sym c.lists.ensures.same) ∙
+    (ap is_some (sym c.level.ensures.level) ∙ sym c.if-is_some.ensures) in (
+      moves_none c.args.session c.args.lists.now,
+      (joined c.args.session c.args.stmt c.args.lists.now.past c.requires.running.1 c.requires.running.0 is-open, c.requires.running.2),
+      refl,
+    )
 
 pub open-requires-clause-closed : goal.open-requires-clause-closed
 open-requires-clause-closed g c =
-    none_of (level c.args.session c.args.lists.now.past) (ap (λ (st : State). is_some (level c.args.session st.past)) (sym c.lists.ensures.same) ∙ (ap is_some (sym c.level.ensures.level) ∙ sym c.if-is_some.ensures))
+    none_of (level c.args.session c.args.lists.now.past)
+    (ap (λ (st : State). is_some (level c.args.session st.past)) (sym c.lists.ensures.same) ∙
+    (ap is_some (sym c.level.ensures.level) ∙ sym c.if-is_some.ensures))
 
 pub open-requires-clause-none : goal.open-requires-clause-none
 open-requires-clause-none g c =
-    ap (λ (st : State). own c.args.session st.past) (sym c.lists.ensures.same) ∙ c.level.ensures.closed (sym c.level.ensures.level ∙ none_of c.level.result (sym c.if-is_some.ensures))
+    ap (λ (st : State). own c.args.session st.past) (sym c.lists.ensures.same) ∙ c.level.ensures.closed
+    (sym c.level.ensures.level ∙ none_of c.level.result (sym c.if-is_some.ensures))

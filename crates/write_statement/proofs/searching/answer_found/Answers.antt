@@ -5,7 +5,11 @@ use Rattle.write_statement.proofs.Found.{found_enough}
 use Rattle.write_statement.proofs.searching.answer_found.Goals as goal
 
 pub answer-answered-requires-clause-enough : goal.answer-answered-requires-clause-enough
-answer-answered-requires-clause-enough g c = found_enough c.args.lists.now c.args.session c.args.search c.args.rows c.requires.found c.lists.ensures.tables c.lists.ensures.sound c.lists.ensures.ordered c.lists.ensures.fits
+answer-answered-requires-clause-enough g c =
+    found_enough c.args.lists.now c.args.session c.args.search c.args.rows c.requires.found c.lists.ensures.tables c.lists.ensures.sound
+    c.lists.ensures.ordered c.lists.ensures.fits
 
 pub returns-clause-nears : goal.returns-clause-nears
-returns-clause-nears g c = nears_of c.args.session c.args.lists.now (Searching c.args.search) c.args.lists.now c.answer-answered.result.0 c.answer-answered.result.1 (c.answer-answered.ensures.nears 5 (omega arith) _ _)
+returns-clause-nears g c =
+    nears_of c.args.session c.args.lists.now (Searching c.args.search) c.args.lists.now c.answer-answered.result.0 c.answer-answered.result.1
+    (c.answer-answered.ensures.nears 5 (omega arith) _ _)

@@ -6,23 +6,32 @@ use Rattle.write_statement.proofs.searching.step_searching.Goals as goal
 pub returns-then-search-eq18446744073709551615-clause-steps : goal.returns-then-search-eq18446744073709551615-clause-steps
 returns-then-search-eq18446744073709551615-clause-steps g c =
     let read = c.requires.running.reading in
-    early_given_up c.args.session c.args.lists.now c.stop_search.new.self c.args.search.stmt c.args.search.alone c.args.search.before c.give_up.result.0 c.give_up.result.1 read.early read.before_is c.stop_search.ensures.stops
+    early_given_up c.args.session c.args.lists.now c.stop_search.new.self c.args.search.stmt c.args.search.alone c.args.search.before c.give_up.result.0
+    c.give_up.result.1 read.early read.before_is c.stop_search.ensures.stops
     c.give_up.ensures.state c.give_up.ensures.answer
 
 pub answer_found-requires : goal.answer_found-requires
 answer_found-requires g c =
     let r = c.requires.running in
-    record { found = search_found c.args.session c.args.lists.now c.search.new.self c.args.search c.in-Found.rows r (searches_as c.args.session c.args.lists.now c.search.new.self c.args.search c.search.result (Found c.in-Found.rows) r c.in-Found.is (c.search.ensures.searches r.reading.table r.reading.plan Newest r.task_is)) }
+    record {
+      found = search_found c.args.session c.args.lists.now c.search.new.self c.args.search c.in-Found.rows r
+          (searches_as c.args.session c.args.lists.now c.search.new.self c.args.search c.search.result (Found c.in-Found.rows) r c.in-Found.is
+          (c.search.ensures.searches r.reading.table r.reading.plan Newest r.task_is));
+    }
 
 pub returns-in-Went-clause-steps : goal.returns-in-Went-clause-steps
 returns-in-Went-clause-steps g c =
     let r = c.requires.running in
     search_went c.args.session c.args.lists.now c.search.new.self c.args.search _ c.went_on.result.0 c.went_on.result.1 r
-    (searches_as c.args.session c.args.lists.now c.search.new.self c.args.search c.search.result Went r c.in-Went.is (c.search.ensures.searches r.reading.table r.reading.plan Newest r.task_is)) c.went_on.ensures.state c.went_on.ensures.answer
+    (searches_as c.args.session c.args.lists.now c.search.new.self c.args.search c.search.result Went r c.in-Went.is
+    (c.search.ensures.searches r.reading.table r.reading.plan Newest r.task_is)) c.went_on.ensures.state c.went_on.ensures.answer
 
 pub returns-in-NoMemory-clause-steps : goal.returns-in-NoMemory-clause-steps
 returns-in-NoMemory-clause-steps g c =
     let r = c.requires.running in
-    let turns = searches_as c.args.session c.args.lists.now c.search.new.self c.args.search c.search.result NoMemory r c.in-NoMemory.is (c.search.ensures.searches r.reading.table r.reading.plan Newest r.task_is) in
-    early_given_up c.args.session c.args.lists.now c.search.new.self c.args.search.stmt c.args.search.alone c.args.search.before c.give_up-in-NoMemory.result.0 c.give_up-in-NoMemory.result.1 r.reading.early r.reading.before_is turns
+    let turns =
+    searches_as c.args.session c.args.lists.now c.search.new.self c.args.search c.search.result NoMemory r c.in-NoMemory.is
+    (c.search.ensures.searches r.reading.table r.reading.plan Newest r.task_is) in
+    early_given_up c.args.session c.args.lists.now c.search.new.self c.args.search.stmt c.args.search.alone c.args.search.before
+    c.give_up-in-NoMemory.result.0 c.give_up-in-NoMemory.result.1 r.reading.early r.reading.before_is turns
     c.give_up-in-NoMemory.ensures.state c.give_up-in-NoMemory.ensures.answer

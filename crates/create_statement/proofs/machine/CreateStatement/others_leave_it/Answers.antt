@@ -1,5 +1,5 @@
-use Rattle.create_statement.proofs.Others.{runs_on}
+use Rattle.create_statement.proofs.Others.{stays}
 use Rattle.create_statement.proofs.machine.CreateStatement.others_leave_it.Goals as goal
 
 pub returns : goal.returns
-returns c = runs_on
+returns c = stays

@@ -20,8 +20,11 @@ invariant_of-self c =
     let there : slice_get l.sessions.items c.args.s ≡ Some session = there_of c.args.s session c.self.view_is c.requires.1 in
     let here : c.index_mut.result.now ≡ session = read_of c.args.s session c.index_mut.result.now c.self.view_is c.requires.1 c.index_mut.ensures.value in
     let new : Session = record session { can_ack = false } in
-    rw (c.acknowledge.ensures, here) (sound_set l.history.room l.rows (length l.schemas) (length l.indexes.items) l.slots l.txns.begun l.sessions.items c.args.s session new c.add.new.self.room l.rows l.slots c.self.invariant there (λ txn is. is) (promised_same l.slots l.sessions.items c.args.s session new c.self.invariant.promised there refl refl)
-    (omega (arith, c.add.ensures.room, ap (bit 1) c.requires.2, c.self.invariant.enough)) (omega (arith, c.self.invariant.small, ap (bit 1) c.requires.2)) (omega (arith, c.self.invariant.counted)))
+    rw (c.acknowledge.ensures, here) (sound_set l.history.room l.rows (length l.schemas) (length l.indexes.items) l.slots l.txns.begun l.sessions.items
+    c.args.s session new c.add.new.self.room l.rows l.slots c.self.invariant there (λ txn is. is)
+    (promised_same l.slots l.sessions.items c.args.s session new c.self.invariant.promised there refl refl)
+    (omega (arith, c.add.ensures.room, ap (bit 1) c.requires.2, c.self.invariant.enough)) (omega (arith, c.self.invariant.small, ap (bit 1) c.requires.2))
+    (omega (arith, c.self.invariant.counted)))
 
 pub returns : goal.returns
 returns c session is =

@@ -46,9 +46,13 @@ invariant_of-self-2 c =
     let made : Work → Work = λ w. record w { own = w.own + 1 } in
     let new : Session = working made session in
     let added : AreAdded 8 l.indexes.items c.add_indexes.new.indexes.items = rw c.in_ok-reserve.ensures.items at c.add_indexes.ensures in
-    let sound = sound_set l.history.room l.rows (length l.schemas) (length l.indexes.items) l.slots l.txns.begun l.sessions.items c.args.s session new c.add.new.self.room l.rows l.slots c.self.invariant there
-    (λ txn is. sym (same_txn session made (λ w. refl)) ∙ is) (promised_same l.slots l.sessions.items c.args.s session new c.self.invariant.promised there refl refl)
-    (omega (arith, owes_made session work has.work_is, c.add.ensures.room, room)) (omega (arith, owes_made session work has.work_is, fits)) (omega (arith, c.self.invariant.counted)) in
+    let sound =
+    sound_set l.history.room l.rows (length l.schemas) (length l.indexes.items) l.slots l.txns.begun l.sessions.items c.args.s session new
+    c.add.new.self.room l.rows l.slots c.self.invariant there
+    (λ txn is. sym (same_txn session made (λ w. refl)) ∙ is)
+    (promised_same l.slots l.sessions.items c.args.s session new c.self.invariant.promised there refl refl)
+    (omega (arith, owes_made session work has.work_is, c.add.ensures.room, room)) (omega (arith, owes_made session work has.work_is, fits))
+    (omega (arith, c.self.invariant.counted)) in
     rw (c.made_table.ensures, here, c.in_ok-push.ensures.ok)
     (sound_tables c.add.new.self.room l.rows (length l.schemas) (length l.indexes.items) l.slots l.txns.begun (slice_set l.sessions.items c.args.s new)
     (length (l.schemas ++ c.in_ok-copy.copy ∷ [])) (length c.add_indexes.new.indexes.items) sound
@@ -65,7 +69,29 @@ returns-clause-ok c =
     let room : owed_by_all l.sessions.items + 2 ≤ c.take_room.new.history.room = rw c.deref.ensures.value at c.in_ok-take_room.ensures.ok in
     let fits : owed_by_all l.sessions.items + 2 < 2 ^ 64 = rw c.deref.ensures.value at c.in_ok-take_room.ensures.fits in
     let added : AreAdded 8 l.indexes.items c.add_indexes.new.indexes.items = rw c.in_ok-reserve.ensures.items at c.add_indexes.ensures in
-    let parts : Parts = record { names = l.history.names; past = l.history.past; rows = l.rows; schemas = l.schemas; indexes = l.indexes.items; slots = l.slots; txns = l.txns; sessions = l.sessions.items } in
+    let parts : Parts =
+    record {
+      names = l.history.names;
+      past = l.history.past;
+      rows = l.rows;
+      schemas = l.schemas;
+      indexes = l.indexes.items;
+      slots = l.slots;
+      txns =
+          l.txns;
+      sessions = l.sessions.items;
+    } in
     let mine : HasWork c.args.s session work (world_of parts) = record { session_is = there; work_is = has.work_is } in
-    rw (← c.self.view_is, c.made_table.ensures, here, has.work_is, c.in_ok-push.ensures.ok, c.in_ok-copy.ensures, c.add.ensures.past, c.add.ensures.names, c.in_ok-take_room.ensures.same.past, c.in_ok-take_room.ensures.same.names)
+    rw (
+      ← c.self.view_is,
+      c.made_table.ensures,
+      here,
+      has.work_is,
+      c.in_ok-push.ensures.ok,
+      c.in_ok-copy.ensures,
+      c.add.ensures.past,
+      c.add.ensures.names,
+      c.in_ok-take_room.ensures.same.past,
+      c.in_ok-take_room.ensures.same.names,
+    )
     (makes_table parts c.args.s session work c.args.schema c.add_indexes.new.indexes.items c.self.invariant.numbered mine c.requires.keys added)

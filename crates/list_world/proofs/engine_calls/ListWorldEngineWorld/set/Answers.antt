@@ -11,9 +11,13 @@ pub invariant_of-self : goal.invariant_of-self
 invariant_of-self c =
     let l = c.self.inside in
     let session = c.index_mut.result.now in
-    let there : slice_get l.sessions.items c.args.s ≡ Some session = slice_get_read l.sessions.items (length l.sessions.items) c.args.s session refl (omega (arith, c.requires, ap (λ (p : Parts). length p.sessions) c.self.view_is)) c.index_mut.ensures.value in
+    let there : slice_get l.sessions.items c.args.s ≡ Some session =
+    slice_get_read l.sessions.items (length l.sessions.items) c.args.s session refl
+    (omega (arith, c.requires, ap (λ (p : Parts). length p.sessions) c.self.view_is)) c.index_mut.ensures.value in
     let new : Session = record session { setting = set_by c.args.stmt.now 0 false session.setting } in
-    rw c.set.ensures (sound_quiet l.history.room l.rows (length l.schemas) (length l.indexes.items) l.slots l.txns.begun l.sessions.items c.args.s session new l.slots c.self.invariant there (λ txn is. is) (promised_same l.slots l.sessions.items c.args.s session new c.self.invariant.promised there refl refl) (omega arith) refl)
+    rw c.set.ensures (sound_quiet l.history.room l.rows (length l.schemas) (length l.indexes.items) l.slots l.txns.begun l.sessions.items c.args.s session
+    new l.slots c.self.invariant there (λ txn is. is)
+    (promised_same l.slots l.sessions.items c.args.s session new c.self.invariant.promised there refl refl) (omega arith) refl)
 
 pub returns : goal.returns
 returns c session is =

@@ -14,19 +14,55 @@ returns-in-Done c =
     let l = c.self.inside in
     let schemas : l.schemas ≡ c.args.self.now.schemas = ap (λ (p : Parts). p.schemas) c.self.view_is in
     let index : IsIndex l.schemas c.args.index = rw schemas c.requires.index in
-    let there : slice_get l.indexes.items c.args.index ≡ Some c.index_mut.result.now = slice_get_read l.indexes.items (length l.indexes.items) c.args.index c.index_mut.result.now refl (index_within l.schemas c.args.index (length l.indexes.items) index c.self.invariant.numbered) c.index_mut.ensures.value in
-    let parts : Parts = record { names = l.history.names; past = l.history.past; rows = l.rows; schemas = l.schemas; indexes = l.indexes.items; slots = l.slots; txns = l.txns; sessions = l.sessions.items } in
+    let there : slice_get l.indexes.items c.args.index ≡ Some c.index_mut.result.now =
+    slice_get_read l.indexes.items (length l.indexes.items) c.args.index c.index_mut.result.now refl
+    (index_within l.schemas c.args.index (length l.indexes.items) index c.self.invariant.numbered) c.index_mut.ensures.value in
+    let parts : Parts =
+    record {
+      names = l.history.names;
+      past = l.history.past;
+      rows = l.rows;
+      schemas = l.schemas;
+      indexes = l.indexes.items;
+      slots = l.slots;
+      txns =
+          l.txns;
+      sessions = l.sessions.items;
+    } in
     let mid : Parts = record parts { indexes = slice_set l.indexes.items c.args.index c.insert-answer.new.self } in
-    let called : InsertsWith (Some c.args.undo.now) c.args.actor c.args.key.now c.args.value.now (shown c.index_mut.result.now) (shown c.insert-answer.new.self) Done = rw c.in-Done.is at (inserts_with c.args.undo.now c.args.actor c.args.key.now c.args.value.now (shown c.index_mut.result.now) (shown c.insert-answer.new.self) c.insert-answer.result c.insert-answer.ensures.answer) in
+    let called : InsertsWith (Some c.args.undo.now) c.args.actor c.args.key.now c.args.value.now (shown c.index_mut.result.now)
+    (shown c.insert-answer.new.self) Done =
+    rw c.in-Done.is at (inserts_with c.args.undo.now c.args.actor c.args.key.now c.args.value.now (shown c.index_mut.result.now)
+    (shown c.insert-answer.new.self) c.insert-answer.result c.insert-answer.ensures.answer) in
     let logged : IsLogged c.args.actor c.args.undo.now (world_of mid) (world_of c.log.new.self) = rw c.in-Ok.ensures.undo_is at c.log.ensures.logged in
-    rw (c.in-Done.is, ← c.self.view_is) (changes_logged parts c.log.new.self c.args.index c.args.actor c.args.undo.now c.index_mut.result.now c.insert-answer.new.self (λ before after answer. InsertsWith (Some c.args.undo.now) c.args.actor c.args.key.now c.args.value.now before after answer) there called c.insert-answer.ensures.sound c.log.ensures.indexes logged)
+    rw (c.in-Done.is, ← c.self.view_is) (changes_logged parts c.log.new.self c.args.index c.args.actor c.args.undo.now c.index_mut.result.now
+    c.insert-answer.new.self (λ before after answer. InsertsWith (Some c.args.undo.now) c.args.actor c.args.key.now c.args.value.now before after answer)
+    there called c.insert-answer.ensures.sound c.log.ensures.indexes logged)
 
 pub returns-in_default : goal.returns-in_default
 returns-in_default c =
     let l = c.self.inside in
     let schemas : l.schemas ≡ c.args.self.now.schemas = ap (λ (p : Parts). p.schemas) c.self.view_is in
     let index : IsIndex l.schemas c.args.index = rw schemas c.requires.index in
-    let there : slice_get l.indexes.items c.args.index ≡ Some c.index_mut.result.now = slice_get_read l.indexes.items (length l.indexes.items) c.args.index c.index_mut.result.now refl (index_within l.schemas c.args.index (length l.indexes.items) index c.self.invariant.numbered) c.index_mut.ensures.value in
-    let parts : Parts = record { names = l.history.names; past = l.history.past; rows = l.rows; schemas = l.schemas; indexes = l.indexes.items; slots = l.slots; txns = l.txns; sessions = l.sessions.items } in
-    let none = changes_none parts c.args.index c.args.actor c.args.undo.now c.index_mut.result.now c.insert-answer.new.self (λ before after answer. InsertsWith (Some c.args.undo.now) c.args.actor c.args.key.now c.args.value.now before after answer) c.insert-answer.result there c.in_default.not-Done (inserts_with c.args.undo.now c.args.actor c.args.key.now c.args.value.now (shown c.index_mut.result.now) (shown c.insert-answer.new.self) c.insert-answer.result c.insert-answer.ensures.answer) c.insert-answer.ensures.sound in
+    let there : slice_get l.indexes.items c.args.index ≡ Some c.index_mut.result.now =
+    slice_get_read l.indexes.items (length l.indexes.items) c.args.index c.index_mut.result.now refl
+    (index_within l.schemas c.args.index (length l.indexes.items) index c.self.invariant.numbered) c.index_mut.ensures.value in
+    let parts : Parts =
+    record {
+      names = l.history.names;
+      past = l.history.past;
+      rows = l.rows;
+      schemas = l.schemas;
+      indexes = l.indexes.items;
+      slots = l.slots;
+      txns =
+          l.txns;
+      sessions = l.sessions.items;
+    } in
+    let none =
+    changes_none parts c.args.index c.args.actor c.args.undo.now c.index_mut.result.now c.insert-answer.new.self
+    (λ before after answer. InsertsWith (Some c.args.undo.now) c.args.actor c.args.key.now c.args.value.now before after answer)
+    c.insert-answer.result there c.in_default.not-Done
+    (inserts_with c.args.undo.now c.args.actor c.args.key.now c.args.value.now (shown c.index_mut.result.now)
+    (shown c.insert-answer.new.self) c.insert-answer.result c.insert-answer.ensures.answer) c.insert-answer.ensures.sound in
     rw (← c.self.view_is) none

@@ -18,7 +18,8 @@ fill_if-requires-clause-above c =
     let session = may.session in
     let has : HasWork c.args.actor session may.work (world_of c.args.self.now) = may.has_work in
     let there : slice_get l.sessions.items c.args.actor ≡ Some session = there_of c.args.actor session c.self.view_is has.session_is in
-    let here : c.index_mut-room.result.now ≡ session = read_of c.args.actor session c.index_mut-room.result.now c.self.view_is has.session_is c.index_mut-room.ensures.value in
+    let here : c.index_mut-room.result.now ≡ session =
+    read_of c.args.actor session c.index_mut-room.result.now c.self.view_is has.session_is c.index_mut-room.ensures.value in
     let roomy : 0 < session.undo_room = omega (arith, may.room) in
     let slot = c.self.invariant.promised.slot c.args.actor session there roomy in
     let pointer : c.next_pointer-pointer.result ≡ session.next_pointer = c.next_pointer-pointer.ensures ∙ ap (λ (x : Session). x.next_pointer) here in
@@ -31,7 +32,8 @@ fill_if-requires-clause-there c =
     let session = may.session in
     let has : HasWork c.args.actor session may.work (world_of c.args.self.now) = may.has_work in
     let there : slice_get l.sessions.items c.args.actor ≡ Some session = there_of c.args.actor session c.self.view_is has.session_is in
-    let here : c.index_mut-room.result.now ≡ session = read_of c.args.actor session c.index_mut-room.result.now c.self.view_is has.session_is c.index_mut-room.ensures.value in
+    let here : c.index_mut-room.result.now ≡ session =
+    read_of c.args.actor session c.index_mut-room.result.now c.self.view_is has.session_is c.index_mut-room.ensures.value in
     let roomy : 0 < session.undo_room = omega (arith, may.room) in
     let slot = c.self.invariant.promised.slot c.args.actor session there roomy in
     let pointer : c.next_pointer-pointer.result ≡ session.next_pointer = c.next_pointer-pointer.ensures ∙ ap (λ (x : Session). x.next_pointer) here in
@@ -44,14 +46,18 @@ invariant_of-self c =
     let session = may.session in
     let has : HasWork c.args.actor session may.work (world_of c.args.self.now) = may.has_work in
     let there : slice_get l.sessions.items c.args.actor ≡ Some session = there_of c.args.actor session c.self.view_is has.session_is in
-    let here : c.index_mut-room.result.now ≡ session = read_of c.args.actor session c.index_mut-room.result.now c.self.view_is has.session_is c.index_mut-room.ensures.value in
+    let here : c.index_mut-room.result.now ≡ session =
+    read_of c.args.actor session c.index_mut-room.result.now c.self.view_is has.session_is c.index_mut-room.ensures.value in
     let roomy : 0 < session.undo_room = omega (arith, may.room) in
     let slot = c.self.invariant.promised.slot c.args.actor session there roomy in
     let pointer : c.next_pointer-pointer.result ≡ session.next_pointer = c.next_pointer-pointer.ensures ∙ ap (λ (x : Session). x.next_pointer) here in
     let add : Work → Work = λ w. record w { log = record { pointer = session.next_pointer; undo = c.args.brought.undo } ∷ w.log } in
     let new : Session = working add (record session { undo_room = 0 }) in
-    rw (c.log.ensures, here, c.fill_if.ensures, pointer) (sound_quiet l.history.room l.rows (length l.schemas) (length l.indexes.items) l.slots l.txns.begun l.sessions.items c.args.actor session new (filled_if session.next_pointer c.args.brought.kept l.slots) c.self.invariant there
-    (λ txn is. sym (same_txn session add (λ w. refl)) ∙ is) (promised_filled l.slots l.sessions.items c.args.actor session new c.args.brought.kept c.self.invariant.promised there roomy refl)
+    rw (c.log.ensures, here, c.fill_if.ensures, pointer)
+    (sound_quiet l.history.room l.rows (length l.schemas) (length l.indexes.items) l.slots l.txns.begun l.sessions.items c.args.actor session new
+    (filled_if session.next_pointer c.args.brought.kept l.slots) c.self.invariant there
+    (λ txn is. sym (same_txn session add (λ w. refl)) ∙ is)
+    (promised_filled l.slots l.sessions.items c.args.actor session new c.args.brought.kept c.self.invariant.promised there roomy refl)
     (omega (arith, same_owed session.work add (λ w. (refl, refl)))) refl)
 
 pub returns-clause-logged : goal.returns-clause-logged
@@ -61,7 +67,8 @@ returns-clause-logged c =
     let session = may.session in
     let has : HasWork c.args.actor session may.work (world_of c.args.self.now) = may.has_work in
     let there : slice_get l.sessions.items c.args.actor ≡ Some session = there_of c.args.actor session c.self.view_is has.session_is in
-    let here : c.index_mut-room.result.now ≡ session = read_of c.args.actor session c.index_mut-room.result.now c.self.view_is has.session_is c.index_mut-room.ensures.value in
+    let here : c.index_mut-room.result.now ≡ session =
+    read_of c.args.actor session c.index_mut-room.result.now c.self.view_is has.session_is c.index_mut-room.ensures.value in
     let roomy : 0 < session.undo_room = omega (arith, may.room) in
     let slot = c.self.invariant.promised.slot c.args.actor session there roomy in
     let pointer : c.next_pointer-pointer.result ≡ session.next_pointer = c.next_pointer-pointer.ensures ∙ ap (λ (x : Session). x.next_pointer) here in
@@ -72,6 +79,8 @@ returns-clause-logged c =
       work = may.work;
       has_work = has;
       next = session.next_pointer;
-      kept = rw (← c.self.view_is, c.fill_if.ensures, pointer) (keeps (c.args.brought.undo.kind == 2) l.schemas session.next_pointer c.args.brought.undo c.args.brought.kept l.slots kept slot.0 slot.1 slot.2);
+      kept =
+          rw (← c.self.view_is, c.fill_if.ensures, pointer)
+          (keeps (c.args.brought.undo.kind == 2) l.schemas session.next_pointer c.args.brought.undo c.args.brought.kept l.slots kept slot.0 slot.1 slot.2);
       rest = rw (← c.self.view_is, c.log.ensures, here, has.work_is) refl;
     }

@@ -16,9 +16,13 @@ add-requires c =
     let has : HasWork c.args.s session work (world_of c.args.self.now) = c.requires.2 in
     let there : slice_get l.sessions.items c.args.s ≡ Some session = there_of c.args.s session c.self.view_is has.session_is in
     let here : c.index_mut.result.now ≡ session = read_of c.args.s session c.index_mut.result.now c.self.view_is has.session_is c.index_mut.ensures.value in
-    let owed : c.can_begin-owed.result ≡ session.can_begin = c.can_begin-owed.ensures ∙ ap (λ (x : Session). x.can_begin) (read_of c.args.s session c.index.result.now c.self.view_is has.session_is c.index.ensures) in
-    let room : owed_by_all l.sessions.items + 3 ≤ c.take_room_unless.new.history.room + bit 3 session.can_begin = rw (c.deref.ensures.value, owed) at c.in_ok-take_room_unless.ensures.ok in
-    let fits : owed_by_all l.sessions.items + 3 < 2 ^ 64 + bit 3 session.can_begin = rw (c.deref.ensures.value, owed) at c.in_ok-take_room_unless.ensures.fits in
+    let owed : c.can_begin-owed.result ≡ session.can_begin =
+    c.can_begin-owed.ensures ∙ ap (λ (x : Session). x.can_begin)
+    (read_of c.args.s session c.index.result.now c.self.view_is has.session_is c.index.ensures) in
+    let room : owed_by_all l.sessions.items + 3 ≤ c.take_room_unless.new.history.room + bit 3 session.can_begin =
+    rw (c.deref.ensures.value, owed) at c.in_ok-take_room_unless.ensures.ok in
+    let fits : owed_by_all l.sessions.items + 3 < 2 ^ 64 + bit 3 session.can_begin =
+    rw (c.deref.ensures.value, owed) at c.in_ok-take_room_unless.ensures.fits in
     omega (arith, room, bit_le 3 session.can_begin, part_le owed_of l.sessions.items c.args.s session there, owes_begun session work has.work_is)
 
 pub invariant_of-self-2 : goal.invariant_of-self-2
@@ -29,16 +33,34 @@ invariant_of-self-2 c =
     let has : HasWork c.args.s session work (world_of c.args.self.now) = c.requires.2 in
     let there : slice_get l.sessions.items c.args.s ≡ Some session = there_of c.args.s session c.self.view_is has.session_is in
     let here : c.index_mut.result.now ≡ session = read_of c.args.s session c.index_mut.result.now c.self.view_is has.session_is c.index_mut.ensures.value in
-    let owed : c.can_begin-owed.result ≡ session.can_begin = c.can_begin-owed.ensures ∙ ap (λ (x : Session). x.can_begin) (read_of c.args.s session c.index.result.now c.self.view_is has.session_is c.index.ensures) in
-    let room : owed_by_all l.sessions.items + 3 ≤ c.take_room_unless.new.history.room + bit 3 session.can_begin = rw (c.deref.ensures.value, owed) at c.in_ok-take_room_unless.ensures.ok in
-    let fits : owed_by_all l.sessions.items + 3 < 2 ^ 64 + bit 3 session.can_begin = rw (c.deref.ensures.value, owed) at c.in_ok-take_room_unless.ensures.fits in
-    let opens : OpensNone session (working (λ w. record w { can_end = true }) (record session { can_begin = false })) = λ txn is. sym (same_txn session (λ w. record w { can_end = true }) (λ w. refl)) ∙ is in
-    let slot : ArePromised l.slots (slice_set l.sessions.items c.args.s (working (λ w. record w { can_end = true }) (record session { can_begin = false }))) = promised_same l.slots l.sessions.items c.args.s session (working (λ w. record w { can_end = true }) (record session { can_begin = false })) c.self.invariant.promised there refl refl in
-    rw (c.begun.ensures, here) (sound_set l.history.room l.rows (length l.schemas) (length l.indexes.items) l.slots l.txns.begun l.sessions.items c.args.s session (working (λ w. record w { can_end = true }) (record session { can_begin = false }))
+    let owed : c.can_begin-owed.result ≡ session.can_begin =
+    c.can_begin-owed.ensures ∙ ap (λ (x : Session). x.can_begin)
+    (read_of c.args.s session c.index.result.now c.self.view_is has.session_is c.index.ensures) in
+    let room : owed_by_all l.sessions.items + 3 ≤ c.take_room_unless.new.history.room + bit 3 session.can_begin =
+    rw (c.deref.ensures.value, owed) at c.in_ok-take_room_unless.ensures.ok in
+    let fits : owed_by_all l.sessions.items + 3 < 2 ^ 64 + bit 3 session.can_begin =
+    rw (c.deref.ensures.value, owed) at c.in_ok-take_room_unless.ensures.fits in
+    let opens : OpensNone session (working (λ w. record w { can_end = true }) (record session { can_begin = false })) = λ txn is. sym
+    (same_txn session (λ w. record w { can_end = true }) (λ w. refl)) ∙ is in
+    let slot : ArePromised l.slots (slice_set l.sessions.items c.args.s (working (λ w. record w { can_end = true }) (record session { can_begin = false })))
+    = promised_same l.slots l.sessions.items c.args.s session (working (λ w. record w { can_end = true }) (record session { can_begin = false }))
+    c.self.invariant.promised there refl refl in
+    rw (c.begun.ensures, here) (sound_set l.history.room l.rows (length l.schemas) (length l.indexes.items) l.slots l.txns.begun l.sessions.items c.args.s
+    session (working (λ w. record w { can_end = true }) (record session { can_begin = false }))
     c.add.new.self.room l.rows l.slots c.self.invariant there opens slot
-    (omega (arith, owes_begun session work has.work_is, c.add.ensures.room, room)) (omega (arith, owes_begun session work has.work_is, fits)) (omega (arith, c.self.invariant.counted)))
+    (omega (arith, owes_begun session work has.work_is, c.add.ensures.room, room)) (omega (arith, owes_begun session work has.work_is, fits))
+    (omega (arith, c.self.invariant.counted)))
 
 pub returns-clause-ok : goal.returns-clause-ok
 returns-clause-ok c session work has =
     let here : c.index_mut.result.now ≡ session = read_of c.args.s session c.index_mut.result.now c.self.view_is has.session_is c.index_mut.ensures.value in
-    rw (← c.self.view_is, c.begun.ensures, here, has.work_is, c.add.ensures.past, c.add.ensures.names, c.in_ok-take_room_unless.ensures.same.past, c.in_ok-take_room_unless.ensures.same.names) refl
+    rw (
+      ← c.self.view_is,
+      c.begun.ensures,
+      here,
+      has.work_is,
+      c.add.ensures.past,
+      c.add.ensures.names,
+      c.in_ok-take_room_unless.ensures.same.past,
+      c.in_ok-take_room_unless.ensures.same.names,
+    ) refl

@@ -26,11 +26,16 @@ invariant_of-self c =
     let has : HasWork c.args.s session work (world_of c.args.self.now) = c.requires.2 in
     let there : slice_get l.sessions.items c.args.s ≡ Some session = there_of c.args.s session c.self.view_is has.session_is in
     let here : c.index_mut.result.now ≡ session = read_of c.args.s session c.index_mut.result.now c.self.view_is has.session_is c.index_mut.ensures.value in
-    let opens : OpensNone session (working (λ w. record w { can_end = false }) (record session { can_ack = true })) = λ txn is. sym (same_txn session (λ w. record w { can_end = false }) (λ w. refl)) ∙ is in
-    let slot : ArePromised l.slots (slice_set l.sessions.items c.args.s (working (λ w. record w { can_end = false }) (record session { can_ack = true }))) = promised_same l.slots l.sessions.items c.args.s session (working (λ w. record w { can_end = false }) (record session { can_ack = true })) c.self.invariant.promised there refl refl in
-    rw (c.committed.ensures, here) (sound_set l.history.room l.rows (length l.schemas) (length l.indexes.items) l.slots l.txns.begun l.sessions.items c.args.s session (working (λ w. record w { can_end = false }) (record session { can_ack = true }))
+    let opens : OpensNone session (working (λ w. record w { can_end = false }) (record session { can_ack = true })) = λ txn is. sym
+    (same_txn session (λ w. record w { can_end = false }) (λ w. refl)) ∙ is in
+    let slot : ArePromised l.slots (slice_set l.sessions.items c.args.s (working (λ w. record w { can_end = false }) (record session { can_ack = true }))) =
+    promised_same l.slots l.sessions.items c.args.s session (working (λ w. record w { can_end = false }) (record session { can_ack = true }))
+    c.self.invariant.promised there refl refl in
+    rw (c.committed.ensures, here) (sound_set l.history.room l.rows (length l.schemas) (length l.indexes.items) l.slots l.txns.begun l.sessions.items
+    c.args.s session (working (λ w. record w { can_end = false }) (record session { can_ack = true }))
     c.add.new.self.room l.rows l.slots c.self.invariant there opens slot
-    (omega (arith, owes_committed session work has.work_is c.requires.3, c.add.ensures.room, c.self.invariant.enough)) (omega (arith, owes_committed session work has.work_is c.requires.3, c.self.invariant.small)) (omega (arith, c.self.invariant.counted)))
+    (omega (arith, owes_committed session work has.work_is c.requires.3, c.add.ensures.room, c.self.invariant.enough))
+    (omega (arith, owes_committed session work has.work_is c.requires.3, c.self.invariant.small)) (omega (arith, c.self.invariant.counted)))
 
 pub returns : goal.returns
 returns c session work has =

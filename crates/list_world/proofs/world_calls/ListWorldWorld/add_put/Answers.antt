@@ -17,9 +17,13 @@ changed-requires c =
     let has : HasWork c.args.s session work (world_of c.args.self.now) = c.requires.2 in
     let there : slice_get l.sessions.items c.args.s ≡ Some session = there_of c.args.s session c.self.view_is has.session_is in
     let here : c.index_mut.result.now ≡ session = read_of c.args.s session c.index_mut.result.now c.self.view_is has.session_is c.index_mut.ensures.value in
-    let owed : c.can_change-owed.result ≡ session.can_change = c.can_change-owed.ensures ∙ ap (λ (x : Session). x.can_change) (read_of c.args.s session c.index.result.now c.self.view_is has.session_is c.index.ensures) in
-    let room : owed_by_all l.sessions.items + 2 ≤ c.take_room_unless.new.history.room + bit 2 session.can_change = rw (c.deref.ensures.value, owed) at c.in_ok-take_room_unless.ensures.ok in
-    let fits : owed_by_all l.sessions.items + 2 < 2 ^ 64 + bit 2 session.can_change = rw (c.deref.ensures.value, owed) at c.in_ok-take_room_unless.ensures.fits in
+    let owed : c.can_change-owed.result ≡ session.can_change =
+    c.can_change-owed.ensures ∙ ap (λ (x : Session). x.can_change)
+    (read_of c.args.s session c.index.result.now c.self.view_is has.session_is c.index.ensures) in
+    let room : owed_by_all l.sessions.items + 2 ≤ c.take_room_unless.new.history.room + bit 2 session.can_change =
+    rw (c.deref.ensures.value, owed) at c.in_ok-take_room_unless.ensures.ok in
+    let fits : owed_by_all l.sessions.items + 2 < 2 ^ 64 + bit 2 session.can_change =
+    rw (c.deref.ensures.value, owed) at c.in_ok-take_room_unless.ensures.fits in
     rw (here, has.work_is) (omega (arith, fits, owes_count session work has.work_is, part_le owed_of l.sessions.items c.args.s session there))
 
 pub add-requires : goal.add-requires
@@ -30,9 +34,13 @@ add-requires c =
     let has : HasWork c.args.s session work (world_of c.args.self.now) = c.requires.2 in
     let there : slice_get l.sessions.items c.args.s ≡ Some session = there_of c.args.s session c.self.view_is has.session_is in
     let here : c.index_mut.result.now ≡ session = read_of c.args.s session c.index_mut.result.now c.self.view_is has.session_is c.index_mut.ensures.value in
-    let owed : c.can_change-owed.result ≡ session.can_change = c.can_change-owed.ensures ∙ ap (λ (x : Session). x.can_change) (read_of c.args.s session c.index.result.now c.self.view_is has.session_is c.index.ensures) in
-    let room : owed_by_all l.sessions.items + 2 ≤ c.take_room_unless.new.history.room + bit 2 session.can_change = rw (c.deref.ensures.value, owed) at c.in_ok-take_room_unless.ensures.ok in
-    let fits : owed_by_all l.sessions.items + 2 < 2 ^ 64 + bit 2 session.can_change = rw (c.deref.ensures.value, owed) at c.in_ok-take_room_unless.ensures.fits in
+    let owed : c.can_change-owed.result ≡ session.can_change =
+    c.can_change-owed.ensures ∙ ap (λ (x : Session). x.can_change)
+    (read_of c.args.s session c.index.result.now c.self.view_is has.session_is c.index.ensures) in
+    let room : owed_by_all l.sessions.items + 2 ≤ c.take_room_unless.new.history.room + bit 2 session.can_change =
+    rw (c.deref.ensures.value, owed) at c.in_ok-take_room_unless.ensures.ok in
+    let fits : owed_by_all l.sessions.items + 2 < 2 ^ 64 + bit 2 session.can_change =
+    rw (c.deref.ensures.value, owed) at c.in_ok-take_room_unless.ensures.fits in
     omega (arith, room, bit_le 2 session.can_change, owes_count session work has.work_is, part_le owed_of l.sessions.items c.args.s session there)
 
 pub invariant_of-self-2 : goal.invariant_of-self-2
@@ -43,15 +51,28 @@ invariant_of-self-2 c =
     let has : HasWork c.args.s session work (world_of c.args.self.now) = c.requires.2 in
     let there : slice_get l.sessions.items c.args.s ≡ Some session = there_of c.args.s session c.self.view_is has.session_is in
     let here : c.index_mut.result.now ≡ session = read_of c.args.s session c.index_mut.result.now c.self.view_is has.session_is c.index_mut.ensures.value in
-    let owed : c.can_change-owed.result ≡ session.can_change = c.can_change-owed.ensures ∙ ap (λ (x : Session). x.can_change) (read_of c.args.s session c.index.result.now c.self.view_is has.session_is c.index.ensures) in
-    let room : owed_by_all l.sessions.items + 2 ≤ c.take_room_unless.new.history.room + bit 2 session.can_change = rw (c.deref.ensures.value, owed) at c.in_ok-take_room_unless.ensures.ok in
-    let fits : owed_by_all l.sessions.items + 2 < 2 ^ 64 + bit 2 session.can_change = rw (c.deref.ensures.value, owed) at c.in_ok-take_room_unless.ensures.fits in
+    let owed : c.can_change-owed.result ≡ session.can_change =
+    c.can_change-owed.ensures ∙ ap (λ (x : Session). x.can_change)
+    (read_of c.args.s session c.index.result.now c.self.view_is has.session_is c.index.ensures) in
+    let room : owed_by_all l.sessions.items + 2 ≤ c.take_room_unless.new.history.room + bit 2 session.can_change =
+    rw (c.deref.ensures.value, owed) at c.in_ok-take_room_unless.ensures.ok in
+    let fits : owed_by_all l.sessions.items + 2 < 2 ^ 64 + bit 2 session.can_change =
+    rw (c.deref.ensures.value, owed) at c.in_ok-take_room_unless.ensures.fits in
     let few : l.rows < 2 ^ 63 + bit (2 ^ 63) session.can_change = rw owed at (c.may_count.ensures.few (c.if-not-may_count.false)) in
-    let opens : OpensNone session (working (λ w. record w { own = w.own + 1 }) (record session { can_change = false })) = λ txn is. sym (same_txn session (λ w. record w { own = w.own + 1 }) (λ w. refl)) ∙ is in
-    let slot : ArePromised l.slots (slice_set l.sessions.items c.args.s (working (λ w. record w { own = w.own + 1 }) (record session { can_change = false }))) = promised_same l.slots l.sessions.items c.args.s session (working (λ w. record w { own = w.own + 1 }) (record session { can_change = false })) c.self.invariant.promised there refl refl in
-    rw (c.changed.ensures, here) (sound_set l.history.room l.rows (length l.schemas) (length l.indexes.items) l.slots l.txns.begun l.sessions.items c.args.s session (working (λ w. record w { own = w.own + 1 }) (record session { can_change = false }))
+    let opens : OpensNone session (working (λ w. record w { own = w.own + 1 }) (record session { can_change = false })) = λ txn is. sym
+    (same_txn session (λ w. record w { own = w.own + 1 }) (λ w. refl)) ∙ is in
+    let slot : ArePromised l.slots (slice_set l.sessions.items c.args.s
+    (working (λ w. record w { own = w.own + 1 }) (record session { can_change = false }))) = promised_same l.slots l.sessions.items c.args.s session
+    (working (λ w. record w { own = w.own + 1 }) (record session { can_change = false })) c.self.invariant.promised there refl refl in
+    rw (c.changed.ensures, here) (sound_set l.history.room l.rows (length l.schemas) (length l.indexes.items) l.slots l.txns.begun l.sessions.items c.args.s
+    session (working (λ w. record w { own = w.own + 1 }) (record session { can_change = false }))
     c.add.new.self.room (l.rows + 1) l.slots c.self.invariant there opens slot
-    (omega (arith, owes_changed session work has.work_is, c.add.ensures.room, room)) (omega (arith, owes_changed session work has.work_is, fits)) (omega (arith, row_counts l.rows (puts_of_all l.sessions.items) session.can_change c.self.invariant.counted (puts_few l.sessions.items) c.self.invariant.few few)))
+    (omega (arith, owes_changed session work has.work_is, c.add.ensures.room, room)) (omega (arith, owes_changed session work has.work_is, fits))
+    (omega (
+      arith,
+      row_counts l.rows (puts_of_all l.sessions.items) session.can_change c.self.invariant.counted (puts_few l.sessions.items)
+          c.self.invariant.few few,
+    )))
 
 pub overflow_add-self : goal.overflow_add-self
 overflow_add-self c =
@@ -61,13 +82,27 @@ overflow_add-self c =
     let has : HasWork c.args.s session work (world_of c.args.self.now) = c.requires.2 in
     let there : slice_get l.sessions.items c.args.s ≡ Some session = there_of c.args.s session c.self.view_is has.session_is in
     let here : c.index_mut.result.now ≡ session = read_of c.args.s session c.index_mut.result.now c.self.view_is has.session_is c.index_mut.ensures.value in
-    let owed : c.can_change-owed.result ≡ session.can_change = c.can_change-owed.ensures ∙ ap (λ (x : Session). x.can_change) (read_of c.args.s session c.index.result.now c.self.view_is has.session_is c.index.ensures) in
-    let room : owed_by_all l.sessions.items + 2 ≤ c.take_room_unless.new.history.room + bit 2 session.can_change = rw (c.deref.ensures.value, owed) at c.in_ok-take_room_unless.ensures.ok in
-    let fits : owed_by_all l.sessions.items + 2 < 2 ^ 64 + bit 2 session.can_change = rw (c.deref.ensures.value, owed) at c.in_ok-take_room_unless.ensures.fits in
+    let owed : c.can_change-owed.result ≡ session.can_change =
+    c.can_change-owed.ensures ∙ ap (λ (x : Session). x.can_change)
+    (read_of c.args.s session c.index.result.now c.self.view_is has.session_is c.index.ensures) in
+    let room : owed_by_all l.sessions.items + 2 ≤ c.take_room_unless.new.history.room + bit 2 session.can_change =
+    rw (c.deref.ensures.value, owed) at c.in_ok-take_room_unless.ensures.ok in
+    let fits : owed_by_all l.sessions.items + 2 < 2 ^ 64 + bit 2 session.can_change =
+    rw (c.deref.ensures.value, owed) at c.in_ok-take_room_unless.ensures.fits in
     let few : l.rows < 2 ^ 63 + bit (2 ^ 63) session.can_change = rw owed at (c.may_count.ensures.few (c.if-not-may_count.false)) in
-    Fits-of_lt (row_fits l.rows (puts_of_all l.sessions.items) session.can_change c.self.invariant.counted (part_le puts_of l.sessions.items c.args.s session there) few)
+    Fits-of_lt (row_fits l.rows (puts_of_all l.sessions.items) session.can_change c.self.invariant.counted
+    (part_le puts_of l.sessions.items c.args.s session there) few)
 
 pub returns-clause-ok : goal.returns-clause-ok
 returns-clause-ok c session work has =
     let here : c.index_mut.result.now ≡ session = read_of c.args.s session c.index_mut.result.now c.self.view_is has.session_is c.index_mut.ensures.value in
-    rw (← c.self.view_is, c.changed.ensures, here, has.work_is, c.add.ensures.past, c.add.ensures.names, c.in_ok-take_room_unless.ensures.same.past, c.in_ok-take_room_unless.ensures.same.names) refl
+    rw (
+      ← c.self.view_is,
+      c.changed.ensures,
+      here,
+      has.work_is,
+      c.add.ensures.past,
+      c.add.ensures.names,
+      c.in_ok-take_room_unless.ensures.same.past,
+      c.in_ok-take_room_unless.ensures.same.names,
+    ) refl

@@ -18,14 +18,30 @@ invariant_of-self-2 c =
     let here : c.index_mut.result.now ≡ session = read_of c.args.s session c.index_mut.result.now c.self.view_is has.session_is c.index_mut.ensures.value in
     let room : owed_by_all l.sessions.items + 1 ≤ c.take_room.new.history.room = rw c.deref.ensures.value at c.in_ok-take_room.ensures.ok in
     let fits : owed_by_all l.sessions.items + 1 < 2 ^ 64 = rw c.deref.ensures.value at c.in_ok-take_room.ensures.fits in
-    let opens : OpensNone session (working (λ w. record w { view = Some (record { active = c.args.active.now; next = c.args.next }) }) session) = λ txn is. sym (same_txn session (λ w. record w { view = Some (record { active = c.args.active.now; next = c.args.next }) }) (λ w. refl)) ∙ is in
-    let slot : ArePromised l.slots (slice_set l.sessions.items c.args.s (working (λ w. record w { view = Some (record { active = c.args.active.now; next = c.args.next }) }) session)) = promised_same l.slots l.sessions.items c.args.s session (working (λ w. record w { view = Some (record { active = c.args.active.now; next = c.args.next }) }) session) c.self.invariant.promised there refl refl in
+    let opens : OpensNone session (working (λ w. record w { view = Some (record { active = c.args.active.now; next = c.args.next }) }) session) = λ txn is.
+    sym (same_txn session (λ w. record w { view = Some (record { active = c.args.active.now; next = c.args.next }) }) (λ w. refl)) ∙ is in
+    let slot : ArePromised l.slots (slice_set l.sessions.items c.args.s
+    (working (λ w. record w { view = Some (record { active = c.args.active.now; next = c.args.next }) }) session)) = promised_same l.slots
+    l.sessions.items c.args.s session (working (λ w. record w { view = Some (record { active = c.args.active.now; next = c.args.next }) }) session)
+    c.self.invariant.promised there refl refl in
     let owes = same_owed session.work (λ w. record w { view = Some (record { active = c.args.active.now; next = c.args.next }) }) (λ w. (refl, refl)) in
-    rw (c.keep_view.ensures, here, c.in_ok-active.ensures) (sound_set l.history.room l.rows (length l.schemas) (length l.indexes.items) l.slots l.txns.begun l.sessions.items c.args.s session (working (λ w. record w { view = Some (record { active = c.args.active.now; next = c.args.next }) }) session)
+    rw (c.keep_view.ensures, here, c.in_ok-active.ensures)
+    (sound_set l.history.room l.rows (length l.schemas) (length l.indexes.items) l.slots l.txns.begun l.sessions.items c.args.s session
+    (working (λ w. record w { view = Some (record { active = c.args.active.now; next = c.args.next }) }) session)
     c.add.new.self.room l.rows l.slots c.self.invariant there opens slot
     (omega (arith, owes, c.add.ensures.room, room)) (omega (arith, owes, fits)) (omega (arith, c.self.invariant.counted)))
 
 pub returns-clause-ok : goal.returns-clause-ok
 returns-clause-ok c session work has =
     let here : c.index_mut.result.now ≡ session = read_of c.args.s session c.index_mut.result.now c.self.view_is has.session_is c.index_mut.ensures.value in
-    rw (← c.self.view_is, c.keep_view.ensures, here, has.work_is, c.in_ok-active.ensures, c.add.ensures.past, c.add.ensures.names, c.in_ok-take_room.ensures.same.past, c.in_ok-take_room.ensures.same.names) refl
+    rw (
+      ← c.self.view_is,
+      c.keep_view.ensures,
+      here,
+      has.work_is,
+      c.in_ok-active.ensures,
+      c.add.ensures.past,
+      c.add.ensures.names,
+      c.in_ok-take_room.ensures.same.past,
+      c.in_ok-take_room.ensures.same.names,
+    ) refl

@@ -11,10 +11,12 @@ invariant_of-self-2 c =
     let l = c.self.inside in
     let session = c.requires.closed.0 in
     let there : slice_get l.sessions.items c.args.s ≡ Some session = there_of c.args.s session c.self.view_is c.requires.closed.1 in
-    let here : c.index_mut.result.now ≡ session = read_of c.args.s session c.index_mut.result.now c.self.view_is c.requires.closed.1 c.index_mut.ensures.value in
+    let here : c.index_mut.result.now ≡ session =
+    read_of c.args.s session c.index_mut.result.now c.self.view_is c.requires.closed.1 c.index_mut.ensures.value in
     rw (c.begin-2.ensures, here, c.in_ok-txn.ensures.ok, c.in_ok-txn.ensures.number)
     (let new : Session = record session { setting = at_begin session.setting; work = Some (fresh_work (l.txns.begun + 1) c.args.level) } in
-    sound_begun l.history.room l.rows (length l.schemas) (length l.indexes.items) l.slots l.txns.begun l.sessions.items c.args.s session new c.self.invariant there refl
+    sound_begun l.history.room l.rows (length l.schemas) (length l.indexes.items) l.slots l.txns.begun l.sessions.items c.args.s session new c.self.invariant
+    there refl
     (promised_same l.slots l.sessions.items c.args.s session new c.self.invariant.promised there refl refl) (omega (arith)) refl)
 
 pub returns-clause-ok : goal.returns-clause-ok

@@ -18,8 +18,10 @@ invariant_of-self c =
     let here : c.index_mut.result.now ≡ session = read_of c.args.slot session c.index_mut.result.now c.self.view_is has.session_is c.index_mut.ensures.value in
     let cut : Work → Work = λ w. record w { log = older w.log } in
     let new : Session = working cut (record session { undo_room = 0 }) in
-    rw (c.cut_back.ensures, here) (sound_quiet l.history.room l.rows (length l.schemas) (length l.indexes.items) l.slots l.txns.begun l.sessions.items c.args.slot session new l.slots c.self.invariant there
-    (λ txn is. sym (same_txn session cut (λ w. refl)) ∙ is) (promised_spent l.slots l.sessions.items c.args.slot session new c.self.invariant.promised there refl)
+    rw (c.cut_back.ensures, here) (sound_quiet l.history.room l.rows (length l.schemas) (length l.indexes.items) l.slots l.txns.begun l.sessions.items
+    c.args.slot session new l.slots c.self.invariant there
+    (λ txn is. sym (same_txn session cut (λ w. refl)) ∙ is)
+    (promised_spent l.slots l.sessions.items c.args.slot session new c.self.invariant.promised there refl)
     (omega (arith, same_owed session.work cut (λ w. (refl, refl)))) refl)
 
 pub returns : goal.returns

@@ -12,13 +12,18 @@ pub invariant_of-self-2 : goal.invariant_of-self-2
 invariant_of-self-2 c =
     let l = c.self.inside in
     let session = c.index_mut.result.now in
-    let there : slice_get l.sessions.items c.args.s ≡ Some session = slice_get_read l.sessions.items (length l.sessions.items) c.args.s session refl (omega (arith, c.requires, ap (λ (p : Parts). length p.sessions) c.self.view_is)) c.index_mut.ensures.value in
+    let there : slice_get l.sessions.items c.args.s ≡ Some session =
+    slice_get_read l.sessions.items (length l.sessions.items) c.args.s session refl
+    (omega (arith, c.requires, ap (λ (p : Parts). length p.sessions) c.self.view_is)) c.index_mut.ensures.value in
     let room : owed_by_all l.sessions.items + 5 ≤ c.take_room.new.history.room = rw c.deref.ensures.value at c.in_ok-take_room.ensures.ok in
     let fits : owed_by_all l.sessions.items + 5 < 2 ^ 64 = rw c.deref.ensures.value at c.in_ok-take_room.ensures.fits in
     let new : Session = record session { can_begin = true; can_change = true } in
-    rw c.let_begin_and_change.ensures (sound_set l.history.room l.rows (length l.schemas) (length l.indexes.items) l.slots l.txns.begun l.sessions.items c.args.s session new
-    c.take_room.new.history.room l.rows l.slots c.self.invariant there (λ txn is. is) (promised_same l.slots l.sessions.items c.args.s session new c.self.invariant.promised there refl refl)
-    (omega (arith, room, bit_le 1 session.can_reply)) (omega (arith, fits)) (omega (arith, puts_few l.sessions.items, c.self.invariant.few, c.if-self-ge-MANY_ROWS.false)))
+    rw c.let_begin_and_change.ensures (sound_set l.history.room l.rows (length l.schemas) (length l.indexes.items) l.slots l.txns.begun l.sessions.items
+    c.args.s session new
+    c.take_room.new.history.room l.rows l.slots c.self.invariant there (λ txn is. is)
+    (promised_same l.slots l.sessions.items c.args.s session new c.self.invariant.promised there refl refl)
+    (omega (arith, room, bit_le 1 session.can_reply)) (omega (arith, fits))
+    (omega (arith, puts_few l.sessions.items, c.self.invariant.few, c.if-self-ge-MANY_ROWS.false)))
 
 pub returns-clause-ok : goal.returns-clause-ok
 returns-clause-ok c session is =

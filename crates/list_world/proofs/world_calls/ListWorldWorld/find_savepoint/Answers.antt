@@ -26,7 +26,9 @@ pub returns-in_err-made-clause-found : goal.returns-in_err-made-clause-found
 returns-in_err-made-clause-found c s session work has is =
     let l = c.self.inside in
     let holds : Holds c.args.txn c.in_ok-s.s l.sessions.items = rw c.deref.ensures.value at c.in_ok-s.ensures in
-    let same : session ≡ holds.session = same_holder c.args.txn c.in_ok-s.s s holds.session session l.sessions.items c.self.invariant.apart holds.there (there_of s session c.self.view_is has.session_is) holds.is (is_txn c.args.txn session.work work has.work_is is) in
+    let same : session ≡ holds.session =
+    same_holder c.args.txn c.in_ok-s.s s holds.session session l.sessions.items c.self.invariant.apart holds.there
+    (there_of s session c.self.view_is has.session_is) holds.is (is_txn c.args.txn session.work work has.work_is is) in
     let read : c.index.result.now ≡ session = element l.sessions.items c.in_ok-s.s holds.session c.index.result.now holds.there c.index.ensures ∙ sym same in
     c.from_residual-in_err-made.ensures ∙ c.in_err-made.ensures ∙ ap (λ (x : Session). made_at c.args.name.now x.setting.saves) read
 
@@ -43,14 +45,17 @@ invariant_of-self c =
     let session = holds.session in
     let here : c.index_mut.result.now ≡ session = element l.sessions.items c.in_ok-s.s session c.index_mut.result.now holds.there c.index_mut.ensures.value in
     let new : Session = record session { setting = record session.setting { saves = back_to c.args.name.now session.setting.saves } } in
-    rw (c.back_to.ensures, here) (sound_quiet l.history.room l.rows (length l.schemas) (length l.indexes.items) l.slots l.txns.begun l.sessions.items c.in_ok-s.s session new l.slots c.self.invariant holds.there (λ txn is. is)
+    rw (c.back_to.ensures, here) (sound_quiet l.history.room l.rows (length l.schemas) (length l.indexes.items) l.slots l.txns.begun l.sessions.items
+    c.in_ok-s.s session new l.slots c.self.invariant holds.there (λ txn is. is)
     (promised_same l.slots l.sessions.items c.in_ok-s.s session new c.self.invariant.promised holds.there refl refl) (omega arith) refl)
 
 pub returns-clause-found : goal.returns-clause-found
 returns-clause-found c s session work has is =
     let l = c.self.inside in
     let holds : Holds c.args.txn c.in_ok-s.s l.sessions.items = rw c.deref.ensures.value at c.in_ok-s.ensures in
-    let same : session ≡ holds.session = same_holder c.args.txn c.in_ok-s.s s holds.session session l.sessions.items c.self.invariant.apart holds.there (there_of s session c.self.view_is has.session_is) holds.is (is_txn c.args.txn session.work work has.work_is is) in
+    let same : session ≡ holds.session =
+    same_holder c.args.txn c.in_ok-s.s s holds.session session l.sessions.items c.self.invariant.apart holds.there
+    (there_of s session c.self.view_is has.session_is) holds.is (is_txn c.args.txn session.work work has.work_is is) in
     let read : c.index.result.now ≡ session = element l.sessions.items c.in_ok-s.s holds.session c.index.result.now holds.there c.index.ensures ∙ sym same in
     c.in_ok-made.ensures ∙ ap (λ (x : Session). made_at c.args.name.now x.setting.saves) read
 
@@ -60,5 +65,8 @@ returns-clause-some c =
     let holds : Holds c.args.txn c.in_ok-s.s l.sessions.items = rw c.deref.ensures.value at c.in_ok-s.ensures in
     let session = holds.session in
     let here : c.index_mut.result.now ≡ session = element l.sessions.items c.in_ok-s.s session c.index_mut.result.now holds.there c.index_mut.ensures.value in
-    let one = held c.args.txn c.in_ok-s.s (λ session. record session { setting = record session.setting { saves = back_to c.args.name.now session.setting.saves } }) session l.sessions.items c.self.invariant.apart holds.there holds.is in
+    let one =
+    held c.args.txn c.in_ok-s.s (λ session. record session
+    { setting = record session.setting { saves = back_to c.args.name.now session.setting.saves } }) session l.sessions.items c.self.invariant.apart
+    holds.there holds.is in
     rw (← c.self.view_is, one, c.back_to.ensures, here) refl

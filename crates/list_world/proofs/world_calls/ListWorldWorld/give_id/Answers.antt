@@ -15,8 +15,11 @@ invariant_of-self c =
     let session = holds.session in
     let here : c.index_mut.result.now ≡ session = element l.sessions.items c.in-Some.s session c.index_mut.result.now holds.there c.index_mut.ensures.value in
     let new : Session = record session { work = work_with_id l.txns.next session.work } in
-    rw (c.set_id.ensures, here, c.give_id-id.ensures.id, c.give_id-id.ensures.given) (sound_quiet l.history.room l.rows (length l.schemas) (length l.indexes.items) l.slots l.txns.begun l.sessions.items c.in-Some.s session new l.slots c.self.invariant holds.there (λ txn is. sym (same_txn_id session.work l.txns.next) ∙ is)
-    (promised_same l.slots l.sessions.items c.in-Some.s session new c.self.invariant.promised holds.there refl refl) (omega (arith, same_owed_id session.work l.txns.next)) refl)
+    rw (c.set_id.ensures, here, c.give_id-id.ensures.id, c.give_id-id.ensures.given)
+    (sound_quiet l.history.room l.rows (length l.schemas) (length l.indexes.items) l.slots l.txns.begun l.sessions.items c.in-Some.s session new l.slots
+    c.self.invariant holds.there (λ txn is. sym (same_txn_id session.work l.txns.next) ∙ is)
+    (promised_same l.slots l.sessions.items c.in-Some.s session new c.self.invariant.promised holds.there refl refl)
+    (omega (arith, same_owed_id session.work l.txns.next)) refl)
 
 pub returns-in-Some-clause-given : goal.returns-in-Some-clause-given
 returns-in-Some-clause-given c =
@@ -24,11 +27,17 @@ returns-in-Some-clause-given c =
     let holds : Holds c.args.txn c.in-Some.s l.sessions.items = rw c.deref.ensures.value at c.in-Some.ensures in
     let session = holds.session in
     let here : c.index_mut.result.now ≡ session = element l.sessions.items c.in-Some.s session c.index_mut.result.now holds.there c.index_mut.ensures.value in
-    let one = held c.args.txn c.in-Some.s (λ session. record session { work = work_with_id c.self.inside.txns.next session.work }) session l.sessions.items c.self.invariant.apart holds.there holds.is in
+    let one =
+    held c.args.txn c.in-Some.s (λ session. record session { work = work_with_id c.self.inside.txns.next session.work }) session l.sessions.items
+    c.self.invariant.apart holds.there holds.is in
     rw (← c.self.view_is, one, c.set_id.ensures, here, c.give_id-id.ensures.id, c.give_id-id.ensures.given) refl
 
 pub returns-in-None-clause-given : goal.returns-in-None-clause-given
 returns-in-None-clause-given c =
     let l = c.self.inside in
     let none : NoneHolds c.args.txn l.sessions.items = rw c.deref.ensures.value at c.in-None.ensures in
-    rw (← c.self.view_is, unheld c.args.txn (λ session. record session { work = work_with_id c.self.inside.txns.next session.work }) l.sessions.items none, c.give_id-id.ensures.given) refl
+    rw (
+      ← c.self.view_is,
+      unheld c.args.txn (λ session. record session { work = work_with_id c.self.inside.txns.next session.work }) l.sessions.items none,
+      c.give_id-id.ensures.given,
+    ) refl

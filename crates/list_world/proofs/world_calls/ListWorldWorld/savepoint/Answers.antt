@@ -16,7 +16,9 @@ invariant_of-self-in-Some c =
     let here : c.index_mut.result.now ≡ session = element l.sessions.items c.in-Some.s session c.index_mut.result.now holds.there c.index_mut.ensures.value in
     let new : Session = record session { setting = record session.setting { saves = saved c.args.name.now c.args.own true session.setting.saves } } in
     either_way c.save.result c.save.ensures.ok c.save.ensures.err
-    (λ ok. rw (ok, here, c.in_ok-copied-in-Some.ensures) (sound_quiet l.history.room l.rows (length l.schemas) (length l.indexes.items) l.slots l.txns.begun l.sessions.items c.in-Some.s session new l.slots c.self.invariant holds.there (λ txn is. is)
+    (λ ok. rw (ok, here, c.in_ok-copied-in-Some.ensures)
+    (sound_quiet l.history.room l.rows (length l.schemas) (length l.indexes.items) l.slots l.txns.begun l.sessions.items c.in-Some.s session new l.slots
+    c.self.invariant holds.there (λ txn is. is)
     (promised_same l.slots l.sessions.items c.in-Some.s session new c.self.invariant.promised holds.there refl refl) (omega arith) refl))
     (λ err. rw (err, set_same l.sessions.items c.in-Some.s c.index_mut.result.now c.index_mut.ensures.value) c.self.invariant)
 
@@ -27,11 +29,18 @@ returns-in_ok-copied-in-Some-clause-ok c =
     let session = holds.session in
     let here : c.index_mut.result.now ≡ session = element l.sessions.items c.in-Some.s session c.index_mut.result.now holds.there c.index_mut.ensures.value in
     let new : Session = record session { setting = record session.setting { saves = saved c.args.name.now c.args.own true session.setting.saves } } in
-    let one = held c.args.txn c.in-Some.s (λ session. record session { setting = record session.setting { saves = saved c.args.name.now c.args.own true session.setting.saves } }) session l.sessions.items c.self.invariant.apart holds.there holds.is in
+    let one =
+    held c.args.txn c.in-Some.s (λ session. record session
+    { setting = record session.setting { saves = saved c.args.name.now c.args.own true session.setting.saves } }) session l.sessions.items
+    c.self.invariant.apart holds.there holds.is in
     ok_then c.save.result c.save.ensures.ok (λ ok. rw (← c.self.view_is, one, ok, here, c.in_ok-copied-in-Some.ensures) refl)
 
 pub returns-in-None-clause-ok : goal.returns-in-None-clause-ok
 returns-in-None-clause-ok c =
     let l = c.self.inside in
     let none : NoneHolds c.args.txn l.sessions.items = rw c.deref.ensures.value at c.in-None.ensures in
-    rw (← c.self.view_is, unheld c.args.txn (λ session. record session { setting = record session.setting { saves = saved c.args.name.now c.args.own true session.setting.saves } }) l.sessions.items none) refl
+    rw (
+      ← c.self.view_is,
+      unheld c.args.txn (λ session. record session
+          { setting = record session.setting { saves = saved c.args.name.now c.args.own true session.setting.saves } }) l.sessions.items none,
+    ) refl

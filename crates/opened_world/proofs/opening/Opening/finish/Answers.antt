@@ -7,4 +7,5 @@ use Rattle.opened_world.proofs.opening.Opening.finish.Goals as goal
 pub returns-in-Ok-clause-ok : goal.returns-in-Ok-clause-ok
 returns-in-Ok-clause-ok c =
     let counted = few_counted _ c.rows_in-rows.result c.rows_in-rows.ensures.counted (omega (arith, c.if-rows-gt-MOST_ROWS.false)) in
-    rw (← c.self.view_is) (fresh_now c.self.inside.db (world_of c.self.inside.world) c.self.invariant (world_of c.open.new.self) c.rows_in-rows.result c.in-Ok.ensures.ok c.rows_in-rows.ensures.few counted.1 counted.0)
+    rw (← c.self.view_is) (fresh_now c.self.inside.db (world_of c.self.inside.world) c.self.invariant (world_of c.open.new.self) c.rows_in-rows.result
+    c.in-Ok.ensures.ok c.rows_in-rows.ensures.few counted.1 counted.0)

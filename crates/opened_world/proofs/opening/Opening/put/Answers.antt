@@ -16,7 +16,8 @@ put_record-requires-clause-storable c =
 pub put_record-requires-clause-fits : goal.put_record-requires-clause-fits
 put_record-requires-clause-fits c =
     let there = c.table_of-schema.ensures in
-    its_table (slice_get c.self.inside.db.schemas c.args.table) c.table_of-schema.result.now (λ schema. FitsTable schema c.args.row) there (rw (c.self.view_is) c.requires.fits.0)
+    its_table (slice_get c.self.inside.db.schemas c.args.table) c.table_of-schema.result.now (λ schema. FitsTable schema c.args.row) there
+    (rw (c.self.view_is) c.requires.fits.0)
 
 pub returns-in-Err-clause-there : goal.returns-in-Err-clause-there
 returns-in-Err-clause-there c same =
@@ -24,14 +25,17 @@ returns-in-Err-clause-there c same =
     let reason : c.in-Err.reason ≡ RowThere = cc in
     let found = c.put_record.ensures.there (c.in-Err.is ∙ ap Err reason) in
     rw (← c.self.view_is)
-    (row_there c.self.inside.db c.args.table c.args.row c.table_of-schema.result.now (world_of c.self.inside.world) c.self.invariant (in_memory c.self.inside.world).told (ap (λ tables. slice_get tables c.args.table) c.self.invariant.schemas ∙ there) found)
+    (row_there c.self.inside.db c.args.table c.args.row c.table_of-schema.result.now (world_of c.self.inside.world) c.self.invariant
+    (in_memory c.self.inside.world).told (ap (λ tables. slice_get tables c.args.table) c.self.invariant.schemas ∙ there) found)
 
 pub enter_keys-requires : goal.enter_keys-requires
 enter_keys-requires c =
     let there = c.table_of-schema.ensures in (
       _,
-      keys_changing c.self.inside.db c.args.table c.args.row c.table_of-schema.result.now (world_of c.self.inside.world) (world_of c.put_record.new.world) c.in-Ok.key c.self.invariant
-          (ap (λ tables. slice_get tables c.args.table) c.self.invariant.schemas ∙ there) (c.self.invariant.fits.fitting.tables c.args.table c.table_of-schema.result.now there) c.in-Ok.ensures.ok (in_memory c.put_record.new.world).told,
+      keys_changing c.self.inside.db c.args.table c.args.row c.table_of-schema.result.now (world_of c.self.inside.world) (world_of c.put_record.new.world)
+          c.in-Ok.key c.self.invariant
+          (ap (λ tables. slice_get tables c.args.table) c.self.invariant.schemas ∙ there)
+          (c.self.invariant.fits.fitting.tables c.args.table c.table_of-schema.result.now there) c.in-Ok.ensures.ok (in_memory c.put_record.new.world).told,
     )
 
 pub add_change-requires : goal.add_change-requires
@@ -43,6 +47,8 @@ pub invariant_of-result : goal.invariant_of-result
 invariant_of-result c =
     let there = c.table_of-schema.ensures in
     rw (c.in-Ok-add_change.ensures)
-    (laid_row c.self.inside.db c.args.table c.args.row c.table_of-schema.result.now (world_of c.self.inside.world) (world_of c.put_record.new.world) c.in-Ok.key c.self.invariant
-    (ap (λ tables. slice_get tables c.args.table) c.self.invariant.schemas ∙ there) (c.self.invariant.fits.fitting.tables c.args.table c.table_of-schema.result.now there) c.in-Ok.ensures.ok (in_memory c.put_record.new.world).told
+    (laid_row c.self.inside.db c.args.table c.args.row c.table_of-schema.result.now (world_of c.self.inside.world) (world_of c.put_record.new.world)
+    c.in-Ok.key c.self.invariant
+    (ap (λ tables. slice_get tables c.args.table) c.self.invariant.schemas ∙ there)
+    (c.self.invariant.fits.fitting.tables c.args.table c.table_of-schema.result.now there) c.in-Ok.ensures.ok (in_memory c.put_record.new.world).told
     (world_of c.enter_keys.new.world) c.in-Ok-enter_keys.ensures (rw (c.self.view_is) c.requires.fits))

@@ -60,13 +60,17 @@ returns-clause-stands g c = λ first groups double pages known.
     let write = meant log _ c.deref.result.now true (disk c.args.disk.now) (disk c.write.new.self) place bytes c.in_ok-write.ensures.goes in
     let bounds = c.self.invariant in
     let run : log.run < 2 ^ 64 = omega (arith, bounds.run_fits, ap (λ (l : LogView). l.run) c.self.view_is) in
-    let end : log.block + log.count < 2 ^ 64 = omega (arith, bounds.blocks, ap (λ (l : LogView). l.block) c.self.view_is, ap (λ (l : LogView). l.count) c.self.view_is) in
-    let next : log.flushed < log.next = omega (arith, bounds.begun, ap (λ (l : LogView). l.flushed) c.self.view_is, ap (λ (l : LogView). l.next) c.self.view_is) in
+    let end : log.block + log.count < 2 ^ 64 =
+    omega (arith, bounds.blocks, ap (λ (l : LogView). l.block) c.self.view_is, ap (λ (l : LogView). l.count) c.self.view_is) in
+    let next : log.flushed < log.next =
+    omega (arith, bounds.begun, ap (λ (l : LogView). l.flushed) c.self.view_is, ap (λ (l : LogView). l.next) c.self.view_is) in
     let i = c.self.inside in
     let spare = spare_of i.room (length c.clear.new.self.items) (i.block + i.count + 0) i.next in
     let now = after_sync first groups log double pages run end next spare _ _ _ law known write c.in_ok-sync.ensures.goes in
     let empty = subst
-    (λ (l : List ℕ). Now (Stands first groups (record { run = i.run; block = i.block + i.count; pending = l; count = 0; next = i.next; flushed = i.next - 1; spare = spare }) double pages) (disk c.sync.new.self))
+    (λ (l : List ℕ). Now (Stands first groups
+    (record { run = i.run; block = i.block + i.count; pending = l; count = 0; next = i.next; flushed = i.next - 1; spare = spare }) double pages)
+    (disk c.sync.new.self))
     (sym c.clear.ensures.items) in
     empty (subst (λ (l : LogView). Now (Stands first groups (flushed_log l spare) double pages) (disk c.sync.new.self)) (sym c.self.view_is) now)
 
@@ -80,6 +84,8 @@ returns-clause-crash g c = λ first groups double pages known.
     let write = meant log _ c.deref.result.now true (disk c.args.disk.now) (disk c.write.new.self) place bytes c.in_ok-write.ensures.goes in
     let bounds = c.self.invariant in
     let run : log.run < 2 ^ 64 = omega (arith, bounds.run_fits, ap (λ (l : LogView). l.run) c.self.view_is) in
-    let end : log.block + log.count < 2 ^ 64 = omega (arith, bounds.blocks, ap (λ (l : LogView). l.block) c.self.view_is, ap (λ (l : LogView). l.count) c.self.view_is) in
-    let next : log.flushed < log.next = omega (arith, bounds.begun, ap (λ (l : LogView). l.flushed) c.self.view_is, ap (λ (l : LogView). l.next) c.self.view_is) in
+    let end : log.block + log.count < 2 ^ 64 =
+    omega (arith, bounds.blocks, ap (λ (l : LogView). l.block) c.self.view_is, ap (λ (l : LogView). l.count) c.self.view_is) in
+    let next : log.flushed < log.next =
+    omega (arith, bounds.begun, ap (λ (l : LogView). l.flushed) c.self.view_is, ap (λ (l : LogView). l.next) c.self.view_is) in
     during_sync first groups log double pages run end next 0 _ _ _ law known write c.in_ok-sync.ensures.goes

@@ -8,4 +8,5 @@ abbrev pub returns-in-Done : goal.returns-in-Done
 returns-in-Done g c = λ chains p. entered_key chains _ _ c.args.self c.args.put p (rw c.in-Done.is at c.step.ensures)
 
 abbrev pub returns : goal.returns
-returns g c = λ chains p. put_hindered c.args.actor chains _ _ c.args.self c.args.put c.in-Hindered.put c.in-Hindered.why p (rw c.in-Hindered.is at c.step.ensures)
+returns g c =
+    λ chains p. put_hindered c.args.actor chains _ _ c.args.self c.args.put c.in-Hindered.put c.in-Hindered.why p (rw c.in-Hindered.is at c.step.ensures)

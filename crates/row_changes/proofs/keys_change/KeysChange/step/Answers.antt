@@ -5,10 +5,14 @@ use Rattle.row_changes.specs.Keys.{IsChangingKeys, ChangesKeys}
 
 abbrev pub returns-in-Some : goal.returns-in-Some
 returns-in-Some g c = λ chains p.
-    let Step : Option EntryPut → Type 0 = λ put. IsChangingKeys chains (g.W.World.state c.args.world.now) (record c.args.self { put = put }) → ChangesKeys c.args.actor chains (g.W.World.state c.args.world.now) (g.W.World.state c.enter.new.world) (record c.args.self { put = put }) c.enter.result in
+    let Step : Option EntryPut → Type 0 =
+    λ put. IsChangingKeys chains (g.W.World.state c.args.world.now) (record c.args.self { put = put }) → ChangesKeys c.args.actor chains
+    (g.W.World.state c.args.world.now) (g.W.World.state c.enter.new.world) (record c.args.self { put = put }) c.enter.result in
     subst Step (sym c.in-Some.is) (c.enter.ensures chains) p
 
 abbrev pub returns-in-None : goal.returns-in-None
 returns-in-None g c = λ chains p.
-    let Step : Option EntryPut → Type 0 = λ put. IsChangingKeys chains (g.W.World.state c.args.world.now) (record c.args.self { put = put }) → ChangesKeys c.args.actor chains (g.W.World.state c.args.world.now) (g.W.World.state c.pass.new.world) (record c.args.self { put = put }) c.pass.result in
+    let Step : Option EntryPut → Type 0 =
+    λ put. IsChangingKeys chains (g.W.World.state c.args.world.now) (record c.args.self { put = put }) → ChangesKeys c.args.actor chains
+    (g.W.World.state c.args.world.now) (g.W.World.state c.pass.new.world) (record c.args.self { put = put }) c.pass.result in
     subst Step (sym c.in-None.is) (c.pass.ensures chains) p

@@ -7,7 +7,8 @@ use Rattle.row_changes.proofs.Changing.{awaited, hindered}
 abbrev pub returns-in-Done : goal.returns-in-Done
 returns-in-Done g c =
     subst (ChangesRecord c.args.s (g.W.World.state c.args.world.now) (g.W.World.state c.next_key.new.self) c.args.self) (sym c.then.ensures)
-    (awaited _ _ _ _ c.requires.changing c.requires.stage (stays_if c.next_key.ensures.answer (next_key_keeps _ _ _ _ _ _ c.next_key.ensures.answer.index_is.here)))
+    (awaited _ _ _ _ c.requires.changing c.requires.stage
+    (stays_if c.next_key.ensures.answer (next_key_keeps _ _ _ _ _ _ c.next_key.ensures.answer.index_is.here)))
 
 abbrev pub returns : goal.returns
 returns g c =

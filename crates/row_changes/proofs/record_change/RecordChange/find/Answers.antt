@@ -21,11 +21,14 @@ returns-in_default-fetch g c =
 abbrev pub returns-in-Ok-decoded : goal.returns-in-Ok-decoded
 returns-in-Ok-decoded g c =
     let decoded = rw c.in-Ok-decoded.is at c.decoded.ensures in
-    let next = looked_up _ _ _ _ _ c.fetch.new.into.items c.requires.changing c.requires.stage (rw c.index.ensures at (rw c.in-Done.is at c.fetch.ensures.answer)) (λ schema there. subst (λ value. Decodes schema c.args.self.key value (Ok c.in-Ok-decoded.before)) c.deref.ensures.value (decoded schema there)) in
+    let next =
+    looked_up _ _ _ _ _ c.fetch.new.into.items c.requires.changing c.requires.stage (rw c.index.ensures at (rw c.in-Done.is at c.fetch.ensures.answer))
+    (λ schema there. subst (λ value. Decodes schema c.args.self.key value (Ok c.in-Ok-decoded.before)) c.deref.ensures.value (decoded schema there)) in
     subst (ChangesRecord c.args.s (g.W.World.state c.args.world.now) (g.W.World.state c.fetch.new.self) c.args.self) (sym c.found.ensures)
     (rw c.from_vec.ensures next)
 
 abbrev pub returns-in-Err : goal.returns-in-Err
 returns-in-Err g c =
     let decoded = rw c.in-Err.is at c.decoded.ensures in
-    not_decoded _ _ _ _ _ c.fetch.new.into.items c.requires.changing (rw c.index.ensures at (rw c.in-Done.is at c.fetch.ensures.answer)) (λ schema there. subst (λ value. Decodes schema c.args.self.key value (Err c.in-Err.why)) c.deref.ensures.value (decoded schema there))
+    not_decoded _ _ _ _ _ c.fetch.new.into.items c.requires.changing (rw c.index.ensures at (rw c.in-Done.is at c.fetch.ensures.answer))
+    (λ schema there. subst (λ value. Decodes schema c.args.self.key value (Err c.in-Err.why)) c.deref.ensures.value (decoded schema there))

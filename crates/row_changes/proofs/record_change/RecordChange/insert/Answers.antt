@@ -30,7 +30,9 @@ enter-requires g c =
 abbrev pub returns-in-Done : goal.returns-in-Done
 returns-in-Done g c =
     let p = c.requires.changing in
-    let value = value_of_row p.schema _ _ _ _ _ _ _ _ _ (c.in-Ok-coded.ensures p.schema p.table.there) c.in-Ok.ensures (found_first _ c.requires.stage) (c.writer_of-writer.ensures p.session p.work p.has_work) refl in
+    let value =
+    value_of_row p.schema _ _ _ _ _ _ _ _ _ (c.in-Ok-coded.ensures p.schema p.table.there) c.in-Ok.ensures (found_first _ c.requires.stage)
+    (c.writer_of-writer.ensures p.session p.work p.has_work) refl in
     inserted _ _ _ _ _ p _ _ c.requires.stage value c.in-Ok-undo_of_new.ensures (rw c.index.ensures at (rw c.in-Done.is at c.insert.ensures)) c.enter.ensures
 
 abbrev pub returns-in_default-insert : goal.returns-in_default-insert

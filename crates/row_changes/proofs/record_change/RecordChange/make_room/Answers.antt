@@ -11,4 +11,5 @@ returns-in-Done g c =
 
 abbrev pub returns-in_default : goal.returns-in_default
 returns-in_default g c =
-    hindered _ _ _ _ _ _ c.requires.changing refl (no_room_stays _ _ _ _ _ c.undo_room.ensures c.in_default.not-Done) (inr (inl (c.in_default.not-Done, c.undo_room.ensures)))
+    hindered _ _ _ _ _ _ c.requires.changing refl (no_room_stays _ _ _ _ _ c.undo_room.ensures c.in_default.not-Done)
+    (inr (inl (c.in_default.not-Done, c.undo_room.ensures)))

@@ -14,7 +14,8 @@ replace-requires-clause-index g c = rows_index _ _ _ c.requires.changing _ c.ind
 abbrev pub replace-requires-clause-value : goal.replace-requires-clause-value
 replace-requires-clause-value g c =
     let p = c.requires.changing in
-    value_short p.schema _ _ _ p.table.storable (version_next _ _ _ p _ _ c.requires.stage.2 _ _ _ c.in-Ok-version.ensures) (c.in-Ok-coded.ensures p.schema p.table.there)
+    value_short p.schema _ _ _ p.table.storable (version_next _ _ _ p _ _ c.requires.stage.2 _ _ _ c.in-Ok-version.ensures)
+    (c.in-Ok-coded.ensures p.schema p.table.there)
 
 abbrev pub replace-requires-clause-undo : goal.replace-requires-clause-undo
 replace-requires-clause-undo g c =
@@ -30,7 +31,9 @@ returns-in-Done g c =
     let p = c.requires.changing in
     let at = c.requires.stage.2 in
     let told = c.in-Ok.ensures _ _ at in
-    let value = value_of_row p.schema _ _ _ _ _ _ _ _ _ (c.in-Ok-coded.ensures p.schema p.table.there) c.in-Ok-version.ensures (found_at _ _ _ at) (c.writer_of-writer.ensures p.session p.work p.has_work) (c.next_pointer-pointer.ensures p.session p.has_work.session_is) in
+    let value =
+    value_of_row p.schema _ _ _ _ _ _ _ _ _ (c.in-Ok-coded.ensures p.schema p.table.there) c.in-Ok-version.ensures (found_at _ _ _ at)
+    (c.writer_of-writer.ensures p.session p.work p.has_work) (c.next_pointer-pointer.ensures p.session p.has_work.session_is) in
     let pointer_is = c.next_pointer-pointer.ensures p.session p.has_work.session_is in
     let small : p.session.next_pointer < 2 ^ 64 = omega (arith, pointer_is) in
     replaced _ _ _ _ _ p _ _ _ _ _ at value told.1 told.0 small (rw c.index.ensures at (rw c.in-Done.is at c.replace.ensures)) c.enter.ensures

@@ -5,5 +5,7 @@ use Rattle.row_changes.specs.Rows.{IsChangingRow, ChangesRow}
 
 abbrev pub returns-in-Record : goal.returns-in-Record
 returns-in-Record g c = λ chains p.
-    let Step : RowChange → Type 0 = λ change. IsChangingRow c.args.s chains (g.W.World.state c.args.world.now) change → ChangesRow c.args.s chains (g.W.World.state c.args.world.now) (g.W.World.state c.record.new.world) change c.record.result in
+    let Step : RowChange → Type 0 =
+    λ change. IsChangingRow c.args.s chains (g.W.World.state c.args.world.now) change → ChangesRow c.args.s chains (g.W.World.state c.args.world.now)
+    (g.W.World.state c.record.new.world) change c.record.result in
     subst Step (sym c.in-Record.is) (c.record.ensures chains) p

@@ -30,7 +30,8 @@ returns-in_default-with_capacity g c =
     let new = g.W.World.state c.args.world.now in
     let scan = c.args.self in
     let schema = c.args.schema.now in
-    subst (λ (r : Reached). Searches c.args.actor schema old new (record { scan = scan; phase = Fetch c.args.entry }) r) (sym c.hindered-in_default-with_capacity.ensures)
+    subst (λ (r : Reached). Searches c.args.actor schema old new (record { scan = scan; phase = Fetch c.args.entry }) r)
+    (sym c.hindered-in_default-with_capacity.ensures)
     (waits c.args.actor schema old old scan (Fetch c.args.entry) NoMemory c.requires.searching (unchanged_itself old) tt)
 
 pub returns-in-Done : goal.returns-in-Done
@@ -41,10 +42,13 @@ returns-in-Done g c =
     let schema = c.args.schema.now in
     let key_is : c.in-Ok.key ≡ primary_part schema c.args.entry = c.in-Ok.ensures ∙ (c.primary_of.ensures ∙ ap (primary_part schema) c.as_slice.ensures) in
     subst (λ (r : Reached). Searches c.args.actor schema old new (record { scan = scan; phase = Fetch c.args.entry }) r) (sym c.then.ensures)
-    (subst (λ (read : List ℕ). Searches c.args.actor schema old new (record { scan = scan; phase = Fetch c.args.entry }) (Went (record { scan = scan; phase = Look c.args.entry read }))) (sym c.from_vec.ensures)
+    (subst (λ (read : List ℕ). Searches c.args.actor schema old new (record { scan = scan; phase = Fetch c.args.entry })
+    (Went (record { scan = scan; phase = Look c.args.entry read }))) (sym c.from_vec.ensures)
     (fetch_done c.args.actor schema old new scan c.args.entry c.requires.searching c.requires.table c.fetch.new.into.items
-    (recast (λ (a : Move) (before after : Index). Fetches c.args.actor (primary_part schema c.args.entry) c.fetch.new.into.items before after a) c.index_number.result (index_of scan.table 0) c.fetch.result Done old new c.index_number.ensures c.in-Done.is
-    (subst (λ (key : List ℕ). Calls c.index_number.result (λ before after. Fetches c.args.actor key c.fetch.new.into.items before after c.fetch.result) old new) key_is c.fetch.ensures.answer))))
+    (recast (λ (a : Move) (before after : Index). Fetches c.args.actor (primary_part schema c.args.entry) c.fetch.new.into.items before after a)
+    c.index_number.result (index_of scan.table 0) c.fetch.result Done old new c.index_number.ensures c.in-Done.is
+    (subst (λ (key : List ℕ). Calls c.index_number.result (λ before after. Fetches c.args.actor key c.fetch.new.into.items before after c.fetch.result) old
+    new) key_is c.fetch.ensures.answer))))
 
 pub returns-in-End : goal.returns-in-End
 returns-in-End g c =
@@ -55,8 +59,10 @@ returns-in-End g c =
     let key_is : c.in-Ok.key ≡ primary_part schema c.args.entry = c.in-Ok.ensures ∙ (c.primary_of.ensures ∙ ap (primary_part schema) c.as_slice.ensures) in
     subst (λ (r : Reached). Searches c.args.actor schema old new (record { scan = scan; phase = Fetch c.args.entry }) r) (sym c.then-in-End.ensures)
     (fetch_end c.args.actor schema old new scan c.args.entry c.requires.searching c.fetch.new.into.items
-    (recast (λ (a : Move) (before after : Index). Fetches c.args.actor (primary_part schema c.args.entry) c.fetch.new.into.items before after a) c.index_number.result (index_of scan.table 0) c.fetch.result End old new c.index_number.ensures c.in-End.is
-    (subst (λ (key : List ℕ). Calls c.index_number.result (λ before after. Fetches c.args.actor key c.fetch.new.into.items before after c.fetch.result) old new) key_is c.fetch.ensures.answer)))
+    (recast (λ (a : Move) (before after : Index). Fetches c.args.actor (primary_part schema c.args.entry) c.fetch.new.into.items before after a)
+    c.index_number.result (index_of scan.table 0) c.fetch.result End old new c.index_number.ensures c.in-End.is
+    (subst (λ (key : List ℕ). Calls c.index_number.result (λ before after. Fetches c.args.actor key c.fetch.new.into.items before after c.fetch.result) old
+    new) key_is c.fetch.ensures.answer)))
 
 pub returns-in_default-fetch : goal.returns-in_default-fetch
 returns-in_default-fetch g c =
@@ -65,7 +71,10 @@ returns-in_default-fetch g c =
     let scan = c.args.self in
     let schema = c.args.schema.now in
     let key_is : c.in-Ok.key ≡ primary_part schema c.args.entry = c.in-Ok.ensures ∙ (c.primary_of.ensures ∙ ap (primary_part schema) c.as_slice.ensures) in
-    subst (λ (r : Reached). Searches c.args.actor schema old new (record { scan = scan; phase = Fetch c.args.entry }) r) (sym c.hindered-in_default-fetch.ensures)
+    subst (λ (r : Reached). Searches c.args.actor schema old new (record { scan = scan; phase = Fetch c.args.entry }) r)
+    (sym c.hindered-in_default-fetch.ensures)
     (fetch_waits c.args.actor schema old new scan c.args.entry c.requires.searching c.fetch.new.into.items c.fetch.result
-    (recast (λ (a : Move) (before after : Index). Fetches c.args.actor (primary_part schema c.args.entry) c.fetch.new.into.items before after a) c.index_number.result (index_of scan.table 0) c.fetch.result c.fetch.result old new c.index_number.ensures refl
-    (subst (λ (key : List ℕ). Calls c.index_number.result (λ before after. Fetches c.args.actor key c.fetch.new.into.items before after c.fetch.result) old new) key_is c.fetch.ensures.answer)) c.in_default-fetch.not-Done c.in_default-fetch.not-End)
+    (recast (λ (a : Move) (before after : Index). Fetches c.args.actor (primary_part schema c.args.entry) c.fetch.new.into.items before after a)
+    c.index_number.result (index_of scan.table 0) c.fetch.result c.fetch.result old new c.index_number.ensures refl
+    (subst (λ (key : List ℕ). Calls c.index_number.result (λ before after. Fetches c.args.actor key c.fetch.new.into.items before after c.fetch.result) old
+    new) key_is c.fetch.ensures.answer)) c.in_default-fetch.not-Done c.in_default-fetch.not-End)

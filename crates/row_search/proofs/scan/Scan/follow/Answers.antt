@@ -18,7 +18,9 @@ returns-in-At g c =
     let scan = c.args.self in
     subst (λ (r : Reached). Searches c.args.actor c.args.schema.now old new (record { scan = scan; phase = Follow }) r) (sym c.then.ensures)
     (follow_at c.args.actor c.args.schema.now old new scan c.requires.searching c.requires.table c.in-At.key c.in-At.value
-    (recast (λ (a : Move) (before after : Index). Follows c.args.actor before after a) c.index_number.result (index_of scan.table scan.which) c.following.result (At c.in-At.key c.in-At.value) old new c.index_number.ensures c.in-At.is c.following.ensures) c.given-next.result c.given-next.ensures)
+    (recast (λ (a : Move) (before after : Index). Follows c.args.actor before after a) c.index_number.result (index_of scan.table scan.which)
+    c.following.result (At c.in-At.key c.in-At.value) old new c.index_number.ensures c.in-At.is c.following.ensures) c.given-next.result
+    c.given-next.ensures)
 
 pub returns-in-End : goal.returns-in-End
 returns-in-End g c =
@@ -27,7 +29,8 @@ returns-in-End g c =
     let scan = c.args.self in
     subst (λ (r : Reached). Searches c.args.actor c.args.schema.now old new (record { scan = scan; phase = Follow }) r) (sym c.then-in-End.ensures)
     (follow_end c.args.actor c.args.schema.now old new scan c.requires.searching
-    (recast (λ (a : Move) (before after : Index). Follows c.args.actor before after a) c.index_number.result (index_of scan.table scan.which) c.following.result End old new c.index_number.ensures c.in-End.is c.following.ensures))
+    (recast (λ (a : Move) (before after : Index). Follows c.args.actor before after a) c.index_number.result (index_of scan.table scan.which)
+    c.following.result End old new c.index_number.ensures c.in-End.is c.following.ensures))
 
 pub returns-in_default : goal.returns-in_default
 returns-in_default g c =
@@ -36,4 +39,5 @@ returns-in_default g c =
     let scan = c.args.self in
     subst (λ (r : Reached). Searches c.args.actor c.args.schema.now old new (record { scan = scan; phase = Follow }) r) (sym c.hindered.ensures)
     (follow_waits c.args.actor c.args.schema.now old new scan c.requires.searching c.following.result
-    (recast (λ (a : Move) (before after : Index). Follows c.args.actor before after a) c.index_number.result (index_of scan.table scan.which) c.following.result c.following.result old new c.index_number.ensures refl c.following.ensures) c.in_default.not-At c.in_default.not-End)
+    (recast (λ (a : Move) (before after : Index). Follows c.args.actor before after a) c.index_number.result (index_of scan.table scan.which)
+    c.following.result c.following.result old new c.index_number.ensures refl c.following.ensures) c.in_default.not-At c.in_default.not-End)

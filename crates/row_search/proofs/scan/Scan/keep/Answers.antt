@@ -26,7 +26,8 @@ returns-in_default-is_entry_of g c =
     let state = g.W.World.state c.args.world.now in
     let scan = c.args.self in
     let schema = c.args.schema.now in
-    subst (λ (r : Reached). Searches c.args.actor schema state state (record { scan = scan; phase = Keep c.args.entry c.args.row }) r) (sym c.hindered-in_default-is_entry_of.ensures)
+    subst (λ (r : Reached). Searches c.args.actor schema state state (record { scan = scan; phase = Keep c.args.entry c.args.row }) r)
+    (sym c.hindered-in_default-is_entry_of.ensures)
     (waits c.args.actor schema state state scan (Keep c.args.entry c.args.row) NoMemory c.requires (unchanged_itself state) refl)
 
 pub returns-then-not-is_own : goal.returns-then-not-is_own
@@ -52,7 +53,8 @@ returns-in-Ok-push g c =
     (subst (λ (key : List ℕ). IsOwner schema scan.which key c.args.entry c.args.row c.in-Ok-is_entry_of.is_own) key_is c.in-Ok-is_entry_of.ensures) in
     let items : c.push.new.self.items ≡ scan.rows.items ++ record { key = primary_part schema c.args.entry; row = c.args.row } ∷ []
     = c.in-Ok-push.ensures.items ∙ ap (λ (key : List ℕ). scan.rows.items ++ record { key = key; row = c.args.row } ∷ []) key_is in
-    subst (λ (r : Reached). Searches c.args.actor schema state state (record { scan = scan; phase = Keep c.args.entry c.args.row }) r) (sym c.then-in-Ok-push.ensures)
+    subst (λ (r : Reached). Searches c.args.actor schema state state (record { scan = scan; phase = Keep c.args.entry c.args.row }) r)
+    (sym c.then-in-Ok-push.ensures)
     (own_goes c.args.actor schema state scan c.args.entry c.args.row c.requires c.push.new.self items owner)
 
 pub returns-in-Err : goal.returns-in-Err
@@ -61,6 +63,8 @@ returns-in-Err g c =
     let scan = c.args.self in
     let schema = c.args.schema.now in
     let row_is : c.in-Err.full.value.row ≡ c.args.row = ap (λ (f : FoundRow). f.row) c.in-Err.ensures.value_returned in
-    subst (λ (r : Reached). Searches c.args.actor schema state state (record { scan = scan; phase = Keep c.args.entry c.args.row }) r) (sym c.hindered-in-Err.ensures)
-    (subst (λ (row : List Value). Searches c.args.actor schema state state (record { scan = scan; phase = Keep c.args.entry c.args.row }) (Hindered (record { scan = record scan { rows = c.push.new.self }; phase = Keep c.args.entry row }) NoMemory)) (sym row_is)
+    subst (λ (r : Reached). Searches c.args.actor schema state state (record { scan = scan; phase = Keep c.args.entry c.args.row }) r)
+    (sym c.hindered-in-Err.ensures)
+    (subst (λ (row : List Value). Searches c.args.actor schema state state (record { scan = scan; phase = Keep c.args.entry c.args.row })
+    (Hindered (record { scan = record scan { rows = c.push.new.self }; phase = Keep c.args.entry row }) NoMemory)) (sym row_is)
     (keep_waits c.args.actor schema state scan c.args.entry c.args.row c.requires c.push.new.self c.in-Err.ensures.items))

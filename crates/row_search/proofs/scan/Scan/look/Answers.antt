@@ -20,14 +20,19 @@ returns-in-Ok g c =
     let version = c.in-Ok.version in
     let key_is : c.primary_of-key.result.now ≡ primary_part schema c.args.entry = c.primary_of-key.ensures ∙ ap (primary_part schema) c.as_slice.ensures in
     let record_is : IsRecordOf schema version (primary_part schema c.args.entry) c.args.bytes
-    = subst (λ (bytes : List ℕ). IsRecordOf schema version (primary_part schema c.args.entry) bytes) c.as_slice-2.ensures (subst (λ (key : List ℕ). IsRecordOf schema version key c.as_slice-2.result.now) key_is c.in-Ok.ensures.found) in
-    subst (λ (r : Reached). Searches c.args.actor c.args.schema.now state state (record { scan = scan; phase = Look c.args.entry c.args.bytes }) r) (sym c.then.ensures)
-    (subst (λ (p : Phase). Searches c.args.actor c.args.schema.now state state (record { scan = scan; phase = Look c.args.entry c.args.bytes }) (Went (record { scan = scan; phase = p }))) (sym c.after-next.ensures)
+    =
+    subst (λ (bytes : List ℕ). IsRecordOf schema version (primary_part schema c.args.entry) bytes) c.as_slice-2.ensures
+    (subst (λ (key : List ℕ). IsRecordOf schema version key c.as_slice-2.result.now) key_is c.in-Ok.ensures.found) in
+    subst (λ (r : Reached). Searches c.args.actor c.args.schema.now state state (record { scan = scan; phase = Look c.args.entry c.args.bytes }) r)
+    (sym c.then.ensures)
+    (subst (λ (p : Phase). Searches c.args.actor c.args.schema.now state state (record { scan = scan; phase = Look c.args.entry c.args.bytes })
+    (Went (record { scan = scan; phase = p }))) (sym c.after-next.ensures)
     (look_goes c.args.actor c.args.schema.now state scan c.args.entry c.args.bytes c.in-Ok.version c.requires record_is c.in-Ok.ensures.range))
 
 pub returns-in-Err-NoMemory : goal.returns-in-Err-NoMemory
 returns-in-Err-NoMemory g c =
     let state = g.W.World.state c.args.world.now in
     let scan = c.args.self in
-    subst (λ (r : Reached). Searches c.args.actor c.args.schema.now state state (record { scan = scan; phase = Look c.args.entry c.args.bytes }) r) (sym c.hindered.ensures)
+    subst (λ (r : Reached). Searches c.args.actor c.args.schema.now state state (record { scan = scan; phase = Look c.args.entry c.args.bytes }) r)
+    (sym c.hindered.ensures)
     (waits c.args.actor c.args.schema.now state state scan (Look c.args.entry c.args.bytes) NoMemory c.requires (unchanged_itself state) refl)

@@ -20,8 +20,10 @@ returns-in-At g c =
     let scan = c.args.self in
     subst (λ (r : Reached). Searches c.args.actor c.args.schema.now old new (record { scan = scan; phase = Seek }) r) (sym c.then.ensures)
     (seek_at c.args.actor c.args.schema.now old new scan c.requires.searching c.requires.table c.in-At.key c.in-At.value
-    (recast (λ (a : Move) (before after : Index). Seeks c.args.actor (bound_bytes scan.range.low) before after a) c.index_number.result (index_of scan.table scan.which) c.seek-found.result (At c.in-At.key c.in-At.value) old new c.index_number.ensures c.in-At.is
-    (subst (λ (from : List ℕ). Calls c.index_number.result (λ before after. Seeks c.args.actor from before after c.seek-found.result) old new) c.first_bytes.ensures c.seek-found.ensures)) c.given-next.result c.given-next.ensures)
+    (recast (λ (a : Move) (before after : Index). Seeks c.args.actor (bound_bytes scan.range.low) before after a) c.index_number.result
+    (index_of scan.table scan.which) c.seek-found.result (At c.in-At.key c.in-At.value) old new c.index_number.ensures c.in-At.is
+    (subst (λ (from : List ℕ). Calls c.index_number.result (λ before after. Seeks c.args.actor from before after c.seek-found.result) old new)
+    c.first_bytes.ensures c.seek-found.ensures)) c.given-next.result c.given-next.ensures)
 
 pub returns-in-End : goal.returns-in-End
 returns-in-End g c =
@@ -30,8 +32,10 @@ returns-in-End g c =
     let scan = c.args.self in
     subst (λ (r : Reached). Searches c.args.actor c.args.schema.now old new (record { scan = scan; phase = Seek }) r) (sym c.then-in-End.ensures)
     (seek_end c.args.actor c.args.schema.now old new scan c.requires.searching
-    (recast (λ (a : Move) (before after : Index). Seeks c.args.actor (bound_bytes scan.range.low) before after a) c.index_number.result (index_of scan.table scan.which) c.seek-found.result End old new c.index_number.ensures c.in-End.is
-    (subst (λ (from : List ℕ). Calls c.index_number.result (λ before after. Seeks c.args.actor from before after c.seek-found.result) old new) c.first_bytes.ensures c.seek-found.ensures)))
+    (recast (λ (a : Move) (before after : Index). Seeks c.args.actor (bound_bytes scan.range.low) before after a) c.index_number.result
+    (index_of scan.table scan.which) c.seek-found.result End old new c.index_number.ensures c.in-End.is
+    (subst (λ (from : List ℕ). Calls c.index_number.result (λ before after. Seeks c.args.actor from before after c.seek-found.result) old new)
+    c.first_bytes.ensures c.seek-found.ensures)))
 
 pub returns : goal.returns
 returns g c =
@@ -40,5 +44,7 @@ returns g c =
     let scan = c.args.self in
     subst (λ (r : Reached). Searches c.args.actor c.args.schema.now old new (record { scan = scan; phase = Seek }) r) (sym c.hindered.ensures)
     (seek_waits c.args.actor c.args.schema.now old new scan c.requires.searching c.seek-found.result
-    (recast (λ (a : Move) (before after : Index). Seeks c.args.actor (bound_bytes scan.range.low) before after a) c.index_number.result (index_of scan.table scan.which) c.seek-found.result c.seek-found.result old new c.index_number.ensures refl
-    (subst (λ (from : List ℕ). Calls c.index_number.result (λ before after. Seeks c.args.actor from before after c.seek-found.result) old new) c.first_bytes.ensures c.seek-found.ensures)) c.in_default.not-At c.in_default.not-End)
+    (recast (λ (a : Move) (before after : Index). Seeks c.args.actor (bound_bytes scan.range.low) before after a) c.index_number.result
+    (index_of scan.table scan.which) c.seek-found.result c.seek-found.result old new c.index_number.ensures refl
+    (subst (λ (from : List ℕ). Calls c.index_number.result (λ before after. Seeks c.args.actor from before after c.seek-found.result) old new)
+    c.first_bytes.ensures c.seek-found.ensures)) c.in_default.not-At c.in_default.not-End)

@@ -24,7 +24,8 @@ returns-in-Ok-Some g c =
     let shows : ShowsVersion c.args.pointer old.versions new.versions (Ok (Some c.in-Ok-Some.version))
     = subst (λ (v : Option Coded). ShowsVersion c.args.pointer old.versions new.versions (Ok v)) c.in-Ok-Some.field-0-is c.in-Ok-Some.ensures.answer in
     subst (λ (r : Reached). Searches c.args.actor schema old new (record { scan = scan; phase = Walk c.args.entry c.args.pointer }) r) (sym c.then.ensures)
-    (subst (λ (p : Phase). Searches c.args.actor schema old new (record { scan = scan; phase = Walk c.args.entry c.args.pointer }) (Went (record { scan = scan; phase = p }))) (sym c.after-next.ensures)
+    (subst (λ (p : Phase). Searches c.args.actor schema old new (record { scan = scan; phase = Walk c.args.entry c.args.pointer })
+    (Went (record { scan = scan; phase = p }))) (sym c.after-next.ensures)
     (walk_goes c.args.actor schema old new scan c.args.entry c.args.pointer c.requires c.in-Ok-Some.ensures.rest c.in-Ok-Some.version shows.0 shows.1))
 
 pub returns-in-Ok-None : goal.returns-in-Ok-None
@@ -35,7 +36,8 @@ returns-in-Ok-None g c =
     let schema = c.args.schema.now in
     let shows : ShowsVersion c.args.pointer old.versions new.versions (Ok None)
     = subst (λ (v : Option Coded). ShowsVersion c.args.pointer old.versions new.versions (Ok v)) c.in-Ok-None.field-0-is c.in-Ok-None.ensures.answer in
-    subst (λ (r : Reached). Searches c.args.actor schema old new (record { scan = scan; phase = Walk c.args.entry c.args.pointer }) r) (sym c.then-in-Ok-None.ensures)
+    subst (λ (r : Reached). Searches c.args.actor schema old new (record { scan = scan; phase = Walk c.args.entry c.args.pointer }) r)
+    (sym c.then-in-Ok-None.ensures)
     (walk_ends c.args.actor schema old new scan c.args.entry c.args.pointer c.requires c.in-Ok-None.ensures.rest shows.0)
 
 pub returns-in-Err : goal.returns-in-Err
@@ -45,5 +47,7 @@ returns-in-Err g c =
     let scan = c.args.self in
     let schema = c.args.schema.now in
     subst (λ (r : Reached). Searches c.args.actor schema old new (record { scan = scan; phase = Walk c.args.entry c.args.pointer }) r) (sym c.hindered.ensures)
-    (subst (λ (why : Move). Searches c.args.actor schema old new (record { scan = scan; phase = Walk c.args.entry c.args.pointer }) (Hindered (record { scan = scan; phase = Walk c.args.entry c.args.pointer }) why)) (sym c.move_of.ensures)
-    (waits c.args.actor schema old new scan (Walk c.args.entry c.args.pointer) (move_for c.in-Err.why) c.requires c.in-Err.ensures.rest (unseen_so old.versions new.versions c.args.pointer c.in-Err.why c.in-Err.ensures.answer)))
+    (subst (λ (why : Move). Searches c.args.actor schema old new (record { scan = scan; phase = Walk c.args.entry c.args.pointer })
+    (Hindered (record { scan = scan; phase = Walk c.args.entry c.args.pointer }) why)) (sym c.move_of.ensures)
+    (waits c.args.actor schema old new scan (Walk c.args.entry c.args.pointer) (move_for c.in-Err.why) c.requires c.in-Err.ensures.rest
+    (unseen_so old.versions new.versions c.args.pointer c.in-Err.why c.in-Err.ensures.answer)))

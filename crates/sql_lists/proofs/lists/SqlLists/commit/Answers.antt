@@ -10,5 +10,9 @@ use Rattle.sql_lists.proofs.lists.SqlLists.commit.Goals as goal
 pub invariant_of-self : goal.invariant_of-self
 invariant_of-self g c =
     let old : Lists = g.L.SharedLists.lists c.self.inside.lists in
-    by_closing (events.Committed c.args.session) c.args.session old (g.L.SharedLists.lists c.commit.new.self) (set old.settings c.args.session (at_end (get_or old.settings c.args.session at_first))) c.commit.ensures.closes c.commit.ensures.settings c.commit.ensures.rows
-    (kept_commit old.state.names old.state.past old.settings old.rows c.self.invariant c.args.session (subst (λ (st : State). c.args.session < length st.names) (sym c.self.view_is) c.requires.joined) (subst (λ (st : State). MayCommit Spells c.args.session st.past) (sym c.self.view_is) c.requires.may))
+    by_closing (events.Committed c.args.session) c.args.session old (g.L.SharedLists.lists c.commit.new.self)
+    (set old.settings c.args.session (at_end (get_or old.settings c.args.session at_first))) c.commit.ensures.closes c.commit.ensures.settings
+    c.commit.ensures.rows
+    (kept_commit old.state.names old.state.past old.settings old.rows c.self.invariant c.args.session
+    (subst (λ (st : State). c.args.session < length st.names) (sym c.self.view_is) c.requires.joined)
+    (subst (λ (st : State). MayCommit Spells c.args.session st.past) (sym c.self.view_is) c.requires.may))

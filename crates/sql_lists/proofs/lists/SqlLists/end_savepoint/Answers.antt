@@ -15,6 +15,11 @@ invariant_of-self-2 g c =
     let old : Lists = g.L.SharedLists.lists c.self.inside.lists in
     let x : Setting = get_or old.settings c.args.session at_first in
     let made = length (own c.args.session old.state.past) in
-    by_setting c.args.session (stmts.Savepoint c.args.name.now) (record x { saves = saved c.args.name.now made true x.saves }) old (g.L.SharedLists.lists c.save.new.self) (g.L.SharedLists.lists c.end.new.self) (subst (λ (st : State). c.args.session < length st.names) (sym c.self.view_is) c.requires.joined) (subst (λ (st : State). MayReply c.args.session replies.Done st.past) (sym c.self.view_is) c.requires.may) (subst (λ (st : State). Asks Spells c.args.session (stmts.Savepoint c.args.name.now) st.past) (sym c.self.view_is) c.requires.asked)
-    (saves_as c.args.name.now made (level c.args.session old.state.past) x (subst (λ (st : State). IsOpen c.args.session st.past) (sym c.self.view_is) c.requires.is_open))
+    by_setting c.args.session (stmts.Savepoint c.args.name.now) (record x { saves = saved c.args.name.now made true x.saves }) old
+    (g.L.SharedLists.lists c.save.new.self) (g.L.SharedLists.lists c.end.new.self)
+    (subst (λ (st : State). c.args.session < length st.names) (sym c.self.view_is) c.requires.joined)
+    (subst (λ (st : State). MayReply c.args.session replies.Done st.past) (sym c.self.view_is) c.requires.may)
+    (subst (λ (st : State). Asks Spells c.args.session (stmts.Savepoint c.args.name.now) st.past) (sym c.self.view_is) c.requires.asked)
+    (saves_as c.args.name.now made (level c.args.session old.state.past) x
+    (subst (λ (st : State). IsOpen c.args.session st.past) (sym c.self.view_is) c.requires.is_open))
     c.in_ok-save.ensures.same c.in_ok-save.ensures.ok c.in_ok-save.ensures.rows c.end.ensures.adds c.end.ensures.settings c.end.ensures.rows c.self.invariant

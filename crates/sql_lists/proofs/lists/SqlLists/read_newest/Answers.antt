@@ -7,4 +7,6 @@ use Rattle.sql_lists.proofs.lists.SqlLists.read_newest.Goals as goal
 
 pub returns-clause-found : goal.returns-clause-found
 returns-clause-found g c =
-    subst (λ (st : State). IfOk c.read_newest.result (λ rows. (writer : ℕ) → ((other : ℕ) → other ≢ writer → own other st.past ≡ []) → AreNewestRows c.args.table c.args.plan st.past writer rows)) c.self.view_is (c.read_newest.ensures.found)
+    subst (λ (st : State). IfOk c.read_newest.result
+    (λ rows. (writer : ℕ) → ((other : ℕ) → other ≢ writer → own other st.past ≡ []) → AreNewestRows c.args.table c.args.plan st.past writer rows))
+    c.self.view_is (c.read_newest.ensures.found)

@@ -13,7 +13,8 @@ returns-in-Begin g c =
     let snapshot = c.in-Begin.snapshot in
     let taken : IsTaken s (stmt.Begin snapshot) past = subst (λ statement. IsTaken s statement past) c.in-Begin.is c.requires.taken in (
       (
-        retaken s (stmt.Begin snapshot) (Fits (committers.Begin snapshot c.next_level-level.result)) past c.setting-setting.result.now taken c.setting-setting.ensures (λ h found. found) c.next_level-level.ensures,
+        retaken s (stmt.Begin snapshot) (Fits (committers.Begin snapshot c.next_level-level.result)) past c.setting-setting.result.now taken
+            c.setting-setting.ensures (λ h found. found) c.next_level-level.ensures,
         taken.nothing,
       ),
       c.requires.idle,

@@ -10,8 +10,10 @@ invariant_of-self g c =
     let self = c.self.inside in
     let old = g.W.World.state self.world in
     let new = g.W.World.state c.step_change-doing.new.world in
-    step_held c.args.session self.writer self.has_made_table self.desks.items self.cuts self.undo self.room old new c.in-Changing.change c.step_change-doing.result.0 c.step_change-doing.result.1 c.step_change-doing.ensures
-    (ap (λ (lists : Lists). lists.state.writer) c.self.view_is ∙ c.requires.locked) c.self.invariant (sym c.take_doing-doing.ensures.was ∙ c.in-Changing.is) (g.met.W.EngineWorld.tells self.world).told (g.met.W.EngineWorld.tells c.step_change-doing.new.world).told
+    step_held c.args.session self.writer self.has_made_table self.desks.items self.cuts self.undo self.room old new c.in-Changing.change
+    c.step_change-doing.result.0 c.step_change-doing.result.1 c.step_change-doing.ensures
+    (ap (λ (lists : Lists). lists.state.writer) c.self.view_is ∙ c.requires.locked) c.self.invariant (sym c.take_doing-doing.ensures.was ∙ c.in-Changing.is)
+    (g.met.W.EngineWorld.tells self.world).told (g.met.W.EngineWorld.tells c.step_change-doing.new.world).told
     c.is_short.ensures.few c.take_doing-doing.new.desks.items c.give_doing.new.desks.items c.take_doing-doing.ensures.is c.give_doing.ensures
 
 pub returns : goal.returns
@@ -19,9 +21,15 @@ returns g c =
     let self = c.self.inside in
     let old = g.W.World.state self.world in
     let new = g.W.World.state c.step_change-doing.new.world in
-    let shows = step_shown c.args.session self.writer self.has_made_table self.desks.items self.cuts self.undo self.room old new c.in-Changing.change c.step_change-doing.result.0 c.step_change-doing.result.1 c.step_change-doing.ensures
-    (ap (λ (lists : Lists). lists.state.writer) c.self.view_is ∙ c.requires.locked) c.self.invariant (sym c.take_doing-doing.ensures.was ∙ c.in-Changing.is) (g.met.W.EngineWorld.tells self.world).told (g.met.W.EngineWorld.tells c.step_change-doing.new.world).told
+    let shows =
+    step_shown c.args.session self.writer self.has_made_table self.desks.items self.cuts self.undo self.room old new c.in-Changing.change
+    c.step_change-doing.result.0 c.step_change-doing.result.1 c.step_change-doing.ensures
+    (ap (λ (lists : Lists). lists.state.writer) c.self.view_is ∙ c.requires.locked) c.self.invariant (sym c.take_doing-doing.ensures.was ∙ c.in-Changing.is)
+    (g.met.W.EngineWorld.tells self.world).told (g.met.W.EngineWorld.tells c.step_change-doing.new.world).told
     c.is_short.ensures.few c.take_doing-doing.new.desks.items c.give_doing.new.desks.items c.take_doing-doing.ensures.is c.give_doing.ensures
     (undo_left_in self.undo.table self.room.stage old) (undo_left_in self.undo.table self.room.stage new) in
-    let changes = subst (λ (was : Lists). ChangesIn c.args.session was (lists_of new self.writer c.give_doing.new.desks.items (undo_left_in self.undo.table self.room.stage new)) c.step_change-doing.result.1) c.self.view_is shows in
+    let changes =
+    subst (λ (was : Lists). ChangesIn c.args.session was
+    (lists_of new self.writer c.give_doing.new.desks.items (undo_left_in self.undo.table self.room.stage new)) c.step_change-doing.result.1)
+    c.self.view_is shows in
     record { changes = changes.changes; settings = changes.settings; rows = changes.rows }

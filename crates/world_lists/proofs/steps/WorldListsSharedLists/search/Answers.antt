@@ -13,8 +13,11 @@ step-requires-clause-searching g c =
     let on = c.in-Searching.on in
     let is : doing_at c.args.session l.desks.items ≡ Searching on = sym c.in-Searching.ensures.was in
     let taken : IsTakenUp l.cuts on c.taken_up-search.result
-    = taken_by _ l.cuts on c.taken_up-search.result (λ same. grind (arith, nat_tests, same)) c.taken_up-search.ensures.as_it_was c.taken_up-search.ensures.anew in
-    (may_step_now c.args.session (g.W.World.state l.world) l.writer l.has_made_table l.desks.items l.cuts l.undo l.room c.args.self.now c.self.invariant c.self.view_is on is c.taken_up-search.result taken
+    =
+    taken_by _ l.cuts on c.taken_up-search.result (λ same. grind (arith, nat_tests, same)) c.taken_up-search.ensures.as_it_was
+    c.taken_up-search.ensures.anew in
+    (may_step_now c.args.session (g.W.World.state l.world) l.writer l.has_made_table l.desks.items l.cuts l.undo l.room c.args.self.now c.self.invariant
+    c.self.view_is on is c.taken_up-search.result taken
     (g.met.W.EngineWorld.tells l.world).told).searching
 
 pub step-requires-clause-table : goal.step-requires-clause-table
@@ -23,8 +26,11 @@ step-requires-clause-table g c =
     let on = c.in-Searching.on in
     let is : doing_at c.args.session l.desks.items ≡ Searching on = sym c.in-Searching.ensures.was in
     let taken : IsTakenUp l.cuts on c.taken_up-search.result
-    = taken_by _ l.cuts on c.taken_up-search.result (λ same. grind (arith, nat_tests, same)) c.taken_up-search.ensures.as_it_was c.taken_up-search.ensures.anew in
-    (may_step_now c.args.session (g.W.World.state l.world) l.writer l.has_made_table l.desks.items l.cuts l.undo l.room c.args.self.now c.self.invariant c.self.view_is on is c.taken_up-search.result taken
+    =
+    taken_by _ l.cuts on c.taken_up-search.result (λ same. grind (arith, nat_tests, same)) c.taken_up-search.ensures.as_it_was
+    c.taken_up-search.ensures.anew in
+    (may_step_now c.args.session (g.W.World.state l.world) l.writer l.has_made_table l.desks.items l.cuts l.undo l.room c.args.self.now c.self.invariant
+    c.self.view_is on is c.taken_up-search.result taken
     (g.met.W.EngineWorld.tells l.world).told).table
 
 pub invariant_of-self : goal.invariant_of-self
@@ -33,10 +39,14 @@ invariant_of-self g c =
     let on = c.in-Searching.on in
     let is : doing_at c.args.session l.desks.items ≡ Searching on = sym c.in-Searching.ensures.was in
     let taken : IsTakenUp l.cuts on c.taken_up-search.result
-    = taken_by _ l.cuts on c.taken_up-search.result (λ same. grind (arith, nat_tests, same)) c.taken_up-search.ensures.as_it_was c.taken_up-search.ensures.anew in
-    went_held c.args.session (g.W.World.state l.world) l.writer l.has_made_table l.desks.items l.cuts l.undo l.room c.args.self.now c.self.invariant c.self.view_is on is c.taken_up-search.result taken
+    =
+    taken_by _ l.cuts on c.taken_up-search.result (λ same. grind (arith, nat_tests, same)) c.taken_up-search.ensures.as_it_was
+    c.taken_up-search.ensures.anew in
+    went_held c.args.session (g.W.World.state l.world) l.writer l.has_made_table l.desks.items l.cuts l.undo l.room c.args.self.now c.self.invariant
+    c.self.view_is on is c.taken_up-search.result taken
     (g.W.World.state c.step.new.world) (g.met.W.EngineWorld.tells c.step.new.world).told c.give_doing.new.desks.items c.in-Went.search c.in-Went.ensures
-    (desks_given c.args.session (Searching (record on { search = c.in-Went.search; cuts = l.cuts })) l.desks.items c.take_doing.new.desks.items c.give_doing.new.desks.items c.take_doing.ensures.is c.give_doing.ensures)
+    (desks_given c.args.session (Searching (record on { search = c.in-Went.search; cuts = l.cuts })) l.desks.items c.take_doing.new.desks.items
+    c.give_doing.new.desks.items c.take_doing.ensures.is c.give_doing.ensures)
 
 pub returns-in-Went-clause-searches : goal.returns-in-Went-clause-searches
 returns-in-Went-clause-searches g c = λ table plan reading task.
@@ -44,10 +54,14 @@ returns-in-Went-clause-searches g c = λ table plan reading task.
     let on = c.in-Searching.on in
     let is : doing_at c.args.session l.desks.items ≡ Searching on = sym c.in-Searching.ensures.was in
     let taken : IsTakenUp l.cuts on c.taken_up-search.result
-    = taken_by _ l.cuts on c.taken_up-search.result (λ same. grind (arith, nat_tests, same)) c.taken_up-search.ensures.as_it_was c.taken_up-search.ensures.anew in
-    went_seen c.args.session (g.W.World.state l.world) l.writer l.has_made_table l.desks.items l.cuts l.undo l.room c.args.self.now c.self.invariant c.self.view_is on is c.taken_up-search.result taken
+    =
+    taken_by _ l.cuts on c.taken_up-search.result (λ same. grind (arith, nat_tests, same)) c.taken_up-search.ensures.as_it_was
+    c.taken_up-search.ensures.anew in
+    went_seen c.args.session (g.W.World.state l.world) l.writer l.has_made_table l.desks.items l.cuts l.undo l.room c.args.self.now c.self.invariant
+    c.self.view_is on is c.taken_up-search.result taken
     (g.W.World.state c.step.new.world) (g.met.W.EngineWorld.tells c.step.new.world).told c.give_doing.new.desks.items c.in-Went.search c.in-Went.ensures
-    (desks_given c.args.session (Searching (record on { search = c.in-Went.search; cuts = l.cuts })) l.desks.items c.take_doing.new.desks.items c.give_doing.new.desks.items c.take_doing.ensures.is c.give_doing.ensures)
+    (desks_given c.args.session (Searching (record on { search = c.in-Went.search; cuts = l.cuts })) l.desks.items c.take_doing.new.desks.items
+    c.give_doing.new.desks.items c.take_doing.ensures.is c.give_doing.ensures)
 
 pub invariant_of-self-in-Done-1 : goal.invariant_of-self-in-Done-1
 invariant_of-self-in-Done-1 g c =
@@ -55,9 +69,13 @@ invariant_of-self-in-Done-1 g c =
     let on = c.in-Searching.on in
     let is : doing_at c.args.session l.desks.items ≡ Searching on = sym c.in-Searching.ensures.was in
     let taken : IsTakenUp l.cuts on c.taken_up-search.result
-    = taken_by _ l.cuts on c.taken_up-search.result (λ same. grind (arith, nat_tests, same)) c.taken_up-search.ensures.as_it_was c.taken_up-search.ensures.anew in
-    ended_held c.args.session (g.W.World.state l.world) l.writer l.has_made_table l.desks.items l.cuts l.undo l.room c.args.self.now c.self.invariant c.self.view_is on is c.taken_up-search.result taken
-    (g.W.World.state c.step.new.world) (g.met.W.EngineWorld.tells c.step.new.world).told c.take_doing.new.desks.items c.in-Done.found.items c.in-Done.ensures c.take_doing.ensures.is
+    =
+    taken_by _ l.cuts on c.taken_up-search.result (λ same. grind (arith, nat_tests, same)) c.taken_up-search.ensures.as_it_was
+    c.taken_up-search.ensures.anew in
+    ended_held c.args.session (g.W.World.state l.world) l.writer l.has_made_table l.desks.items l.cuts l.undo l.room c.args.self.now c.self.invariant
+    c.self.view_is on is c.taken_up-search.result taken
+    (g.W.World.state c.step.new.world) (g.met.W.EngineWorld.tells c.step.new.world).told c.take_doing.new.desks.items c.in-Done.found.items c.in-Done.ensures
+    c.take_doing.ensures.is
 
 pub returns-in-Done-clause-searches : goal.returns-in-Done-clause-searches
 returns-in-Done-clause-searches g c =
@@ -65,9 +83,13 @@ returns-in-Done-clause-searches g c =
     let on = c.in-Searching.on in
     let is : doing_at c.args.session l.desks.items ≡ Searching on = sym c.in-Searching.ensures.was in
     let taken : IsTakenUp l.cuts on c.taken_up-search.result
-    = taken_by _ l.cuts on c.taken_up-search.result (λ same. grind (arith, nat_tests, same)) c.taken_up-search.ensures.as_it_was c.taken_up-search.ensures.anew in
-    ended_seen c.args.session (g.W.World.state l.world) l.writer l.has_made_table l.desks.items l.cuts l.undo l.room c.args.self.now c.self.invariant c.self.view_is on is c.taken_up-search.result taken
-    (g.W.World.state c.step.new.world) (g.met.W.EngineWorld.tells c.step.new.world).told c.take_doing.new.desks.items c.in-Done.found.items c.in-Done.ensures c.take_doing.ensures.is
+    =
+    taken_by _ l.cuts on c.taken_up-search.result (λ same. grind (arith, nat_tests, same)) c.taken_up-search.ensures.as_it_was
+    c.taken_up-search.ensures.anew in
+    ended_seen c.args.session (g.W.World.state l.world) l.writer l.has_made_table l.desks.items l.cuts l.undo l.room c.args.self.now c.self.invariant
+    c.self.view_is on is c.taken_up-search.result taken
+    (g.W.World.state c.step.new.world) (g.met.W.EngineWorld.tells c.step.new.world).told c.take_doing.new.desks.items c.in-Done.found.items c.in-Done.ensures
+    c.take_doing.ensures.is
     c.found_rows.result c.found_rows.ensures.rows c.found_rows.ensures.over
 
 pub invariant_of-self-in-Hindered-1 : goal.invariant_of-self-in-Hindered-1
@@ -76,11 +98,17 @@ invariant_of-self-in-Hindered-1 g c =
     let on = c.in-Searching.on in
     let is : doing_at c.args.session l.desks.items ≡ Searching on = sym c.in-Searching.ensures.was in
     let taken : IsTakenUp l.cuts on c.taken_up-search.result
-    = taken_by _ l.cuts on c.taken_up-search.result (λ same. grind (arith, nat_tests, same)) c.taken_up-search.ensures.as_it_was c.taken_up-search.ensures.anew in
+    =
+    taken_by _ l.cuts on c.taken_up-search.result (λ same. grind (arith, nat_tests, same)) c.taken_up-search.ensures.as_it_was
+    c.taken_up-search.ensures.anew in
     let moves : MovesPlaces c.args.session (g.W.World.state l.world) (g.W.World.state c.step.new.world)
-    = hindered_moves c.args.session (g.W.World.state l.world) l.writer l.has_made_table l.desks.items l.cuts l.undo l.room c.args.self.now c.self.invariant c.self.view_is on is c.taken_up-search.result taken
-    (g.W.World.state c.step.new.world) (g.met.W.EngineWorld.tells c.step.new.world).told c.take_doing.new.desks.items c.in-Hindered.search c.in-Hindered._why c.in-Hindered.ensures in
-    given_up_held c.args.session (g.W.World.state l.world) l.writer l.has_made_table l.desks.items l.cuts l.undo l.room c.args.self.now c.self.invariant c.self.view_is on is _ (g.W.World.state c.step.new.world) (g.W.World.state c.give_up.new.world)
+    =
+    hindered_moves c.args.session (g.W.World.state l.world) l.writer l.has_made_table l.desks.items l.cuts l.undo l.room c.args.self.now c.self.invariant
+    c.self.view_is on is c.taken_up-search.result taken
+    (g.W.World.state c.step.new.world) (g.met.W.EngineWorld.tells c.step.new.world).told c.take_doing.new.desks.items c.in-Hindered.search c.in-Hindered._why
+    c.in-Hindered.ensures in
+    given_up_held c.args.session (g.W.World.state l.world) l.writer l.has_made_table l.desks.items l.cuts l.undo l.room c.args.self.now c.self.invariant
+    c.self.view_is on is _ (g.W.World.state c.step.new.world) (g.W.World.state c.give_up.new.world)
     moves c.give_up.ensures (g.met.W.EngineWorld.tells c.give_up.new.world).told c.take_doing.new.desks.items c.take_doing.ensures.is
 
 pub returns-in-Hindered-clause-searches : goal.returns-in-Hindered-clause-searches
@@ -89,9 +117,15 @@ returns-in-Hindered-clause-searches g c = λ table plan reading task.
     let on = c.in-Searching.on in
     let is : doing_at c.args.session l.desks.items ≡ Searching on = sym c.in-Searching.ensures.was in
     let taken : IsTakenUp l.cuts on c.taken_up-search.result
-    = taken_by _ l.cuts on c.taken_up-search.result (λ same. grind (arith, nat_tests, same)) c.taken_up-search.ensures.as_it_was c.taken_up-search.ensures.anew in
+    =
+    taken_by _ l.cuts on c.taken_up-search.result (λ same. grind (arith, nat_tests, same)) c.taken_up-search.ensures.as_it_was
+    c.taken_up-search.ensures.anew in
     let moves : MovesPlaces c.args.session (g.W.World.state l.world) (g.W.World.state c.step.new.world)
-    = hindered_moves c.args.session (g.W.World.state l.world) l.writer l.has_made_table l.desks.items l.cuts l.undo l.room c.args.self.now c.self.invariant c.self.view_is on is c.taken_up-search.result taken
-    (g.W.World.state c.step.new.world) (g.met.W.EngineWorld.tells c.step.new.world).told c.take_doing.new.desks.items c.in-Hindered.search c.in-Hindered._why c.in-Hindered.ensures in
-    given_up_seen c.args.session (g.W.World.state l.world) l.writer l.has_made_table l.desks.items l.cuts l.undo l.room c.args.self.now c.self.invariant c.self.view_is on is _ (g.W.World.state c.step.new.world) (g.W.World.state c.give_up.new.world)
+    =
+    hindered_moves c.args.session (g.W.World.state l.world) l.writer l.has_made_table l.desks.items l.cuts l.undo l.room c.args.self.now c.self.invariant
+    c.self.view_is on is c.taken_up-search.result taken
+    (g.W.World.state c.step.new.world) (g.met.W.EngineWorld.tells c.step.new.world).told c.take_doing.new.desks.items c.in-Hindered.search c.in-Hindered._why
+    c.in-Hindered.ensures in
+    given_up_seen c.args.session (g.W.World.state l.world) l.writer l.has_made_table l.desks.items l.cuts l.undo l.room c.args.self.now c.self.invariant
+    c.self.view_is on is _ (g.W.World.state c.step.new.world) (g.W.World.state c.give_up.new.world)
     moves c.give_up.ensures (g.met.W.EngineWorld.tells c.give_up.new.world).told c.take_doing.new.desks.items c.take_doing.ensures.is

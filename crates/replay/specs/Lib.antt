@@ -1,0 +1,4 @@
+pub mod Replay
+pub mod Tables
+pub mod Pending
+pub mod Entries

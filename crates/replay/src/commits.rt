@@ -1,0 +1,78 @@
+//! The replay itself: entry by entry, the oldest first.
+
+ghost use Rattle.std.specs.Prelude.{◌≡◌, reverse, IfOk, OnOk};
+ghost use Rattle.inno_model.specs.Past.{changed, commits, db_after};
+ghost use Rattle.replay.specs.Replay.{CanReplay, CanApplyAll};
+ghost use Rattle.replay.specs.Entries.{MayGoOn, GoesOn};
+
+use crate::copies::{copied_change, copied_db};
+use crate::pending::{add_change, keep_changes, take_changes};
+use inno_db::{Change, Db};
+use inno_model::{Event, History};
+use inno_types::Listed;
+use std::alloc::Global;
+use store_api::NoMemory;
+
+/// The database after all commits of the history.
+pub fn committed_db(alloc: Global, history: &History) -> Result<Db, NoMemory>
+    requires { CanReplay history.now.past }
+    ensures { IfOk result (λ db. db ≡ db_after (commits history.now.past) history.now.past) }
+{
+    let mut db = Db::new(Listed::new(alloc), Listed::new(alloc));
+    let mut pending = Vec::new(alloc);
+    for event in history.events() {
+        replay_entry(alloc, &mut db, &mut pending, event)?;
+    }
+    drop(pending);
+    Ok(db)
+}
+
+/// What an entry makes of the database, and of the changes that are not yet committed.
+fn replay_entry(
+    alloc: Global,
+    db: &mut Db,
+    pending: &mut Vec<Listed<Change>>,
+    event: &Event,
+) -> Result<(), NoMemory>
+    requires { MayGoOn event.now db.old pending.old.items }
+    ensures { OnOk result (GoesOn event.now db.old pending.old.items db.new pending.new.items) }
+{
+    match event {
+        Event::Opened { db: opened } => {
+            *db = copied_db(alloc, opened)?;
+        }
+        Event::Changed { s, change } => {
+            add_change(alloc, pending, *s, copied_change(change)?)?;
+        }
+        Event::Undone { s, keep } => keep_changes(alloc, pending, *s, *keep),
+        Event::Begin { s, .. } | Event::RolledBack { s } => {
+            drop(take_changes(alloc, pending, *s));
+        }
+        Event::Committed { s } => {
+            let changes = take_changes(alloc, pending, *s);
+            make_changes(alloc, db, changes)?;
+        }
+        Event::Started { .. }
+        | Event::View { .. }
+        | Event::Waits { .. }
+        | Event::Victim { .. }
+        | Event::Ended { .. }
+        | Event::Acked { .. }
+        | Event::Signal { .. }
+        | Event::Stopped { .. } => {}
+    }
+    Ok(())
+}
+
+/// Makes the changes, the first of them first.
+fn make_changes(alloc: Global, db: &mut Db, changes: Listed<Change>) -> Result<(), NoMemory>
+    requires { CanApplyAll db.old (reverse changes) }
+    ensures { OnOk result (db.new ≡ changed db.old (reverse changes)) }
+{
+    let mut left = changes.into_vec();
+    left.reverse();
+    while let Some(change) = left.pop() {
+        db.apply(alloc, change)?;
+    }
+    Ok(())
+}

@@ -1,0 +1,9 @@
+//! The database after all commits of a history, made anew from its entries.
+//! It reads a history and makes changes of a database in memory; nothing here meets an engine.
+#![tactic(auto)]
+
+mod commits;
+mod copies;
+mod pending;
+
+pub use commits::committed_db;

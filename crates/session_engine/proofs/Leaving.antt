@@ -1,0 +1,80 @@
+-- What the steps of a session's ending do.
+use Rattle.std.proofs.Common.{◌≡◌, ◌≢◌, ◌<◌, ◌-◌, ℕ, [], ◌∷◌, length, refl, sym, ap, subst, ◌∙◌, true, inl, inr, arith}
+use Rattle.std.proofs.lemmas.Bool.Decides.{nat_tests, eqb_tells}
+use Rattle.std.specs.List.{AllByRecursion}
+use Rattle.inno_model.specs.declared.event.Event.{Event}
+use Rattle.inno_model.specs.declared.event.Event.TheVariants as events
+use Rattle.inno_model.specs.Past.{is_of, own}
+use Rattle.store_api.specs.declared.answers.Progress.TheVariants as progress
+use Rattle.law_past_agreement.specs.Order.{IsOfRow}
+use Rattle.shared_lists.specs.declared.answers.Undone.{Undone}
+use Rattle.shared_lists.specs.declared.answers.Undone.TheVariants as undone
+use Rattle.shared_lists.specs.State.{State as Lists, Closes, task_of}
+use Rattle.shared_lists.specs.Steps.{TakesBack}
+use Rattle.sql_lists.specs.Steps.{HasRowsAlone}
+use Rattle.sql_lists.proofs.Moving.{moves_closes, moves_takes_back}
+use Rattle.transaction_statements.specs.Running.{TakesBackTo}
+use Rattle.transaction_statements.proofs.Stepping.{rows_of_none, rows_left}
+use Rattle.session_engine.specs.declared.seats.Seat.TheVariants.{Leaving}
+use Rattle.session_engine.specs.Seats.{MayGoOut, IsGoingOut}
+use Rattle.session_engine.specs.Calls.{KeepsItems, GoesOn, GoesOut}
+
+module _ (s : ℕ) (old new : Lists) (out : IsGoingOut s old) where
+  goes_none : new.past ≡ old.past → GoesOn s old.past new.past
+  goes_none is = record { entries = []; past_is = is; each = tt }
+
+  goes_one : (e : Event) → is_of s e ≡ true → KeepsItems e → new.past ≡ e ∷ old.past → GoesOn s old.past new.past
+  goes_one e mine keeps is = record { entries = e ∷ []; past_is = is; each = ((mine, keeps), tt) }
+
+  own_undone : (keep : ℕ) → keep ≡ length (own s old.past) - 1 → HasRowsAlone s (events.Undone s keep ∷ old.past)
+  own_undone keep is =
+      elim (eqb_tells s s) [
+        | inl same ↦ rw (same.0, is) (rows_left (own s old.past) out.may.rows_alone)
+        | inr differ ↦ absurd (differ.1 refl)
+      ]
+
+  undone_out : (keep : ℕ) → keep ≡ length (own s old.past) - 1 → MayGoOut s (events.Undone s keep ∷ old.past)
+  undone_out keep is = record { rests = out.may.rests; rows_alone = own_undone keep is }
+
+  -- the newest change is being taken back, or is so
+  pub takes_back_goes : (answer : Undone) → answer ≢ undone.NoMemory → 0 < length (own s old.past) → TakesBack s (length (own s old.past) - 1) old new answer
+      → GoesOut s old new Leaving progress.Went
+  takes_back_goes undone.Went went some takes = (
+    moves_takes_back s (length (own s old.past) - 1) old new undone.Went takes,
+    goes_none takes.0.past_is,
+    record {
+      may = subst (MayGoOut s) (sym takes.0.past_is) out.may;
+      task = subst (TakesBackTo 0 (length (own s new.past))) (sym takes.1.1) (subst (λ h. 0 < length (own s h)) (sym takes.0.past_is) some);
+    },
+    refl,
+  )
+  takes_back_goes undone.Undone went some takes = (
+    moves_takes_back s (length (own s old.past) - 1) old new undone.Undone takes,
+    goes_one (events.Undone s (length (own s old.past) - 1)) (grind (arith, nat_tests)) tt takes.past_is,
+    record {
+      may = subst (MayGoOut s) (sym takes.past_is) (undone_out (length (own s old.past) - 1) refl);
+      task = subst (TakesBackTo 0 (length (own s new.past))) (sym takes.task_is) tt;
+    },
+    refl,
+  )
+  takes_back_goes undone.NoMemory went some takes = absurd (went refl)
+
+  own_rolled_back : own s (events.RolledBack s ∷ old.past) ≡ []
+  own_rolled_back = grind (arith, nat_tests)
+
+  -- the transaction is over, in which no change stands
+  pub rolls_back_goes : length (own s old.past) ≡ 0 → Closes (events.RolledBack s) s old new → GoesOut s old new Leaving progress.Went
+  rolls_back_goes none closes =
+      let now : length (own s new.past) ≡ length (own s old.past) = ap (λ h. length (own s h)) closes.past_is ∙ (ap length own_rolled_back ∙ sym none) in (
+        moves_closes s (events.RolledBack s) old new (grind (arith, nat_tests)) refl refl closes,
+        goes_one (events.RolledBack s) (grind (arith, nat_tests)) tt closes.past_is,
+        record {
+          may = subst (MayGoOut s) (sym closes.past_is) (record { rests = out.may.rests; rows_alone = rows_of_none s (events.RolledBack s ∷ old.past) own_rolled_back });
+          task = subst (λ n. TakesBackTo 0 n (task_of s new)) (sym now) (subst (TakesBackTo 0 (length (own s old.past))) (sym closes.task_is) out.task);
+        },
+        refl,
+      )
+
+-- so many changes stand, as the lists tell
+pub none_stand : (s count : ℕ) (seen old : Lists) → seen ≡ old → count ≡ length (own s seen.past) → count ≡ 0 → length (own s old.past) ≡ 0
+none_stand s count seen old is told none = ap (λ (l : Lists). length (own s l.past)) (sym is) ∙ (sym told ∙ none)

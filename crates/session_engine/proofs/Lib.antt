@@ -1,0 +1,3 @@
+mod Others
+pub mod Seating
+mod Leaving

@@ -1,0 +1,415 @@
+-- What holds of the seats is kept by each call of the engine.
+use Rattle.std.proofs.Common.{◌≡◌, ◌≢◌, ℕ, zero, suc, ◌+◌, ◌<◌, ◌≤◌, Bool, true, false, Option, Some, None, List, [], ◌∷◌, ◌++◌, length, get_or, set, refl, sym, ap, subst, ◌∙◌, inl, inr, arith}
+use Rattle.std.proofs.lemmas.Bool.Decides.{nat_tests, eqb_tells}
+use Rattle.std.proofs.lemmas.Bool.{false≢true}
+use Rattle.std.proofs.lemmas.List.{get_or-set_same, get_or-set_other, length-set, length-append}
+use Rattle.std.specs.List.{AllByRecursion}
+use Rattle.std.specs.Prelude.{Result, Ok, Err, OnOk, OnErr}
+use Rattle.inno_types.specs.declared.reply.Item.{Item}
+use Rattle.inno_types.specs.declared.reply.Item.TheVariants.{Sql}
+use Rattle.inno_types.specs.declared.reply.Reply.{Reply}
+use Rattle.inno_db.specs.Database.{Database}
+use Rattle.inno_model.specs.declared.event.Event.{Event}
+use Rattle.inno_model.specs.declared.event.Event.TheVariants as events
+use Rattle.inno_model.specs.Past.{is_of, started, under_way, own, IsClosed}
+use Rattle.inno_types.specs.Order.{IsBelow}
+use Rattle.store_api.specs.declared.answers.Progress.{Progress}
+use Rattle.store_api.specs.declared.answers.Progress.TheVariants as progress
+use Rattle.sql_history.specs.Legal.{is_leaving}
+use Rattle.shared_lists.specs.Tasks as tasks
+use Rattle.law_past_agreement.specs.Order.{IsOfRow}
+use Rattle.shared_lists.specs.State.{State as Lists, Lists as AllLists, IsFirst, Adds, Stays, task_of}
+use Rattle.sql_lists.specs.declared.advance.Advance.{Advance}
+use Rattle.sql_lists.specs.declared.advance.Advance.TheVariants as advance
+use Rattle.sql_history.specs.Counts.{last_moment}
+use Rattle.sql_lists.specs.Steps.{Moves, Adding, IsEntryOf, Steps, HasRowsAlone}
+use Rattle.sql_lists.proofs.Moving.{adding_none, adding_one, moves_none, moves_stays, moves_adds}
+use Rattle.sql_lists.specs.Going.{Nears as StatementNears}
+use Rattle.statement.specs.declared.under_way.Statement.{Statement}
+use Rattle.session_engine.specs.declared.seats.Seat.{Seat}
+use Rattle.session_engine.specs.declared.seats.Seat.TheVariants.{Idle, Busy, Leaving, Left}
+use Rattle.statement.specs.Running.{IsRunning, IsReadFrom, owes_ack, acked}
+use Rattle.statement.proofs.Acked.{goes_on_acked}
+use Rattle.session_engine.specs.Seats.{seat_at, is_working, MayGoOut, IsGoingOut, SeatAgrees, AreSeats, IsSeated}
+use Rattle.session_engine.specs.Calls.{AreFirst, SameLists, Joins, Starts, SameState, OthersStay, KeepsItems, GoesOn, StepsOn, Settled, GoesBy, GoesOut, StepsBy}
+use Rattle.statement.specs.Going.{statement_to_go}
+use Rattle.session_engine.specs.Going.{Nears, NearsEnding}
+use Rattle.session_engine.proofs.Others.{seat_stays, has_item, read_runs}
+
+-- ---- seats
+
+joined_seat : (seats : List Seat) (u : ℕ) → get_or (seats ++ Idle ∷ []) u Idle ≡ get_or seats u Idle
+joined_seat [] zero = refl
+joined_seat [] (suc u) = refl
+joined_seat (x ∷ seats) zero = refl
+joined_seat (x ∷ seats) (suc u) = joined_seat seats u
+
+set_again : (seats : List Seat) (n : ℕ) (x y : Seat) → set (set seats n x) n y ≡ set seats n y
+set_again [] n x y = refl
+set_again (z ∷ seats) zero x y = refl
+set_again (z ∷ seats) (suc n) x y = ap (λ ys. z ∷ ys) (set_again seats n x y)
+
+others_set : (seats : List Seat) (s : ℕ) (seat : Seat) → OthersStay s seats (set seats s seat)
+others_set seats s seat u apart = get_or-set_other seats s u seat Idle apart
+
+pub leaving_is : (seat : Seat) → is_working seat ≡ true → ((statement : Statement) → seat ≡ Busy statement → ⊥) → seat ≡ Leaving
+leaving_is Idle works other = absurd (false≢true works)
+leaving_is (Busy statement) works other = absurd (other statement refl)
+leaving_is Leaving works other = refl
+leaving_is Left works other = absurd (false≢true works)
+
+-- ---- one session moves
+
+-- what a session does to the lists: by a step of its statement, or by an acknowledgement
+pub record SessionMoves (t : ℕ) (old new : Lists) : Type 0 where
+  pub names_stay : new.names ≡ old.names
+  pub adding : Adding t old new
+  pub writer_stays : (s : ℕ) → s ≢ t → old.writer ≡ Some s → new.writer ≡ Some s
+  pub tasks_stay : (s : ℕ) → s ≢ t → task_of s new ≡ task_of s old
+
+pub of_statement : (t : ℕ) (old new : Lists) → Moves t old new → SessionMoves t old new
+of_statement t old new moves = record { names_stay = moves.names_stay; adding = moves.adding; writer_stays = moves.writer_stays; tasks_stay = moves.tasks_stay }
+
+of_acknowledgement : (t moment : ℕ) (old new : Lists) → Adds (events.Acked t moment) t old new → SessionMoves t old new
+of_acknowledgement t moment old new adds =
+    record {
+      names_stay = adds.names_are;
+      adding = adding_one t (events.Acked t moment) old new (grind (arith, nat_tests)) adds.past_is (λ changes. absurd (false≢true changes));
+      writer_stays = λ s differ held. adds.writer_is ∙ held;
+      tasks_stay = adds.others;
+    }
+
+moved : (old new : Lists) (t s : ℕ) → SessionMoves t old new → s ≢ t → (seat : Seat) → SeatAgrees old s seat → SeatAgrees new s seat
+moved old new t s moves differ seat agrees =
+    seat_stays old new t s (λ is. differ (sym is)) moves.adding (moves.writer_stays s differ) (moves.tasks_stay s differ) seat agrees
+
+-- one session moves, and takes another seat
+pub seats_kept : (old new : Lists) (seats : List Seat) (s : ℕ) (seat : Seat) → AreSeats old seats → s < length old.names → SessionMoves s old new
+    → SeatAgrees new s seat → AreSeats new (set seats s seat)
+seats_kept old new seats s seat are joined moves agrees =
+    record {
+      enough = rw (moves.names_stay, length-set seats s seat) are.enough;
+      each = λ u.
+          elim (eqb_tells u s) [
+            | inl same ↦ subst (λ v. SeatAgrees new v (get_or (set seats s seat) v Idle)) (sym same.1)
+                (subst (SeatAgrees new s) (sym (get_or-set_same seats s seat Idle (omega (arith, joined, are.enough)))) agrees)
+            | inr differ ↦ subst (SeatAgrees new u) (sym (get_or-set_other seats s u seat Idle differ.1))
+                (moved old new s u moves differ.1 (get_or seats u Idle) (are.each u))
+          ];
+    }
+
+-- ---- an engine that is opened
+
+pub first_seats : (db : Database) (lists : Lists) → AreFirst db lists → ((s : ℕ) → task_of s lists ≡ tasks.Idle) → AreSeats lists []
+first_seats db lists first idle =
+    record {
+      enough = rw first.names (omega arith);
+      each = λ u.
+          let rests : under_way u lists.past ≡ None = ap (under_way u) first.past in
+          let nothing : own u lists.past ≡ [] = ap (own u) first.past in
+          (record { rests = rests; rows_alone = subst (AllByRecursion IsOfRow) (sym nothing) tt }, ap (is_leaving u) first.past, idle u);
+    }
+
+pub are_first : (db : Database) (all : AllLists) (lists : Lists) → IsFirst all → all.state.past ≡ events.Opened db ∷ [] → lists ≡ all.state → AreFirst db lists
+are_first db all lists first past is =
+    record {
+      past = ap (λ l. l.past) is ∙ past;
+      names = ap (λ l. l.names) is ∙ first.names;
+      writer = ap (λ l. l.writer) is ∙ first.writer;
+    }
+
+-- ---- a session that joins
+
+-- the lists are the same to all sessions, whatever their names
+module _ (old new : Lists) (past-is : new.past ≡ old.past) (writer-is : new.writer ≡ old.writer) (tasks-are : (s : ℕ) → task_of s new ≡ task_of s old) where
+  pub seat_kept : (u : ℕ) (seat : Seat) → SeatAgrees old u seat → SeatAgrees new u seat
+  seat_kept u seat agrees =
+      seat_stays old new (u + 1) u (λ is. absurd (omega (arith, is))) (adding_none (u + 1) old new past-is) (λ w. writer-is ∙ w) (tasks-are u) seat agrees
+
+  pub seats_joined : (name : List ℕ) (seats : List Seat) → new.names ≡ old.names ++ name ∷ [] → AreSeats old seats → AreSeats new (seats ++ Idle ∷ [])
+  seats_joined name seats names-are are =
+      record {
+        enough = rw (names-are, length-append old.names (name ∷ []), length-append seats (Idle ∷ [])) (omega (arith, are.enough));
+        each = λ u. subst (SeatAgrees new u) (sym (joined_seat seats u)) (seat_kept u (get_or seats u Idle) (are.each u));
+      }
+
+  -- a seat too many waits for its session
+  pub seats_wait : (seats : List Seat) → new.names ≡ old.names → AreSeats old seats → AreSeats new (seats ++ Idle ∷ [])
+  seats_wait seats names-are are =
+      record {
+        enough = rw (names-are, length-append seats (Idle ∷ [])) (omega (arith, are.enough));
+        each = λ u. subst (SeatAgrees new u) (sym (joined_seat seats u)) (seat_kept u (get_or seats u Idle) (are.each u));
+      }
+
+pub joined_seats : (seats : List Seat) (u : ℕ) → seat_at (seats ++ Idle ∷ []) u ≡ seat_at seats u
+joined_seats seats u = joined_seat seats u
+
+-- nothing has changed, for the session and for the others
+pub all_same : (old new : Lists) (s : ℕ) → Stays s old new → SameLists old new
+all_same old new s stays =
+    record {
+      names_stay = stays.names_are;
+      past_stays = stays.past_is;
+      writer_stays = stays.writer_is;
+      tasks_stay = λ u. elim (eqb_tells u s) [
+        | inl same ↦ subst (λ v. task_of v new ≡ task_of v old) (sym same.1) stays.task_is
+        | inr differ ↦ stays.others u differ.1
+      ];
+    }
+
+pub seats_same : (old new : Lists) (seats : List Seat) (s : ℕ) → Stays s old new → AreSeats old seats → AreSeats new seats
+seats_same old new seats s stays are =
+    let same = all_same old new s stays in
+    record {
+      enough = rw same.names_stay are.enough;
+      each = λ u. seat_kept old new same.past_stays same.writer_stays same.tasks_stay u (get_or seats u Idle) (are.each u);
+    }
+
+-- ---- an item that starts
+
+starts_of : (s j : ℕ) (item : Item) → is_of s (events.Started s j item) ≡ true
+starts_of s j item = grind (arith, nat_tests)
+
+pub seats_started : (old new : Lists) (seats : List Seat) (s : ℕ) (text : List ℕ) (item : Item) (statement : Statement) → AreSeats old seats
+    → s < length old.names → seat_at seats s ≡ Idle → item ≡ Sql text
+    → Adds (events.Started s (started s old.past + 1) item) s old new → IsReadFrom text statement → AreSeats new (set seats s (Busy statement))
+seats_started old new seats s text item statement are joined idle item-is adds reads =
+    let e : Event = events.Started s (started s old.past + 1) (Sql text) in
+    let adds_text : Adds e s old new = subst (λ i. Adds (events.Started s (started s old.past + 1) i) s old new) item-is adds in
+    let moves : Moves s old new = moves_adds s e old new (starts_of s (started s old.past + 1) (Sql text)) refl (λ x. absurd (false≢true x)) adds_text in
+    let rests : SeatAgrees old s Idle = subst (SeatAgrees old s) idle (are.each s) in
+    seats_kept old new seats s (Busy statement) are joined (of_statement s old new moves)
+    (read_runs old new s (started s old.past + 1) text statement rests.0.rows_alone rests.2 adds_text reads)
+
+-- ---- a step
+
+moves_is : (old new : Lists) (s : ℕ) → new ≡ old → Moves s old new
+moves_is old new s is = subst (Moves s old) (sym is) (moves_none s old)
+
+ended_at : (s j : ℕ) (reply : Reply) (h : List Event) → HasRowsAlone s h
+    → MayGoOut s (events.Ended s j reply ∷ h) × (is_leaving s (events.Ended s j reply ∷ h) ≡ false)
+ended_at s j reply h rows = (record { rests = grind (arith, nat_tests); rows_alone = rows }, grind (arith, nat_tests))
+
+ended_item : (new : Lists) (s j : ℕ) (reply : Reply) (h : List Event) → new.past ≡ events.Ended s j reply ∷ h → HasRowsAlone s h
+    → task_of s new ≡ tasks.Idle → SeatAgrees new s Idle
+ended_item new s j reply h is rows idle =
+    (let at = subst (λ g. MayGoOut s g × (is_leaving s g ≡ false)) (sym is) (ended_at s j reply h rows) in (at.0, at.1, idle))
+
+keeps_items : (e : Event) (h : List Event) (s : ℕ) → is_of s e ≡ true → started s (e ∷ h) ≡ started s h → under_way s (e ∷ h) ≢ None → KeepsItems e
+keeps_items (events.Started t j item) h s mine count item-is = grind (arith, nat_tests, mine, count)
+keeps_items (events.Ended t j reply) h s mine count item-is = item-is (grind (arith, nat_tests, mine))
+keeps_items (events.Opened db) h s mine count item-is = tt
+keeps_items (events.Begin t n l) h s mine count item-is = tt
+keeps_items (events.View t) h s mine count item-is = tt
+keeps_items (events.Changed t change) h s mine count item-is = tt
+keeps_items (events.Waits t lock blockers at) h s mine count item-is = tt
+keeps_items (events.Victim t cycle) h s mine count item-is = tt
+keeps_items (events.Undone t keep) h s mine count item-is = tt
+keeps_items (events.Committed t) h s mine count item-is = tt
+keeps_items (events.Acked t moment) h s mine count item-is = tt
+keeps_items (events.RolledBack t) h s mine count item-is = tt
+keeps_items (events.Signal name) h s mine count item-is = tt
+keeps_items (events.Stopped why) h s mine count item-is = tt
+
+-- no entry takes an item back
+started_rise : (e : Event) (h : List Event) (s : ℕ) → started s h ≤ started s (e ∷ h)
+started_rise e h s = grind (arith, nat_tests)
+
+all_rise : (es h : List Event) (s : ℕ) → started s h ≤ started s (es ++ h)
+all_rise [] h s = omega arith
+all_rise (e ∷ es) h s = omega (arith, all_rise es h s, started_rise e (es ++ h) s)
+
+item_before : (e : Event) (h : List Event) (s : ℕ) → KeepsItems e → under_way s (e ∷ h) ≡ under_way s h
+item_before (events.Started t j item) h s keeps = absurd keeps
+item_before (events.Ended t j reply) h s keeps = absurd keeps
+item_before e h s keeps = refl
+
+all_keep : (es h : List Event) (s : ℕ) (writer : Option ℕ) → AllByRecursion (IsEntryOf s writer) es → started s (es ++ h) ≡ started s h
+    → under_way s (es ++ h) ≢ None
+    → AllByRecursion (λ e. (is_of s e ≡ true) × KeepsItems e) es
+all_keep [] h s writer each count item = tt
+all_keep (e ∷ es) h s writer each count item =
+    let same : started s (e ∷ (es ++ h)) ≡ started s (es ++ h) = omega (arith, count, all_rise es h s, started_rise e (es ++ h) s) in
+    let keeps : KeepsItems e = keeps_items e (es ++ h) s each.0.0 same item in
+    ((each.0.0, keeps), all_keep es h s writer each.1 (sym same ∙ count) (λ none. item (item_before e (es ++ h) s keeps ∙ none)))
+
+goes_on : (old new : Lists) (s : ℕ) → Adding s old new → started s new.past ≡ started s old.past → under_way s new.past ≢ None → GoesOn s old.past new.past
+goes_on old new s adding count item =
+    record {
+      entries = adding.entries;
+      past_is = adding.past_is;
+      each = all_keep adding.entries old.past s new.writer adding.each (subst (λ g. started s g ≡ started s old.past) adding.past_is count)
+          (subst (λ g. under_way s g ≢ None) adding.past_is item);
+    }
+
+module _ (old new : Lists) (seats : List Seat) (s : ℕ) (are : AreSeats old seats) (joined : s < length old.names) where
+  within : s < length seats
+  within = omega (arith, joined, are.enough)
+
+  -- the seat is taken out, and another one is put back
+  twice : (seat : Seat) → set (set seats s Idle) s seat ≡ set seats s seat
+  twice seat = set_again seats s Idle seat
+
+  kept : (seat : Seat) → SessionMoves s old new → SeatAgrees new s seat → AreSeats new (set (set seats s Idle) s seat)
+  kept seat moves agrees = subst (AreSeats new) (sym (twice seat)) (seats_kept old new seats s seat are joined moves agrees)
+
+  is_at : (seat : Seat) → seat_at (set (set seats s Idle) s seat) s ≡ seat
+  is_at seat = ap (λ xs. get_or xs s Idle) (twice seat) ∙ get_or-set_same seats s seat Idle within
+
+  steps_on : {D : Type 0} (disk : D) (seat : Seat) → SessionMoves s old new
+      → StepsOn s (record { disk = disk; lists = old; seats = seats }) (record { disk = disk; lists = new; seats = set (set seats s Idle) s seat })
+  steps_on disk seat moves =
+      record {
+        disk_stays = refl;
+        names_stay = moves.names_stay;
+        others_write = moves.writer_stays;
+        others_go_on = moves.tasks_stay;
+        others_stay = λ u apart.
+            ap (λ xs. get_or xs u Idle) (twice seat) ∙ others_set seats s seat u apart;
+      }
+
+  pub step_keeps : (statement : Statement) (adv : Advance) (seat : Seat) (answer : Progress) → Steps IsRunning s old new statement adv
+      → Settled statement adv seat answer → AreSeats new (set (set seats s Idle) s seat)
+  step_keeps statement advance.Went seat answer steps settled = kept seat (of_statement s old new steps.0) (subst (SeatAgrees new s) (sym settled.0) steps.1)
+  step_keeps statement (advance.Waiting by blockers) seat answer steps settled =
+      kept seat (of_statement s old new (moves_stays s old new steps.0)) (subst (SeatAgrees new s) (sym settled.0) steps.1)
+  step_keeps statement advance.NoMemory seat answer steps settled =
+      kept seat (of_statement s old new steps.0) (subst (SeatAgrees new s) (sym settled.0) steps.1)
+  step_keeps statement (advance.Done reply) seat answer steps settled =
+      kept seat (of_statement s old new steps.0)
+      (subst (SeatAgrees new s) (sym settled.0) (ended_item new s (started s old.past) reply old.past steps.1 steps.2 steps.3))
+
+  -- a step of a statement acknowledges nothing
+  statement_timed : (statement : Statement) (adv : Advance) → Steps IsRunning s old new statement adv → last_moment new.past ≡ last_moment old.past
+  statement_timed statement advance.Went steps = steps.0.acks_none
+  statement_timed statement (advance.Waiting by blockers) steps = ap last_moment steps.0.past_is
+  statement_timed statement advance.NoMemory steps = steps.0.acks_none
+  statement_timed statement (advance.Done reply) steps = steps.0.acks_none
+
+  pub step_does : {D : Type 0} (disk : D) (statement : Statement) (adv : Advance) (seat : Seat) (answer : Progress)
+      → Steps IsRunning s old new statement adv → Settled statement adv seat answer
+      → StepsBy s answer (record { disk = disk; lists = old; seats = seats }) (record { disk = disk; lists = new; seats = set (set seats s Idle) s seat })
+  step_does disk statement advance.Went seat answer steps settled =
+      rw settled.1 (
+        steps_on disk seat (of_statement s old new steps.0),
+        goes_on old new s steps.0.adding steps.2 (has_item new s statement steps.1),
+        ap
+            is_working (is_at seat ∙ settled.0),
+      )
+  step_does disk statement (advance.Waiting by blockers) seat answer steps settled =
+      rw settled.1 (
+        steps_on disk seat (of_statement s old new (moves_stays s old new steps.0)),
+        all_same old new s steps.0,
+        ap is_working
+            (is_at seat ∙ settled.0),
+        (by, steps.2),
+      )
+  step_does disk statement advance.NoMemory seat answer steps settled =
+      rw settled.1 (steps_on disk seat (of_statement s old new steps.0), steps.2, ap is_working (is_at seat ∙ settled.0))
+  step_does disk statement (advance.Done reply) seat answer steps settled =
+      rw settled.1 (steps_on disk seat (of_statement s old new steps.0), inl (steps.1, is_at seat ∙ settled.0))
+
+  step_nears_by : {D : Type 0} (disk : D) (before after : Statement) (seat : Seat) → seat_at seats s ≡ Busy before → seat ≡ Busy after
+      → IsBelow (statement_to_go s new after) (statement_to_go s old before)
+      → Nears s progress.Went (record { disk = disk; lists = old; seats = seats }) (record { disk = disk; lists = new; seats = set (set seats s Idle) s seat })
+  step_nears_by disk before after seat was now below = rw (is_at seat, now, was) below
+
+  pub step_nears : {D : Type 0} (disk : D) (before after : Statement) (adv : Advance) (seat : Seat) (answer : Progress) → seat_at seats s ≡ Busy before
+      → StatementNears statement_to_go s old before new after adv → Settled after adv seat answer
+      → Nears s answer (record { disk = disk; lists = old; seats = seats }) (record { disk = disk; lists = new; seats = set (set seats s Idle) s seat })
+  step_nears disk before after advance.Went seat answer was nears settled = rw settled.1 (step_nears_by disk before after seat was settled.0 nears)
+  step_nears disk before after (advance.Waiting by blockers) seat answer was nears settled = rw settled.1 tt
+  step_nears disk before after advance.NoMemory seat answer was nears settled = rw settled.1 tt
+  step_nears disk before after (advance.Done reply) seat answer was nears settled = rw settled.1 tt
+
+  -- ---- a step of the statement, or the acknowledgement of its commit
+
+  module _ (moment : ℕ) (before after : Statement) (adv : Advance) (seat : Seat) (answer : Progress) (settled : Settled after adv seat answer) where
+    acked_runs : owes_ack before ≡ true → IsRunning old s before → Adds (events.Acked s moment) s old new → after ≡ acked before → IsRunning new s after
+    acked_runs owes runs adds after-is = subst (IsRunning new s) (sym after-is) (goes_on_acked before owes old new s moment runs adds)
+
+    seat_is : adv ≡ advance.Went → (seat ≡ Busy after) × (answer ≡ progress.Went)
+    seat_is went = subst (λ a. Settled after a seat answer) went settled
+
+    acked_goes : Adds (events.Acked s moment) s old new → GoesOn s old.past new.past
+    acked_goes adds = record { entries = events.Acked s moment ∷ []; past_is = adds.past_is; each = ((grind (arith, nat_tests), tt), tt) }
+
+    pub goes_keeps : GoesBy s moment old new before after adv → AreSeats new (set (set seats s Idle) s seat)
+    goes_keeps (inl steps) = step_keeps after adv seat answer steps.1 settled
+    goes_keeps (inr acks) =
+        kept seat (of_acknowledgement s moment old new acks.2) (subst (SeatAgrees new s) (sym (seat_is acks.4).0) (acked_runs acks.0 acks.1 acks.2 acks.3))
+
+    pub goes_does : {D : Type 0} (disk : D) → GoesBy s moment old new before after adv
+        → StepsBy s answer (record { disk = disk; lists = old; seats = seats }) (record { disk = disk; lists = new; seats = set (set seats s Idle) s seat })
+    goes_does disk (inl steps) = step_does disk after adv seat answer steps.1 settled
+    goes_does disk (inr acks) =
+        rw (seat_is acks.4).1 (
+          steps_on disk seat (of_acknowledgement s moment old new acks.2),
+          acked_goes acks.2,
+          ap is_working
+              (is_at seat ∙ (seat_is acks.4).0),
+        )
+
+    pub goes_timed : GoesBy s moment old new before after adv → last_moment old.past ≤ moment → last_moment new.past ≤ moment
+    goes_timed (inl steps) timed = subst (λ n. n ≤ moment) (sym (statement_timed after adv steps.1)) timed
+    goes_timed (inr acks) timed = subst (λ h. last_moment h ≤ moment) (sym acks.2.past_is) (omega arith)
+
+  -- ---- a step of the ending
+
+  module _ (leaving : seat_at seats s ≡ Leaving) where
+    pub may_go : IsGoingOut s old
+    may_go = subst (SeatAgrees old s) leaving (are.each s)
+
+    pub out_keeps : (seat : Seat) (answer : Progress) → GoesOut s old new seat answer → AreSeats new (set (set seats s Idle) s seat)
+    out_keeps seat progress.Went goes = kept seat (of_statement s old new goes.0) (subst (SeatAgrees new s) (sym goes.3) goes.2)
+    out_keeps seat progress.NoMemory goes = kept seat (of_statement s old new goes.0) (subst (SeatAgrees new s) (sym goes.3) goes.2)
+    out_keeps seat (progress.Done reply) goes =
+        kept seat (of_statement s old new (moves_is old new s goes.1))
+        (subst (SeatAgrees new s) (sym goes.4) (subst (λ l. (under_way s l.past ≡ None) × IsClosed s l.past × (task_of s l ≡ tasks.Idle)) (sym goes.1)
+        (may_go.may.rests, goes.2, goes.3)))
+    out_keeps seat other goes = elim goes [ ]
+
+    pub out_timed : (seat : Seat) (answer : Progress) → GoesOut s old new seat answer → last_moment new.past ≡ last_moment old.past
+    out_timed seat progress.Went goes = goes.0.acks_none
+    out_timed seat progress.NoMemory goes = goes.0.acks_none
+    out_timed seat (progress.Done reply) goes = ap (λ l. last_moment l.past) goes.1
+    out_timed seat other goes = elim goes [ ]
+
+    pub out_does : {D : Type 0} (disk : D) (seat : Seat) (answer : Progress) → GoesOut s old new seat answer
+        → StepsBy s answer (record { disk = disk; lists = old; seats = seats }) (record { disk = disk; lists = new; seats = set (set seats s Idle) s seat })
+    out_does disk seat progress.Went goes = (steps_on disk seat (of_statement s old new goes.0), goes.1, ap is_working (is_at seat ∙ goes.3))
+    out_does disk seat progress.NoMemory goes = (steps_on disk seat (of_statement s old new goes.0), goes.1, ap is_working (is_at seat ∙ goes.3))
+    out_does disk seat (progress.Done reply) goes =
+        (steps_on disk seat (of_statement s old new (moves_is old new s goes.1)), inr (leaving, goes.0, goes.1, is_at seat ∙ goes.4))
+    out_does disk seat other goes = elim goes [ ]
+
+    pub out_nears : {D : Type 0} (disk : D) (seat : Seat) (answer : Progress) → GoesOut s old new seat answer → NearsEnding s old new answer
+        → Nears s answer (record { disk = disk; lists = old; seats = seats }) (record { disk = disk; lists = new; seats = set (set seats s Idle) s seat })
+    out_nears disk seat progress.Went goes nears = rw (is_at seat, goes.3, leaving) (inr (refl, nears))
+    out_nears disk seat progress.NoMemory goes nears = tt
+    out_nears disk seat (progress.Done reply) goes nears = tt
+    out_nears disk seat other goes nears = elim goes [ ]
+
+-- ---- what the calls do
+
+module _ (old new : Lists) (past-is : new.past ≡ old.past) (writer-is : new.writer ≡ old.writer) (tasks-are : (s : ℕ) → task_of s new ≡ task_of s old) where
+  pub joined_either : {X Y : Type 0} (result : Result X Y) (name : List ℕ) (seats : List Seat) → AreSeats old seats
+      → OnOk result (new.names ≡ old.names ++ name ∷ []) → OnErr result (new.names ≡ old.names) → AreSeats new (seats ++ Idle ∷ [])
+  joined_either (Ok x) name seats are ok err = seats_joined old new past-is writer-is tasks-are name seats ok are
+  joined_either (Err e) name seats are ok err = seats_wait old new past-is writer-is tasks-are seats err are
+
+  pub joins : {D X Y : Type 0} (result : Result X Y) (disk : D) (name : List ℕ) (seats : List Seat) → OnOk result (new.names ≡ old.names ++ name ∷ [])
+      → OnOk result (Joins name (record { disk = disk; lists = old; seats = seats }) (record { disk = disk; lists = new; seats = seats ++ Idle ∷ [] }))
+  joins (Ok x) disk name seats ok =
+      record { disk_stays = refl; names_are = ok; past_stays = past-is; writer_stays = writer-is; tasks_stay = tasks-are; seats_stay = joined_seats seats }
+  joins (Err e) disk name seats ok = tt
+
+  pub refused_join : {D X Y : Type 0} (result : Result X Y) (disk : D) (seats : List Seat) → OnErr result (new.names ≡ old.names)
+      → OnErr result (SameState (record { disk = disk; lists = old; seats = seats }) (record { disk = disk; lists = new; seats = seats ++ Idle ∷ [] }))
+  refused_join (Ok x) disk seats err = tt
+  refused_join (Err e) disk seats err =
+      record {
+        disk_stays = refl;
+        lists_stay = record { names_stay = err; past_stays = past-is; writer_stays = writer-is; tasks_stay = tasks-are };
+        seats_stay = joined_seats seats;
+      }

@@ -1,0 +1,82 @@
+-- What the engine is to its callers, and what holds of each session's seat.
+use Rattle.std.specs.Prelude.{◌≡◌, ℕ, ◌<◌, ◌≤◌, Bool, true, false, None, List, length, slice_index_or, refl}
+use Rattle.std.specs.Coded.{Coded, code_by, coded×, coded_list}
+use Rattle.inno_model.specs.declared.event.Event.{Event}
+use Rattle.inno_model.specs.Past.{under_way, own, IsClosed}
+use Rattle.sql_history.specs.Legal.{is_leaving}
+use Rattle.sql_history.specs.Counts.{last_moment}
+use Rattle.shared_lists.specs.Tasks as tasks
+use Rattle.shared_lists.specs.State.{State as Lists, state_code as lists_code, task_of}
+use Rattle.sql_lists.specs.Steps.{HasRowsAlone}
+use Rattle.transaction_statements.specs.Running.{TakesBackTo}
+use Rattle.statement.specs.Running.{IsRunning}
+use Rattle.session_engine.specs.declared.seats.Seat.{Seat}
+use Rattle.session_engine.specs.declared.seats.Seat.TheVariants.{Idle, Busy, Leaving, Left}
+use Rattle.session_engine.specs.contracts.seats.Seat as of_seat
+
+-- the disk, what all sessions share, and where each session stands
+pub record State (D : Type 0) : Type 0 where
+  pub disk : D
+  pub lists : Lists
+  pub seats : List Seat
+
+abbrev pub state_code : {D : Type 0} → Coded D → Coded (State D)
+state_code {D} disk =
+    code_by (D × (Lists × List Seat)) (coded× disk (coded× lists_code (coded_list of_seat.the_row.coded)))
+    (λ s. (s.disk, (s.lists, s.seats))) (λ p. record { disk = p.0; lists = p.1.0; seats = p.1.1 }) (λ _. refl)
+
+-- the seat of a session; one that hasn't joined is idle
+abbrev pub seat_at : List Seat → ℕ → Seat
+seat_at seats s = slice_index_or seats s Idle
+
+-- a session at work on a statement, or on its way out
+abbrev pub is_working : Seat → Bool
+is_working Idle = false
+is_working (Busy statement) = true
+is_working Leaving = true
+is_working Left = false
+
+abbrev pub has_left : Seat → Bool
+has_left Left = true
+has_left other = false
+
+abbrev pub IsJoined : {D : Type 0} → ℕ → State D → Type 0
+IsJoined s state = s < length state.lists.names
+
+abbrev pub IsIdle : {D : Type 0} → ℕ → State D → Type 0
+IsIdle s state = seat_at state.seats s ≡ Idle
+
+abbrev pub IsWorking : {D : Type 0} → ℕ → State D → Type 0
+IsWorking s state = is_working (seat_at state.seats s) ≡ true
+
+-- the session has no item under way, and no open transaction
+pub record HasEnded {D : Type 0} (s : ℕ) (state : State D) : Type 0 where
+  pub rests : under_way s state.lists.past ≡ None
+  pub closed : IsClosed s state.lists.past
+
+-- a session without an item, whose open transaction has changes of rows alone
+pub record MayGoOut (s : ℕ) (past : List Event) : Type 0 where
+  pub rests : under_way s past ≡ None
+  pub rows_alone : HasRowsAlone s past
+
+-- It takes its changes back one by one: nothing is under way with rows, or the newest one is being taken back.
+pub record IsGoingOut (s : ℕ) (lists : Lists) : Type 0 where
+  pub may : MayGoOut s lists.past
+  pub task : TakesBackTo 0 (length (own s lists.past)) (task_of s lists)
+
+-- What is kept of a session is what the past says. One that is idle or gone has nothing under way with rows.
+abbrev pub SeatAgrees : Lists → ℕ → Seat → Type 0
+SeatAgrees lists s Idle = MayGoOut s lists.past × (is_leaving s lists.past ≡ false) × (task_of s lists ≡ tasks.Idle)
+SeatAgrees lists s (Busy statement) = IsRunning lists s statement
+SeatAgrees lists s Leaving = IsGoingOut s lists
+SeatAgrees lists s Left = (under_way s lists.past ≡ None) × IsClosed s lists.past × (task_of s lists ≡ tasks.Idle)
+
+pub record AreSeats (lists : Lists) (seats : List Seat) : Type 0 where
+  -- a seat for each session, and maybe some that wait for their sessions
+  pub enough : length lists.names ≤ length seats
+  pub each : (s : ℕ) → SeatAgrees lists s (seat_at seats s)
+
+-- That, and no commit was acknowledged at a moment to come.
+pub record IsSeated (lists : Lists) (seats : List Seat) (moment : ℕ) : Type 0 where
+  pub agree : AreSeats lists seats
+  pub timed : last_moment lists.past ≤ moment

@@ -1,0 +1,82 @@
+//! Where each session stands: idle, at work on a statement, on its way out, or gone.
+
+ghost use Rattle.std.specs.Prelude.{◌≡◌, ◌<◌, [], ◌∷◌, ◌++◌, length, OnOk, OnErr, slice_set};
+ghost use Rattle.session_engine.specs.Seats.{seat_at, is_working, has_left};
+
+use statement::Statement;
+use std::alloc::{AllocError, Global};
+use std::marker::Model;
+
+/// Where a session stands.
+#[derive(Drop)]
+pub enum Seat {
+    Idle,
+    Busy(Statement),
+    /// Its open transaction is being rolled back.
+    Leaving,
+    Left,
+}
+
+/// The seats of all sessions, by number.
+#[derive(Drop)]
+pub struct Seats {
+    seats: Vec<Seat>,
+}
+
+impl Model for Seats {
+    ghost use Rattle.std.specs.Prelude.{List};
+    ghost use Rattle.std.specs.Coded.{coded_list};
+    ghost use Rattle.session_engine.specs.declared.seats.Seat.{Seat};
+    ghost use Rattle.session_engine.specs.contracts.seats.Seat as of_seat;
+
+    ghost Value = { List Seat };
+
+    ghost coded = { coded_list of_seat.the_row.coded };
+
+    ghost view = { λ s. s.seats.items };
+}
+
+impl Seats {
+    pub fn new(alloc: Global) -> Self
+        ensures { result ≡ [] }
+    {
+        Seats {
+            seats: Vec::new(alloc),
+        }
+    }
+
+    /// Another session, which is idle.
+    pub fn join(&mut self) -> Result<(), AllocError>
+        ensures ok { OnOk result (self.new ≡ self.old ++ Seat.Idle ∷ []) }
+        ensures err { OnErr result (self.new ≡ self.old) }
+    {
+        self.seats.push(Seat::Idle)?;
+        Ok(())
+    }
+
+    pub fn is_working(&self, session: u32) -> bool
+        requires { session < length self.now }
+        ensures { result ≡ is_working (seat_at self.now session) }
+    {
+        match &self.seats[session as usize] {
+            Seat::Idle | Seat::Left => false,
+            Seat::Busy(_) | Seat::Leaving => true,
+        }
+    }
+
+    pub fn has_left(&self, session: u32) -> bool
+        requires { session < length self.now }
+        ensures { result ≡ has_left (seat_at self.now session) }
+    {
+        matches!(&self.seats[session as usize], Seat::Left)
+    }
+
+    /// Puts a seat in the session's place, and gives back the one that was there.
+    pub fn replace(&mut self, session: u32, seat: Seat) -> Seat
+        requires { session < length self.old }
+        ensures was { result ≡ seat_at self.old session }
+        ensures is { self.new ≡ slice_set self.old session seat }
+    {
+        std::mem::replace(&mut self.seats[session as usize], seat)
+    }
+}

@@ -1,0 +1,111 @@
+//! The steps of a session: of its statement, of the acknowledgement that this owes, and of the session's ending.
+
+ghost use Rattle.std.specs.Prelude.{◌≡◌, ◌<◌, ◌≤◌, length, IfOk};
+ghost use Rattle.inno_types.specs.declared.reply.Item.TheVariants.{Sql};
+ghost use Rattle.inno_model.specs.Past.{own, IsOpen};
+ghost use Rattle.sql_history.specs.Counts.{last_moment};
+ghost use Rattle.statement.specs.Running.{IsReadFrom, IsRunning, ReadsItem};
+ghost use Rattle.session_engine.specs.Calls.{GoesBy, Settled, GoesOut};
+ghost use Rattle.session_engine.specs.Seats.{IsGoingOut};
+ghost use Rattle.session_engine.specs.Going.{NearsBy, NearsEnding};
+
+use crate::seats::Seat;
+use inno_types::{Item, Reply};
+use shared_lists::{SharedLists, Undone};
+use sql_lists::{Advance, SqlLists};
+use sql_prefix::parse;
+use sql_text::ParseBad;
+use statement::Statement;
+use std::alloc::Global;
+use store_api::{NoMemory, Progress};
+
+/// The statement of an item, before its first step.
+pub fn read_item(alloc: Global, item: &Item) -> Result<Statement, NoMemory>
+    requires { (text : _) × (item.now ≡ Sql text) }
+    ensures { IfOk result (ReadsItem item.now) }
+{
+    let Item::Sql(text) = item else {
+        unreachable!()
+    };
+    read(alloc, text.as_slice())
+}
+
+/// The statement that a text spells, before its first step.
+fn read(alloc: Global, text: &[u8]) -> Result<Statement, NoMemory>
+    ensures { IfOk result (IsReadFrom text.now) }
+{
+    match parse(alloc, text) {
+        Ok(stmt) => Ok(Statement::Asked(stmt)),
+        Err(ParseBad::Syntax { at }) => Ok(Statement::Unread { at }),
+        Err(ParseBad::NoMemory) => Err(NoMemory),
+    }
+}
+
+/// A step of the session's statement, or the acknowledgement of its commit at this moment.
+pub fn go_on<L: SharedLists>(
+    alloc: Global,
+    statement: Statement,
+    s: u32,
+    moment: u64,
+    lists: &mut SqlLists<L>,
+) -> (Statement, Advance)
+    requires joined { s < length lists.old.names }
+    requires running { IsRunning lists.old s statement }
+    requires later { last_moment lists.old.past ≤ moment }
+    ensures goes { GoesBy s moment lists.old lists.new statement result.0 result.1 }
+    ensures nears { NearsBy s lists.old lists.new statement result.0 result.1 }
+{
+    if statement.owes_ack() {
+        lists.ack(s, moment);
+        return (statement.acked(), Advance::Went);
+    }
+    statement.step(alloc, s, lists)
+}
+
+/// The seat and the answer that a statement's step comes to.
+pub fn settled(statement: Statement, advance: Advance) -> (Seat, Progress)
+    ensures { Settled statement advance result.0 result.1 }
+{
+    match advance {
+        Advance::Went => (Seat::Busy(statement), Progress::Went),
+        Advance::Waiting { by: _, blockers } => (
+            Seat::Busy(statement),
+            Progress::Waiting { blockers },
+        ),
+        Advance::NoMemory => (Seat::Busy(statement), Progress::NoMemory),
+        Advance::Done(reply) => (Seat::Idle, Progress::Done(reply)),
+    }
+}
+
+/// A step of a session's ending: its changes are taken back, the newest first, and then its transaction is rolled back.
+pub fn go_out<L: SharedLists>(s: u32, lists: &mut SqlLists<L>) -> (Seat, Progress)
+    requires joined { s < length lists.old.names }
+    requires goes_out { IsGoingOut s lists.old }
+    ensures goes { GoesOut s lists.old lists.new result.0 result.1 }
+    ensures nears { NearsEnding s lists.old lists.new result.1 }
+{
+    if lists.lists().level(s).is_none() {
+        return (Seat::Left, Progress::Done(Reply::Done));
+    }
+    if lists.lists().change_count(s) > 0 {
+        return take_back(s, lists);
+    }
+    lists.roll_back(s);
+    (Seat::Leaving, Progress::Went)
+}
+
+/// A step by which the session's newest change is taken back. Where it finds no memory, it is to be made again.
+fn take_back<L: SharedLists>(s: u32, lists: &mut SqlLists<L>) -> (Seat, Progress)
+    requires joined { s < length lists.old.names }
+    requires goes_out { IsGoingOut s lists.old }
+    requires is_open { IsOpen s lists.old.past }
+    requires stands { 0 < length (own s lists.old.past) }
+    ensures goes { GoesOut s lists.old lists.new result.0 result.1 }
+    ensures nears { NearsEnding s lists.old lists.new result.1 }
+{
+    match lists.undo(s) {
+        Undone::Went => (Seat::Leaving, Progress::Went),
+        Undone::Undone => (Seat::Leaving, Progress::Went),
+        Undone::NoMemory => (Seat::Leaving, Progress::NoMemory),
+    }
+}
