@@ -46,7 +46,9 @@ module _ (txn other index : ℕ) (key : List ℕ) (differ : txn ≢ other) where
       (λ is. absurd (true_false _ (second (is_record_lock_at other index key held) _ alone) (ap not is))) (λ is_not. is_not) in
       let conflict : conflicts held lock ≡ true =
       both _ _ (both _ _ others (ap (λ (s : Spot). same_spot s lock.spot) spots ∙ spot_refl lock.spot))
-      (record_kinds (kind_of held) held.mode (kind_of lock) lock.mode (second (is_lock_at other index (Some key) held) _ (first (is_record_lock_at other index key held) _ alone)) (second (is_lock_at txn index (Some key) lock) _ mine) shared) in
+      (record_kinds (kind_of held) held.mode (kind_of lock) lock.mode
+      (second (is_lock_at other index (Some key) held) _ (first (is_record_lock_at other index key held) _ alone))
+      (second (is_lock_at txn index (Some key) lock) _ mine) shared) in
       let kind : is_intent lock.kind ≡ false = sym (intent_of (is_some lock.spot.key) lock.kind) ∙ no_intent (kind_of lock)
       (second (is_lock_at txn index (Some key) lock) _ mine) in
       true_false _ beside (ap (λ b. b || not (conflicts held lock)) kind ∙ ap not conflict)
@@ -55,7 +57,8 @@ module _ (txn other index : ℕ) (key : List ℕ) (differ : txn ≢ other) where
       → AllByRecursion (λ lock. stands_beside held lock ≡ true) locks → ⊥
   clash_one held [] alone has beside = cc
   clash_one held (lock ∷ locks) alone has beside =
-      elim (or_cases (is_record_lock_at txn index key lock) _ has) [ inl this ↦ clash held lock alone this beside.0 | inr rest ↦ clash_one held locks alone rest beside.1 ]
+      elim (or_cases (is_record_lock_at txn index key lock) _ has)
+      [ inl this ↦ clash held lock alone this beside.0 | inr rest ↦ clash_one held locks alone rest beside.1 ]
 
   clash_all : (some locks : List Lock) → list_any is_alone some ≡ true → has_record txn index key locks ≡ true
       → AllByRecursion (λ held. AllByRecursion (λ lock. stands_beside held lock ≡ true) locks) some → ⊥

@@ -85,7 +85,8 @@ module _ (lock : Lock) where
             (λ unlike. subst (λ b. list_any p (cond (not b) (w ∷ without_lock lock held) (without_lock lock held)) ≡ true) (sym unlike) (or_left _ _ this))
         | inr rest ↦
             let left = older_stay p kinds held (or_false-right (covers w lock) _ free) rest in
-            elim (same_lock w lock) as (λ b. list_any p (cond (not b) (w ∷ without_lock lock held) (without_lock lock held)) ≡ true) [ true ↦ left | false ↦ or_right (p w) _ left ]
+            elim (same_lock w lock) as (λ b. list_any p (cond (not b) (w ∷ without_lock lock held) (without_lock lock held)) ≡ true)
+            [ true ↦ left | false ↦ or_right (p w) _ left ]
       ]
 
   front_stays : (p : Lock → Bool) (xs ys : List Lock) → list_any p (without_lock lock xs) ≡ true → list_any p (without_lock lock (xs ++ ys)) ≡ true
@@ -119,5 +120,6 @@ module _ (lock : Lock) where
           (λ held own. no_intent_of_record (kind_of held) (second (is_lock_at txn index (Some key) held) _ own)) has;
       alone = λ key has.
           stays (λ held. is_record_lock_at txn index key held && not (is_shared held.mode))
-          (λ held own. no_intent_of_record (kind_of held) (second (is_lock_at txn index (Some key) held) _ (first (is_record_lock_at txn index key held) _ own))) has;
+          (λ held own. no_intent_of_record (kind_of held)
+          (second (is_lock_at txn index (Some key) held) _ (first (is_record_lock_at txn index key held) _ own))) has;
     }

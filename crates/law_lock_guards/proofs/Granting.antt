@@ -87,8 +87,10 @@ module _ (lock : Lock) where
   has_one p mine others old new is =
       subst (λ (t : Table). list_any p t.granted ≡ true) (sym is.lists)
       (split (is_covered old.granted lock)
-      (λ covered. subst (λ b. list_any p (cond b old.granted (old.granted ++ lock ∷ [])) ≡ true) (sym covered) (any_other (λ held. covers held lock) p others old.granted covered))
-      (λ free. subst (λ b. list_any p (cond b old.granted (old.granted ++ lock ∷ [])) ≡ true) (sym free) (any_behind p old.granted (lock ∷ []) (alone_there p mine))))
+      (λ covered. subst (λ b. list_any p (cond b old.granted (old.granted ++ lock ∷ [])) ≡ true) (sym covered)
+      (any_other (λ held. covers held lock) p others old.granted covered))
+      (λ free. subst (λ b. list_any p (cond b old.granted (old.granted ++ lock ∷ [])) ≡ true) (sym free)
+      (any_behind p old.granted (lock ∷ []) (alone_there p mine))))
     where
       alone_there : (q : Lock → Bool) → q lock ≡ true → list_any q (lock ∷ []) ≡ true
       alone_there q is = ap (λ b. b || false) is
@@ -114,4 +116,5 @@ module _ (lock : Lock) where
     granted_alone old new is own alone =
         has_one (λ held. is_record_lock_at lock.txn lock.spot.index key held && not (is_shared held.mode))
         (both _ _ (both _ _ (at_key lock itself) own) (ap not alone))
-        (λ held covered. both _ _ (both _ _ (at_key held (covered_here held covered)) (covers_record (kind_of held) (kind_of lock) (kinds held covered) own)) (held_alone held covered alone)) old new is
+        (λ held covered. both _ _ (both _ _ (at_key held (covered_here held covered)) (covers_record (kind_of held) (kind_of lock) (kinds held covered) own))
+        (held_alone held covered alone)) old new is

@@ -34,7 +34,8 @@ pub record KeepsLocks (txn index : ℕ) (old new : List Lock) : Type 0 where
 
 pub guards_kept : (txn index : ℕ) (records : List (List ℕ)) (key : List ℕ) (old new : List Lock) → KeepsLocks txn index old new
     → Guards txn index records old key → Guards txn index records new key
-guards_kept txn index records key old new keeps was = record { gap = λ spot at. keeps.gaps spot (was.gap spot at); own = λ stands. keeps.records key (was.own stands) }
+guards_kept txn index records key old new keeps was =
+    record { gap = λ spot at. keeps.gaps spot (was.gap spot at); own = λ stands. keeps.records key (was.own stands) }
 
 pub guarded_kept : (txn index : ℕ) (records : List (List ℕ)) (key : List ℕ) (made : ℕ) (log : List Undo) (old new : List Lock)
     → KeepsLocks txn index old new → Guarded txn index records old key made log → Guarded txn index records new key made log
@@ -87,19 +88,22 @@ differs a b other same differ = split (a == other) (λ is. absurd (differ (sym (
 pub ended_locks : (txn index other : ℕ) (granted waiting : List Lock) → txn ≢ other → KeepsLocks txn index granted (after_end other granted waiting).granted
 ended_locks txn index other granted waiting differ =
     all_locks txn index granted (after_end other granted waiting).granted
-    (λ p own has. any_served p (without other granted) [] (without other waiting) (any_kept p (λ lock. not (lock.txn == other)) (λ lock is. differs lock.txn txn other (own lock is) differ) granted has))
+    (λ p own has. any_served p (without other granted) [] (without other waiting)
+    (any_kept p (λ lock. not (lock.txn == other)) (λ lock is. differs lock.txn txn other (own lock is) differ) granted has))
 
 pub given_back_locks : (txn index : ℕ) (gone : Lock) (granted waiting : List Lock) → txn ≢ gone.txn
     → KeepsLocks txn index granted (serve (without_lock gone granted) [] waiting).granted
 given_back_locks txn index gone granted waiting differ =
     all_locks txn index granted (serve (without_lock gone granted) [] waiting).granted
-    (λ p own has. any_served p (without_lock gone granted) [] waiting (any_kept p (λ lock. not (same_lock lock gone)) (λ lock is. not_gone lock (own lock is)) granted has))
+    (λ p own has. any_served p (without_lock gone granted) [] waiting
+    (any_kept p (λ lock. not (same_lock lock gone)) (λ lock is. not_gone lock (own lock is)) granted has))
   where
     not_gone : (lock : Lock) → (lock.txn == txn) ≡ true → not (same_lock lock gone) ≡ true
     not_gone lock own =
         split (lock.txn == gone.txn)
         (λ is. absurd (differ (sym (eqb-true lock.txn txn own) ∙ eqb-true lock.txn gone.txn is)))
-        (λ is_not. ap (λ b. not (b && same_spot lock.spot gone.spot && same_kind lock.kind gone.kind && same_mode lock.mode gone.mode && same_reason lock.reason gone.reason)) is_not)
+        (λ is_not. ap (λ b. not (b && same_spot lock.spot gone.spot && same_kind lock.kind gone.kind && same_mode lock.mode gone.mode && same_reason
+        lock.reason gone.reason)) is_not)
 
 -- ---- a record is inserted
 
@@ -110,18 +114,25 @@ module _ (txn inserter : ℕ) (records : List (List ℕ)) (new_key key : List �
 
   kept_gap : (spot : Option (List ℕ)) → has_gap txn new.index spot old ≡ true → has_gap txn new.index spot locks ≡ true
   kept_gap spot has = subst (λ (ls : List Lock). has_gap txn new.index spot ls ≡ true) (sym inserts.locks_are)
-      (any_front (is_gap_lock_at txn new.index spot) (old ++ copies inserter new next old) inserts.more (any_front (is_gap_lock_at txn new.index spot) old (copies inserter new next old) has))
+      (any_front (is_gap_lock_at txn new.index spot) (old ++ copies inserter new next old) inserts.more
+      (any_front (is_gap_lock_at txn new.index spot) old (copies inserter new next old) has))
 
   kept_record : (k : List ℕ) → has_record txn new.index k old ≡ true → has_record txn new.index k locks ≡ true
   kept_record k has = subst (λ (ls : List Lock). has_record txn new.index k ls ≡ true) (sym inserts.locks_are)
-      (any_front (is_record_lock_at txn new.index k) (old ++ copies inserter new next old) inserts.more (any_front (is_record_lock_at txn new.index k) old (copies inserter new next old) has))
+      (any_front (is_record_lock_at txn new.index k) (old ++ copies inserter new next old) inserts.more
+      (any_front (is_record_lock_at txn new.index k) old (copies inserter new next old) has))
 
   at_next : has_gap txn new.index next.key old ≡ true → has_gap txn next.index next.key old ≡ true
   at_next has = subst (λ i. has_gap txn i next.key old ≡ true) (sym index_same) has
 
   -- whoever has the gap of the next spot is the inserter
   its_own : has_gap txn new.index next.key old ≡ true → txn ≡ inserter
-  its_own has = elim (cases_eq txn inserter) [ inl same ↦ same | inr differ ↦ absurd (only_inserter inserter next inserts.intention txn old differ inserts.may (at_next has)) ]
+  its_own has =
+      elim (cases_eq txn inserter) [
+        | inl same ↦ same
+        | inr differ ↦ absurd
+            (only_inserter inserter next inserts.intention txn old differ inserts.may (at_next has))
+      ]
 
   gap_of_new : has_gap txn new.index next.key old ≡ true → has_gap txn new.index (Some new_key) locks ≡ true
   gap_of_new has =
@@ -144,7 +155,8 @@ module _ (txn inserter : ℕ) (records : List (List ℕ)) (new_key key : List �
       | inl same ↦
           let is : new_key ≡ key = (bytes_decides new_key key).0 same in
           let mine : txn ≡ inserter = its_own
-          (was.gap next.key (subst (λ (k : List ℕ). IsSpotOf records k next.key) is (new_spot records new_key new_key next.key inserts.insertion.next_stands inserts.insertion.follows))) in
+          (was.gap next.key (subst (λ (k : List ℕ). IsSpotOf records k next.key) is
+          (new_spot records new_key new_key next.key inserts.insertion.next_stands inserts.insertion.follows))) in
           subst (λ t. has_record t new.index key locks ≡ true) (sym mine)
           (subst (λ (k : List ℕ). has_record inserter new.index k locks ≡ true) is inserts.its_own)
       | inr there ↦ kept_record key (was.own there)
@@ -167,7 +179,8 @@ module _ (txn : ℕ) (by : Option ℕ) (records : List (List ℕ)) (gone_key key
   not_there : (spot : Option (List ℕ)) → spot ≢ Some gone_key → (lock : Lock) → is_lock_at txn gone.index spot lock ≡ true → same_spot lock.spot gone ≡ false
   not_there spot other lock is =
       split (same_spot lock.spot gone)
-      (λ same. absurd (other (sym (lock_at txn gone.index spot lock is).key ∙ ap (λ (s : Spot). s.key) (spot_same lock.spot gone same) ∙ removes.removal.gone_key)))
+      (λ same. absurd (other (sym (lock_at txn gone.index spot lock is).key ∙ ap (λ (s : Spot). s.key) (spot_same lock.spot gone same) ∙
+      removes.removal.gone_key)))
       (λ is_not. is_not)
 
   kept : (p : Lock → Bool) (spot : Option (List ℕ)) → spot ≢ Some gone_key → ((lock : Lock) → p lock ≡ true → is_lock_at txn gone.index spot lock ≡ true)
@@ -196,13 +209,16 @@ module _ (txn : ℕ) (by : Option ℕ) (records : List (List ℕ)) (gone_key key
 
   pub removed_guards : AllByRecursion FitsItsRule granted → Guards txn gone.index records granted key → Guards txn gone.index left after key
   removed_guards fit was = record {
-    gap = λ spot at. elim (spot_after gone_key records next.key (subst (λ (s : Option (List ℕ)). stands_in records s ≡ true) removes.removal.gone_key removes.stands) removes.next_stands removes.removal.follows key spot at) [
-      | inl before ↦ kept (is_gap_lock_at txn gone.index spot) spot
-          (λ e. gone_not gone_key records (subst (λ (s : Option (List ℕ)). stands_in left s ≡ true) e at.stands))
-          (λ lock is. first (is_lock_at txn gone.index spot lock) _ is) (was.gap spot before)
-      | inr (here, before) ↦ subst (λ (s : Option (List ℕ)). has_gap txn gone.index s after ≡ true) (sym here)
-          (moved_to_next fit (was.gap (Some gone_key) before))
-    ];
+    gap =
+        λ spot at. elim (spot_after gone_key records next.key
+        (subst (λ (s : Option (List ℕ)). stands_in records s ≡ true) removes.removal.gone_key removes.stands) removes.next_stands removes.removal.follows
+        key spot at) [
+          | inl before ↦ kept (is_gap_lock_at txn gone.index spot) spot
+              (λ e. gone_not gone_key records (subst (λ (s : Option (List ℕ)). stands_in left s ≡ true) e at.stands))
+              (λ lock is. first (is_lock_at txn gone.index spot lock) _ is) (was.gap spot before)
+          | inr (here, before) ↦ subst (λ (s : Option (List ℕ)). has_gap txn gone.index s after ≡ true) (sym here)
+              (moved_to_next fit (was.gap (Some gone_key) before))
+        ];
     own = λ stands. removed_record key (λ e. gone_not gone_key records (subst (Stands left) e stands)) (was.own (stood gone_key records key stands));
   }
 

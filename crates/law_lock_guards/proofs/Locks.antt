@@ -35,7 +35,8 @@ any_behind p xs ys h = list_any-append p xs ys ∙ or_right _ _ h
 pub any_served : (p : Lock → Bool) (held earlier queue : List Lock) → list_any p held ≡ true → list_any p (serve held earlier queue).granted ≡ true
 any_served p held earlier [] h = h
 any_served p held earlier (asked ∷ queue) h =
-    elim (is_blocked held earlier asked) as (λ d. list_any p (cond d (serve held (earlier ++ asked ∷ []) queue) (serve (held ++ asked ∷ []) earlier queue)).granted ≡ true) [
+    elim (is_blocked held earlier asked) as (λ d. list_any p
+    (cond d (serve held (earlier ++ asked ∷ []) queue) (serve (held ++ asked ∷ []) earlier queue)).granted ≡ true) [
       | true ↦ any_served p held (earlier ++ asked ∷ []) queue h
       | false ↦ any_served p (held ++ asked ∷ []) earlier queue (any_front p held (asked ∷ []) h)
     ]
@@ -96,13 +97,15 @@ module _ (inserter : ℕ) (next : Spot) (intention : Lock) where
       both _ _ (
       split (lock.txn == intention.txn) (λ same. absurd (differ (sym at.own ∙ eqb-true lock.txn intention.txn same ∙ own))) (λ not_same. ap not not_same))
       (ap (λ (s : Spot). same_spot s intention.spot) (here ∙ sym spot) ∙ spot_refl intention.spot))
-      (ap (λ k. kinds_conflict (kind_of lock) lock.mode (kind_at (is_some intention.spot.key) k) intention.mode) kind ∙ second (is_lock_at txn next.index next.key lock) _ is)
+      (ap (λ k. kinds_conflict (kind_of lock) lock.mode (kind_at (is_some intention.spot.key) k) intention.mode) kind ∙ second
+      (is_lock_at txn next.index next.key lock) _ is)
 
   -- whoever has the gap of the next spot is the one who may insert before it
   pub only_inserter : (txn : ℕ) (locks : List Lock) → txn ≢ inserter → MayInsert inserter next locks intention
       → has_gap txn next.index next.key locks ≡ true → ⊥
   only_inserter txn locks differ may has =
-      true_false _ (any_other (is_gap_lock_at txn next.index next.key) (λ held. conflicts held intention) (blocks txn differ may.own may.kind may.spot) locks has) may.free
+      true_false _ (any_other (is_gap_lock_at txn next.index next.key) (λ held. conflicts held intention) (blocks txn differ may.own may.kind may.spot) locks
+      has) may.free
 
 -- and has it on the new record too
 pub has_copy : (txn : ℕ) (new next : Spot) (locks : List Lock) → has_gap txn next.index next.key locks ≡ true
@@ -115,12 +118,16 @@ has_copy txn new next (lock ∷ locks) has =
           let copied : (lock.txn == txn && same_spot lock.spot next && locks_gap lock.kind) ≡ true =
           both _ _ (both _ _ (eq-eqb lock.txn txn at.own) (ap (λ (s : Spot). same_spot s next) (spot_is lock.spot next at.here at.key) ∙ spot_refl next))
           (sym (gap_kind (is_some lock.spot.key) lock.kind) ∙ second (is_lock_at txn next.index next.key lock) _ this) in
-          subst (λ b. list_any (is_gap_lock_at txn new.index new.key) (cond b (as_gap (number_of CopiedOnInsert) new lock ∷ copies txn new next locks) (copies txn new next locks)) ≡ true)
+          subst (λ b. list_any (is_gap_lock_at txn new.index new.key)
+          (cond b (as_gap (number_of CopiedOnInsert) new lock ∷ copies txn new next locks) (copies txn new next locks)) ≡ true)
           (sym copied)
-          (or_left _ _ (both _ _ (at_lock txn new.index new.key (as_gap (number_of CopiedOnInsert) new lock) (record { own = at.own; here = refl; key = refl })) refl))
+          (or_left _ _ (both _ _ (at_lock txn new.index new.key (as_gap (number_of CopiedOnInsert) new lock)
+          (record { own = at.own; here = refl; key = refl })) refl))
       | inr rest ↦
           let more = has_copy txn new next locks rest in
-          elim (lock.txn == txn && same_spot lock.spot next && locks_gap lock.kind) as (λ b. list_any (is_gap_lock_at txn new.index new.key) (cond b (as_gap (number_of CopiedOnInsert) new lock ∷ copies txn new next locks) (copies txn new next locks)) ≡ true) [
+          elim (lock.txn == txn && same_spot lock.spot next && locks_gap lock.kind) as
+          (λ b. list_any (is_gap_lock_at txn new.index new.key)
+          (cond b (as_gap (number_of CopiedOnInsert) new lock ∷ copies txn new next locks) (copies txn new next locks)) ≡ true) [
             | true ↦ or_right _ _ more
             | false ↦ more
           ]
@@ -207,9 +214,12 @@ module _ (by : Option ℕ) (lock : Lock) where
       of_rule None is given = cc
       of_rule (Some rule) is given =
           let c = fit.0 in
-          let reason = second (is_for rule c.level && is_case_of rule c && same_spot lock.spot c.spot && same_kind lock.kind (rule_kind rule) && same_mode lock.mode (rule_mode rule c.mode)) _ given in
+          let reason =
+          second (is_for rule c.level && is_case_of rule c && same_spot lock.spot c.spot && same_kind lock.kind (rule_kind rule) && same_mode lock.mode
+          (rule_mode rule c.mode)) _ given in
           let front = first (is_for rule c.level && is_case_of rule c && same_spot lock.spot c.spot && same_kind lock.kind (rule_kind rule)) _
-          (first (is_for rule c.level && is_case_of rule c && same_spot lock.spot c.spot && same_kind lock.kind (rule_kind rule) && same_mode lock.mode (rule_mode rule c.mode)) _ given) in
+          (first (is_for rule c.level && is_case_of rule c && same_spot lock.spot c.spot && same_kind lock.kind (rule_kind rule) && same_mode lock.mode
+          (rule_mode rule c.mode)) _ given) in
           let kinds = second (is_for rule c.level && is_case_of rule c && same_spot lock.spot c.spot) _ front in
           let for_level = first (is_for rule c.level) _
           (first (is_for rule c.level && is_case_of rule c) _ (first (is_for rule c.level && is_case_of rule c && same_spot lock.spot c.spot) _ front)) in
@@ -231,7 +241,9 @@ module _ (by : Option ℕ) (gone next : Spot) where
   moved_keeps p elsewhere [] has = has
   moved_keeps p elsewhere (lock ∷ locks) has =
       elim (or_cases (p lock) _ has) [
-        | inl this ↦ subst (λ b. list_any p (cond b (cond (becomes_gap by lock) (as_gap (number_of RecordWent) next lock ∷ moved by gone next locks) (moved by gone next locks)) (lock ∷ moved by gone next locks)) ≡ true)
+        | inl this ↦ subst (λ b. list_any p (cond b
+            (cond (becomes_gap by lock) (as_gap (number_of RecordWent) next lock ∷ moved by gone next locks) (moved by gone next locks))
+            (lock ∷ moved by gone next locks)) ≡ true)
             (sym (elsewhere lock this)) (or_left _ _ this)
         | inr rest ↦ moved_more p lock locks (moved_keeps p elsewhere locks rest)
       ]
@@ -239,8 +251,12 @@ module _ (by : Option ℕ) (gone next : Spot) where
       moved_more : (p : Lock → Bool) (lock : Lock) (locks : List Lock) → list_any p (moved by gone next locks) ≡ true
           → list_any p (moved by gone next (lock ∷ locks)) ≡ true
       moved_more p lock locks more =
-          elim (same_spot lock.spot gone) as (λ b. list_any p (cond b (cond (becomes_gap by lock) (as_gap (number_of RecordWent) next lock ∷ moved by gone next locks) (moved by gone next locks)) (lock ∷ moved by gone next locks)) ≡ true) [
-            | true ↦ elim (becomes_gap by lock) as (λ b. list_any p (cond b (as_gap (number_of RecordWent) next lock ∷ moved by gone next locks) (moved by gone next locks)) ≡ true) [ true ↦ or_right _ _ more | false ↦ more ]
+          elim (same_spot lock.spot gone) as (λ b. list_any p
+          (cond b (cond (becomes_gap by lock) (as_gap (number_of RecordWent) next lock ∷ moved by gone next locks) (moved by gone next locks))
+          (lock ∷ moved by gone next locks)) ≡ true) [
+            | true ↦ elim (becomes_gap by lock) as (λ b. list_any p
+                (cond b (as_gap (number_of RecordWent) next lock ∷ moved by gone next locks) (moved by gone next locks)) ≡ true)
+                [ true ↦ or_right _ _ more | false ↦ more ]
             | false ↦ or_right _ _ more
           ]
 
@@ -254,14 +270,18 @@ module _ (by : Option ℕ) (gone next : Spot) where
             let at = lock_at txn gone.index gone.key lock (first (is_lock_at txn gone.index gone.key lock) _ this) in
             let here : same_spot lock.spot gone ≡ true = ap (λ (s : Spot). same_spot s gone) (spot_is lock.spot gone at.here at.key) ∙ spot_refl gone in
             let outlives = gap_outlives by lock fit.0 (second (is_lock_at txn gone.index gone.key lock) _ this) in
-            subst (λ b. list_any p (cond b (cond (becomes_gap by lock) (gap lock ∷ moved by gone next locks) (moved by gone next locks)) (lock ∷ moved by gone next locks)) ≡ true)
+            subst (λ b. list_any p (cond b (cond (becomes_gap by lock) (gap lock ∷ moved by gone next locks) (moved by gone next locks))
+            (lock ∷ moved by gone next locks)) ≡ true)
             (sym here)
             (subst (λ b. list_any p (cond b (gap lock ∷ moved by gone next locks) (moved by gone next locks)) ≡ true) (sym outlives)
             (or_left _ _ (both _ _ (at_lock txn next.index next.key (gap lock) (record { own = at.own; here = refl; key = refl })) refl)))
         | inr rest ↦
             let more = moved_gap txn locks fit.1 rest in
-            elim (same_spot lock.spot gone) as (λ b. list_any p (cond b (cond (becomes_gap by lock) (gap lock ∷ moved by gone next locks) (moved by gone next locks)) (lock ∷ moved by gone next locks)) ≡ true) [
-              | true ↦ elim (becomes_gap by lock) as (λ b. list_any p (cond b (gap lock ∷ moved by gone next locks) (moved by gone next locks)) ≡ true) [ true ↦ or_right _ _ more | false ↦ more ]
+            elim (same_spot lock.spot gone) as (λ b. list_any p
+            (cond b (cond (becomes_gap by lock) (gap lock ∷ moved by gone next locks) (moved by gone next locks)) (lock ∷ moved by gone next locks)) ≡
+            true) [
+              | true ↦ elim (becomes_gap by lock) as (λ b. list_any p (cond b (gap lock ∷ moved by gone next locks) (moved by gone next locks)) ≡ true)
+                  [ true ↦ or_right _ _ more | false ↦ more ]
               | false ↦ or_right _ _ more
             ]
       ]

@@ -111,7 +111,11 @@ module _ (txn by : ℕ) (records : List (List ℕ)) (gone_key key : List ℕ) (g
     | inr pinned ↦
         let other : key ≢ gone_key = λ same. true_false _ (subst (λ (k : List ℕ). is_creation gone.index k undo ≡ true) (sym same) creation)
         (not_newest gone.index key made undo log within pinned.older) in
-        inr (record { pins = removed_pins txn (Some by) records gone_key key gone next granted waiting removes other pinned.pins; older = older_less gone.index key made undo log within pinned.older })
+        inr (record {
+          pins = removed_pins txn (Some by) records gone_key key gone next granted waiting removes other pinned.pins;
+          older = older_less
+              gone.index key made undo log within pinned.older;
+        })
   ]
 
   pub removed_by_other : (log : List Undo) → txn ≢ by → AreApart granted → has_alone by gone.index gone_key granted ≡ true

@@ -123,7 +123,8 @@ module _ (records : List (List ℕ)) (new_key : List ℕ) (new next : Spot) (ins
       (λ same.
       let here : lock.spot ≡ new = spot_same lock.spot asked.spot same ∙ at in
       absurd (new_not records new_key next.key insertion.follows
-      (subst (λ (s : Option (List ℕ)). stands_in records s ≡ true) (ap (λ (s : Spot). s.key) here ∙ insertion.new_key) (all.0 (ap (λ (s : Spot). s.index) here)))))
+      (subst (λ (s : Option (List ℕ)). stands_in records s ≡ true) (ap (λ (s : Spot). s.key) here ∙ insertion.new_key)
+      (all.0 (ap (λ (s : Spot). s.index) here)))))
       (λ not_same. ap (λ b. not (lock.txn == asked.txn) && b && kinds_conflict (kind_of lock) lock.mode (kind_of asked) asked.mode) not_same
       ∙ ap (λ b. b && kinds_conflict (kind_of lock) lock.mode (kind_of asked) asked.mode) (and_false (not (lock.txn == asked.txn)))))
       (none_on_new locks all.1 asked at)
@@ -134,19 +135,24 @@ module _ (records : List (List ℕ)) (new_key : List ℕ) (new next : Spot) (ins
   own_copies txn (lock ∷ locks) asked own =
       let rest = own_copies txn locks asked own in
       split (lock.txn == txn && same_spot lock.spot next && locks_gap lock.kind)
-      (λ copied. subst (λ b. list_any (λ held. conflicts held asked) (cond b (as_gap (number_of CopiedOnInsert) new lock ∷ copies txn new next locks) (copies txn new next locks)) ≡ false)
+      (λ copied. subst (λ b. list_any (λ held. conflicts held asked)
+      (cond b (as_gap (number_of CopiedOnInsert) new lock ∷ copies txn new next locks) (copies txn new next locks)) ≡ false)
       (sym copied)
       (or_false (conflicts (as_gap (number_of CopiedOnInsert) new lock) asked) _
-      (ap (λ b. not b && same_spot new asked.spot && kinds_conflict Gap lock.mode (kind_of asked) asked.mode) (eq-eqb lock.txn asked.txn (eqb-true lock.txn txn (first (lock.txn == txn) _ (first (lock.txn == txn && same_spot lock.spot next) _ copied)) ∙ sym own)))
+      (ap (λ b. not b && same_spot new asked.spot && kinds_conflict Gap lock.mode (kind_of asked) asked.mode)
+      (eq-eqb lock.txn asked.txn (eqb-true lock.txn txn (first (lock.txn == txn) _ (first (lock.txn == txn && same_spot lock.spot next) _ copied)) ∙ sym
+      own)))
       rest))
-      (λ not_copied. subst (λ b. list_any (λ held. conflicts held asked) (cond b (as_gap (number_of CopiedOnInsert) new lock ∷ copies txn new next locks) (copies txn new next locks)) ≡ false) (sym not_copied) rest)
+      (λ not_copied. subst (λ b. list_any (λ held. conflicts held asked)
+      (cond b (as_gap (number_of CopiedOnInsert) new lock ∷ copies txn new next locks) (copies txn new next locks)) ≡ false) (sym not_copied) rest)
 
   -- so the inserter's lock of it is granted at once
   pub new_is_free : (txn : ℕ) (granted waiting : List Lock) (asked : Lock) → AllStand new.index records granted waiting → asked.txn ≡ txn
       → asked.spot ≡ new → is_blocked (granted ++ copies txn new next granted) waiting asked ≡ false
   new_is_free txn granted waiting asked all own at =
       or_false _ _
-      (list_any-append (λ lock. conflicts lock asked) granted (copies txn new next granted) ∙ or_false _ _ (none_on_new granted all.granted_stand asked at) (own_copies txn granted asked own))
+      (list_any-append (λ lock. conflicts lock asked) granted (copies txn new next granted) ∙ or_false _ _ (none_on_new granted all.granted_stand asked at)
+      (own_copies txn granted asked own))
       (none_on_new waiting all.waiting_stand asked at)
 
 need_not : (table : Table) (asked : Lock) → is_blocked table.granted table.waiting asked ≡ false → must_wait table asked ≡ false
@@ -173,7 +179,8 @@ module _ (by : Option ℕ) (records : List (List ℕ)) (gone_key : List ℕ) (go
   left_there : (lock : Lock) → same_spot lock.spot gone ≡ false → IsThere gone.index records lock → IsThere gone.index left lock
   left_there lock not_gone there here =
       spot_stays lock.spot.key
-      (λ e. true_false _ (ap (λ (s : Spot). same_spot s gone) (let same : lock.spot ≡ gone = λ i. record { index = (here i); key = ((e ∙ sym removes.removal.gone_key) i) } in same) ∙ spot_refl gone) not_gone)
+      (λ e. true_false _ (ap (λ (s : Spot). same_spot s gone)
+      (let same : lock.spot ≡ gone = λ i. record { index = (here i); key = ((e ∙ sym removes.removal.gone_key) i) } in same) ∙ spot_refl gone) not_gone)
       (there here)
 
   moved_stand : (locks : List Lock) → LocksStand gone.index records locks → LocksStand gone.index left (moved by gone next locks)
@@ -181,10 +188,16 @@ module _ (by : Option ℕ) (records : List (List ℕ)) (gone_key : List ℕ) (go
   moved_stand (lock ∷ locks) all =
       let rest = moved_stand locks all.1 in
       split (same_spot lock.spot gone)
-      (λ same. subst (λ b. LocksStand gone.index left (cond b (cond (becomes_gap by lock) (as_gap (number_of RecordWent) next lock ∷ moved by gone next locks) (moved by gone next locks)) (lock ∷ moved by gone next locks)))
+      (λ same. subst (λ b. LocksStand gone.index left
+      (cond b (cond (becomes_gap by lock) (as_gap (number_of RecordWent) next lock ∷ moved by gone next locks) (moved by gone next locks))
+      (lock ∷ moved by gone next locks)))
       (sym same)
-      (elim (becomes_gap by lock) as (λ b. LocksStand gone.index left (cond b (as_gap (number_of RecordWent) next lock ∷ moved by gone next locks) (moved by gone next locks))) [ true ↦ ((λ here. removes.next_stands), rest) | false ↦ rest ]))
-      (λ other. subst (λ b. LocksStand gone.index left (cond b (cond (becomes_gap by lock) (as_gap (number_of RecordWent) next lock ∷ moved by gone next locks) (moved by gone next locks)) (lock ∷ moved by gone next locks)))
+      (elim (becomes_gap by lock) as (λ b. LocksStand gone.index left
+      (cond b (as_gap (number_of RecordWent) next lock ∷ moved by gone next locks) (moved by gone next locks)))
+      [ true ↦ ((λ here. removes.next_stands), rest) | false ↦ rest ]))
+      (λ other. subst (λ b. LocksStand gone.index left
+      (cond b (cond (becomes_gap by lock) (as_gap (number_of RecordWent) next lock ∷ moved by gone next locks) (moved by gone next locks))
+      (lock ∷ moved by gone next locks)))
       (sym other)
       (left_there lock other all.0, rest))
 
@@ -194,11 +207,13 @@ module _ (by : Option ℕ) (records : List (List ℕ)) (gone_key : List ℕ) (go
       let rest = elsewhere_stand queue all.1 in
       split (same_spot lock.spot gone)
       (λ same. subst (λ b. LocksStand gone.index left (cond (not b) (lock ∷ elsewhere gone queue) (elsewhere gone queue))) (sym same) rest)
-      (λ other. subst (λ b. LocksStand gone.index left (cond (not b) (lock ∷ elsewhere gone queue) (elsewhere gone queue))) (sym other) (left_there lock other all.0, rest))
+      (λ other. subst (λ b. LocksStand gone.index left (cond (not b) (lock ∷ elsewhere gone queue) (elsewhere gone queue))) (sym other)
+      (left_there lock other all.0, rest))
 
   pub removed_stand : (granted waiting : List Lock) → AllStand gone.index records granted waiting
       → AllStand gone.index left (after_removal by gone next granted waiting).granted (after_removal by gone next granted waiting).waiting
   removed_stand granted waiting all =
       served_stand gone.index left (moved by gone next granted ++ left_by by gone next waiting) (elsewhere gone waiting)
-      (all_append (IsThere gone.index left) (moved by gone next granted) (left_by by gone next waiting) (moved_stand granted all.granted_stand) (all_left (IsThere gone.index left) by gone next (λ lock here. removes.next_stands) waiting))
+      (all_append (IsThere gone.index left) (moved by gone next granted) (left_by by gone next waiting) (moved_stand granted all.granted_stand)
+      (all_left (IsThere gone.index left) by gone next (λ lock here. removes.next_stands) waiting))
       (elsewhere_stand waiting all.waiting_stand)

@@ -132,7 +132,8 @@ least key (r ∷ records) absent =
               stands = one_more r records rest.spot rest.stands;
               gap = in_gap-from (r ∷ records) rest.spot key (in_gap-before records rest.spot key rest.gap) (λ q stands before.
                   elim (or_cases (pointwise nat_eq r q) _ stands) [
-                    | inl same ↦ absurd (true_false _ (subst (λ (k : List ℕ). is_before k rest.spot ≡ true) (sym ((bytes_decides r q).0 same)) before) not_before)
+                    | inl same ↦ absurd (true_false _ (subst (λ (k : List ℕ). is_before k rest.spot ≡ true) (sym ((bytes_decides r q).0 same)) before)
+                        not_before)
                     | inr there ↦ in_gap-behind records rest.spot key q rest.gap there before
                   ]);
             })
@@ -159,15 +160,23 @@ module _ (records : List (List ℕ)) (new key : List ℕ) (next : Option (List �
     | inl same ↦ subst (λ (k : List ℕ). IsSpotOf records k next) (let e : new ≡ key = cc in e) new_spot
     | inr gap ↦ record {
       stands = next_stands;
-      at = inr (in_gap-from records next key (before_trans key new next (in_gap-before (new ∷ records) (Some new) key gap) (in_gap-before records next new follows))
-          (λ q stands before. in_gap-behind (new ∷ records) (Some new) key q gap (or_right (pointwise nat_eq new q) _ stands) (in_gap-behind records next new q follows stands before)));
+      at =
+          inr (in_gap-from records next key (before_trans key new next (in_gap-before (new ∷ records) (Some new) key gap)
+          (in_gap-before records next new follows))
+          (λ q stands before. in_gap-behind (new ∷ records) (Some new) key q gap (or_right (pointwise nat_eq new q) _ stands)
+          (in_gap-behind records next new q follows stands before)));
     }
   ]
 
   still_spot : (spot : Option (List ℕ)) → stands_in records spot ≡ true → IsSpotOf (new ∷ records) key spot → IsSpotOf records key spot
   still_spot spot stands now = record {
     stands = stands;
-    at = elim now.at [ inl same ↦ inl same | inr gap ↦ inr (in_gap-fewer (new ∷ records) records spot key (λ q there. or_right (pointwise nat_eq new q) _ there) gap) ];
+    at =
+        elim now.at [
+          | inl same ↦ inl same
+          | inr gap ↦ inr
+              (in_gap-fewer (new ∷ records) records spot key (λ q there. or_right (pointwise nat_eq new q) _ there) gap)
+        ];
   }
 
   -- The spot of a key is what it was, or the new record, and was the next spot then.
@@ -188,8 +197,11 @@ module _ (gone : List ℕ) where
   stood [] q stands = stands
   stood (r ∷ records) q stands =
       split (pointwise nat_eq r gone)
-      (λ is. or_right (pointwise nat_eq r q) _ (stood records q (subst (λ b. list_any (λ k. pointwise nat_eq k q) (cond (not b) (r ∷ without_record gone records) (without_record gone records)) ≡ true) is stands)))
-      (λ is_not. elim (or_cases (pointwise nat_eq r q) _ (subst (λ b. list_any (λ k. pointwise nat_eq k q) (cond (not b) (r ∷ without_record gone records) (without_record gone records)) ≡ true) is_not stands)) [
+      (λ is. or_right (pointwise nat_eq r q) _ (stood records q
+      (subst (λ b. list_any (λ k. pointwise nat_eq k q) (cond (not b) (r ∷ without_record gone records) (without_record gone records)) ≡ true) is stands)))
+      (λ is_not. elim (or_cases (pointwise nat_eq r q) _
+      (subst (λ b. list_any (λ k. pointwise nat_eq k q) (cond (not b) (r ∷ without_record gone records) (without_record gone records)) ≡ true) is_not
+      stands)) [
         | inl same ↦ or_left _ _ same
         | inr rest ↦ or_right (pointwise nat_eq r q) _ (stood records q rest)
       ])
@@ -214,8 +226,11 @@ module _ (gone : List ℕ) where
   gone_not [] stands = cc
   gone_not (r ∷ records) stands =
       split (pointwise nat_eq r gone)
-      (λ is. gone_not records (subst (λ b. list_any (λ k. pointwise nat_eq k gone) (cond (not b) (r ∷ without_record gone records) (without_record gone records)) ≡ true) is stands))
-      (λ is_not. elim (or_cases (pointwise nat_eq r gone) _ (subst (λ b. list_any (λ k. pointwise nat_eq k gone) (cond (not b) (r ∷ without_record gone records) (without_record gone records)) ≡ true) is_not stands)) [
+      (λ is. gone_not records (subst (λ b. list_any (λ k. pointwise nat_eq k gone)
+      (cond (not b) (r ∷ without_record gone records) (without_record gone records)) ≡ true) is stands))
+      (λ is_not. elim (or_cases (pointwise nat_eq r gone) _
+      (subst (λ b. list_any (λ k. pointwise nat_eq k gone) (cond (not b) (r ∷ without_record gone records) (without_record gone records)) ≡ true) is_not
+      stands)) [
         | inl same ↦ true_false _ same is_not
         | inr rest ↦ gone_not records rest
       ])
@@ -238,7 +253,8 @@ module _ (gone : List ℕ) where
         | inl same ↦ inl same
         | inr gap ↦ inr (in_gap-from records spot key (in_gap-before left spot key gap) (λ q stands before.
             split (pointwise nat_eq q gone)
-            (λ is. subst (λ (k : List ℕ). is_below k key ≡ true) (sym ((bytes_decides q gone).0 is)) (apart (subst (λ (k : List ℕ). is_before k spot ≡ true) ((bytes_decides q gone).0 is) before)))
+            (λ is. subst (λ (k : List ℕ). is_below k key ≡ true) (sym ((bytes_decides q gone).0 is))
+            (apart (subst (λ (k : List ℕ). is_before k spot ≡ true) ((bytes_decides q gone).0 is) before)))
             (λ is_not. in_gap-behind left spot key q gap (stays records q (λ e. true_false _ ((bytes_decides q gone).1 e) is_not) stands) before)))
       ];
     }

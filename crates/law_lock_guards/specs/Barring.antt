@@ -20,7 +20,8 @@ pub record ChangedRow : Type 0 where
 -- there is no row, or the entry is the one from before, or it stands and the transaction has it alone
 abbrev pub IsOwnEntry : ℕ → ℕ → List (List ℕ) → List Lock → Option (List ℕ) → Option (List ℕ) → Type 0
 IsOwnEntry txn index records locks before None = Unit {0}
-IsOwnEntry txn index records locks before (Some entry) = (before ≡ Some entry) ⊎ ((stands_in records (Some entry) ≡ true) × (has_alone txn index entry locks ≡ true))
+IsOwnEntry txn index records locks before (Some entry) =
+    (before ≡ Some entry) ⊎ ((stands_in records (Some entry) ≡ true) × (has_alone txn index entry locks ≡ true))
 
 -- the transaction has the row's record alone, and each entry that it has given the row
 pub record Owns (txn clustered index : ℕ) (records : List (List ℕ)) (locks : List Lock) (row : ChangedRow) : Type 0 where
@@ -33,4 +34,5 @@ KeepsRange txn index records locks range made log = (key : List ℕ) → is_with
 
 -- where the row was in the range before it was changed, the transaction has locked its record
 abbrev pub KeepsRow : ℕ → ℕ → List Lock → Range → ChangedRow → Type 0
-KeepsRow txn clustered locks range row = (entry : List ℕ) → row.before ≡ Some entry → is_within range (Some entry) ≡ true → has_record txn clustered row.key locks ≡ true
+KeepsRow txn clustered locks range row =
+    (entry : List ℕ) → row.before ≡ Some entry → is_within range (Some entry) ≡ true → has_record txn clustered row.key locks ≡ true

@@ -143,7 +143,8 @@ pub edge_from_wait : (granted waiting : List Lock) (e : Edge) → AreSingle wait
 edge_from_wait granted waiting e single wait =
     contains_from_in _ e
     (subst (IsIn (edges_of e.waiter granted waiting)) wait.is
-    (ahead e.waiter granted [] waiting single wait.asked e.lock wait.there wait.own wait.blocks (elim wait.from [ inl held ↦ inl held | inr order ↦ inr (inr order) ])))
+    (ahead e.waiter granted [] waiting single wait.asked e.lock wait.there wait.own wait.blocks
+    (elim wait.from [ inl held ↦ inl held | inr order ↦ inr (inr order) ])))
 
 -- ---- in a cycle
 
@@ -169,7 +170,8 @@ module _ (granted waiting : List Lock) (cycle : List Edge) (is : IsCycle granted
   pub holder_waits : (e : Edge) → IsIn cycle e → is_waiting e.holder waiting ≡ true
   holder_waits e there =
       waiters_wait e.holder
-      (elim (in_cases (drop 1 (waiters cycle)) (take 1 (waiters cycle)) e.holder (subst (λ (ts : List ℕ). IsIn ts e.holder) is.closes (in_map (λ (f : Edge). f.holder) cycle e there))) [
+      (elim (in_cases (drop 1 (waiters cycle)) (take 1 (waiters cycle)) e.holder
+      (subst (λ (ts : List ℕ). IsIn ts e.holder) is.closes (in_map (λ (f : Edge). f.holder) cycle e there))) [
         | inl behind ↦ drop_in (waiters cycle) e.holder behind
         | inr first ↦ take_in 1 (waiters cycle) e.holder first
       ])

@@ -59,7 +59,8 @@ part_less (e ∷ earlier) w queue = part_behind e (earlier ++ queue) (earlier ++
 pub served_part : (held earlier queue : List Lock) → IsPart (serve held earlier queue).waiting (earlier ++ queue)
 served_part held earlier [] = subst (IsPart earlier) (sym (append-nil earlier)) (part_itself earlier)
 served_part held earlier (asked ∷ queue) =
-    elim (is_blocked held earlier asked) as (λ b. IsPart (cond b (serve held (earlier ++ asked ∷ []) queue) (serve (held ++ asked ∷ []) earlier queue)).waiting (earlier ++ asked ∷ queue)) [
+    elim (is_blocked held earlier asked) as (λ b. IsPart
+    (cond b (serve held (earlier ++ asked ∷ []) queue) (serve (held ++ asked ∷ []) earlier queue)).waiting (earlier ++ asked ∷ queue)) [
       | true ↦ subst (IsPart (serve held (earlier ++ asked ∷ []) queue).waiting) (append_assoc earlier (asked ∷ []) queue)
           (served_part held (earlier ++ asked ∷ []) queue)
       | false ↦ part_of_part _ (earlier ++ queue) _ (served_part (held ++ asked ∷ []) earlier queue) (part_less earlier asked queue)
@@ -92,7 +93,8 @@ single_out (e ∷ earlier) asked queue single =
 
 single_rest : (earlier : List Lock) (asked : Lock) (queue : List Lock) → AreSingle (earlier ++ asked ∷ queue) → AreSingle (earlier ++ queue)
 single_rest [] asked queue single = single.1
-single_rest (e ∷ earlier) asked queue single = (part_waits (earlier ++ queue) (earlier ++ asked ∷ queue) (part_less earlier asked queue) e.txn single.0, single_rest earlier asked queue single.1)
+single_rest (e ∷ earlier) asked queue single =
+    (part_waits (earlier ++ queue) (earlier ++ asked ∷ queue) (part_less earlier asked queue) e.txn single.0, single_rest earlier asked queue single.1)
 
 -- whoever's request is granted waits no longer
 pub served_locks : (held earlier queue : List Lock) → AreSingle (earlier ++ queue) → (lock : Lock) → IsIn (serve held earlier queue).granted lock
@@ -101,12 +103,14 @@ served_locks held earlier [] single lock there = inl there
 served_locks held earlier (asked ∷ queue) single lock there =
     split (is_blocked held earlier asked)
     (λ blocked.
-    subst (λ b. IsIn held lock ⊎ (is_waiting lock.txn (cond b (serve held (earlier ++ asked ∷ []) queue) (serve (held ++ asked ∷ []) earlier queue)).waiting ≡ false))
+    subst (λ b. IsIn held lock ⊎ (is_waiting lock.txn (cond b (serve held (earlier ++ asked ∷ []) queue) (serve (held ++ asked ∷ []) earlier queue)).waiting
+    ≡ false))
     (sym blocked)
     (served_locks held (earlier ++ asked ∷ []) queue (subst AreSingle (sym (append_assoc earlier (asked ∷ []) queue)) single) lock
     (subst (λ b. IsIn (cond b (serve held (earlier ++ asked ∷ []) queue) (serve (held ++ asked ∷ []) earlier queue)).granted lock) blocked there)))
     (λ free.
-    subst (λ b. IsIn held lock ⊎ (is_waiting lock.txn (cond b (serve held (earlier ++ asked ∷ []) queue) (serve (held ++ asked ∷ []) earlier queue)).waiting ≡ false))
+    subst (λ b. IsIn held lock ⊎ (is_waiting lock.txn (cond b (serve held (earlier ++ asked ∷ []) queue) (serve (held ++ asked ∷ []) earlier queue)).waiting
+    ≡ false))
     (sym free)
     (elim (served_locks (held ++ asked ∷ []) earlier queue (single_rest earlier asked queue single) lock
     (subst (λ b. IsIn (cond b (serve held (earlier ++ asked ∷ []) queue) (serve (held ++ asked ∷ []) earlier queue)).granted lock) free there)) [
@@ -126,7 +130,8 @@ served_locks held earlier (asked ∷ queue) single lock there =
 pub served_fewer : (held earlier queue : List Lock) → length (serve held earlier queue).waiting ≤ length earlier + length queue
 served_fewer held earlier [] = omega arith
 served_fewer held earlier (asked ∷ queue) =
-    elim (is_blocked held earlier asked) as (λ b. length (cond b (serve held (earlier ++ asked ∷ []) queue) (serve (held ++ asked ∷ []) earlier queue)).waiting ≤ length earlier + length (asked ∷ queue)) [
+    elim (is_blocked held earlier asked) as (λ b. length
+    (cond b (serve held (earlier ++ asked ∷ []) queue) (serve (held ++ asked ∷ []) earlier queue)).waiting ≤ length earlier + length (asked ∷ queue)) [
       | true ↦ omega (arith, served_fewer held (earlier ++ asked ∷ []) queue, length-append earlier (asked ∷ []))
       | false ↦ omega (arith, served_fewer (held ++ asked ∷ []) earlier queue)
     ]
@@ -143,7 +148,8 @@ pub without_fewer : (txn : ℕ) (queue : List Lock) → is_waiting txn queue ≡
 without_fewer txn [] waits = cc
 without_fewer txn (w ∷ queue) waits =
     split (w.txn == txn)
-    (λ own. subst (λ b. length (cond (not b) (w ∷ without txn queue) (without txn queue)) < length (w ∷ queue)) (sym own) (omega (arith, filter_upto (λ lock. not (lock.txn == txn)) queue)))
+    (λ own. subst (λ b. length (cond (not b) (w ∷ without txn queue) (without txn queue)) < length (w ∷ queue)) (sym own)
+    (omega (arith, filter_upto (λ lock. not (lock.txn == txn)) queue)))
     (λ other. subst (λ b. length (cond (not b) (w ∷ without txn queue) (without txn queue)) < length (w ∷ queue)) (sym other)
     (omega (arith, without_fewer txn queue (elim (or_cases (w.txn == txn) _ waits) [ inl own ↦ absurd (true_false _ own other) | inr rest ↦ rest ]))))
 

@@ -33,7 +33,8 @@ module _ (by : Option ℕ) (gone next : Spot) where
   moved_from [] lock there = absurd there
   moved_from (w ∷ locks) lock there = go (same_spot w.spot gone) (becomes_gap by w) (moved_from locks lock) there where
     go : (b d : Bool) → (IsIn (moved by gone next locks) lock → IsIn locks lock ⊎ IsGap lock)
-        → IsIn (cond b (cond d (as_gap (number_of RecordWent) next w ∷ moved by gone next locks) (moved by gone next locks)) (w ∷ moved by gone next locks)) lock
+        → IsIn (cond b (cond d (as_gap (number_of RecordWent) next w ∷ moved by gone next locks) (moved by gone next locks)) (w ∷ moved by gone next locks))
+        lock
         → IsIn (w ∷ locks) lock ⊎ IsGap lock
     go true true rest (inl here) = inr (w, here)
     go true true rest (inr behind) = elim (rest behind) [ inl before ↦ inl (inr before) | inr gap ↦ inr gap ]
@@ -110,7 +111,12 @@ module _ (by : Option ℕ) (gone next : Spot) where
         → IsCycle granted waiting cycle ⊎ Meets (inserters next waiting) cycle
     removal_closes cycle is =
         elim (one_of_both (inserters next waiting) (waiters cycle)) [
-          | inl found ↦ inr (record { txn = found.0; listed = contains_from_in (inserters next waiting) found.0 found.1; waits = contains_from_in (waiters cycle) found.0 found.2 })
+          | inl found ↦ inr (record {
+            txn = found.0;
+            listed = contains_from_in (inserters next waiting) found.0 found.1;
+            waits = contains_from_in
+                (waiters cycle) found.0 found.2;
+          })
           | inr none ↦ inl
               (elsewhere (serve held [] left).granted (serve held [] left).waiting cycle is granted waiting single
               (λ e there wait holder. record {
@@ -122,12 +128,14 @@ module _ (by : Option ℕ) (gone next : Spot) where
                 from = elim wait.from [
                   | inr order ↦ inr (part.order e.lock wait.asked order)
                   | inl held_now ↦
-                      elim (lock_from e.lock held_now (subst (λ t. is_waiting t (serve held [] left).waiting ≡ true) (sym (ap (λ (f : Edge). f.holder) wait.is)) holder)) [
+                      elim (lock_from e.lock held_now (subst (λ t. is_waiting t (serve held [] left).waiting ≡ true)
+                      (sym (ap (λ (f : Edge). f.holder) wait.is)) holder)) [
                         | inl before ↦ inl before
                         | inr gap ↦ absurd (none e.waiter
                             (subst (IsIn (inserters next waiting)) wait.own
                             (in_map (λ (l : Lock). l.txn) (filter (λ (l : Lock). is_intent l.kind && same_spot l.spot next) waiting) wait.asked
-                            (filter_in (λ (l : Lock). is_intent l.kind && same_spot l.spot next) waiting wait.asked (part.there wait.asked wait.there) (is_inserter e.lock wait.asked gap wait.blocks))))
+                            (filter_in (λ (l : Lock). is_intent l.kind && same_spot l.spot next) waiting wait.asked (part.there wait.asked wait.there)
+                            (is_inserter e.lock wait.asked gap wait.blocks))))
                             (in_map (λ (f : Edge). f.waiter) cycle e there))
                       ]
                 ];

@@ -64,7 +64,12 @@ one_victim cycle sizes asked a b first second =
       | inl own ↦ sym (back.asker (sym same) (is ∙ ap Some own))
       | inr not_a ↦ elim (cases_eq t b) [
         | inl own ↦ there.asker same (is ∙ ap Some own)
-        | inr not_b ↦ omega (arith, there.latest same (λ e. not_a (some_same t a (sym is ∙ e))), back.latest (sym same) (λ e. not_b (some_same t b (sym is ∙ e))))
+        | inr not_b ↦ omega (
+          arith,
+          there.latest same (λ e. not_a (some_same t a (sym is ∙ e))),
+          back.latest (sym same)
+              (λ e. not_b (some_same t b (sym is ∙ e))),
+        )
       ]
     ]
 
@@ -90,5 +95,6 @@ module _ (grown : List ℕ) (sizes : List Size) (asked : Option ℕ) where
       → AreSettled grown sizes asked lists rounds → AreFree (after_rounds lists rounds).granted (after_rounds lists rounds).waiting
   settled_free lists sound meet rounds settled cycle is =
       let meets = meet cycle (rounds_stood lists sound rounds cycle is) in
-      All-contains (λ txn. HasNoCycle txn (after_rounds lists rounds).granted (after_rounds lists rounds).waiting) grown meets.txn settled.none meets.listed cycle
+      All-contains (λ txn. HasNoCycle txn (after_rounds lists rounds).granted (after_rounds lists rounds).waiting) grown meets.txn settled.none meets.listed
+      cycle
       (record { circle = is; through = meets.waits })

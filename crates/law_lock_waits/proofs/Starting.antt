@@ -18,7 +18,8 @@ use Rattle.law_lock_waits.proofs.Removal.{removal_closes}
 pub all_meet_asker : (old new : Table) (lock : Lock) (edges : List Edge) → AreSound old.granted old.waiting → AreFree old.granted old.waiting
     → IsQueued old new lock edges → AllMeet (lock.txn ∷ []) new.granted new.waiting
 all_meet_asker old new lock edges sound free is cycle stands =
-    elim (queued_closes old.granted old.waiting lock sound.single cycle (subst (λ (ws : List Lock). IsCycle old.granted ws cycle) is.waiting (subst (λ (ls : List Lock). IsCycle ls new.waiting cycle) is.granted stands))) [
+    elim (queued_closes old.granted old.waiting lock sound.single cycle
+    (subst (λ (ws : List Lock). IsCycle old.granted ws cycle) is.waiting (subst (λ (ls : List Lock). IsCycle ls new.waiting cycle) is.granted stands))) [
       | inl stood ↦ absurd (free cycle stood)
       | inr through ↦ record { txn = lock.txn; listed = contains_from_in (lock.txn ∷ []) lock.txn (inl refl); waits = through }
     ]

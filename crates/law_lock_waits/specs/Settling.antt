@@ -29,7 +29,8 @@ after_rounds lists (round ∷ rounds) = after_rounds (after_withdrawal round.vic
 -- each is a round on the lists that the earlier ones have left
 abbrev pub AreRounds : List ℕ → List Size → Option ℕ → Lists → List Round → Type 0
 AreRounds grown sizes asked lists [] = Unit {0}
-AreRounds grown sizes asked lists (round ∷ rounds) = IsRound grown sizes asked lists round × AreRounds grown sizes asked (after_withdrawal round.victim lists) rounds
+AreRounds grown sizes asked lists (round ∷ rounds) =
+    IsRound grown sizes asked lists round × AreRounds grown sizes asked (after_withdrawal round.victim lists) rounds
 
 -- the rounds have come to their end: no cycle goes through any of these transactions
 pub record AreSettled (grown : List ℕ) (sizes : List Size) (asked : Option ℕ) (lists : Lists) (rounds : List Round) : Type 0 where

@@ -8,4 +8,5 @@ pub returns : goal.returns
 returns c =
     let events = c.events-events.result.now in
     c.any_lacks_memory.ensures
-    ∙ (list_any-IsPermutation answers_no_memory events (reverse events) (IsPermutation-reverse events) ∙ ap (list_any answers_no_memory) c.events-events.ensures)
+    ∙ (list_any-IsPermutation answers_no_memory events (reverse events) (IsPermutation-reverse events) ∙ ap (list_any answers_no_memory)
+    c.events-events.ensures)

@@ -3,7 +3,13 @@ use Rattle.law_lock_guards.proofs.guards.removals_keep_other_records.Goals as go
 
 pub returns : goal.returns
 returns c = record {
-  records = λ txn by records gone_key key gone next granted waiting removes other has. removed_record txn by records gone_key key gone next granted waiting removes key other has;
-  alone = λ txn by records gone_key key gone next granted waiting removes other has. removed_alone txn by records gone_key key gone next granted waiting removes key other has;
-  pins = λ txn by records gone_key key gone next granted waiting removes other was. removed_pins txn by records gone_key key gone next granted waiting removes other was;
+  records =
+      λ txn by records gone_key key gone next granted waiting removes other has. removed_record txn by records gone_key key gone next granted waiting removes
+      key other has;
+  alone =
+      λ txn by records gone_key key gone next granted waiting removes other has. removed_alone txn by records gone_key key gone next granted waiting removes
+      key other has;
+  pins =
+      λ txn by records gone_key key gone next granted waiting removes other was. removed_pins txn by records gone_key key gone next granted waiting removes
+      other was;
 }

@@ -20,5 +20,10 @@ returns c = record {
       (omega (arith, served_fewer (without_lock gone granted) [] waiting)) has;
   removed = λ by gone next granted waiting rooms has.
       rooms_fewer (length (after_removal by gone next granted waiting).waiting) (length waiting) rooms
-      (omega (arith, served_fewer (moved by gone next granted ++ left_by by gone next waiting) [] (elsewhere gone waiting), filter_upto (λ asked. not (same_spot asked.spot gone)) waiting)) has;
+      (omega (
+        arith,
+        served_fewer (moved by gone next granted ++ left_by by gone next waiting) [] (elsewhere gone waiting),
+        filter_upto
+            (λ asked. not (same_spot asked.spot gone)) waiting,
+      )) has;
 }
