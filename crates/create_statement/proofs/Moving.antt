@@ -1,9 +1,8 @@
 -- Each step as a whole, by what it does to the lists.
-use Rattle.std.proofs.Common.{◌≡◌, ◌≢◌, ℕ, ◌+◌, ◌<◌, true, false, Some, None, List, [], ◌∷◌, refl, sym, ap, subst, ◌∙◌, arith, length}
+use Rattle.std.proofs.Common.{◌≡◌, ◌≢◌, ℕ, ◌+◌, ◌≤◌, true, false, Some, None, List, [], ◌∷◌, refl, sym, ap, subst, ◌∙◌, inl, inr, arith}
 use Rattle.std.proofs.lemmas.Bool.Decides.{nat_tests}
 use Rattle.std.proofs.lemmas.Bool.{false≢true}
-use Rattle.std.specs.Prelude.{is_some, Option, IfNone}
-use Rattle.std.specs.List.{list_any}
+use Rattle.std.specs.Prelude.{is_some}
 use Rattle.inno_types.specs.declared.lock.Level.{Level}
 use Rattle.inno_types.specs.declared.lock.Edge.{Edge}
 use Rattle.inno_types.specs.declared.value.Schema.{Schema}
@@ -11,31 +10,30 @@ use Rattle.inno_types.specs.declared.reply.Reply.{Reply}
 use Rattle.inno_types.specs.declared.stmt.Stmt.{Stmt}
 use Rattle.inno_db.specs.declared.change.Change.{Change}
 use Rattle.inno_db.specs.declared.change.Change.TheVariants.{Create}
-use Rattle.inno_db.specs.declared.limits.TheConstants.{MOST_TABLES}
 use Rattle.inno_db.specs.Outcome.{outcome}
 use Rattle.inno_model.specs.declared.event.Event.{Event}
 use Rattle.inno_model.specs.declared.event.Event.TheVariants as events
 use Rattle.inno_model.specs.Past.{is_of, of_item, started, level, own, begins, txn, awaits_ack, IsOpen, IsClosed}
 use Rattle.sql_grammar.specs.Grammar.{Spells}
-use Rattle.sql_history.specs.Legal.{MayBegin}
 use Rattle.sql_history.specs.Items.{base}
-use Rattle.sql_history.specs.Counts.{last_moment}
-use Rattle.law_past_agreement.specs.Order.{created, is_creation}
+use Rattle.sql_history.specs.Counts.{last_moment, rows_kept, most_rows}
+use Rattle.law_past_agreement.specs.Order.{created}
 use Rattle.shared_lists.specs.Tasks.{Idle}
-use Rattle.shared_lists.specs.State.{State, IsNow, Adds, Closes, Stays, task_of, writer_without}
+use Rattle.shared_lists.specs.State.{State, IsNow, Adds, Closes, Stays, task_of}
 use Rattle.sql_lists.specs.Kept.{AreStanding, OwesAck}
+use Rattle.sql_lists.specs.Tables.{MayMake, MakesNone, begun, created_by, table_made}
 use Rattle.sql_lists.specs.Going.{NearsAcked}
-use Rattle.sql_lists.specs.Steps.{Steps, GoesOnAcked, changes_rows, HasRowsAlone, plain_edge, open_txn}
+use Rattle.sql_lists.specs.Steps.{Steps, GoesOnAcked, AsksToWrite, changes_rows, HasRowsAlone, plain_edge, open_txn}
 use Rattle.sql_lists.specs.declared.advance.Advance.TheVariants as advance
-use Rattle.sql_lists.proofs.Moving.{stays_none, moves_none, moves_stays, moves_adds, moves_closes, below_phase}
+use Rattle.sql_lists.proofs.Moving.{stays_none, moves_none, moves_stays, moves_adds, moves_closes, moves_made, moves_none_made, below_phase}
 use Rattle.create_statement.specs.declared.machine.CreateStatement.{CreateStatement}
 use Rattle.create_statement.specs.declared.machine.CreateStatement.TheVariants as machine
 use Rattle.create_statement.specs.Making.{Makes}
-use Rattle.create_statement.specs.Knowing.{IsAt, IsToBegin, IsEmptied, HasOpened, IsCommitted, IsFinished, IsFailing, IsGivingUp}
+use Rattle.create_statement.specs.Knowing.{IsAt, IsToBegin, IsEmptied, IsCommitted, IsFinished, IsGivingUp}
 use Rattle.create_statement.specs.Running.{RunsBy, IsRunning, owes_ack, acked}
 use Rattle.create_statement.specs.Going.{to_go}
 use Rattle.create_statement.proofs.Tables.{tables_met, tables_begun}
-use Rattle.create_statement.proofs.Stepping.{none_of, not_some, moves_locks, rows_of_none, emptied_committed, emptied_closed, to_begin_committed, acks_now, committed_skipped, committed_made, acked_now, to_begin_acked, emptied_acked, committed_acked, opened_begun, at_begun, may_begin, opened_created, at_created, gives_up_closed, gives_up_still, gives_up_rolled}
+use Rattle.create_statement.proofs.Stepping.{HasOpened, rows_of_none, emptied_committed, emptied_closed, to_begin_committed, acks_now, committed_skipped, committed_made, acked_now, to_begin_acked, emptied_acked, committed_acked, opened_begun, at_begun, may_begin, may_create, may_commit_made, may_roll_back, opened_created, at_created, gives_up_closed, gives_up_rolled}
 
 -- ---- by the answer
 
@@ -43,10 +41,12 @@ pub lacks_memory : (s : ℕ) (old new : State) (m : CreateStatement) → Stays s
     → Steps IsRunning s old new m advance.NoMemory
 lacks_memory s old new m stays runs idle = (moves_stays s old new stays, (runs, stays.task_is ∙ idle), stays.past_is)
 
-pub waits : (s : ℕ) (state : State) (m : CreateStatement) (by : ℕ) (blockers : List Edge) → by ≢ s → state.writer ≡ Some by → IsOpen by state.past
+pub waits : (s : ℕ) (state : State) (m : CreateStatement) (by : ℕ) (blockers : List Edge) → AsksToWrite s state.past → by ≢ s → state.writer ≡ Some by
+    → IsOpen by state.past
     → blockers ≡ plain_edge (open_txn s state.past) (txn by state.past) ∷ [] → IsRunning state s m
     → Steps IsRunning s state state m (advance.Waiting by blockers)
-waits s state m by blockers other holds is-open edge runs = (stays_none s state, runs, record { other = other; holds = holds; is_open = is-open; edge = edge })
+waits s state m by blockers asks other holds is-open edge runs =
+    (stays_none s state, runs, record { asks = asks; other = other; holds = holds; is_open = is-open; edge = edge })
 
 pub ends : (s : ℕ) (old new : State) (m : CreateStatement) (reply : Reply) → Adds (events.Ended s (started s old.past) reply) s old new
     → HasRowsAlone s old.past → task_of s old ≡ Idle → Steps IsRunning s old new m (advance.Done reply)
@@ -100,123 +100,90 @@ module _ (s : ℕ) (old new : State) (statement : Stmt) (l : Level) where
       → Steps IsRunning s old old (machine.Closed statement l) advance.Went
   is_closed r closed new-is = (moves_none s old, ((r.0.0, emptied_closed s statement old.past r.0.1 closed new-is, ap awaits_ack r.0.1), r.1), refl)
 
-  pub lacks_asked : IsRunning old s (machine.Asked statement l) → Stays s old new → Steps IsRunning s old new machine.Failed advance.NoMemory
-  lacks_asked r stays =
-      lacks_memory s old new machine.Failed stays (subst (IsGivingUp s) (sym stays.past_is) (gives_up_still s statement old.past r.0.0.at r.0.1 r.0.2)) r.1
-
   pub lacks_closed : IsRunning old s (machine.Closed statement l) → Stays s old new → Steps IsRunning s old new machine.Failed advance.NoMemory
   lacks_closed r stays =
       lacks_memory s old new machine.Failed stays
       (subst (IsGivingUp s) (sym stays.past_is) (gives_up_closed s statement old.past r.0.0.at r.0.1.new r.0.1.made r.0.2)) r.1
 
-  -- ---- its own transaction is opened
+  -- ---- the table is made
 
   some_change : (schema : Schema) (changes : List Change) → changes ≡ Create schema ∷ [] → changes ≢ []
   some_change schema changes is none = (let x : Create schema ∷ [] ≡ [] = sym is ∙ none in cc)
 
-  pub can_begin : (schema : Schema) → IsRunning old s (machine.Closed statement l) → AreStanding old.past → ((t : ℕ) → own t old.past ≡ [])
-      → Makes statement schema (created old.past) → MayBegin Spells s (begins old.past + 1) l old.past
-  can_begin schema r stands empty makes =
-      may_begin s statement old.past l r.0.0 r.0.1 r.0.2
-      (some_change schema _ (makes.changes (base s old.past)
-      (tables_met s old.past stands (λ other ne. ap (list_any is_creation) (empty other)) (rows_of_none s old.past r.0.1.new) r.0.0.at.rows_before)))
+  module _ (schema : Schema) (r : IsRunning old s (machine.Closed statement l)) (stands : AreStanding old.past)
+      (makes : Makes statement schema (created old.past)) where
+    met : (base s old.past).schemas ≡ created old.past
+    met = tables_met s old.past stands (rows_of_none s old.past r.0.1.new) r.0.0.at.rows_before
 
-  module _ (schema : Schema) (between : State) (r : IsRunning old s (machine.Closed statement l)) (stands : AreStanding old.past)
-      (empty : (t : ℕ) → own t old.past ≡ []) (makes : Makes statement schema (created old.past)) (free : old.writer ≡ None)
-      (adds : Adds (events.Begin s (begins old.past + 1) l) s old between) (locks : IsNow between.past s (task_of s between) (Some s) between new) where
-    abbrev e : Event
-    e = events.Begin s (begins old.past + 1) l
+    at_begin : IsAt s statement (begun s l old.past)
+    at_begin = at_begun s statement old.past (begins old.past + 1) l r.0.0.at
 
-    past_is : new.past ≡ e ∷ old.past
-    past_is = locks.past_is ∙ adds.past_is
+    opened : HasOpened s (begun s l old.past)
+    opened = opened_begun s statement old.past (begins old.past + 1) l r.0.1.not_rolled_back
 
-    own_apart : (other : ℕ) → own other (e ∷ old.past) ≡ []
-    own_apart other = let x = empty other in grind (arith, nat_tests, x)
+    new_begun : own s (begun s l old.past) ≡ []
+    new_begun = grind (arith, nat_tests)
 
-    tables : (base s (e ∷ old.past)).schemas ≡ created old.past
-    tables =
-        tables_begun s (begins old.past + 1) l old.past r.0.0.at.rows_before ∙ tables_met s old.past stands
-        (λ other ne. ap (list_any is_creation) (empty other)) (rows_of_none s old.past r.0.1.new) r.0.0.at.rows_before
+    makes_it : (outcome statement (base s (begun s l old.past))).changes ≡ Create schema ∷ []
+    makes_it = makes.changes (base s (begun s l old.past)) (tables_begun s (begins old.past + 1) l old.past r.0.0.at.rows_before ∙ met)
 
-    pub opens : Steps IsRunning s old new (machine.Begun statement schema) advance.Went
-    opens = (
-      moves_locks s e old between new (grind (arith, nat_tests)) refl refl free adds locks,
-      (
+    own_created : own s (created_by s l schema old.past) ≡ Create schema ∷ []
+    own_created =
+        (let x : own s (created_by s l schema old.past) ≡ Create schema ∷ own s (begun s l old.past) = grind (arith, nat_tests) in x)
+        ∙ ap (λ changes. Create schema ∷ changes) new_begun
+
+    at_create : IsAt s statement (created_by s l schema old.past)
+    at_create = at_created s statement (begun s l old.past) schema at_begin
+
+    opened_create : HasOpened s (created_by s l schema old.past)
+    opened_create = opened_created s statement (begun s l old.past) schema opened
+
+    pub can_make : rows_kept old.past ≤ most_rows → MayMake s l schema old.past
+    can_make within =
         record {
-          at = subst (IsAt s statement) (sym past_is) (at_begun s statement old.past (begins old.past + 1) l r.0.0.at);
-          opened = subst (HasOpened s) (sym past_is) (opened_begun s statement old.past (begins old.past + 1) l r.0.1.not_rolled_back);
-          new = ap (own s) past_is ∙ own_apart s;
-          steady = record { locked = locks.writer_is; alone = λ other ne. ap (own other) past_is ∙ own_apart other };
-          makes = ap (λ h. (outcome statement (base s h)).changes) past_is ∙ makes.changes (base s (e ∷ old.past)) tables;
-          few = subst (λ h. length (created h) < MOST_TABLES) (sym past_is) makes.few;
-          storable = makes.storable;
-        },
-        locks.task_is ∙ (adds.task_is ∙ r.1),
+          may_begin = may_begin s statement old.past l r.0.0 r.0.1 r.0.2 (some_change schema _ (makes.changes (base s old.past) met));
+          may_create = may_create s statement (begun s l old.past) schema at_begin opened within;
+          may_commit = may_commit_made s statement (created_by s l schema old.past) schema at_create opened_create own_created makes_it;
+          may_roll_back = may_roll_back s statement (begun s l old.past) at_begin opened new_begun;
+        }
+
+    pub makes_table : old.writer ≡ None → IsNow (table_made s l schema old.past) s Idle None old new
+        → Steps IsRunning s old new (machine.Committed statement) advance.Went
+    makes_table free now = (
+      moves_made s l old new free schema now,
+      (
+        subst (λ h. IsCommitted s statement h × (awaits_ack (of_item s h) ≡ true)) (sym now.past_is) (
+          committed_made s statement (created_by s l schema old.past) schema at_create opened_create own_created makes_it,
+          acks_now s statement (created_by s l schema old.past),
+        ),
+        now.task_is,
       ),
-      ap (started s) past_is,
+      ap (started s) now.past_is,
     )
 
--- nobody had the right to write, so the session takes it
-if_none : {X : Type 0} (o : Option X) (P : Type 0) → o ≡ None → IfNone o P → P
-if_none None P is holds = holds
-if_none (Some x) P is holds = absurd (not_some x (sym is))
-
-pub locks_now : (s : ℕ) (e : Event) (told : Option ℕ) (old between new : State) → old.writer ≡ None → Adds e s old between
-    → told ≡ writer_without between.writer s → IfNone told (IsNow between.past s (task_of s between) (Some s) between new)
-    → IsNow between.past s (task_of s between) (Some s) between new
-locks_now s e told old between new free adds is locks = if_none told _ (is ∙ ap (λ w. writer_without w s) (adds.writer_is ∙ free)) locks
-
-pub fits_now : (told : Option ℕ) (P : Type 0) → is_some told ≡ false → IfNone told P → P
-fits_now told P none fits = if_none told P (none_of told none) fits
+    pub makes_none : old.writer ≡ None → MakesNone s l old new → Steps IsRunning s old new machine.Failed advance.Went
+    makes_none free (inl stays) = (
+      moves_stays s old new stays,
+      (
+        subst (IsGivingUp s) (sym stays.past_is) (gives_up_closed s statement old.past r.0.0.at r.0.1.new r.0.1.made r.0.2),
+        stays.task_is ∙ r.1,
+      ),
+      ap (started s) stays.past_is,
+    )
+    makes_none free (inr now) = (
+      moves_none_made s l old new free now,
+      (
+        subst (IsGivingUp s) (sym now.past_is) (gives_up_rolled s statement (begun s l old.past) at_begin opened new_begun),
+        now.task_is,
+      ),
+      ap (started s) now.past_is,
+    )
 
 module _ (s : ℕ) (old new : State) (statement : Stmt) where
-  -- ---- the table is made
-
-  pub fails : (schema : Schema) → IsRunning old s (machine.Begun statement schema) → Stays s old new
-      → Steps IsRunning s old new machine.Failing advance.NoMemory
-  fails schema r stays =
-      lacks_memory s old new machine.Failing stays
-      (subst (IsFailing s) (sym stays.past_is) (record { statement = statement; at = r.0.at; opened = r.0.opened; new = r.0.new })) r.1
-
-  pub creates : (schema : Schema) → IsRunning old s (machine.Begun statement schema) → Adds (events.Changed s (Create schema)) s old new
-      → Steps IsRunning s old new (machine.Made statement) advance.Went
-  creates schema r adds =
-      let e = events.Changed s (Create schema) in
-      let past-is : new.past ≡ e ∷ old.past = adds.past_is in
-      let here : own s (e ∷ old.past) ≡ Create schema ∷ own s old.past = grind (arith, nat_tests) in
-      let apart : (other : ℕ) → other ≢ s → own other (e ∷ old.past) ≡ [] =
-      λ other ne. (let x = r.0.steady.alone other ne in grind (arith, nat_tests, ne, x)) in (
-        moves_adds s e old new (grind (arith, nat_tests)) refl (λ changes. r.0.steady.locked) adds,
-        (
-          record {
-            at = subst (IsAt s statement) (sym past-is) (at_created s statement old.past schema r.0.at);
-            opened = subst (HasOpened s) (sym past-is) (opened_created s statement old.past schema r.0.opened);
-            schema = schema;
-            own_is = ap (own s) past-is ∙ (here ∙ ap (λ changes. Create schema ∷ changes) r.0.new);
-            steady = record { locked = adds.writer_is ∙ r.0.steady.locked; alone = λ other ne. ap (own other) past-is ∙ apart other ne };
-            makes = ap (λ h. (outcome statement (base s h)).changes) past-is ∙ r.0.makes;
-          },
-          adds.task_is ∙ r.1,
-        ),
-        ap (started s) past-is,
-      )
-
-  pub commits : IsRunning old s (machine.Made statement) → Closes (events.Committed s) s old new
-      → Steps IsRunning s old new (machine.Committed statement) advance.Went
-  commits r closes =
-      closes_one s (events.Committed s) old new (machine.Committed statement) (grind (arith, nat_tests)) refl refl refl closes
-      (subst (λ h. IsCommitted s statement h × (awaits_ack (of_item s h) ≡ true)) (sym closes.past_is)
-      (committed_made s statement old.past r.0.schema r.0.at r.0.opened r.0.own_is r.0.makes, acks_now s statement old.past)) r.1
-
   -- ---- the end
 
   pub finished : IsRunning old s (machine.Ending statement) → IsFinished s statement old.past
   finished r = record { at = r.0.0.at; ends = r.0.0.ends; acked = r.0.1; rows_alone = rows_of_none s old.past r.0.0.new }
-
-  pub rolls_back : IsRunning old s machine.Failing → Closes (events.RolledBack s) s old new → Steps IsRunning s old new machine.Failed advance.Went
-  rolls_back r closes =
-      closes_one s (events.RolledBack s) old new machine.Failed (grind (arith, nat_tests)) refl refl refl closes
-      (subst (IsGivingUp s) (sym closes.past_is) (gives_up_rolled s r.0.statement old.past r.0.at r.0.opened r.0.new)) r.1
 
 -- ---- the acknowledgement of a commit
 
@@ -239,6 +206,6 @@ goes_on_acked (machine.Committed statement) owes old new s moment r adds = (
 goes_on_acked m owes old new s moment r adds = absurd (false≢true owes)
 
 pub acked_nears : (m : CreateStatement) → owes_ack m ≡ true → NearsAcked to_go m (acked m)
-acked_nears (machine.Unacked statement l) owes old new s = below_phase 7 6 _ _ _ _ _ _ (omega arith)
+acked_nears (machine.Unacked statement l) owes old new s = below_phase 5 4 _ _ _ _ _ _ (omega arith)
 acked_nears (machine.Committed statement) owes old new s = below_phase 3 2 _ _ _ _ _ _ (omega arith)
 acked_nears m owes old new s = absurd (false≢true owes)

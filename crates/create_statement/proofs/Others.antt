@@ -3,10 +3,7 @@ use Rattle.std.proofs.Common.{◌≡◌, ◌≢◌, ◌⊎◌, ◌<◌, ℕ, Boo
 use Rattle.std.specs.Prelude.{is_some}
 use Rattle.std.specs.List.{AllByRecursion, list_any}
 use Rattle.inno_types.specs.declared.lock.Level.{Level}
-use Rattle.inno_types.specs.declared.value.Schema.{Schema}
 use Rattle.inno_types.specs.declared.stmt.Stmt.{Stmt}
-use Rattle.inno_db.specs.declared.change.Change.TheVariants.{Create}
-use Rattle.inno_db.specs.declared.limits.TheConstants.{MOST_TABLES}
 use Rattle.inno_db.specs.Outcome.{outcome}
 use Rattle.inno_model.specs.declared.event.Event.{Event}
 use Rattle.inno_model.specs.Past.{is_of, under_way, of_item, did, begins_txn, commits_txn, rolls_back_txn, own, awaits_ack}
@@ -15,16 +12,16 @@ use Rattle.sql_grammar.specs.Grammar.{Spells}
 use Rattle.sql_history.specs.Items.{own_before, base, point}
 use Rattle.sql_history.specs.Waiting.{is_victim}
 use Rattle.sql_history.specs.Legal.{CommittedFirst, LeavesIt, EndsCreate}
-use Rattle.law_past_agreement.specs.Order.{IsOfRow, created}
+use Rattle.law_past_agreement.specs.Order.{IsOfRow}
 use Rattle.shared_lists.specs.State.{State}
-use Rattle.sql_lists.specs.Steps.{HasRowsAlone, StaysRunning, changes_rows}
-use Rattle.sql_lists.proofs.Moving.{AddingOne, StaysByOne, stays_running}
-use Rattle.sql_lists.proofs.Staying.{StaysAtWork, at_work, other_of, within_of_other, point_stays, steady_on, base_on}
+use Rattle.sql_lists.specs.Steps.{HasRowsAlone, StaysRunning}
+use Rattle.sql_lists.proofs.Moving.{StaysByOne, stays_running}
+use Rattle.sql_lists.proofs.Staying.{StaysAtWork, at_work, other_of, within_of_other, point_stays}
 use Rattle.create_statement.specs.declared.machine.CreateStatement.{CreateStatement}
 use Rattle.create_statement.specs.declared.machine.CreateStatement.TheVariants as machine
-use Rattle.create_statement.specs.Knowing.{IsAt, IsToBegin, HasMadeNone, IsEmptied, HasOpened, IsToMake, HasMadeIt, IsCommitted, IsFailing, IsGivingUp}
+use Rattle.create_statement.specs.Knowing.{IsAt, IsToBegin, HasMadeNone, IsEmptied, IsCommitted, IsGivingUp}
 use Rattle.create_statement.specs.Running.{RunsBy, IsRunning}
-use Rattle.create_statement.proofs.Staying.{takes_on, at_on, to_begin_on, made_on, ends_on, created_other}
+use Rattle.create_statement.proofs.Staying.{takes_on, at_on, to_begin_on, made_on, ends_on}
 
 module _ (e : Event) (h : List Event) (s : ℕ) (other : is_of s e ≡ false) where
   same : IsUntouched h (e ∷ h) s
@@ -64,16 +61,6 @@ module _ (e : Event) (h : List Event) (s : ℕ) (other : is_of s e ≡ false) wh
         made = made_other empty.made;
       }
 
-  opened_on : HasOpened s h → HasOpened s (e ∷ h)
-  opened_on o =
-      record {
-        is_open = ap is_some same.level_is ∙ o.is_open;
-        begun = did_same begins_txn ∙ o.begun;
-        not_rolled_back = did_same rolls_back_txn ∙ o.not_rolled_back;
-        none_before = work.own_is ∙ o.none_before;
-        not_over = work.over ∙ o.not_over;
-      }
-
   committed_on : (statement : Stmt) → IsCommitted s statement h → IsCommitted s statement (e ∷ h)
   committed_on statement c =
       let stays : point s (e ∷ h) ≡ point s h = point_stays e h s c.over (work.over ∙ c.over) in
@@ -87,9 +74,6 @@ module _ (e : Event) (h : List Event) (s : ℕ) (other : is_of s e ≡ false) wh
         closed = same.level_is ∙ c.closed;
         new = same.own_is ∙ c.new;
       }
-
-  failing_on : IsFailing s h → IsFailing s (e ∷ h)
-  failing_on f = record { statement = f.statement; at = at_other f.statement f.at; opened = opened_on f.opened; new = same.own_is ∙ f.new }
 
   leaves_on : CommittedFirst Spells s h ⊎ LeavesIt Spells s h → CommittedFirst Spells s (e ∷ h) ⊎ LeavesIt Spells s (e ∷ h)
   leaves_on (inl c) =
@@ -123,49 +107,12 @@ module _ (e : Event) (h : List Event) (s : ℕ) (other : is_of s e ≡ false) wh
         rows_alone = rows_on g.rows_alone;
       }
 
-same_session : (a b : ℕ) → Some a ≡ Some b → a ≡ b
-same_session a b is = cc
-
-not_true : (b : Bool) → (b ≡ true → ⊥) → b ≡ false
-not_true true refuted = absurd (refuted refl)
-not_true false refuted = refl
-
-module _ (old new : State) (t s : ℕ) (differ : t ≢ s) (e : Event) (mine : is_of t e ≡ true) (adds : new.past ≡ e ∷ old.past)
-    (writes : changes_rows e ≡ true → new.writer ≡ Some t) (keeps : old.writer ≡ Some s → new.writer ≡ Some s) where
+module _ (old new : State) (t s : ℕ) (differ : t ≢ s) (e : Event) (mine : is_of t e ≡ true) (adds : new.past ≡ e ∷ old.past) where
   other : is_of s e ≡ false
   other = other_of e t s mine (λ is. differ (sym is))
 
-  adding : AddingOne t old new
-  adding = inr (e, mine, adds, writes)
-
   at_past : (P : List Event → Type 0) → P (e ∷ old.past) → P new.past
   at_past P here = subst P (sym adds) here
-
-  to_make_on : (statement : Stmt) (schema : Schema) → IsToMake old s statement schema → IsToMake new s statement schema
-  to_make_on statement schema m =
-      let spares : changes_rows e ≡ false = not_true (changes_rows e) (λ is. differ (same_session t s (sym (writes is) ∙ keeps m.steady.locked))) in
-      record {
-        at = at_past (IsAt s statement) (at_other e old.past s other statement m.at);
-        opened = at_past (HasOpened s) (opened_on e old.past s other m.opened);
-        new = at_past (λ h. own s h ≡ []) ((same e old.past s other).own_is ∙ m.new);
-        steady = steady_on old new t s differ adding keeps m.steady;
-        makes = ap (λ db. (outcome statement db).changes) (base_on old new t s differ adding keeps m.steady) ∙ m.makes;
-        storable = m.storable;
-        few =
-            at_past (λ h. length (created h) < MOST_TABLES)
-            (subst (λ schemas. length schemas < MOST_TABLES) (sym (created_other e old.past t mine spares)) m.few);
-      }
-
-  made_it_on : (statement : Stmt) → HasMadeIt old s statement → HasMadeIt new s statement
-  made_it_on statement m =
-      record {
-        at = at_past (IsAt s statement) (at_other e old.past s other statement m.at);
-        opened = at_past (HasOpened s) (opened_on e old.past s other m.opened);
-        schema = m.schema;
-        own_is = at_past (λ h. own s h ≡ Create m.schema ∷ []) ((same e old.past s other).own_is ∙ m.own_is);
-        steady = steady_on old new t s differ adding keeps m.steady;
-        makes = ap (λ db. (outcome statement db).changes) (base_on old new t s differ adding keeps m.steady) ∙ m.makes;
-      }
 
   adds_on : (m : CreateStatement) → RunsBy old s m → RunsBy new s m
   adds_on (machine.Asked statement l) r =
@@ -177,19 +124,16 @@ module _ (old new : State) (t s : ℕ) (differ : t ≢ s) (e : Event) (mine : is
   adds_on (machine.Closed statement l) r =
       at_past (λ h. IsToBegin s statement l h × IsEmptied s h × (awaits_ack (of_item s h) ≡ false))
       (to_begin_other e old.past s other statement l r.0, emptied_on e old.past s other r.1, acks e old.past s other ∙ r.2)
-  adds_on (machine.Begun statement schema) r = to_make_on statement schema r
-  adds_on (machine.Made statement) r = made_it_on statement r
   adds_on (machine.Committed statement) r =
       at_past (λ h. IsCommitted s statement h × (awaits_ack (of_item s h) ≡ true))
       (committed_on e old.past s other statement r.0, acks e old.past s other ∙ r.1)
   adds_on (machine.Ending statement) r =
       at_past (λ h. IsCommitted s statement h × (awaits_ack (of_item s h) ≡ false))
       (committed_on e old.past s other statement r.0, acks e old.past s other ∙ r.1)
-  adds_on machine.Failing r = at_past (IsFailing s) (failing_on e old.past s other r)
   adds_on machine.Failed r = at_past (IsGivingUp s) (gives_up_on e old.past s other r)
 
--- the past is the same, and who may write too where that counts
-module _ (old new : State) (t s : ℕ) (differ : t ≢ s) (same_past : new.past ≡ old.past) (keeps : old.writer ≡ Some s → new.writer ≡ Some s) where
+-- the past is the same
+module _ (old new : State) (s : ℕ) (same_past : new.past ≡ old.past) where
   as_before : (P : List Event → Type 0) → P old.past → P new.past
   as_before P here = subst P (sym same_past) here
 
@@ -197,33 +141,13 @@ module _ (old new : State) (t s : ℕ) (differ : t ≢ s) (same_past : new.past 
   same_on (machine.Asked statement l) r = as_before (λ h. IsToBegin s statement l h × (of_item s h ≡ []) × HasRowsAlone s h) r
   same_on (machine.Unacked statement l) r = as_before (λ h. IsToBegin s statement l h × IsEmptied s h × (awaits_ack (of_item s h) ≡ true)) r
   same_on (machine.Closed statement l) r = as_before (λ h. IsToBegin s statement l h × IsEmptied s h × (awaits_ack (of_item s h) ≡ false)) r
-  same_on (machine.Begun statement schema) r =
-      record {
-        at = as_before (IsAt s statement) r.at;
-        opened = as_before (HasOpened s) r.opened;
-        new = as_before (λ h. own s h ≡ []) r.new;
-        steady = steady_on old new t s differ (inl same_past) keeps r.steady;
-        makes = as_before (λ h. (outcome statement (base s h)).changes ≡ Create schema ∷ []) r.makes;
-        storable = r.storable;
-        few = as_before (λ h. length (created h) < MOST_TABLES) r.few;
-      }
-  same_on (machine.Made statement) r =
-      record {
-        at = as_before (IsAt s statement) r.at;
-        opened = as_before (HasOpened s) r.opened;
-        schema = r.schema;
-        own_is = as_before (λ h. own s h ≡ Create r.schema ∷ []) r.own_is;
-        steady = steady_on old new t s differ (inl same_past) keeps r.steady;
-        makes = as_before (λ h. (outcome statement (base s h)).changes ≡ Create r.schema ∷ []) r.makes;
-      }
   same_on (machine.Committed statement) r = as_before (λ h. IsCommitted s statement h × (awaits_ack (of_item s h) ≡ true)) r
   same_on (machine.Ending statement) r = as_before (λ h. IsCommitted s statement h × (awaits_ack (of_item s h) ≡ false)) r
-  same_on machine.Failing r = as_before (IsFailing s) r
   same_on machine.Failed r = as_before (IsGivingUp s) r
 
 runs_on : StaysByOne IsRunning
-runs_on old new t s m differ (inl same) keeps same_task r = (same_on old new t s differ same keeps m r.0, same_task ∙ r.1)
-runs_on old new t s m differ (inr adds) keeps same_task r = (adds_on old new t s differ adds.0 adds.1 adds.2 adds.3 keeps m r.0, same_task ∙ r.1)
+runs_on old new t s m differ (inl same) keeps same_task r = (same_on old new s same m r.0, same_task ∙ r.1)
+runs_on old new t s m differ (inr adds) keeps same_task r = (adds_on old new t s differ adds.0 adds.1 adds.2 m r.0, same_task ∙ r.1)
 
 pub stays : StaysRunning IsRunning
 stays = stays_running IsRunning runs_on
@@ -237,9 +161,6 @@ pub has_item : (state : State) (s : ℕ) (m : CreateStatement) → IsRunning sta
 has_item state s (machine.Asked statement l) r = asks_some s statement state.past r.0.0.at
 has_item state s (machine.Unacked statement l) r = asks_some s statement state.past r.0.0.at
 has_item state s (machine.Closed statement l) r = asks_some s statement state.past r.0.0.at
-has_item state s (machine.Begun statement schema) r = asks_some s statement state.past r.0.at
-has_item state s (machine.Made statement) r = asks_some s statement state.past r.0.at
 has_item state s (machine.Committed statement) r = asks_some s statement state.past r.0.0.at
 has_item state s (machine.Ending statement) r = asks_some s statement state.past r.0.0.at
-has_item state s machine.Failing r = asks_some s r.0.statement state.past r.0.at
 has_item state s machine.Failed r = λ none. (let x = r.0.item in cc)

@@ -14,8 +14,7 @@ use Rattle.sql_history.specs.Items.{of_turn, is_over, before_turn, own_before, p
 use Rattle.sql_history.specs.Settings.{Setting, HasSet, Either}
 use Rattle.sql_history.specs.Waiting.{is_victim}
 use Rattle.sql_history.specs.Legal.{Takes, EndsCreate}
-use Rattle.law_past_agreement.specs.Order.{IsOfRow, created}
-use Rattle.sql_lists.specs.Steps.{changes_rows}
+use Rattle.law_past_agreement.specs.Order.{IsOfRow}
 use Rattle.sql_lists.proofs.Staying.{is_within, item_within, before_within, starts_not, point_now, point_stays}
 use Rattle.create_statement.specs.Knowing.{IsAt, IsToBegin, HasMadeNone}
 
@@ -114,11 +113,3 @@ set_before s (events.RolledBack t ∷ h) setting none set =
 set_before s (events.Ended t j reply ∷ h) setting none set =
     set_before s h setting (grind (arith, nat_tests, none)) (either_other (eqb t s) _ _ (grind (arith, nat_tests, none)) set)
 set_before s (e ∷ h) setting none set = set_before s h setting (grind (arith, nat_tests, none)) set
-
--- ---- an entry of another session
-
--- no table is made without a change
-pub created_other : (e : Event) (h : List Event) (t : ℕ) → is_of t e ≡ true → changes_rows e ≡ false → created (e ∷ h) ≡ created h
-created_other (events.Opened db) h t mine spares = absurd (false≢true mine)
-created_other (events.Changed u change) h t mine spares = absurd (false≢true (sym spares))
-created_other e h t mine spares = refl

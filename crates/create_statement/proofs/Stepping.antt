@@ -1,4 +1,4 @@
--- What one entry of its own makes of a CREATE TABLE, and how its item may end.
+-- What entries of its own make of a CREATE TABLE, and how its item may end.
 use Rattle.std.proofs.Common.{◌≡◌, ◌≢◌, ℕ, ◌+◌, ◌≤◌, true, false, Option, Some, None, List, [], ◌∷◌, refl, sym, ap, subst, ◌∙◌, inl, inr, arith, length}
 use Rattle.std.proofs.lemmas.Bool.Decides.{nat_tests}
 use Rattle.std.proofs.lemmas.Bool.{false≢true}
@@ -23,32 +23,24 @@ use Rattle.sql_history.specs.Counts.{last_moment, rows_kept, most_rows}
 use Rattle.sql_history.specs.Waiting.{is_victim}
 use Rattle.sql_history.specs.Legal.{IsCreation, EndsCreate, MayBegin, MayChange, MayCommit, MayRollBack}
 use Rattle.law_past_agreement.specs.Order.{IsOfRow}
-use Rattle.shared_lists.specs.State.{State, IsNow, Adds, task_of}
+use Rattle.shared_lists.specs.State.{State}
 use Rattle.sql_lists.specs.Kept.{MayReply}
-use Rattle.sql_lists.specs.Steps.{Moves, changes_rows, HasRowsAlone, IsTaken}
+use Rattle.sql_lists.specs.Steps.{HasRowsAlone, IsTaken}
 use Rattle.sql_lists.proofs.Staying.{point_now, point_before, point_stays}
-use Rattle.sql_lists.proofs.Moving.{adding_one}
-use Rattle.create_statement.specs.Knowing.{IsAt, IsToBegin, HasMadeNone, IsEmptied, HasOpened, IsCommitted, IsFinished, IsGivingUp}
+use Rattle.create_statement.specs.Knowing.{IsAt, IsToBegin, HasMadeNone, IsEmptied, IsCommitted, IsFinished, IsGivingUp}
 use Rattle.create_statement.proofs.Creations.{begins_by, commits_by, rolls_back_by, changes_by, ends_taken, brings, same_refusal}
 use Rattle.create_statement.proofs.Staying.{at_on, to_begin_on, made_on, ends_on, still, goes_on_still, made_still, set_before}
 
+-- the item has its own transaction, and is not at the end of its changes
+pub record HasOpened (s : ℕ) (past : List Event) : Type 0 where
+  pub is_open : IsOpen s past
+  pub begun : did begins_txn s past ≡ true
+  pub not_rolled_back : did rolls_back_txn s past ≡ false
+  pub none_before : own_before s past ≡ []
+  pub not_over : is_over s past ≡ false
+
 pub not_some : {X : Type 0} (x : X) → None ≡ Some x → ⊥
 not_some x is = cc
-
--- ---- moves
-
--- where nobody may write the session comes to
-pub moves_locks : (t : ℕ) (e : Event) (old between new : State) → is_of t e ≡ true → last_moment (e ∷ old.past) ≡ last_moment old.past
-    → changes_rows e ≡ false → old.writer ≡ None
-    → Adds e t old between → IsNow between.past t (task_of t between) (Some t) between new → Moves t old new
-moves_locks t e old between new mine unacked spares free adds locks =
-    record {
-      names_stay = locks.names_are ∙ adds.names_are;
-      adding = adding_one t e old new mine (locks.past_is ∙ adds.past_is) (λ is. absurd (false≢true (sym spares ∙ is)));
-      acks_none = ap last_moment (locks.past_is ∙ adds.past_is) ∙ unacked;
-      writer_stays = λ s differ is. absurd (not_some s (sym free ∙ is));
-      tasks_stay = λ s differ. locks.others s differ ∙ adds.others s differ;
-    }
 
 -- ---- what the lists say of a transaction
 
@@ -278,7 +270,7 @@ module _ (s : ℕ) (statement : Stmt) (h : List Event) where
         by = begins_by s h b.at.takes.setting statement b.at.kind some;
       }
 
-  pub may_create : (schema : Schema) → IsAt s statement h → HasOpened s h → rows_kept h + 0 ≤ most_rows → MayChange Spells s (Create schema) h
+  pub may_create : (schema : Schema) → IsAt s statement h → HasOpened s h → rows_kept h ≤ most_rows → MayChange Spells s (Create schema) h
   may_create schema at opened fits =
       record {
         is_open = opened.is_open;
@@ -326,23 +318,6 @@ module _ (s : ℕ) (statement : Stmt) (h : List Event) where
             });
         made = made;
         rows_alone = rows_of_none s h new;
-      }
-
-  pub gives_up_still : IsAt s statement h → of_item s h ≡ [] → HasRowsAlone s h → IsGivingUp s h
-  gives_up_still at none rows =
-      record {
-        text = at.takes.asks.0;
-        item = at.takes.asks.1;
-        acked = ap awaits_ack none;
-        leaves = inr (record {
-          own_stay = (still s h none).own_is;
-          not_committed = ap (list_any commits_txn) none;
-          not_rolled_back = ap (list_any rolls_back_txn) none;
-          no_victim = at.no_victim;
-          begun = inl (ap (list_any begins_txn) none);
-        });
-        made = made_still s h none;
-        rows_alone = rows;
       }
 
   pub gives_up_rolled : IsAt s statement h → HasOpened s h → own s h ≡ [] → IsGivingUp s (events.RolledBack s ∷ h)

@@ -29,7 +29,7 @@ use Rattle.sql_history.specs.Items.{own_before, base}
 use Rattle.sql_history.specs.Statements.{schemas_now}
 use Rattle.sql_history.specs.Legal.{IsCreation}
 use Rattle.law_past_agreement.specs.Order.{created, IsOfRow}
-use Rattle.sql_lists.specs.Kept.{IsOnlyMaker, AreStanding}
+use Rattle.sql_lists.specs.Kept.{AreStanding}
 use Rattle.sql_lists.specs.Steps.{HasRowsAlone}
 use Rattle.create_statement.specs.Making.{is_there, Makes}
 use Rattle.create_statement.proofs.Creations.{as_creation}
@@ -61,10 +61,10 @@ made_rows (Create schema ∷ changes) rows = absurd rows.0
 made_rows (Put table row ∷ changes) rows = made_rows changes rows.1
 made_rows (Remove table key ∷ changes) rows = made_rows changes rows.1
 
--- nobody else makes a table, and the session has changed rows alone: its statement meets all tables that were made
-pub tables_met : (s : ℕ) (h : List Event) → AreStanding h → IsOnlyMaker s h → HasRowsAlone s h → AllByRecursion IsOfRow (own_before s h)
+-- a session that has changed rows alone meets all tables that were made
+pub tables_met : (s : ℕ) (h : List Event) → AreStanding h → HasRowsAlone s h → AllByRecursion IsOfRow (own_before s h)
     → (base s h).schemas ≡ created h
-tables_met s h stands only rows rows_before =
+tables_met s h stands rows rows_before =
     let first = (opening h).schemas in
     let those = made (committed (commits h) h) in
     let now : schemas_now s h ≡ first ++ (those ++ made (own s h)) =
@@ -72,7 +72,7 @@ tables_met s h stands only rows rows_before =
     schemas_after (opening h) (own_before s h ++ committed (commits h) h)
     ∙ (ap (λ schemas. first ++ schemas) (made_append (own_before s h) (committed (commits h) h) ∙ ap (λ schemas. those ++ schemas)
     (made_rows (own_before s h) rows_before ∙ sym (made_rows (own s h) rows)))
-    ∙ (sym now ∙ sym (stands.tables s only)))
+    ∙ (sym now ∙ sym (stands.tables s)))
 
 -- its transaction begins: it meets the same tables
 pub tables_begun : (s n : ℕ) (l : Level) (h : List Event) → AllByRecursion IsOfRow (own_before s h)

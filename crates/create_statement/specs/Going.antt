@@ -6,12 +6,9 @@ use Rattle.create_statement.specs.declared.machine.CreateStatement.{CreateStatem
 use Rattle.create_statement.specs.declared.machine.CreateStatement.TheVariants as machine
 
 abbrev pub to_go : ℕ → State → CreateStatement → List ℕ
-to_go s state (machine.Asked stmt level) = left 8 0 0 0
-to_go s state (machine.Unacked stmt level) = left 7 0 0 0
-to_go s state (machine.Closed stmt level) = left 6 0 0 0
-to_go s state (machine.Begun stmt schema) = left 5 0 0 0
-to_go s state (machine.Made stmt) = left 4 0 0 0
+to_go s state (machine.Asked stmt level) = left 6 0 0 0
+to_go s state (machine.Unacked stmt level) = left 5 0 0 0
+to_go s state (machine.Closed stmt level) = left 4 0 0 0
 to_go s state (machine.Committed stmt) = left 3 0 0 0
 to_go s state (machine.Ending stmt) = left 2 0 0 0
-to_go s state machine.Failing = left 1 0 0 0
 to_go s state machine.Failed = left 0 0 0 0

@@ -1,25 +1,19 @@
 -- What is known of the past in the midst of a CREATE TABLE.
-use Rattle.std.specs.Prelude.{◌≡◌, ◌⊎◌, ◌<◌, ℕ, true, false, List, [], ◌∷◌, Some, length}
+use Rattle.std.specs.Prelude.{◌≡◌, ◌⊎◌, ℕ, true, false, List, [], Some}
 use Rattle.std.specs.List.{AllByRecursion}
 use Rattle.inno_types.specs.declared.lock.Level.{Level}
 use Rattle.inno_types.specs.declared.reply.Item.TheVariants.{Sql}
-use Rattle.inno_types.specs.declared.value.Schema.{Schema}
 use Rattle.inno_types.specs.declared.stmt.Stmt.{Stmt}
-use Rattle.inno_db.specs.declared.change.Change.TheVariants.{Create}
-use Rattle.inno_db.specs.declared.limits.TheConstants.{MOST_TABLES}
 use Rattle.inno_db.specs.Outcome.{outcome}
 use Rattle.inno_model.specs.declared.event.Event.{Event}
-use Rattle.inno_model.specs.Past.{under_way, of_item, did, begins_txn, rolls_back_txn, own, awaits_ack, IsOpen, IsClosed}
+use Rattle.inno_model.specs.Past.{under_way, of_item, did, begins_txn, rolls_back_txn, own, awaits_ack, IsClosed}
 use Rattle.sql_grammar.specs.Grammar.{Spells}
 use Rattle.sql_history.specs.Items.{is_over, point, own_before, base}
 use Rattle.sql_history.specs.Settings.{next_level}
 use Rattle.sql_history.specs.Waiting.{is_victim}
 use Rattle.sql_history.specs.Legal.{Takes, IsCreation, EndsCreate, LeavesIt, CommittedFirst}
-use Rattle.law_fitting_rows.specs.Storable.{IsStorable}
-use Rattle.law_past_agreement.specs.Order.{IsOfRow, created}
-use Rattle.shared_lists.specs.State.{State}
+use Rattle.law_past_agreement.specs.Order.{IsOfRow}
 use Rattle.sql_lists.specs.Steps.{HasRowsAlone}
-use Rattle.sql_lists.proofs.Staying.{IsSteady}
 
 -- The session's item asks for the statement, before which its session changed rows alone.
 pub record IsAt (s : ℕ) (statement : Stmt) (past : List Event) : Type 0 where
@@ -45,33 +39,6 @@ pub record IsEmptied (s : ℕ) (past : List Event) : Type 0 where
   pub not_rolled_back : did rolls_back_txn s past ≡ false
   pub made : HasMadeNone s past
 
--- the item has its own transaction, and is not at the end of its changes
-pub record HasOpened (s : ℕ) (past : List Event) : Type 0 where
-  pub is_open : IsOpen s past
-  pub begun : did begins_txn s past ≡ true
-  pub not_rolled_back : did rolls_back_txn s past ≡ false
-  pub none_before : own_before s past ≡ []
-  pub not_over : is_over s past ≡ false
-
--- the table is to be made
-pub record IsToMake (state : State) (s : ℕ) (statement : Stmt) (schema : Schema) : Type 0 where
-  pub at : IsAt s statement state.past
-  pub opened : HasOpened s state.past
-  pub new : own s state.past ≡ []
-  pub steady : IsSteady state s
-  pub makes : (outcome statement (base s state.past)).changes ≡ Create schema ∷ []
-  pub few : length (created state.past) < MOST_TABLES
-  pub storable : IsStorable schema
-
--- it is made
-pub record HasMadeIt (state : State) (s : ℕ) (statement : Stmt) : Type 0 where
-  pub at : IsAt s statement state.past
-  pub opened : HasOpened s state.past
-  pub schema : Schema
-  pub own_is : own s state.past ≡ Create schema ∷ []
-  pub steady : IsSteady state s
-  pub makes : (outcome statement (base s state.past)).changes ≡ Create schema ∷ []
-
 -- what it was to do is committed
 pub record IsCommitted (s : ℕ) (statement : Stmt) (past : List Event) : Type 0 where
   pub at : IsAt s statement past
@@ -86,13 +53,6 @@ pub record IsFinished (s : ℕ) (statement : Stmt) (past : List Event) : Type 0 
   pub ends : EndsCreate s (outcome statement (base s (point s past))).changes past
   pub acked : awaits_ack (of_item s past) ≡ false
   pub rows_alone : HasRowsAlone s past
-
--- its own transaction is to be rolled back
-pub record IsFailing (s : ℕ) (past : List Event) : Type 0 where
-  pub statement : Stmt
-  pub at : IsAt s statement past
-  pub opened : HasOpened s past
-  pub new : own s past ≡ []
 
 -- it found no memory
 pub record IsGivingUp (s : ℕ) (past : List Event) : Type 0 where

@@ -6,17 +6,14 @@ use Rattle.shared_lists.specs.State.{State, task_of}
 use Rattle.sql_lists.specs.Steps.{HasRowsAlone}
 use Rattle.create_statement.specs.declared.machine.CreateStatement.{CreateStatement}
 use Rattle.create_statement.specs.declared.machine.CreateStatement.TheVariants as machine
-use Rattle.create_statement.specs.Knowing.{IsToBegin, IsEmptied, IsToMake, HasMadeIt, IsCommitted, IsFailing, IsGivingUp}
+use Rattle.create_statement.specs.Knowing.{IsToBegin, IsEmptied, IsCommitted, IsGivingUp}
 
 abbrev pub RunsBy : State → ℕ → CreateStatement → Type 0
 RunsBy state s (machine.Asked stmt level) = IsToBegin s stmt level state.past × (of_item s state.past ≡ []) × HasRowsAlone s state.past
 RunsBy state s (machine.Unacked stmt level) = IsToBegin s stmt level state.past × IsEmptied s state.past × (awaits_ack (of_item s state.past) ≡ true)
 RunsBy state s (machine.Closed stmt level) = IsToBegin s stmt level state.past × IsEmptied s state.past × (awaits_ack (of_item s state.past) ≡ false)
-RunsBy state s (machine.Begun stmt schema) = IsToMake state s stmt schema
-RunsBy state s (machine.Made stmt) = HasMadeIt state s stmt
 RunsBy state s (machine.Committed stmt) = IsCommitted s stmt state.past × (awaits_ack (of_item s state.past) ≡ true)
 RunsBy state s (machine.Ending stmt) = IsCommitted s stmt state.past × (awaits_ack (of_item s state.past) ≡ false)
-RunsBy state s machine.Failing = IsFailing s state.past
 RunsBy state s machine.Failed = IsGivingUp s state.past
 
 -- its commit is yet to be acknowledged

@@ -1,8 +1,10 @@
-//! The steps before a table is made: what is open is committed, and the statement waits until it alone may write.
+//! The steps by which a table is made: what is open is committed, the statement waits while another session may write, and
+//! then its table is made in a transaction of its own, in one step.
 
-ghost use Rattle.std.specs.Prelude.{◌≡◌, ◌≢◌, ◌<◌, ℕ, [], length, None, Some};
+ghost use Rattle.std.specs.Prelude.{◌≡◌, ◌<◌, ◌≤◌, [], length, None, Some};
 ghost use Rattle.inno_db.specs.Outcome.{outcome};
-ghost use Rattle.inno_model.specs.Past.{own, IsOpen};
+ghost use Rattle.inno_model.specs.Past.{IsOpen};
+ghost use Rattle.sql_history.specs.Counts.{rows_kept, most_rows};
 ghost use Rattle.sql_history.specs.Items.{base};
 ghost use Rattle.law_past_agreement.specs.Order.{created};
 ghost use Rattle.sql_lists.specs.Kept.{AreStanding};
@@ -31,39 +33,10 @@ pub fn step_asked<L: SharedLists>(
     ensures steps { Steps IsRunning session lists.old lists.new result.0 result.1 }
     ensures nears { Nears to_go session lists.old (CreateStatement.Asked stmt level) lists.new result.0 result.1 }
 {
-    if let Some(by) = lists.other_maker(session) {
-        return wait_asked(by, stmt, level, session, lists);
-    }
     if is_there(lists.lists().schemas(), &stmt) {
         return skip(stmt, level, session, lists);
     }
     close(stmt, level, session, lists)
-}
-
-/// Another session makes a table: the statement waits for its transaction.
-fn wait_asked<L: SharedLists>(
-    by: u32,
-    stmt: Stmt,
-    level: Level,
-    session: u32,
-    lists: &mut SqlLists<L>,
-) -> (CreateStatement, Advance)
-    requires joined { (session < length lists.old.names) × (by < length lists.old.names) }
-    requires running { IsRunning lists.old session (CreateStatement.Asked stmt level) }
-    requires held { (by ≢ session) × (lists.old.writer ≡ Some by) × IsOpen by lists.old.past }
-    ensures steps { Steps IsRunning session lists.old lists.new result.0 result.1 }
-    ensures nears { Nears to_go session lists.old (CreateStatement.Asked stmt level) lists.new result.0 result.1 }
-{
-    match lists.edge_to(session, by) {
-        Ok(blockers) => (
-            CreateStatement::Asked { stmt, level },
-            Advance::Waiting { by, blockers },
-        ),
-        Err(_) => {
-            drop(stmt);
-            (CreateStatement::Failed, Advance::NoMemory)
-        }
-    }
 }
 
 /// The table is there: an open transaction is committed all the same.
@@ -105,7 +78,7 @@ fn close<L: SharedLists>(
     (CreateStatement::Unacked { stmt, level }, Advance::Went)
 }
 
-/// Nothing of the session's is open: once nobody else may write it opens its own transaction.
+/// Nothing of the session's is open: once nobody else may write the table is made.
 pub fn step_closed<L: SharedLists>(
     alloc: Global,
     stmt: Stmt,
@@ -122,7 +95,7 @@ pub fn step_closed<L: SharedLists>(
         return wait_closed(by, stmt, level, session, lists);
     }
     match table_to_make(alloc, lists.lists().schemas(), &stmt) {
-        Some(schema) => open(stmt, schema, level, session, lists),
+        Some(schema) => make(stmt, schema, level, session, lists),
         None => {
             drop(stmt);
             (CreateStatement::Failed, Advance::NoMemory)
@@ -156,8 +129,8 @@ fn wait_closed<L: SharedLists>(
     }
 }
 
-/// Opens the statement's own transaction, and takes the right to write.
-fn open<L: SharedLists>(
+/// Makes the table, while nobody else may write. Where no memory is found nothing is made.
+fn make<L: SharedLists>(
     stmt: Stmt,
     schema: Schema,
     level: Level,
@@ -167,21 +140,17 @@ fn open<L: SharedLists>(
     requires joined { session < length lists.old.names }
     requires running { IsRunning lists.old session (CreateStatement.Closed stmt level) }
     requires free { lists.old.writer ≡ None }
-    requires empty { (s : ℕ) → own s lists.old.past ≡ [] }
     requires tables { AreStanding lists.old.past }
+    requires within { rows_kept lists.old.past ≤ most_rows }
     requires makes { Makes stmt schema (created lists.old.past) }
     ensures steps { Steps IsRunning session lists.old lists.new result.0 result.1 }
     ensures nears { Nears to_go session lists.old (CreateStatement.Closed stmt level) lists.new result.0 result.1 }
 {
-    match lists.begin(session, level) {
-        Ok(()) => {
-            let _ = lists.lock(session);
-            (CreateStatement::Begun { stmt, schema }, Advance::Went)
-        }
+    match lists.make_table(session, level, schema) {
+        Ok(()) => (CreateStatement::Committed { stmt }, Advance::Went),
         Err(_) => {
             drop(stmt);
-            drop(schema);
-            (CreateStatement::Failed, Advance::NoMemory)
+            (CreateStatement::Failed, Advance::Went)
         }
     }
 }

@@ -45,20 +45,6 @@ pub fn step_ending<L: SharedLists>(
     finish(stmt, session, lists)
 }
 
-/// Rolls the statement's own transaction back, in which nothing is changed.
-pub fn step_failing<L: SharedLists>(
-    session: u32,
-    lists: &mut SqlLists<L>,
-) -> (CreateStatement, Advance)
-    requires joined { session < length lists.old.names }
-    requires running { IsRunning lists.old session CreateStatement.Failing }
-    ensures steps { Steps IsRunning session lists.old lists.new result.0 result.1 }
-    ensures nears { Nears to_go session lists.old CreateStatement.Failing lists.new result.0 result.1 }
-{
-    lists.roll_back(session);
-    (CreateStatement::Failed, Advance::Went)
-}
-
 pub fn step_failed<L: SharedLists>(
     session: u32,
     lists: &mut SqlLists<L>,

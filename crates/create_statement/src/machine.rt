@@ -11,9 +11,8 @@ ghost use Rattle.create_statement.specs.Running.{IsRunning, owes_ack, acked};
 ghost use Rattle.create_statement.specs.Going.{to_go};
 
 use crate::asking::{step_asked, step_closed};
-use crate::ending::{step_ending, step_failed, step_failing};
-use crate::making::{step_begun, step_made};
-use inno_types::{Level, Schema, Stmt};
+use crate::ending::{step_ending, step_failed};
+use inno_types::{Level, Stmt};
 use shared_lists::SharedLists;
 use sql_lists::{Advance, SqlLists};
 use std::alloc::Global;
@@ -26,14 +25,10 @@ pub enum CreateStatement {
     /// What was open is committed.
     Unacked { stmt: Stmt, level: Level },
     Closed { stmt: Stmt, level: Level },
-    /// It has its transaction, and alone may write.
-    Begun { stmt: Stmt, schema: Schema },
-    Made { stmt: Stmt },
     /// Its table is committed, or, where that was there, what was open.
     Committed { stmt: Stmt },
     Ending { stmt: Stmt },
-    /// No memory was found: its transaction is rolled back first.
-    Failing,
+    /// No memory was found, and no table is made.
     Failed,
 }
 
@@ -96,10 +91,7 @@ impl CreateStatement {
             CreateStatement::Closed { stmt, level } => step_closed(
                 alloc, stmt, level, session, lists,
             ),
-            CreateStatement::Begun { stmt, schema } => step_begun(stmt, schema, session, lists),
-            CreateStatement::Made { stmt } => step_made(stmt, session, lists),
             CreateStatement::Ending { stmt } => step_ending(stmt, session, lists),
-            CreateStatement::Failing => step_failing(session, lists),
             CreateStatement::Failed => step_failed(session, lists),
             CreateStatement::Unacked { .. } | CreateStatement::Committed { .. } => unreachable!(),
         }

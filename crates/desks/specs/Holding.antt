@@ -1,6 +1,5 @@
 -- What holds of the lists between calls.
 use Rattle.std.specs.Prelude.{◌≡◌, ◌≢◌, ℕ, ◌+◌, ◌<◌, ◌≤◌, ◌^◌, ◌==◌, Bool, true, false, List, [], ◌∷◌, length, slice_get, Option, None, Some, is_some}
-use Rattle.std.specs.List.{list_any}
 use Rattle.std.specs.FinMap.{get}
 use Rattle.inno_db.specs.Database.{Database}
 use Rattle.inno_db.specs.declared.limits.TheConstants.{MOST_TABLES}
@@ -13,7 +12,6 @@ use Rattle.store_api.specs.declared.answers.Undo.{Undo}
 use Rattle.read_view.specs.Sight.{Sight as ReadSight}
 use Rattle.row_versions.specs.declared.place.Place.{Place}
 use Rattle.row_versions.specs.Chains.{Chains, in_model, versions_at}
-use Rattle.law_past_agreement.specs.Order.{is_creation}
 use Rattle.law_past_agreement.specs.Rows.{place_in}
 use Rattle.law_past_agreement.specs.Agreement.{IsOpenedWith}
 use Rattle.world.specs.State.{WorldState, Session, Work, Logged, Seen, IsSession, HasWork}
@@ -161,13 +159,7 @@ SearchHeld chains state writer cuts s other = Unit {0}
 
 -- ---- the whole
 
--- whether the open transaction of who may write has made a table
-abbrev pub MakesTables : Option ℕ → Bool → List Event → Type 0
-MakesTables None made past = made ≡ false
-MakesTables (Some w) made past = made ≡ list_any is_creation (own w past)
-
-pub record IsHeld (state : WorldState) (writer : Option ℕ) (has_made_table : Bool) (desks : List Desk) (cuts : ℕ) (undo : UndoRoom) (room : WorkRoom) : Type
-    0 where
+pub record IsHeld (state : WorldState) (writer : Option ℕ) (desks : List Desk) (cuts : ℕ) (undo : UndoRoom) (room : WorkRoom) : Type 0 where
   pub chains : Chains
   pub agrees : Agrees chains writer state
   pub fits : FitsThen state.past
@@ -179,7 +171,6 @@ pub record IsHeld (state : WorldState) (writer : Option ℕ) (has_made_table : B
   pub started : (s : ℕ) → started s state.past ≡ (desk_at s desks).started
   pub count : length desks ≡ length state.names
   pub few : length state.names ≤ 68
-  pub makes : MakesTables writer has_made_table state.past
   -- each older version was dropped by a change that was taken back
   pub cut : cuts ≤ length state.past
   pub short : AreFew chains state.past

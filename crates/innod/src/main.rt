@@ -1,33 +1,15 @@
-//! Runs scripts of SQL on the storage engine, and prints what each session was answered.
+//! Runs scripts of SQL on the storage engine, over real files, and prints what each session was answered. All that it does
+//! there is `script_runner::run`.
 #![tactic(auto)]
 
-mod cause;
-mod input;
-mod outcome;
-mod output;
-mod playing;
-mod run;
-mod seats;
-mod sessions;
-#[cfg(test)]
-mod tests;
-mod words;
-
-pub use cause::cause_line;
 use disk_file::{FileDisk, FileSource, StdSink, SystemClock};
 use disk_mem::OpenGate;
 use inno_types::{Bytes, Listed};
-pub use input::{ReadBad, read_all};
-pub use outcome::{Fault, Outcome};
-pub use output::write_all;
-pub use playing::play;
-pub use run::run;
-pub use sessions::Sessions;
+use script_runner::{Fault, cause_line, run};
 use std::alloc::{AllocError, Global};
 use std::process::ExitCode;
 use std::{env, io};
 use store_api::NoMemory;
-pub use words::is_command;
 
 fn main(rt: HostRuntime) -> io::Result<ExitCode> {
     let status = match words_of(&rt) {

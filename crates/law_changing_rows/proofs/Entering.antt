@@ -216,8 +216,8 @@ stays_beside old new stay =
       records = λ table. stay.pairs (clustered_index table);
       places = stay.places;
       versions = stay.versions;
-      rest =
-          stay.rest;
+      rest = stay.rest;
+      later = stay.later;
     }
 
 pub goes_on : (s : ℕ) (chains : Chains) (old new : WorldState) (change : RowChange) (reached : Reached RowChange) → Agrees chains (Some s) old

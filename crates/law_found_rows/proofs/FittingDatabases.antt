@@ -152,9 +152,9 @@ latest_coded past s later fits ordered in_order parts tables =
     }
 
 pub unchanged_coded : (past : List Event) (s : ℕ) → FitsThen past → IsOrdered past → IsInOrder past → AreStanding past
-    → ((other : ℕ) → other ≢ s → own other past ≡ []) → own s past ≡ own_before s past → CanBeCoded (base s past)
-unchanged_coded past s fits ordered in_order stands alone unchanged =
+    → own s past ≡ own_before s past → CanBeCoded (base s past)
+unchanged_coded past s fits ordered in_order stands unchanged =
     let tables : created past ≡ (changed (opening past) (own s past ++ committed (commits past) past)).schemas =
-    stands.tables s (λ other differs. ap (list_any is_creation) (alone other differs)) in
+    stands.tables s in
     latest_coded past s [] fits ordered in_order unchanged
     (tables ∙ ap (λ changes. (changed (opening past) (changes ++ committed (commits past) past)).schemas) unchanged)

@@ -34,7 +34,7 @@ pub fn changes_of_a_fitting_history_fit()
 {}
 
 /// What a session sees under a view can be coded; and so can the latest rows that INSERT, UPDATE and DELETE act on, where all
-/// tables stand in them: as they do while no other session has changes and the session's item has made none.
+/// tables stand in them: as they do while the session's item has changed nothing.
 pub fn databases_of_a_fitting_history_fit()
     ensures seen { (past : List Event) (s n : ℕ) → FitsThen past → IsOrdered past
         → CanBeCoded (changed (with_all_tables past) (seen past s n)) }
@@ -42,8 +42,7 @@ pub fn databases_of_a_fitting_history_fit()
         → IsInOrder past → own s past ≡ later ++ own_before s past → created past ≡ (base s past).schemas
         → CanBeCoded (base s past) }
     ensures unchanged { (past : List Event) (s : ℕ) → FitsThen past → IsOrdered past → IsInOrder past
-        → AreStanding past → ((other : ℕ) → other ≢ s → own other past ≡ [])
-        → own s past ≡ own_before s past → CanBeCoded (base s past) }
+        → AreStanding past → own s past ≡ own_before s past → CanBeCoded (base s past) }
 {}
 
 /// Each change that a statement makes of such a database fits its tables.

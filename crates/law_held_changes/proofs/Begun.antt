@@ -28,8 +28,8 @@ use Rattle.law_held_changes.proofs.Sessions.{open_work, open_joined}
 some_same : (a b : ℕ) → Some a ≡ Some b → a ≡ b
 some_same a b same = cc
 
-module _ (state : WorldState) (s : ℕ) (made : Bool) (desks : List Desk) (cuts : ℕ) (undo : UndoRoom) (room : WorkRoom)
-    (held : IsHeld state (Some s) made desks cuts undo room) where
+module _ (state : WorldState) (s : ℕ) (desks : List Desk) (cuts : ℕ) (undo : UndoRoom) (room : WorkRoom)
+    (held : IsHeld state (Some s) desks cuts undo room) where
   fits_here : (table : ℕ) (edit : RowEdit) → FitsWell (created state.past) (change_of table edit) → FitsWell state.schemas (change_of table edit)
   fits_here table edit fits = subst (λ (tables : List Schema). FitsWell tables (change_of table edit)) (sym held.agrees.lists.tables) fits
 
@@ -38,7 +38,7 @@ module _ (state : WorldState) (s : ℕ) (made : Bool) (desks : List Desk) (cuts 
 
   -- who may write has something else under way, while the world is what it was
   pub turned : (doing : Doing) → s < length desks → RowsHeld held.chains state s (read_into undo) room doing
-      → SearchHeld held.chains state (Some s) cuts s doing → IsHeld state (Some s) made (with_doing s doing desks) cuts undo room
+      → SearchHeld held.chains state (Some s) cuts s doing → IsHeld state (Some s) (with_doing s doing desks) cuts undo room
   turned doing within rows search = record {
     chains = held.chains;
     agrees = held.agrees;
@@ -55,7 +55,6 @@ module _ (state : WorldState) (s : ℕ) (made : Bool) (desks : List Desk) (cuts 
     started = λ u. held.started u ∙ sym (started_still s u doing desks within);
     count = length-set desks s (record (desk_at s desks) { doing = doing }) ∙ held.count;
     few = held.few;
-    makes = held.makes;
     cut = held.cut;
     short = held.short;
     whole = held.whole;
@@ -63,7 +62,7 @@ module _ (state : WorldState) (s : ℕ) (made : Bool) (desks : List Desk) (cuts 
 
   pub begins : (table : ℕ) (schema : Schema) (edit : RowEdit) (key : List ℕ) → doing_at s desks ≡ Nothing → IsOpen s state.past
       → FitsWell (created state.past) (change_of table edit) → slice_get state.schemas table ≡ Some schema → IsKeyOfEdit schema edit key
-      → IsHeld state (Some s) made (with_doing s (Changing (begun table edit key)) desks) cuts undo room
+      → IsHeld state (Some s) (with_doing s (Changing (begun table edit key)) desks) cuts undo room
   begins table schema edit key nothing is_open fits there spelled =
       let rows : RowsHeld held.chains state s (read_into undo) room Nothing = subst (RowsHeld held.chains state s (read_into undo) room) nothing held.rows in
       let has = open_work held.chains (Some s) state held.agrees s is_open in

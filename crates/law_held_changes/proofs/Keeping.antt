@@ -34,8 +34,8 @@ use Rattle.law_held_changes.proofs.Left.{no_search}
 use Rattle.law_held_changes.proofs.Pasts.{GoesOnBy}
 use Rattle.law_held_changes.proofs.Sessions.{HasOpen, open_work, same_settings}
 
-module _ (s : ℕ) (made : Bool) (desks : List Desk) (cuts : ℕ) (undo : UndoRoom) (room : WorkRoom) (old new : WorldState)
-    (held : IsHeld old (Some s) made desks cuts undo room) (beside : KeepsBeside s old new) where
+module _ (s : ℕ) (desks : List Desk) (cuts : ℕ) (undo : UndoRoom) (room : WorkRoom) (old new : WorldState)
+    (held : IsHeld old (Some s) desks cuts undo room) (beside : KeepsBeside s old new) where
   -- who may write has a transaction, and has it still
   pub was_open : HasOpen s old
   was_open = open_work held.chains (Some s) old held.agrees s held.agrees.lists.writes.0
@@ -141,7 +141,7 @@ module _ (s : ℕ) (made : Bool) (desks : List Desk) (cuts : ℕ) (undo : UndoRo
 
     pub keeps : (doing : Doing) → s < length desks → is_searching doing ≡ false → FitsThen new.past → LogsAgree new
         → RowsHeld after new s (read_into undo) room doing
-        → AreFew after new.past → IsHeld new (Some s) made (with_doing s doing desks) cuts undo room
+        → AreFew after new.past → IsHeld new (Some s) (with_doing s doing desks) cuts undo room
     keeps doing within searches_not fits logs rows short = record {
       chains = after;
       agrees = agrees;
@@ -161,7 +161,6 @@ module _ (s : ℕ) (made : Bool) (desks : List Desk) (cuts : ℕ) (undo : UndoRo
       started = λ u. goes.started_is u ∙ held.started u ∙ sym (started_still s u doing desks within);
       count = length-set desks s (record (desk_at s desks) { doing = doing }) ∙ held.count ∙ ap length (sym beside.names);
       few = subst (λ (names : List (List ℕ)). length names ≤ 68) (sym beside.names) held.few;
-      makes = held.makes ∙ sym goes.makes;
       cut = omega (arith, held.cut, goes.longer);
       short = short;
       whole = held.whole;

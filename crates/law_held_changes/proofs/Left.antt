@@ -3,7 +3,6 @@ use Rattle.std.proofs.Common.{◌≡◌, ⊎_elim, inl, ℕ, ◌≤◌, Bool, tr
 use Rattle.std.specs.Prelude.{slice_get, option_map, is_some}
 use Rattle.std.proofs.lemmas.Bool.{cases_eq}
 use Rattle.inno_types.specs.declared.value.Schema.{Schema}
-use Rattle.inno_model.specs.declared.event.Event.{Event}
 use Rattle.inno_model.specs.Past.{own, started, under_way, of_item, awaits_ack}
 use Rattle.store_api.specs.declared.answers.Undo.{Undo}
 use Rattle.entries.specs.Pairs.{Pair}
@@ -15,6 +14,7 @@ use Rattle.row_versions.specs.Chains.{Chains, versions_at}
 use Rattle.law_past_agreement.specs.Rows.{place_in}
 use Rattle.law_coded_rows.specs.Records.{KeepsMore}
 use Rattle.world.specs.State.{WorldState, Session, Logged}
+use Rattle.world.proofs.Stores.{store_stays, store_goes_on}
 use Rattle.world.specs.Indexes.{Calls}
 use Rattle.world.specs.Told.{IsTold, LeavesRows}
 use Rattle.world.specs.Undoing.{read_into}
@@ -35,7 +35,7 @@ use Rattle.desks.specs.declared.desk.Desk.{Desk}
 use Rattle.desks.specs.declared.desk.Doing.{Doing}
 use Rattle.desks.specs.declared.desk.Doing.TheVariants.{Nothing, Searching, Changing, Lagging, Undoing}
 use Rattle.desks.specs.Desks.{doing_at}
-use Rattle.desks.specs.Holding.{IsHeld, IsLast, IsLastIfTold, RowsHeld, RowsHeldBy, SearchHeld, MakesTables}
+use Rattle.desks.specs.Holding.{IsHeld, IsLast, IsLastIfTold, RowsHeld, RowsHeldBy, SearchHeld}
 use Rattle.desks.specs.Leaves.{LeavesOthers}
 use Rattle.desks.proofs.Leaving.{search_left}
 use Rattle.law_held_changes.specs.Leaving.{LeavesIndexes, is_searching}
@@ -65,11 +65,12 @@ one_left s index old new c = record {
       (λ apart. ap (λ (place : ℕ → Option Pair). place u) (c.index_is.elsewhere i apart).place) (cases_eq i index);
   versions = c.beside.versions;
   rest = c.beside.rest;
+  later = c.beside.later;
 }
 
 pub none_left : (s : ℕ) (state : WorldState) → LeavesIndexes s state state
 none_left s state =
-    record { pairs = λ i. same_pairs (state.indexes i).pairs; others = λ u i differs. refl; versions = same_versions state.versions; rest = refl }
+    record { pairs = λ i. same_pairs (state.indexes i).pairs; others = λ u i differs. refl; versions = same_versions state.versions; rest = refl; later = store_stays state.paged }
 
 pub left_then : (s : ℕ) (old mid new : WorldState) → LeavesIndexes s old mid → LeavesIndexes s mid new → LeavesIndexes s old new
 left_then s old mid new first second = record {
@@ -77,6 +78,7 @@ left_then s old mid new first second = record {
   others = λ u i differs. second.others u i differs ∙ first.others u i differs;
   versions = stays_then old.versions mid.versions new.versions first.versions second.versions;
   rest = second.rest ∙ ap (λ (state : WorldState). record state { indexes = new.indexes; versions = new.versions; paged = new.paged }) first.rest;
+  later = store_goes_on old.paged mid.paged new.paged first.later second.later;
 }
 
 -- ---- what holds
@@ -89,9 +91,6 @@ no_search chains state writer cuts s Nothing none = record {}
 no_search chains state writer cuts s (Changing change) none = record {}
 no_search chains state writer cuts s Lagging none = record {}
 no_search chains state writer cuts s Undoing none = record {}
-
-makes_still : (writer : Option ℕ) (made : Bool) (past later : List Event) → later ≡ past → MakesTables writer made past → MakesTables writer made later
-makes_still writer made past later same is = subst (MakesTables writer made) (sym same) is
 
 module _ (s : ℕ) (writer : Option ℕ) (old new : WorldState) (leaves : LeavesIndexes s old new) where
   same_past : new.past ≡ old.past
@@ -193,9 +192,9 @@ module _ (s : ℕ) (writer : Option ℕ) (old new : WorldState) (leaves : Leaves
     kept = inl (refl, more_kept told);
   }
 
-  pub held_left : (made : Bool) (desks : List Desk) (cuts : ℕ) (undo : UndoRoom) (room : WorkRoom) → IsHeld old writer made desks cuts undo room
-      → is_searching (doing_at s desks) ≡ false → IsTold new → IsHeld new writer made desks cuts undo room
-  held_left made desks cuts undo room held none told = record {
+  pub held_left : (desks : List Desk) (cuts : ℕ) (undo : UndoRoom) (room : WorkRoom) → IsHeld old writer desks cuts undo room
+      → is_searching (doing_at s desks) ≡ false → IsTold new → IsHeld new writer desks cuts undo room
+  held_left desks cuts undo room held none told = record {
     chains = held.chains;
     agrees = agrees_left held.chains held.agrees;
     fits = subst FitsThen (sym same_past) held.fits;
@@ -220,7 +219,6 @@ module _ (s : ℕ) (writer : Option ℕ) (old new : WorldState) (leaves : Leaves
     started = λ u. ap (λ past. started u past) same_past ∙ held.started u;
     count = held.count ∙ ap length (sym same_names);
     few = subst (λ (names : List (List ℕ)). length names ≤ 68) (sym same_names) held.few;
-    makes = makes_still writer made old.past new.past same_past held.makes;
     cut = subst (λ past. cuts ≤ length past) (sym same_past) held.cut;
     short = λ place. subst (λ past. length (versions_at place held.chains) ≤ length past + 2 ^ 62) (sym same_past) (held.short place);
     whole = held.whole;

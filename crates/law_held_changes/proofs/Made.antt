@@ -9,7 +9,7 @@ use Rattle.inno_model.specs.Past.{own}
 use Rattle.row_versions.specs.declared.place.Place.{Place}
 use Rattle.row_versions.specs.declared.version.Version.{Version}
 use Rattle.row_versions.specs.Chains.{Chains, versions_at, is_same_place, Pushes}
-use Rattle.law_past_agreement.specs.Order.{created, is_creation}
+use Rattle.law_past_agreement.specs.Order.{created}
 use Rattle.world.specs.State.{WorldState}
 use Rattle.world.specs.Told.{IsTold}
 use Rattle.world.specs.Undoing.{read_into}
@@ -46,10 +46,6 @@ use Rattle.law_held_changes.proofs.Keeping.{leaves_lists, last_of_kept, keeps}
 
 -- ---- the entry
 
-no_creation : (table : ℕ) (edit : RowEdit) → is_creation (change_of table edit) ≡ false
-no_creation table (Put row) = refl
-no_creation table (Remove value) = refl
-
 rows_more : (table : ℕ) (edit : RowEdit) → rows_put edit ≡ rows_of_change (Some (change_of table edit))
 rows_more table (Put row) = refl
 rows_more table (Remove value) = refl
@@ -75,16 +71,16 @@ keys_there found schema is = ap keys_if is
 fewer : (steps fewer_steps : ℕ → ℕ) (keys kept now : ℕ) → keys ≡ kept → now ≡ kept → fewer_steps kept < steps kept → fewer_steps now < steps keys
 fewer steps fewer_steps keys kept now is same nears = subst (λ k. fewer_steps now < steps k) (sym is) (subst (λ k. fewer_steps k < steps kept) (sym same) nears)
 
-module _ (s : ℕ) (made : Bool) (desks : List Desk) (cuts : ℕ) (undo : UndoRoom) (room : WorkRoom) (old : WorldState)
-    (held : IsHeld old (Some s) made desks cuts undo room) (change : RowChange) (at : doing_at s desks ≡ Changing change) where
+module _ (s : ℕ) (desks : List Desk) (cuts : ℕ) (undo : UndoRoom) (room : WorkRoom) (old : WorldState)
+    (held : IsHeld old (Some s) desks cuts undo room) (change : RowChange) (at : doing_at s desks ≡ Changing change) where
   rows_now : RowsHeld held.chains old s (read_into undo) room (Changing change)
   rows_now = subst (RowsHeld held.chains old s (read_into undo) room) at held.rows
 
   pub may : (chains : Chains) × IsChangingRow s chains old change
   may = (held.chains, rows_now.0)
 
-module _ (s : ℕ) (made : Bool) (desks : List Desk) (cuts : ℕ) (undo : UndoRoom) (room : WorkRoom) (old new : WorldState)
-    (held : IsHeld old (Some s) made desks cuts undo room) (was : IsTold old) (told : IsTold new) (few : length new.past < 2 ^ 63)
+module _ (s : ℕ) (desks : List Desk) (cuts : ℕ) (undo : UndoRoom) (room : WorkRoom) (old new : WorldState)
+    (held : IsHeld old (Some s) desks cuts undo room) (was : IsTold old) (told : IsTold new) (few : length new.past < 2 ^ 63)
     (within : s < length desks) where
   logs_now : (change : RowChange) (reached : Reached RowChange) → IsChangingRow s held.chains old change → ChangesRow s held.chains old new change reached
       → LogsAgree new
@@ -101,9 +97,9 @@ module _ (s : ℕ) (made : Bool) (desks : List Desk) (cuts : ℕ) (undo : UndoRo
   -- the same of a change that stays under way
   pub went : (change next : RowChange) → IsChangingRow s held.chains old change → (c : ChangesRow s held.chains old new change (Went next))
       → StaysAgreed s held.chains old new next → IsLastIfTold new s next → room.stage ≡ Find
-      → IsHeld new (Some s) made (with_doing s (Changing next) desks) cuts undo room
+      → IsHeld new (Some s) (with_doing s (Changing next) desks) cuts undo room
   went change next p c a last stage =
-      keeps s made desks cuts undo room old new held a.beside (goes_same s old.past new.past a.past) held.chains a.agrees was (Changing next) within refl
+      keeps s desks cuts undo room old new held a.beside (goes_same s old.past new.past a.past) held.chains a.agrees was (Changing next) within refl
       (fits_same a.past) (logs_now change (Went next) p c) (a.changing, stage, last) (short_same a.past)
 
   nothing_added : (chains : Chains) (next : RowChange) → StaysAgreed s chains old new next → AddsNothing old new
@@ -121,7 +117,7 @@ module _ (s : ℕ) (made : Bool) (desks : List Desk) (cuts : ℕ) (undo : UndoRo
       (rows : RowsHeld held.chains old s (read_into undo) room (Changing (Record change key after))) where
     record_went : (next : RecordChange) (key' : List ℕ) (after' : Option (List Value))
         → ChangesRow s held.chains old new (Record change key after) (Went (Record next key' after'))
-        → MakesChange s made desks cuts undo room old new (Record change key after) (Went (Record next key' after'))
+        → MakesChange s desks cuts undo room old new (Record change key after) (Went (Record next key' after'))
     record_went next key' after' c =
         let a : StaysAgreed s held.chains old new (Record next key' after') =
         goes_on s held.chains old new (Record change key after) (Went (Record next key' after')) held.agrees rows.0 c told few in
@@ -130,7 +126,7 @@ module _ (s : ℕ) (made : Bool) (desks : List Desk) (cuts : ℕ) (undo : UndoRo
         ap (λ n. change_of n next.edit) c.0.0.table_is ∙ ap (change_of change.table) c.0.0.edit_is in
         record {
           held = went (Record change key after) (Record next key' after') rows.0 c a (record {}) rows.1;
-          leaves = leaves_lists s made desks cuts undo room old new held a.beside;
+          leaves = leaves_lists s desks cuts undo room old new held a.beside;
           comes = record {
             adds = nothing_added held.chains (Record next key' after') a;
             change_is = ap Some same_change;
@@ -170,7 +166,7 @@ module _ (s : ℕ) (made : Bool) (desks : List Desk) (cuts : ℕ) (undo : UndoRo
         }
 
     record_entered : (next : KeysChange) → ChangesRow s held.chains old new (Record change key after) (Went (Keys next))
-        → MakesChange s made desks cuts undo room old new (Record change key after) (Went (Keys next))
+        → MakesChange s desks cuts undo room old new (Record change key after) (Went (Keys next))
     record_entered next c =
         let a : EntersAgreed s held.chains old new change next =
         goes_on s held.chains old new (Record change key after) (Went (Keys next)) held.agrees rows.0 c told few in
@@ -185,26 +181,26 @@ module _ (s : ℕ) (made : Bool) (desks : List Desk) (cuts : ℕ) (undo : UndoRo
         let longer : length new.past ≡ 1 + length old.past = omega (arith, ap length a.past) in
         record {
           held =
-              keeps s made desks cuts undo room old new held a.beside (goes_changed s entry old.past new.past a.past (no_creation change.table change.edit))
+              keeps s desks cuts undo room old new held a.beside (goes_changed s entry old.past new.past a.past)
               a.after a.agrees was (Changing (Keys next)) within refl (subst FitsThen (sym a.past) fits)
               (logs_now (Record change key after) (Went (Keys next)) rows.0 c) (a.changing, rows.1, last_logged next c a.beside.schemas)
               (λ place. let pushed = pushed_short held.chains a.after _ _ (length old.past + 2 ^ 62) a.pushes.pushes held.short place in omega
               (arith, longer, pushed));
-          leaves = leaves_lists s made desks cuts undo room old new held a.beside;
+          leaves = leaves_lists s desks cuts undo room old new held a.beside;
           comes = record { entry = entry; was = refl; is = refl; past = a.past; rows = a.rows ∙ ap (λ n. old.rows + n) (rows_more change.table change.edit) };
         }
 
     record_hindered : (same : RowChange) (why : _) → ChangesRow s held.chains old new (Record change key after) (Hindered same why)
-        → MakesChange s made desks cuts undo room old new (Record change key after) (Hindered same why)
+        → MakesChange s desks cuts undo room old new (Record change key after) (Hindered same why)
     record_hindered same why c =
         let given = goes_on s held.chains old new (Record change key after) (Hindered same why) held.agrees rows.0 c told few in
         let a : StaysAgreed s held.chains old new same = given.1 in
         let p : IsChangingRow s held.chains new (Record change key after) = subst (IsChangingRow s held.chains new) c.0 a.changing in
         record {
           held =
-              keeps s made desks cuts undo room old new held a.beside (goes_same s old.past new.past a.past) held.chains a.agrees was Nothing within refl
+              keeps s desks cuts undo room old new held a.beside (goes_same s old.past new.past a.past) held.chains a.agrees was Nothing within refl
               (fits_same a.past) (logs_now (Record change key after) (Hindered same why) rows.0 c) (p.1, rows.1) (short_same a.past);
-          leaves = leaves_lists s made desks cuts undo room old new held a.beside;
+          leaves = leaves_lists s desks cuts undo room old new held a.beside;
           comes = (nothing_added held.chains same a, c.0);
         }
 
@@ -212,15 +208,15 @@ module _ (s : ℕ) (made : Bool) (desks : List Desk) (cuts : ℕ) (undo : UndoRo
 
   module _ (change : KeysChange) (rows : RowsHeld held.chains old s (read_into undo) room (Changing (Keys change))) where
     keys_went : (next : KeysChange) → ChangesRow s held.chains old new (Keys change) (Went (Keys next))
-        → MakesChange s made desks cuts undo room old new (Keys change) (Went (Keys next))
+        → MakesChange s desks cuts undo room old new (Keys change) (Went (Keys next))
     keys_went next c =
         let a : StaysAgreed s held.chains old new (Keys next) = goes_on s held.chains old new (Keys change) (Went (Keys next)) held.agrees rows.0 c told few in
         let p = rows.0 in
         record {
           held =
               went (Keys change) (Keys next) rows.0 c a
-              (last_of_kept s made desks cuts undo room old new held a.beside change next a.past c.0.table_is c.0.key_is rows.2) rows.1;
-          leaves = leaves_lists s made desks cuts undo room old new held a.beside;
+              (last_of_kept s desks cuts undo room old new held a.beside change next a.past c.0.table_is c.0.key_is rows.2) rows.1;
+          leaves = leaves_lists s desks cuts undo room old new held a.beside;
           comes = record {
             adds = nothing_added held.chains (Keys next) a;
             change_is = refl;
@@ -232,27 +228,27 @@ module _ (s : ℕ) (made : Bool) (desks : List Desk) (cuts : ℕ) (undo : UndoRo
           };
         }
 
-    keys_done : ChangesRow s held.chains old new (Keys change) Done → MakesChange s made desks cuts undo room old new (Keys change) Done
+    keys_done : ChangesRow s held.chains old new (Keys change) Done → MakesChange s desks cuts undo room old new (Keys change) Done
     keys_done c =
         let a : EndsAgreed s held.chains old new = goes_on s held.chains old new (Keys change) Done held.agrees rows.0 c told few in
         record {
           held =
-              keeps s made desks cuts undo room old new held a.beside (goes_same s old.past new.past a.past) held.chains a.agrees was Nothing within refl
+              keeps s desks cuts undo room old new held a.beside (goes_same s old.past new.past a.past) held.chains a.agrees was Nothing within refl
               (fits_same a.past) (logs_now (Keys change) Done rows.0 c) (a.coded, rows.1) (short_same a.past);
-          leaves = leaves_lists s made desks cuts undo room old new held a.beside;
+          leaves = leaves_lists s desks cuts undo room old new held a.beside;
           comes = (record { past = a.past; rows = a.rows }, refl);
         }
 
     keys_hindered : (same : RowChange) (why : _) → ChangesRow s held.chains old new (Keys change) (Hindered same why)
-        → MakesChange s made desks cuts undo room old new (Keys change) (Hindered same why)
+        → MakesChange s desks cuts undo room old new (Keys change) (Hindered same why)
     keys_hindered same why c =
         let given = goes_on s held.chains old new (Keys change) (Hindered same why) held.agrees rows.0 c told few in
         let a : StaysAgreed s held.chains old new same = given.1 in
         let p : IsChangingRow s held.chains new (Keys change) = subst (IsChangingRow s held.chains new) c.0 a.changing in
-        let last = last_of_kept s made desks cuts undo room old new held a.beside change change a.past refl refl rows.2 in
+        let last = last_of_kept s desks cuts undo room old new held a.beside change change a.past refl refl rows.2 in
         record {
           held =
-              keeps s made desks cuts undo room old new held a.beside (goes_same s old.past new.past a.past) held.chains a.agrees was Lagging within refl
+              keeps s desks cuts undo room old new held a.beside (goes_same s old.past new.past a.past) held.chains a.agrees was Lagging within refl
               (fits_same a.past) (logs_now (Keys change) (Hindered same why) rows.0 c) (
                 record {
                   change = change;
@@ -266,12 +262,12 @@ module _ (s : ℕ) (made : Bool) (desks : List Desk) (cuts : ℕ) (undo : UndoRo
                 },
                 rows.1,
               ) (short_same a.past);
-          leaves = leaves_lists s made desks cuts undo room old new held a.beside;
+          leaves = leaves_lists s desks cuts undo room old new held a.beside;
           comes = (nothing_added held.chains same a, c.0);
         }
 
   pub makes : (change : RowChange) (reached : Reached RowChange) → RowsHeld held.chains old s (read_into undo) room (Changing change)
-      → ChangesRow s held.chains old new change reached → MakesChange s made desks cuts undo room old new change reached
+      → ChangesRow s held.chains old new change reached → MakesChange s desks cuts undo room old new change reached
   makes (Record change key after) (Went (Record next key' after')) rows c = record_went change key after rows next key' after' c
   makes (Record change key after) (Went (Keys next)) rows c = record_entered change key after rows next c
   makes (Record change key after) Done rows c = absurd c
@@ -281,10 +277,10 @@ module _ (s : ℕ) (made : Bool) (desks : List Desk) (cuts : ℕ) (undo : UndoRo
   makes (Keys change) Done rows c = keys_done change rows c
   makes (Keys change) (Hindered same why) rows c = keys_hindered change rows same why c
 
-pub change_made : (s : ℕ) (made : Bool) (desks : List Desk) (cuts : ℕ) (undo : UndoRoom) (room : WorkRoom) (old new : WorldState) (change : RowChange)
-    (reached : Reached RowChange) → IsHeld old (Some s) made desks cuts undo room → doing_at s desks ≡ Changing change
+pub change_made : (s : ℕ) (desks : List Desk) (cuts : ℕ) (undo : UndoRoom) (room : WorkRoom) (old new : WorldState) (change : RowChange)
+    (reached : Reached RowChange) → IsHeld old (Some s) desks cuts undo room → doing_at s desks ≡ Changing change
     → ((chains : Chains) → IsChangingRow s chains old change → ChangesRow s chains old new change reached) → IsTold old → IsTold new → length new.past < 2 ^
-    63 → MakesChange s made desks cuts undo room old new change reached
-change_made s made desks cuts undo room old new change reached held at changes was told few =
+    63 → MakesChange s desks cuts undo room old new change reached
+change_made s desks cuts undo room old new change reached held at changes was told few =
     let rows : RowsHeld held.chains old s (read_into undo) room (Changing change) = subst (RowsHeld held.chains old s (read_into undo) room) at held.rows in
-    makes s made desks cuts undo room old new held was told few (changes_at_a_desk s change desks at) change reached rows (changes held.chains rows.0)
+    makes s desks cuts undo room old new held was told few (changes_at_a_desk s change desks at) change reached rows (changes held.chains rows.0)

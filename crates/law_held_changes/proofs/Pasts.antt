@@ -1,24 +1,21 @@
 -- What the past says after a step of a change: it is the same, or has the entry of the change.
 use Rattle.std.proofs.Common.{◌≡◌, inl, inr, ℕ, ◌≤◌, ◌==◌, Bool, true, false, cond, List, ◌∷◌, length, refl, sym, subst, arith, eq-eqb}
-use Rattle.std.specs.List.{list_any}
 use Rattle.inno_db.specs.declared.change.Change.{Change}
 use Rattle.inno_model.specs.declared.event.Event.{Event}
 use Rattle.inno_model.specs.declared.event.Event.TheVariants.{Changed}
 use Rattle.inno_model.specs.Past.{own, started, under_way, of_item, awaits_ack}
-use Rattle.law_past_agreement.specs.Order.{is_creation}
 use Rattle.law_found_rows.specs.Pasts.{AddsAtMostOne}
 
--- no item has started or ended, no commit waits for its acknowledgement that didn't, and no table was made
+-- no item has started or ended, and no commit waits for its acknowledgement that didn't
 pub record GoesOnBy (s : ℕ) (old new : List Event) : Type 0 where
   pub longer : length old ≤ length new
   pub adds : AddsAtMostOne s old new
   pub started_is : (u : ℕ) → started u new ≡ started u old
   pub under_way_is : (u : ℕ) → under_way u new ≡ under_way u old
   pub awaits : (u : ℕ) → awaits_ack (of_item u new) ≡ true → awaits_ack (of_item u old) ≡ true
-  pub makes : list_any is_creation (own s new) ≡ list_any is_creation (own s old)
 
 same_again : (s : ℕ) (past : List Event) → GoesOnBy s past past
-same_again s past = record { longer = omega arith; adds = inl refl; started_is = λ u. refl; under_way_is = λ u. refl; awaits = λ u is. is; makes = refl }
+same_again s past = record { longer = omega arith; adds = inl refl; started_is = λ u. refl; under_way_is = λ u. refl; awaits = λ u is. is }
 
 pub goes_same : (s : ℕ) (old new : List Event) → new ≡ old → GoesOnBy s old new
 goes_same s old new same = subst (GoesOnBy s old) (sym same) (same_again s old)
@@ -29,23 +26,14 @@ awaits_then : (s u : ℕ) (change : Change) (past : List Event) (b : Bool) → a
 awaits_then s u change past true is = absurd (cc)
 awaits_then s u change past false is = is
 
-makes_none : (change : Change) (changes : List Change) → is_creation change ≡ false → list_any is_creation (change ∷ changes) ≡ list_any is_creation changes
-makes_none change changes is = cc
-
-makes_then : (change : Change) (changes : List Change) (b : Bool) → is_creation change ≡ false
-    → list_any is_creation (cond b (change ∷ changes) changes) ≡ list_any is_creation changes
-makes_then change changes true is = makes_none change changes is
-makes_then change changes false is = refl
-
-changed_then : (s : ℕ) (change : Change) (past : List Event) → is_creation change ≡ false → GoesOnBy s past (Changed s change ∷ past)
-changed_then s change past of_row = record {
+changed_then : (s : ℕ) (change : Change) (past : List Event) → GoesOnBy s past (Changed s change ∷ past)
+changed_then s change past = record {
   longer = omega arith;
   adds = inr (Changed s change, eq-eqb s s refl, refl);
   started_is = λ u. refl;
   under_way_is = λ u. refl;
   awaits = λ u is. awaits_then s u change past (s == u) is;
-  makes = makes_then change (own s past) (s == s) of_row;
 }
 
-pub goes_changed : (s : ℕ) (change : Change) (old new : List Event) → new ≡ Changed s change ∷ old → is_creation change ≡ false → GoesOnBy s old new
-goes_changed s change old new is of_row = subst (GoesOnBy s old) (sym is) (changed_then s change old of_row)
+pub goes_changed : (s : ℕ) (change : Change) (old new : List Event) → new ≡ Changed s change ∷ old → GoesOnBy s old new
+goes_changed s change old new is = subst (GoesOnBy s old) (sym is) (changed_then s change old)

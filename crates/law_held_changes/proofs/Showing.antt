@@ -1,5 +1,5 @@
 -- What callers see of desks: the tasks of sessions.
-use Rattle.std.proofs.Common.{◌≡◌, ◌≢◌, ℕ, zero, suc, ◌+◌, ◌*◌, ◌<◌, ◌≤◌, ◌^◌, Bool, true, List, [], ◌∷◌, length, Option, Some, None, refl, sym, ap, subst, ◌∙◌, arith}
+use Rattle.std.proofs.Common.{◌≡◌, ◌≢◌, ℕ, zero, suc, ◌+◌, ◌*◌, ◌<◌, ◌≤◌, ◌^◌, true, List, [], ◌∷◌, length, Option, Some, None, refl, sym, ap, subst, ◌∙◌, arith}
 use Rattle.std.specs.Prelude.{slice_get, slice_index_or}
 use Rattle.inno_types.specs.declared.value.Schema.{Schema}
 use Rattle.inno_model.specs.declared.event.Event.{Event}
@@ -49,8 +49,8 @@ quiet_shown schemas left later (Changing change) quiet = absurd (cc)
 quiet_shown schemas left later Lagging quiet = absurd (cc)
 quiet_shown schemas left later Undoing quiet = absurd (cc)
 
-module _ (s : ℕ) (made : Bool) (desks : List Desk) (cuts : ℕ) (undo : UndoRoom) (room : WorkRoom) (old new : WorldState) (left later : ℕ)
-    (held : IsHeld old (Some s) made desks cuts undo room) (leaves : LeavesLists old new) where
+module _ (s : ℕ) (desks : List Desk) (cuts : ℕ) (undo : UndoRoom) (room : WorkRoom) (old new : WorldState) (left later : ℕ)
+    (held : IsHeld old (Some s) desks cuts undo room) (leaves : LeavesLists old new) where
   others_shown : (doing : Doing) (u : ℕ) → u ≢ s
       → task_of u (lists_of new (Some s) (with_doing s doing desks) later).state ≡ task_of u (lists_of old (Some s) desks left).state
   others_shown doing u differs =
@@ -141,16 +141,16 @@ few_steps keys few = omega arith
 same_lists : (state : WorldState) → LeavesLists state state
 same_lists state = record { names = refl; schemas = refl; settings = refl }
 
-module _ (state : WorldState) (s : ℕ) (made : Bool) (desks : List Desk) (cuts : ℕ) (undo : UndoRoom) (room : WorkRoom)
-    (held : IsHeld state (Some s) made desks cuts undo room) (within : s < length desks) where
+module _ (state : WorldState) (s : ℕ) (desks : List Desk) (cuts : ℕ) (undo : UndoRoom) (room : WorkRoom)
+    (held : IsHeld state (Some s) desks cuts undo room) (within : s < length desks) where
   pub begun_turns : (left later table : ℕ) (edit : RowEdit) (key : List ℕ) (now : Lists)
       → now ≡ lists_of state (Some s) (with_doing s (Changing (begun table edit key)) desks) later
       → Turns s (task_of s now.state) (lists_of state (Some s) desks left).state now.state
   begun_turns left later table edit key now is =
       let doing = Changing (begun table edit key) in
       subst (λ (lists : Lists). Turns s (task_of s lists.state) (lists_of state (Some s) desks left).state lists.state) (sym is)
-      (now_shown s made desks cuts undo room state state left later held (same_lists state) doing state.past _ within refl
-      (sym (mine_shown s made desks cuts undo room state state left later held (same_lists state) doing within)))
+      (now_shown s desks cuts undo room state state left later held (same_lists state) doing state.past _ within refl
+      (sym (mine_shown s desks cuts undo room state state left later held (same_lists state) doing within)))
 
   -- each table has few keys
   keys_few : (table : ℕ) → keys_if (slice_get state.schemas table) ≤ 4
@@ -163,7 +163,7 @@ module _ (state : WorldState) (s : ℕ) (made : Bool) (desks : List Desk) (cuts 
       → (is_changing (task_of s now.state) ≡ true) × (asked (task_of s now.state) ≡ Some (change_of table edit)) × (steps_left (task_of s now.state) < 2 ^ 70)
   begun_task later table edit key now is =
       let task =
-      ap (λ (lists : Lists). task_of s lists.state) is ∙ mine_shown s made desks cuts undo room state state later later held (same_lists state)
+      ap (λ (lists : Lists). task_of s lists.state) is ∙ mine_shown s desks cuts undo room state state later later held (same_lists state)
       (Changing (begun table edit key)) within in (
         ap is_changing task,
         ap asked task,

@@ -3,6 +3,7 @@ use Rattle.std.specs.Prelude.{◌≡◌, ◌≢◌, ℕ, Bool, true, false}
 use Rattle.entries.specs.Index.{AreKept}
 use Rattle.chain.specs.Versions.{Stays}
 use Rattle.world.specs.State.{WorldState}
+use Rattle.world.specs.Stores.{StoreGoes}
 use Rattle.desks.specs.declared.desk.Doing.{Doing}
 use Rattle.desks.specs.declared.desk.Doing.TheVariants.{Searching}
 
@@ -12,6 +13,7 @@ pub record LeavesIndexes (s : ℕ) (old new : WorldState) : Type 0 where
   pub others : (u index : ℕ) → u ≢ s → (new.indexes index).place u ≡ (old.indexes index).place u
   pub versions : Stays old.versions new.versions
   pub rest : new ≡ record old { indexes = new.indexes; versions = new.versions; paged = new.paged }
+  pub later : StoreGoes old.paged new.paged
 
 abbrev pub is_searching : Doing → Bool
 is_searching (Searching on) = true

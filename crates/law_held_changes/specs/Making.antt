@@ -1,5 +1,5 @@
 -- What a step of a change makes of a world with its desks.
-use Rattle.std.specs.Prelude.{◌≡◌, ℕ, ◌+◌, ◌<◌, Bool, List, ◌∷◌, map, slice_get, Some, None}
+use Rattle.std.specs.Prelude.{◌≡◌, ℕ, ◌+◌, ◌<◌, List, ◌∷◌, map, slice_get, Some, None}
 use Rattle.inno_db.specs.declared.change.Change.{Change}
 use Rattle.inno_model.specs.declared.event.Event.TheVariants.{Changed}
 use Rattle.world.specs.State.{WorldState, Session}
@@ -70,8 +70,8 @@ Comes s old new change Done = AddsNothing old new × (change_in change ≡ None)
 Comes s old new change (Hindered same why) = AddsNothing old new × (same ≡ change)
 
 -- The lists hold with what is left of the change.
-pub record MakesChange (s : ℕ) (made : Bool) (desks : List Desk) (cuts : ℕ) (undo : UndoRoom) (room : WorkRoom) (old new : WorldState) (change : RowChange)
+pub record MakesChange (s : ℕ) (desks : List Desk) (cuts : ℕ) (undo : UndoRoom) (room : WorkRoom) (old new : WorldState) (change : RowChange)
     (reached : Reached RowChange) : Type 0 where
-  pub held : IsHeld new (Some s) made (with_doing s (doing_after change reached) desks) cuts undo room
+  pub held : IsHeld new (Some s) (with_doing s (doing_after change reached) desks) cuts undo room
   pub leaves : LeavesLists old new
   pub comes : Comes s old new change reached

@@ -1,6 +1,6 @@
 //! A session leaves indexes in which it searches for nothing.
 
-ghost use Rattle.std.specs.Prelude.{◌≡◌, ℕ, Bool, false, List, Option};
+ghost use Rattle.std.specs.Prelude.{◌≡◌, ℕ, false, List, Option};
 ghost use Rattle.entries.specs.Calls.{Leaves};
 ghost use Rattle.world.specs.State.{WorldState};
 ghost use Rattle.world.specs.Told.{IsTold};
@@ -19,8 +19,8 @@ pub fn an_index_is_left()
     ensures none { (s : ℕ) (state : WorldState) → LeavesIndexes s state state }
     ensures more { (s : ℕ) (old mid new : WorldState)
         → LeavesIndexes s old mid → LeavesIndexes s mid new → LeavesIndexes s old new }
-    ensures held { (s : ℕ) (writer : Option ℕ) (made : Bool) (desks : List Desk) (cuts : ℕ) (undo : UndoRoom)
+    ensures held { (s : ℕ) (writer : Option ℕ) (desks : List Desk) (cuts : ℕ) (undo : UndoRoom)
         (room : WorkRoom) (old new : WorldState)
-        → IsHeld old writer made desks cuts undo room → is_searching (doing_at s desks) ≡ false → LeavesIndexes s old new
-        → IsTold new → IsHeld new writer made desks cuts undo room }
+        → IsHeld old writer desks cuts undo room → is_searching (doing_at s desks) ≡ false → LeavesIndexes s old new
+        → IsTold new → IsHeld new writer desks cuts undo room }
 {}

@@ -1,6 +1,6 @@
 //! The session that may write makes a step of its change.
 
-ghost use Rattle.std.specs.Prelude.{◌≡◌, ℕ, ◌<◌, ◌^◌, Bool, List, length, Some};
+ghost use Rattle.std.specs.Prelude.{◌≡◌, ℕ, ◌<◌, ◌^◌, List, length, Some};
 ghost use Rattle.row_versions.specs.Chains.{Chains};
 ghost use Rattle.world.specs.State.{WorldState};
 ghost use Rattle.world.specs.Told.{IsTold};
@@ -17,14 +17,14 @@ ghost use Rattle.law_held_changes.specs.Making.{MakesChange};
 
 /// A change that is under way may go on by a step, and whatever a step has come to, the lists hold with what is left of it.
 pub fn a_change_is_made()
-    ensures may { (state : WorldState) (s : ℕ) (made : Bool) (desks : List Desk) (cuts : ℕ) (undo : UndoRoom)
+    ensures may { (state : WorldState) (s : ℕ) (desks : List Desk) (cuts : ℕ) (undo : UndoRoom)
         (room : WorkRoom) (change : RowChange)
-        → IsHeld state (Some s) made desks cuts undo room → doing_at s desks ≡ Changing change
+        → IsHeld state (Some s) desks cuts undo room → doing_at s desks ≡ Changing change
         → (chains : Chains) × IsChangingRow s chains state change }
-    ensures made { (s : ℕ) (made : Bool) (desks : List Desk) (cuts : ℕ) (undo : UndoRoom) (room : WorkRoom)
+    ensures made { (s : ℕ) (desks : List Desk) (cuts : ℕ) (undo : UndoRoom) (room : WorkRoom)
         (old new : WorldState) (change : RowChange) (reached : Reached RowChange)
-        → IsHeld old (Some s) made desks cuts undo room → doing_at s desks ≡ Changing change
+        → IsHeld old (Some s) desks cuts undo room → doing_at s desks ≡ Changing change
         → ((chains : Chains) → IsChangingRow s chains old change → ChangesRow s chains old new change reached)
         → IsTold old → IsTold new → length new.past < 2 ^ 63
-        → MakesChange s made desks cuts undo room old new change reached }
+        → MakesChange s desks cuts undo room old new change reached }
 {}

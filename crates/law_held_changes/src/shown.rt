@@ -1,6 +1,6 @@
 //! What statements see of a change that begins and goes on.
 
-ghost use Rattle.std.specs.Prelude.{◌≡◌, ℕ, ◌+◌, ◌<◌, ◌^◌, Bool, true, List, length, Option, None, Some};
+ghost use Rattle.std.specs.Prelude.{◌≡◌, ℕ, ◌+◌, ◌<◌, ◌^◌, true, List, length, Option, None, Some};
 ghost use Rattle.world.specs.State.{WorldState};
 ghost use Rattle.world.specs.declared.undo_room.UndoRoom.{UndoRoom};
 ghost use Rattle.row_changes.specs.declared.row_edit.RowEdit.{RowEdit};
@@ -23,38 +23,38 @@ ghost use Rattle.law_held_changes.specs.Leaving.{LeavesIndexes};
 /// The session has the change under way now, and nothing else has changed. How much is left of a change that is being taken
 /// back may be any number: no other session takes one back.
 pub fn a_begun_change_is_shown()
-    ensures turns { (state : WorldState) (s : ℕ) (made : Bool) (desks : List Desk) (cuts : ℕ) (undo : UndoRoom)
+    ensures turns { (state : WorldState) (s : ℕ) (desks : List Desk) (cuts : ℕ) (undo : UndoRoom)
         (room : WorkRoom) (left later table : ℕ) (edit : RowEdit) (key : List ℕ)
-        → IsHeld state (Some s) made desks cuts undo room → s < length desks
+        → IsHeld state (Some s) desks cuts undo room → s < length desks
         → (now : Lists) → now ≡ lists_of state (Some s) (with_doing s (Changing (begun table edit key)) desks) later
         → Turns s (task_of s now.state) (lists_of state (Some s) desks left).state now.state }
-    ensures task { (state : WorldState) (s : ℕ) (made : Bool) (desks : List Desk) (cuts : ℕ) (undo : UndoRoom)
+    ensures task { (state : WorldState) (s : ℕ) (desks : List Desk) (cuts : ℕ) (undo : UndoRoom)
         (room : WorkRoom) (later table : ℕ) (edit : RowEdit) (key : List ℕ)
-        → IsHeld state (Some s) made desks cuts undo room → s < length desks
+        → IsHeld state (Some s) desks cuts undo room → s < length desks
         → (now : Lists) → now ≡ lists_of state (Some s) (with_doing s (Changing (begun table edit key)) desks) later
         → (is_changing (task_of s now.state) ≡ true) × (asked (task_of s now.state) ≡ Some (change_of table edit)) × (steps_left (task_of s now.state) < 2 ^ 70) }
 {}
 
 /// What each step shows, by how far it came.
 pub fn a_change_is_shown()
-    ensures went { (s : ℕ) (made : Bool) (desks : List Desk) (cuts : ℕ) (undo : UndoRoom) (room : WorkRoom)
+    ensures went { (s : ℕ) (desks : List Desk) (cuts : ℕ) (undo : UndoRoom) (room : WorkRoom)
         (old new : WorldState) (change next : RowChange) (left later : ℕ)
-        → IsHeld old (Some s) made desks cuts undo room → doing_at s desks ≡ Changing change
+        → IsHeld old (Some s) desks cuts undo room → doing_at s desks ≡ Changing change
         → LeavesLists old new → IsNearer old new change next
         → Changes s (lists_of old (Some s) desks left).state (lists_of new (Some s) (with_doing s (Changing next) desks) later).state answers.Went }
-    ensures entered { (s : ℕ) (made : Bool) (desks : List Desk) (cuts : ℕ) (undo : UndoRoom) (room : WorkRoom)
+    ensures entered { (s : ℕ) (desks : List Desk) (cuts : ℕ) (undo : UndoRoom) (room : WorkRoom)
         (old new : WorldState) (change next : RowChange) (left later : ℕ)
-        → IsHeld old (Some s) made desks cuts undo room → doing_at s desks ≡ Changing change
+        → IsHeld old (Some s) desks cuts undo room → doing_at s desks ≡ Changing change
         → LeavesLists old new → IsEntered s old new change next
         → Changes s (lists_of old (Some s) desks left).state (lists_of new (Some s) (with_doing s (Changing next) desks) later).state answers.Entered }
-    ensures done { (s : ℕ) (made : Bool) (desks : List Desk) (cuts : ℕ) (undo : UndoRoom) (room : WorkRoom)
+    ensures done { (s : ℕ) (desks : List Desk) (cuts : ℕ) (undo : UndoRoom) (room : WorkRoom)
         (old new : WorldState) (change : RowChange) (left later : ℕ)
-        → IsHeld old (Some s) made desks cuts undo room → doing_at s desks ≡ Changing change
+        → IsHeld old (Some s) desks cuts undo room → doing_at s desks ≡ Changing change
         → LeavesLists old new → AddsNothing old new → change_in change ≡ None
         → Changes s (lists_of old (Some s) desks left).state (lists_of new (Some s) (with_doing s Nothing desks) later).state answers.Done }
-    ensures given_up { (s : ℕ) (made : Bool) (desks : List Desk) (cuts : ℕ) (undo : UndoRoom) (room : WorkRoom)
+    ensures given_up { (s : ℕ) (desks : List Desk) (cuts : ℕ) (undo : UndoRoom) (room : WorkRoom)
         (old new : WorldState) (change : RowChange) (left later : ℕ)
-        → IsHeld old (Some s) made desks cuts undo room → doing_at s desks ≡ Changing change
+        → IsHeld old (Some s) desks cuts undo room → doing_at s desks ≡ Changing change
         → LeavesLists old new → AddsNothing old new
         → Changes s (lists_of old (Some s) desks left).state (lists_of new (Some s) (with_doing s (given_up change) desks) later).state answers.NoMemory }
     ensures rows { (s : ℕ) (desks : List Desk) (old new : WorldState) (change next : RowChange) (left : ℕ)

@@ -66,9 +66,9 @@ past_grows t old new (inr adds) = subst (λ (h : List Event). length old ≤ len
 
 -- ---- all that is held
 
-module _ (t : ℕ) (writer later : Option ℕ) (had made : Bool) (cuts : ℕ) (undo : UndoRoom) (room : WorkRoom) (old new : WorldState) (desks now : List Desk)
-    (held : IsHeld old writer had desks cuts undo room) (rests : doing_at t desks ≡ Nothing)
-    (is : IsEntered t held.chains writer later made old new desks now) where
+module _ (t : ℕ) (writer later : Option ℕ) (cuts : ℕ) (undo : UndoRoom) (room : WorkRoom) (old new : WorldState) (desks now : List Desk)
+    (held : IsHeld old writer desks cuts undo room) (rests : doing_at t desks ≡ Nothing)
+    (is : IsEntered t held.chains writer later old new desks now) where
   leaves : LeavesRows old new
   leaves = leaves_rows old new is.rows
 
@@ -234,7 +234,7 @@ module _ (t : ℕ) (writer later : Option ℕ) (had made : Bool) (cuts : ℕ) (u
     | inr differ ↦ (past_of s differ.1).count ∙ held.started s ∙ ap (λ (desk : Desk). desk.started) (sym (is.others.same s differ.1))
   ]
 
-  pub entered : IsHeld new later made now cuts undo room
+  pub entered : IsHeld new later now cuts undo room
   entered = record {
     chains = held.chains;
     agrees = is.agrees;
@@ -247,7 +247,6 @@ module _ (t : ℕ) (writer later : Option ℕ) (had made : Bool) (cuts : ℕ) (u
     started = started_now;
     count = is.count;
     few = is.few;
-    makes = is.makes;
     cut = omega (arith, held.cut, past_grows t old.past new.past is.adds);
     short = λ place. omega (arith, held.short place, past_grows t old.past new.past is.adds);
     whole = held.whole;

@@ -25,7 +25,7 @@ use Rattle.desks.specs.declared.desk.Doing.TheVariants.{Nothing}
 use Rattle.desks.specs.Desks.{desk_at, doing_at, with_start}
 use Rattle.desks.specs.Holding.{IsHeld}
 use Rattle.law_held_entries.proofs.Entering.{entered}
-use Rattle.law_held_entries.proofs.Sessions.{own_session, same_log, same_writer, started_desks, start_here, same_makes, same_works}
+use Rattle.law_held_entries.proofs.Sessions.{own_session, same_log, same_writer, started_desks, start_here, same_works}
 
 absurd_false : false ≡ true → ⊥
 absurd_false is = cc
@@ -34,8 +34,8 @@ absurd_false is = cc
 abbrev pub with_past : ℕ → Session → List Event → ℕ → WorldState → WorldState
 with_past t after past rows old = record old { sessions = slice_set old.sessions t after; past = past; rows = rows }
 
-module _ (writer : Option ℕ) (made : Bool) (cuts : ℕ) (undo : UndoRoom) (room : WorkRoom) (old : WorldState) (desks : List Desk)
-    (held : IsHeld old writer made desks cuts undo room)
+module _ (writer : Option ℕ) (cuts : ℕ) (undo : UndoRoom) (room : WorkRoom) (old : WorldState) (desks : List Desk)
+    (held : IsHeld old writer desks cuts undo room)
     (t : ℕ) (rests : doing_at t desks ≡ Nothing) (told : IsTold old) (session : Session) (there : IsSession t session old) where
   -- ---- what the session's entry leaves of it
 
@@ -59,10 +59,10 @@ module _ (writer : Option ℕ) (made : Bool) (cuts : ℕ) (undo : UndoRoom) (roo
         → (is_some (under_way t past) ≡ true → after.can_reply ≡ true) → (awaits_ack (of_item t past) ≡ true → after.can_ack ≡ true)
         → Rattle.law_held_entries.specs.Entries.LeavesDesks t writer writer old (with_past t after past rows old) desks now → length now ≡ length desks →
         started t past ≡ (desk_at t now).started
-        → IsHeld (with_past t after past rows old) writer made now cuts undo room
+        → IsHeld (with_past t after past rows old) writer now cuts undo room
     on now agrees adds own_is fits replies acks leaves long started_is =
         let new = with_past t after past rows old in
-        entered t writer writer made made cuts undo room old new desks now held rests
+        entered t writer writer cuts undo room old new desks now held rests
         (record {
           agrees = agrees;
           adds = adds;
@@ -76,7 +76,6 @@ module _ (writer : Option ℕ) (made : Bool) (cuts : ℕ) (undo : UndoRoom) (roo
               (λ work is. same_log t old new session work work (work_was after same work is) refl own_is)
               replies acks (λ work is. held.has_room.ends t session work (work_was after same work is)) started_is;
           fits = fits;
-          makes = same_makes t writer made old.past past adds own_is held.makes;
         })
 
   others : (after : Session) (s : ℕ) → s ≢ t → slice_get (slice_set old.sessions t after) s ≡ slice_get old.sessions s
@@ -100,7 +99,7 @@ module _ (writer : Option ℕ) (made : Bool) (cuts : ℕ) (undo : UndoRoom) (roo
   started_item j item = grind (arith, nat_tests)
 
   pub started_held : (j : ℕ) (item : Item) → t < length old.names → under_way t old.past ≡ None → j ≡ started t old.past + 1 → length old.past + 1 < 2 ^ 63
-      → IsHeld (item_started t j item session old) writer made (with_start t desks) cuts undo room
+      → IsHeld (item_started t j item session old) writer (with_start t desks) cuts undo room
   started_held j item joined idle j_is few =
       let after : Session = record session { can_reply = true } in
       let past : List Event = Started t j item ∷ old.past in
@@ -119,7 +118,7 @@ module _ (writer : Option ℕ) (made : Bool) (cuts : ℕ) (undo : UndoRoom) (roo
   ended_waits j reply = grind (arith, nat_tests)
 
   pub ended_held : (j : ℕ) (reply : Reply) (rows : ℕ) → t < length old.names → MayCome old.past (Ended t j reply) → length old.past + 1 < 2 ^ 63
-      → IsHeld (with_past t (record session { can_reply = false }) (Ended t j reply ∷ old.past) rows old) writer made desks cuts undo room
+      → IsHeld (with_past t (record session { can_reply = false }) (Ended t j reply ∷ old.past) rows old) writer desks cuts undo room
   ended_held j reply rows joined may few =
       let after : Session = record session { can_reply = false } in
       let past : List Event = Ended t j reply ∷ old.past in
@@ -133,7 +132,7 @@ module _ (writer : Option ℕ) (made : Bool) (cuts : ℕ) (undo : UndoRoom) (roo
   acked_waits moment = grind (arith, nat_tests)
 
   pub acked_held : (moment : ℕ) → t < length old.names → MayCome old.past (Acked t moment) → length old.past + 1 < 2 ^ 63
-      → IsHeld (acknowledged t moment session old) writer made desks cuts undo room
+      → IsHeld (acknowledged t moment session old) writer desks cuts undo room
   acked_held moment joined may few =
       let after : Session = record session { can_ack = false } in
       let past : List Event = Acked t moment ∷ old.past in
@@ -145,7 +144,7 @@ module _ (writer : Option ℕ) (made : Bool) (cuts : ℕ) (undo : UndoRoom) (roo
 
   -- a session with other settings or rooms, and no entry
   pub unentered_held : (after : Session) → after.work ≡ session.work → after.can_reply ≡ session.can_reply → after.can_ack ≡ session.can_ack
-      → IsHeld (with_past t after old.past old.rows old) writer made desks cuts undo room
+      → IsHeld (with_past t after old.past old.rows old) writer desks cuts undo room
   unentered_held after same reply ack =
       on after old.past old.rows same desks
       (unentered_agrees held.chains writer old (with_past t after old.past old.rows old) held.agrees (settled after old.past old.rows same))

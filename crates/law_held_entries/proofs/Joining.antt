@@ -58,9 +58,9 @@ no_ack None changes false item none is = cc
 none_has : (work : Work) → None ≡ Some work → ⊥
 none_has work same = cc
 
-module _ (writer : Option ℕ) (made : Bool) (cuts : ℕ) (undo : UndoRoom) (room : WorkRoom) (old : WorldState) (desks : List Desk)
-    (held : IsHeld old writer made desks cuts undo room) (told : IsTold old) where
-  pub joined_held : (name : List ℕ) → length old.names < 68 → IsHeld (joined name old) writer made (desks ++ fresh_desk ∷ []) cuts undo room
+module _ (writer : Option ℕ) (cuts : ℕ) (undo : UndoRoom) (room : WorkRoom) (old : WorldState) (desks : List Desk)
+    (held : IsHeld old writer desks cuts undo room) (told : IsTold old) where
+  pub joined_held : (name : List ℕ) → length old.names < 68 → IsHeld (joined name old) writer (desks ++ fresh_desk ∷ []) cuts undo room
   joined_held name room_left =
       let t = length desks in
       let new = joined name old in
@@ -68,7 +68,7 @@ module _ (writer : Option ℕ) (made : Bool) (cuts : ℕ) (undo : UndoRoom) (roo
       let t_is : t ≡ length old.sessions = held.count ∙ sym held.agrees.count in
       let here : slice_get new.sessions t ≡ Some fresh_session = ap (λ n. slice_get new.sessions n) t_is ∙ last_there old.sessions fresh_session in
       let stranger : owed_by old.past t ≡ 0 = held.agrees.lists.strangers t (omega (arith, held.count)) in
-      entered t writer writer made made cuts undo room old new desks now held (ap (λ (desk : Desk). desk.doing) (behind desks))
+      entered t writer writer cuts undo room old new desks now held (ap (λ (desk : Desk). desk.doing) (behind desks))
       (record {
         agrees =
             joined_agrees held.chains writer old new name held.agrees
@@ -93,7 +93,6 @@ module _ (writer : Option ℕ) (made : Bool) (cuts : ℕ) (undo : UndoRoom) (roo
             stranger waits))
             (λ work is. absurd (none_has work is)) (held.started t ∙ ap (λ (desk : Desk). desk.started) (sym (one_more desks t)));
         fits = held.fits;
-        makes = held.makes;
       })
 
 -- ---- the first world
@@ -105,7 +104,7 @@ no_session state s session none there = none_some (sym (ap (λ (sessions : List 
     none_some same = cc
 
 pub first_held : (state : WorldState) (undo : UndoRoom) (room : WorkRoom) → IsFresh state → IsWhole room → room.stage ≡ Find
-    → IsHeld state None false [] 0 undo room
+    → IsHeld state None [] 0 undo room
 first_held state undo room first whole stage = record {
   chains = first.chains;
   agrees = first_agrees first.chains state (record {
@@ -133,7 +132,6 @@ first_held state undo room first whole stage = record {
   started = λ s. ap (started s) first.past;
   count = sym (ap length first.names);
   few = omega (arith, ap length first.names);
-  makes = refl;
   cut = omega arith;
   short = first.few_versions;
   whole = whole;

@@ -1,22 +1,16 @@
 -- One session is another now, and the desks are as they were but its own.
-use Rattle.std.proofs.Common.{◌≡◌, ◌≢◌, ℕ, ◌+◌, ◌<◌, ◌≤◌, ◌==◌, Bool, true, Option, Some, None, List, [], ◌∷◌, length, refl, sym, ap, subst, ◌∙◌, inl, inr, arith, ◌⊎◌, get_or}
+use Rattle.std.proofs.Common.{◌≡◌, ◌≢◌, ℕ, ◌+◌, ◌<◌, ◌≤◌, ◌==◌, Bool, true, Option, Some, None, List, [], ◌∷◌, length, refl, sym, ap, ◌∙◌, inl, inr, arith, ◌⊎◌, get_or}
 use Rattle.std.specs.Prelude.{slice_get, slice_set, is_some, option_map}
-use Rattle.std.specs.List.{list_any}
 use Rattle.std.proofs.lemmas.Bool.Decides.{nat_tests, eqb_tells}
 use Rattle.std.proofs.lemmas.List.{get_or-set_same, get_or-set_other}
-use Rattle.inno_model.specs.declared.event.Event.{Event}
 use Rattle.inno_model.specs.Past.{own, started, under_way, of_item, awaits_ack}
-use Rattle.law_past_agreement.specs.Order.{is_creation}
 use Rattle.law_past_agreement.specs.Slots.{writer_without}
 use Rattle.world.specs.State.{WorldState, Session, Work, IsSession, HasWork}
 use Rattle.law_world_agreement.proofs.Opening.{set_here, set_other}
 use Rattle.law_logged_changes.specs.Steps.{LeavesLog, HasNoLog}
-use Rattle.law_found_rows.specs.Pasts.{AddsAtMostOne}
 use Rattle.desks.specs.declared.desk.Desk.{Desk}
 use Rattle.desks.specs.Desks.{fresh_desk, desk_at, with_start}
-use Rattle.desks.specs.Holding.{MakesTables}
 use Rattle.law_held_entries.specs.Entries.{IsOwnSession, LeavesDesks}
-use Rattle.law_held_entries.proofs.Entering.{others_past}
 
 pub one_session : (a b : Session) → Some a ≡ Some b → a ≡ b
 one_session a b same = cc
@@ -92,24 +86,6 @@ closed_desks t writer old new desks others =
       back = λ s differ is.
           without_back writer t s is;
     }
-
--- ---- tables that were made
-
-makes_on : (writer : Option ℕ) (made : Bool) (old new : List Event) → ((w : ℕ) → own w new ≡ own w old) → MakesTables writer made old
-    → MakesTables writer made new
-makes_on None made old new same is = is
-makes_on (Some w) made old new same is = is ∙ ap (list_any is_creation) (sym (same w))
-
--- who acts has the changes that it had, and so have the others
-pub same_changes : (t : ℕ) (old new : List Event) → AddsAtMostOne t old new → own t new ≡ own t old → (w : ℕ) → own w new ≡ own w old
-same_changes t old new adds mine w = elim (eqb_tells w t) [
-  | inl same ↦ subst (λ u. own u new ≡ own u old) (sym same.1) mine
-  | inr differ ↦ (others_past t w old new differ.1 adds).own_is
-]
-
-pub same_makes : (t : ℕ) (writer : Option ℕ) (made : Bool) (old new : List Event) → AddsAtMostOne t old new → own t new ≡ own t old
-    → MakesTables writer made old → MakesTables writer made new
-same_makes t writer made old new adds mine is = makes_on writer made old new (same_changes t old new adds mine) is
 
 -- ---- works that stay
 

@@ -2,7 +2,6 @@
 use Rattle.std.proofs.Common.{◌≡◌, ◌≢◌, ℕ, zero, suc, ◌+◌, ◌*◌, ◌<◌, ◌≤◌, ◌^◌, ◌==◌, Bool, true, false, Some, List, [], ◌∷◌, ◌++◌, length, refl, sym, ap, subst, ◌∙◌, inl, inr, arith, ◌⊎◌, get_or}
 use Rattle.std.proofs.lemmas.Option.{slice_get_within, get_or_from_slice_get}
 use Rattle.std.specs.Prelude.{slice_get, is_some}
-use Rattle.std.specs.List.{list_any}
 use Rattle.std.proofs.lemmas.Bool.Decides.{nat_tests, eqb_tells}
 use Rattle.inno_types.specs.declared.value.Schema.{Schema}
 use Rattle.inno_types.specs.declared.value.Key.{Key}
@@ -86,8 +85,8 @@ pub record LeavesRooms (t : ℕ) (old new : WorldState) : Type 0 where
   pub can_end : work_now.can_end ≡ work.can_end
   pub log : work_now.log ≡ work.log
 
-module _ (had : Bool) (cuts : ℕ) (undo : UndoRoom) (room : WorkRoom) (old new : WorldState) (desks : List Desk) (t : ℕ) (schema : Schema)
-    (held : IsHeld old (Some t) had desks cuts undo room) (rests : doing_at t desks ≡ Nothing) (told : IsTold old) (told_now : IsTold new)
+module _ (cuts : ℕ) (undo : UndoRoom) (room : WorkRoom) (old new : WorldState) (desks : List Desk) (t : ℕ) (schema : Schema)
+    (held : IsHeld old (Some t) desks cuts undo room) (rests : doing_at t desks ≡ Nothing) (told : IsTold old) (told_now : IsTold new)
     (by : IsChangedBy t (Create schema) (old.schemas ++ schema ∷ []) old new) (rooms : LeavesRooms t old new)
     (same : (index : ℕ) → new.indexes index ≡ old.indexes index) (versions : new.versions ≡ old.versions)
     (empty : (which : ℕ) → which < 8 → new.indexes (index_of (length old.schemas) which) ≡ empty_index)
@@ -246,7 +245,7 @@ module _ (had : Bool) (cuts : ℕ) (undo : UndoRoom) (room : WorkRoom) (old new 
   started_now : (s : ℕ) → started s new.past ≡ (desk_at s desks).started
   started_now s = ap (started s) by.past ∙ held.started s
 
-  pub created_held : IsHeld new (Some t) true desks cuts undo room
+  pub created_held : IsHeld new (Some t) desks cuts undo room
   created_held = record {
     chains = held.chains;
     agrees = agrees;
@@ -262,7 +261,6 @@ module _ (had : Bool) (cuts : ℕ) (undo : UndoRoom) (room : WorkRoom) (old new 
     started = started_now;
     count = held.count ∙ ap length (sym by.names);
     few = subst (λ (names : List (List ℕ)). length names ≤ 68) (sym by.names) held.few;
-    makes = sym (ap (list_any Rattle.law_past_agreement.specs.Order.is_creation) own_now);
     cut = omega (arith, held.cut, past_grows t old.past new.past adds);
     short = λ place. omega (arith, held.short place, past_grows t old.past new.past adds);
     whole = held.whole;

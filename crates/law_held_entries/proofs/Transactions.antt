@@ -12,21 +12,24 @@ use Rattle.sql_history.specs.Settings.{at_end, saved}
 use Rattle.law_past_agreement.specs.Slots.{writer_without}
 use Rattle.law_past_agreement.proofs.Ids.{ids_of}
 use Rattle.txn_table.specs.Txns.{ids_of as listed_ids}
+use Rattle.entries.specs.Index.{Paged}
 use Rattle.world.specs.State.{WorldState, Session, Work, IsSession, HasWork}
 use Rattle.world.specs.Told.{IsTold}
 use Rattle.world.specs.Sessions.{fresh_work, of_txn, change_txn, with_save}
+use Rattle.world.specs.Stores.{StoreGoes}
+use Rattle.world.specs.Endings.{committed, rolled_back, IsCommitted, IsRolledBack}
 use Rattle.world.specs.declared.undo_room.UndoRoom.{UndoRoom}
 use Rattle.undo_apply.specs.declared.work_room.WorkRoom.{WorkRoom}
-use Rattle.law_world_agreement.specs.Steps.{opened, viewed, committed, rolled_back, session_begun}
+use Rattle.law_world_agreement.specs.Steps.{opened, viewed, session_begun}
 use Rattle.law_world_agreement.proofs.Opening.{set_here, set_other, opened_agrees, viewed_agrees}
 use Rattle.law_world_agreement.proofs.Ending.{one_session_of, committed_agrees, rolled_back_agrees}
 use Rattle.law_world_agreement.proofs.Entries.{unentered_agrees}
 use Rattle.desks.specs.declared.desk.Desk.{Desk}
 use Rattle.desks.specs.declared.desk.Doing.TheVariants.{Nothing}
 use Rattle.desks.specs.Desks.{doing_at}
-use Rattle.desks.specs.Holding.{MakesTables, IsHeld}
+use Rattle.desks.specs.Holding.{IsHeld}
 use Rattle.law_held_entries.proofs.Entering.{entered}
-use Rattle.law_held_entries.proofs.Sessions.{own_session, same_log, same_writer, closed_desks, same_makes}
+use Rattle.law_held_entries.proofs.Sessions.{own_session, same_log, same_writer, closed_desks}
 
 -- ---- the session of a transaction is changed
 
@@ -66,8 +69,8 @@ absurd_false is = cc
 some_work : (a b : Work) → Some a ≡ Some b → a ≡ b
 some_work a b same = cc
 
-module _ (writer : Option ℕ) (made : Bool) (cuts : ℕ) (undo : UndoRoom) (room : WorkRoom) (old : WorldState) (desks : List Desk)
-    (held : IsHeld old writer made desks cuts undo room)
+module _ (writer : Option ℕ) (cuts : ℕ) (undo : UndoRoom) (room : WorkRoom) (old : WorldState) (desks : List Desk)
+    (held : IsHeld old writer desks cuts undo room)
     (t : ℕ) (rests : doing_at t desks ≡ Nothing) (told : IsTold old) (session : Session) (there : IsSession t session old) where
   -- ---- a transaction opens
 
@@ -81,7 +84,7 @@ module _ (writer : Option ℕ) (made : Bool) (cuts : ℕ) (undo : UndoRoom) (roo
   begin_own n level none = grind (arith, nat_tests, none)
 
   pub opened_held : (level : Level) → session.work ≡ None → IsClosed t old.past → length old.past + 1 < 2 ^ 63
-      → IsHeld (opened t level session old) writer made desks cuts undo room
+      → IsHeld (opened t level session old) writer desks cuts undo room
   opened_held level none closed few =
       let n = old.txns.begun + 1 in
       let new = opened t level session old in
@@ -93,7 +96,7 @@ module _ (writer : Option ℕ) (made : Bool) (cuts : ℕ) (undo : UndoRoom) (roo
       λ s differ. set_other (slice_set old.sessions t begun_session) t s after differ ∙ set_other old.sessions t s begun_session differ in
       let empty : own t old.past ≡ [] = (ids_of old.past held.agrees.lists.ordered).closed t closed in
       let own_is : own t new.past ≡ own t old.past = begin_own n level empty in
-      entered t writer writer made made cuts undo room old new desks desks held rests
+      entered t writer writer cuts undo room old new desks desks held rests
       (record {
         agrees = opened_agrees held.chains writer old t level session held.agrees there none few;
         adds = inr (Begin t n level, mine_begins n level, refl);
@@ -112,7 +115,6 @@ module _ (writer : Option ℕ) (made : Bool) (cuts : ℕ) (undo : UndoRoom) (roo
             (λ busy. held.has_room.replies t session there busy) (λ waits. absurd (absurd_false (sym (begin_waits n level) ∙ waits)))
             (λ work is. ap (λ (w : Work). w.can_end) (sym (some_work (record (fresh_work n level) { can_end = true }) work is))) (held.started t);
         fits = held.fits;
-        makes = same_makes t writer made old.past new.past (inr (Begin t n level, mine_begins n level, refl)) own_is held.makes;
       })
 
   -- ---- a view is taken
@@ -124,13 +126,13 @@ module _ (writer : Option ℕ) (made : Bool) (cuts : ℕ) (undo : UndoRoom) (roo
   view_waits = grind (arith, nat_tests)
 
   pub viewed_held : (work : Work) → session.work ≡ Some work → length old.past + 1 < 2 ^ 63
-      → IsHeld (viewed t session work old) writer made desks cuts undo room
+      → IsHeld (viewed t session work old) writer desks cuts undo room
   viewed_held work is few =
       let new = viewed t session work old in
       let seen : Work = record work { view = Some (record { active = listed_ids old.txns.open_txns; next = old.txns.next }) } in
       let after : Session = record session { work = Some seen } in
       let has : HasWork t session work old = record { session_is = there; work_is = is } in
-      entered t writer writer made made cuts undo room old new desks desks held rests
+      entered t writer writer cuts undo room old new desks desks held rests
       (record {
         agrees = viewed_agrees held.chains writer old t session work held.agrees has few;
         adds = inr (View t, mine_views, refl);
@@ -145,7 +147,6 @@ module _ (writer : Option ℕ) (made : Bool) (cuts : ℕ) (undo : UndoRoom) (roo
             (λ busy. held.has_room.replies t session there busy) (λ waits. absurd (absurd_false (sym view_waits ∙ waits)))
             (λ w is_w. ap (λ (x : Work). x.can_end) (sym (some_work seen w is_w)) ∙ held.has_room.ends t session work has) (held.started t);
         fits = held.fits;
-        makes = same_makes t writer made old.past new.past (inr (View t, mine_views, refl)) refl held.makes;
       })
 
   module _ (work : Work) (is : session.work ≡ Some work) where
@@ -156,13 +157,6 @@ module _ (writer : Option ℕ) (made : Bool) (cuts : ℕ) (undo : UndoRoom) (roo
     another : (u : ℕ) (x : Session) (other : Work) → u ≢ t → slice_get old.sessions u ≡ Some x → x.work ≡ Some other → other.txn ≢ work.txn
     another u x other differ there' has same =
         differ (one_session_of held.chains writer old t u session x work other held.agrees has_work (record { session_is = there'; work_is = has }) same)
-
-    changed_else : (f : Session → Session) (first : Session) (u : ℕ) → u ≢ t
-        → slice_get (change_txn work.txn f (slice_set old.sessions t first)) u ≡ slice_get old.sessions u
-    changed_else f first u differ =
-        txn_elsewhere work.txn u f (slice_set old.sessions t first)
-        (λ x other there' has. another u x other differ (sym (set_other old.sessions t u first differ) ∙ there') has)
-        ∙ set_other old.sessions t u first differ
 
     -- ---- a savepoint is kept
 
@@ -180,11 +174,11 @@ module _ (writer : Option ℕ) (made : Bool) (cuts : ℕ) (undo : UndoRoom) (roo
       | inr differ ↦ ap (option_map (λ (x : Session). x.work)) (saved_else f u differ.1)
     ]
 
-    pub saved_held : (name : List ℕ) (count : ℕ) → IsHeld (with_save work.txn name count old) writer made desks cuts undo room
+    pub saved_held : (name : List ℕ) (count : ℕ) → IsHeld (with_save work.txn name count old) writer desks cuts undo room
     saved_held name count =
         let new = with_save work.txn name count old in
         let f : Session → Session = λ x. record x { setting = record x.setting { saves = saved name count true x.setting.saves } } in
-        entered t writer writer made made cuts undo room old new desks desks held rests
+        entered t writer writer cuts undo room old new desks desks held rests
         (record {
           agrees =
               unentered_agrees held.chains writer old new held.agrees
@@ -209,31 +203,9 @@ module _ (writer : Option ℕ) (made : Bool) (cuts : ℕ) (undo : UndoRoom) (roo
               (λ busy. held.has_room.replies t session there busy) (λ waits. held.has_room.acks t session there waits)
               (λ w is_w. held.has_room.ends t session w (record { session_is = there; work_is = is_w })) (held.started t);
           fits = held.fits;
-          makes = held.makes;
         })
 
     -- ---- a transaction ends
-
-    ends_makes : (bool : Bool) (past : List Event) → ((u : ℕ) → u ≢ t → own u past ≡ own u old.past) → (writer ≡ Some t → bool ≡ false)
-        → (writer ≢ Some t → bool ≡ made) → MakesTables (writer_without writer t) bool past
-    ends_makes bool past others mine theirs = ends writer refl
-      where
-        ends : (w : Option ℕ) → writer ≡ w → MakesTables (writer_without w t) bool past
-        ends None was = theirs (λ same. none_some (sym was ∙ same)) ∙ subst (λ o. MakesTables o made old.past) was held.makes
-          where
-            none_some : None ≡ Some t → ⊥
-            none_some same = cc
-        ends (Some w) was = elim (eqb_tells w t) [
-          | inl same ↦ subst (λ b. MakesTables (cond b None (Some w)) bool past) (sym same.0) (mine (was ∙ ap Some same.1))
-          | inr differ ↦
-              subst (λ b. MakesTables (cond b None (Some w)) bool past) (sym differ.0)
-              (theirs (λ same. differ.1 (some_number w t (sym was ∙ same)))
-              ∙ subst (λ o. MakesTables o made old.past) was held.makes
-              ∙ ap (Rattle.std.specs.List.list_any Rattle.law_past_agreement.specs.Order.is_creation) (sym (others w differ.1)))
-        ]
-          where
-            some_number : (a b : ℕ) → Some a ≡ Some b → a ≡ b
-            some_number a b same = cc
 
     mine_commits : is_of t (Committed t) ≡ true
     mine_commits = grind (arith, nat_tests)
@@ -244,57 +216,62 @@ module _ (writer : Option ℕ) (made : Bool) (cuts : ℕ) (undo : UndoRoom) (roo
     rolled_waits : awaits_ack (of_item t (RolledBack t ∷ old.past)) ≡ false
     rolled_waits = grind (arith, nat_tests)
 
-    pub committed_held : (now : Bool) → (writer ≡ Some t → now ≡ false) → (writer ≢ Some t → now ≡ made) → length old.past + 1 < 2 ^ 63
-        → IsHeld (committed t session work old) (writer_without writer t) now desks cuts undo room
-    committed_held now mine theirs few =
-        let new = committed t session work old in
-        let first : Session = record session { can_ack = true; work = Some (record work { can_end = false }) } in
-        let f : Session → Session = λ x. record x { setting = at_end x.setting; work = None } in
-        let there1 : slice_get (slice_set old.sessions t first) t ≡ Some first = set_here old.sessions t session first there in
-        let here : slice_get new.sessions t ≡ Some (f first) =
-        txn_here t work.txn first (record work { can_end = false }) f (slice_set old.sessions t first) there1 refl refl in
-        let adds : Rattle.law_found_rows.specs.Pasts.AddsAtMostOne t old.past new.past = inr (Committed t, mine_commits, refl) in
-        entered t writer (writer_without writer t) made now cuts undo room old new desks desks held rests
+    committed_then : (paged : Option Paged) → StoreGoes old.paged paged → length old.past + 1 < 2 ^ 63
+        → IsHeld (record (committed t session work old) { paged = paged }) (writer_without writer t) desks cuts undo room
+    committed_then paged later few =
+        let new = record (committed t session work old) { paged = paged } in
+        let after : Session = record session { can_ack = true; setting = at_end session.setting; work = None } in
+        entered t writer (writer_without writer t) cuts undo room old new desks desks held rests
         (record {
-          agrees = committed_agrees held.chains writer old t session work held.agrees has_work few;
-          adds = adds;
-          told = told;
+          agrees =
+              committed_agrees held.chains writer old new t held.agrees (record { session = session; work = work; has_work = has_work; rest = refl; later = later })
+              few;
+          adds = inr (Committed t, mine_commits, refl);
+          told = record { pairs = told.pairs; versions = told.versions };
           rows = record { indexes = refl; versions = refl; schemas = refl };
-          others = closed_desks t writer old new desks (changed_else f first);
+          others = closed_desks t writer old new desks (λ u differ. set_other old.sessions t u after differ);
           count = held.count;
           few = held.few;
           own =
-              own_session t old new desks (f first) here (λ w is_w. absurd (none_has (f first) w refl is_w))
-              (λ busy. held.has_room.replies t session there busy) (λ waits. refl) (λ w is_w. absurd (none_has (f first) w refl is_w)) (held.started t);
+              own_session t old new desks after (set_here old.sessions t session after there) (λ w is_w. absurd (none_has after w refl is_w))
+              (λ busy. held.has_room.replies t session there busy) (λ waits. refl) (λ w is_w. absurd (none_has after w refl is_w)) (held.started t);
           fits = held.fits;
-          makes =
-              ends_makes now new.past (λ u differ. (Rattle.law_held_entries.proofs.Entering.others_past t u old.past new.past differ adds).own_is) mine theirs;
         })
 
-    pub rolled_back_held : (now : Bool) → own t old.past ≡ [] → (writer ≡ Some t → now ≡ false) → (writer ≢ Some t → now ≡ made) → length old.past + 1 < 2 ^ 63
-        → IsHeld (rolled_back t session work old) (writer_without writer t) now desks cuts undo room
-    rolled_back_held now none mine theirs few =
-        let new = rolled_back t session work old in
-        let first : Session = record session { work = Some (record work { can_end = false }) } in
-        let f : Session → Session = λ x. record x { setting = at_end x.setting; work = None } in
-        let there1 : slice_get (slice_set old.sessions t first) t ≡ Some first = set_here old.sessions t session first there in
-        let here : slice_get new.sessions t ≡ Some (f first) =
-        txn_here t work.txn first (record work { can_end = false }) f (slice_set old.sessions t first) there1 refl refl in
-        let adds : Rattle.law_found_rows.specs.Pasts.AddsAtMostOne t old.past new.past = inr (RolledBack t, mine_rolls, refl) in
-        entered t writer (writer_without writer t) made now cuts undo room old new desks desks held rests
+    rolled_back_then : (paged : Option Paged) → StoreGoes old.paged paged → own t old.past ≡ [] → length old.past + 1 < 2 ^ 63
+        → IsHeld (record (rolled_back t session work old) { paged = paged }) (writer_without writer t) desks cuts undo room
+    rolled_back_then paged later none few =
+        let new = record (rolled_back t session work old) { paged = paged } in
+        let after : Session = record session { setting = at_end session.setting; work = None } in
+        entered t writer (writer_without writer t) cuts undo room old new desks desks held rests
         (record {
-          agrees = rolled_back_agrees held.chains writer old t session work held.agrees has_work none few;
-          adds = adds;
-          told = told;
+          agrees =
+              rolled_back_agrees held.chains writer old new t held.agrees (record { session = session; work = work; has_work = has_work; rest = refl; later = later })
+              none few;
+          adds = inr (RolledBack t, mine_rolls, refl);
+          told = record { pairs = told.pairs; versions = told.versions };
           rows = record { indexes = refl; versions = refl; schemas = refl };
-          others = closed_desks t writer old new desks (changed_else f first);
+          others = closed_desks t writer old new desks (λ u differ. set_other old.sessions t u after differ);
           count = held.count;
           few = held.few;
           own =
-              own_session t old new desks (f first) here (λ w is_w. absurd (none_has (f first) w refl is_w))
+              own_session t old new desks after (set_here old.sessions t session after there) (λ w is_w. absurd (none_has after w refl is_w))
               (λ busy. held.has_room.replies t session there busy) (λ waits. absurd (absurd_false (sym rolled_waits ∙ waits)))
-              (λ w is_w. absurd (none_has (f first) w refl is_w)) (held.started t);
+              (λ w is_w. absurd (none_has after w refl is_w)) (held.started t);
           fits = held.fits;
-          makes =
-              ends_makes now new.past (λ u differ. (Rattle.law_held_entries.proofs.Entering.others_past t u old.past new.past differ adds).own_is) mine theirs;
         })
+
+-- The session's open transaction has ended. It may write no longer.
+module _ (writer : Option ℕ) (cuts : ℕ) (undo : UndoRoom) (room : WorkRoom) (old new : WorldState) (desks : List Desk)
+    (held : IsHeld old writer desks cuts undo room) (t : ℕ) (rests : doing_at t desks ≡ Nothing) (told : IsTold old)
+    (few : length old.past + 1 < 2 ^ 63) where
+  pub committed_held : IsCommitted t old new → IsHeld new (writer_without writer t) desks cuts undo room
+  committed_held is =
+      subst (λ (w : WorldState). IsHeld w (writer_without writer t) desks cuts undo room) (sym is.rest)
+      (committed_then writer cuts undo room old desks held t rests told is.session is.has_work.session_is is.work is.has_work.work_is new.paged is.later few)
+
+  pub rolled_back_held : own t old.past ≡ [] → IsRolledBack t old new → IsHeld new (writer_without writer t) desks cuts undo room
+  rolled_back_held none is =
+      subst (λ (w : WorldState). IsHeld w (writer_without writer t) desks cuts undo room) (sym is.rest)
+      (rolled_back_then writer cuts undo room old desks held t rests told is.session is.has_work.session_is is.work is.has_work.work_is new.paged is.later
+      none few)

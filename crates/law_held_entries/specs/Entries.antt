@@ -1,5 +1,5 @@
 -- What an entry of a session that changes no row makes of a world with its desks.
-use Rattle.std.specs.Prelude.{◌≡◌, ◌≢◌, ◌⊎◌, ℕ, ◌≤◌, Bool, true, List, length, Option, Some, slice_get, is_some}
+use Rattle.std.specs.Prelude.{◌≡◌, ◌≢◌, ◌⊎◌, ℕ, ◌≤◌, true, List, length, Option, Some, slice_get, is_some}
 use Rattle.inno_model.specs.declared.event.Event.{Event}
 use Rattle.inno_model.specs.Past.{own, started, under_way, of_item, awaits_ack}
 use Rattle.row_versions.specs.Chains.{Chains}
@@ -11,7 +11,6 @@ use Rattle.law_logged_changes.specs.Steps.{LeavesLog, HasNoLog}
 use Rattle.law_found_rows.specs.Pasts.{AddsAtMostOne}
 use Rattle.desks.specs.declared.desk.Desk.{Desk}
 use Rattle.desks.specs.Desks.{desk_at, doing_at}
-use Rattle.desks.specs.Holding.{MakesTables}
 
 -- no pair, no version and no table has changed
 pub record HasSameRows (old new : WorldState) : Type 0 where
@@ -35,7 +34,7 @@ pub record LeavesDesks (t : ℕ) (writer later : Option ℕ) (old new : WorldSta
   pub rights : (s : ℕ) → s ≢ t → writer ≡ Some s → later ≡ Some s
   pub back : (s : ℕ) → s ≢ t → later ≡ Some s → writer ≡ Some s
 
-pub record IsEntered (t : ℕ) (chains : Chains) (writer later : Option ℕ) (made : Bool) (old new : WorldState) (desks now : List Desk) : Type 0 where
+pub record IsEntered (t : ℕ) (chains : Chains) (writer later : Option ℕ) (old new : WorldState) (desks now : List Desk) : Type 0 where
   pub agrees : Agrees chains later new
   pub adds : AddsAtMostOne t old.past new.past
   pub told : IsTold old
@@ -45,4 +44,3 @@ pub record IsEntered (t : ℕ) (chains : Chains) (writer later : Option ℕ) (ma
   pub few : length new.names ≤ 68
   pub own : IsOwnSession t old new now
   pub fits : FitsThen new.past
-  pub makes : MakesTables later made new.past

@@ -1,6 +1,6 @@
 //! What entries leave. Nothing calls these; proofs above cite the lemmas behind them, in proofs/.
 
-ghost use Rattle.std.specs.Prelude.{◌≡◌, ℕ, Bool, List, Option};
+ghost use Rattle.std.specs.Prelude.{◌≡◌, ℕ, List, Option};
 ghost use Rattle.inno_model.specs.declared.event.Event.{Event};
 ghost use Rattle.world.specs.State.{WorldState};
 ghost use Rattle.world.specs.declared.undo_room.UndoRoom.{UndoRoom};
@@ -16,10 +16,10 @@ ghost use Rattle.desks.specs.Shown.{seen_of};
 
 /// An entry of a session that has nothing under way leaves all that is held.
 pub fn an_entry_leaves_what_is_held()
-    ensures { (t : ℕ) (writer later : Option ℕ) (had made : Bool) (cuts : ℕ) (undo : UndoRoom) (room : WorkRoom) (old new : WorldState) (desks now : List Desk)
-        → (held : IsHeld old writer had desks cuts undo room) → doing_at t desks ≡ Nothing
-        → IsEntered t held.chains writer later made old new desks now
-        → IsHeld new later made now cuts undo room }
+    ensures { (t : ℕ) (writer later : Option ℕ) (cuts : ℕ) (undo : UndoRoom) (room : WorkRoom) (old new : WorldState) (desks now : List Desk)
+        → (held : IsHeld old writer desks cuts undo room) → doing_at t desks ≡ Nothing
+        → IsEntered t held.chains writer later old new desks now
+        → IsHeld new later now cuts undo room }
 {}
 
 /// Callers see the entry, and that what sessions have under way is as it was.

@@ -51,13 +51,13 @@ use Rattle.law_held_searches.proofs.Stepping.{may_step, rows_on, some_schema}
 
 -- ---- the plan
 
-module _ (state : WorldState) (writer : Option ℕ) (made : Bool) (desks : List Desk) (cuts : ℕ) (undo : UndoRoom) (room : WorkRoom) (table : ℕ) (plan : Plan)
-    (schema : Schema) (held : IsHeld state writer made desks cuts undo room) where
+module _ (state : WorldState) (writer : Option ℕ) (desks : List Desk) (cuts : ℕ) (undo : UndoRoom) (room : WorkRoom) (table : ℕ) (plan : Plan)
+    (schema : Schema) (held : IsHeld state writer desks cuts undo room) where
   module _ (told : IsTold state) (there : slice_get state.schemas table ≡ Some schema) (le : plan.which ≤ length schema.keys) where
     tells_by : (quiet : Bool) → is_quiet writer desks ≡ quiet → TellsTable held.chains table (plan_read quiet plan) schema state
     tells_by true is = record {
       there = there;
-      columns = columns_held state writer made desks cuts undo room table schema held told there;
+      columns = columns_held state writer desks cuts undo room table schema held told there;
       which = le;
       said = what_is_there held.chains;
       coded = coded_while_quiet held.chains state told writer desks (read_into undo) room is held.rows;
@@ -67,7 +67,7 @@ module _ (state : WorldState) (writer : Option ℕ) (made : Bool) (desks : List 
         let rows : HasSome held.chains state = some_rows_by held.chains state told writer desks (read_into undo) room held.rows in
         record {
           there = there;
-          columns = columns_held state writer made desks cuts undo room table schema held told there;
+          columns = columns_held state writer desks cuts undo room table schema held told there;
           which = omega arith;
           said = rows.0;
           coded = rows.1;

@@ -36,10 +36,10 @@ use Rattle.law_held_searches.proofs.Stepping.{same_number}
 
 -- ---- a new search
 
-pub columns_held : (state : WorldState) (writer : Option ℕ) (made : Bool) (desks : List Desk) (cuts : ℕ) (undo : UndoRoom) (room : WorkRoom) (table : ℕ)
-    (schema : Schema) → IsHeld state writer made desks cuts undo room → IsTold state
+pub columns_held : (state : WorldState) (writer : Option ℕ) (desks : List Desk) (cuts : ℕ) (undo : UndoRoom) (room : WorkRoom) (table : ℕ)
+    (schema : Schema) → IsHeld state writer desks cuts undo room → IsTold state
     → slice_get state.schemas table ≡ Some schema → HasItsColumns schema
-columns_held state writer made desks cuts undo room table schema held told there =
+columns_held state writer desks cuts undo room table schema held told there =
     let rows : HasSome held.chains state = some_rows_by held.chains state told writer desks (read_into undo) room held.rows in
     columns_of held.chains rows.0 state table schema rows.1 there
 
@@ -66,19 +66,19 @@ new_finding s table plan sight schema state chains search new there columns le =
     begins s schema state chains search new.nothing new.may (ap (slice_get state.schemas) new.scan.table_is ∙ there)
     (omega (arith, le, new.scan.which_is)) (omega (arith, le, new.scan.which_is, columns.few))
 
-pub begun : (s table : ℕ) (state : WorldState) (writer : Option ℕ) (made : Bool) (desks : List Desk) (cuts : ℕ) (undo : UndoRoom) (room : WorkRoom)
+pub begun : (s table : ℕ) (state : WorldState) (writer : Option ℕ) (desks : List Desk) (cuts : ℕ) (undo : UndoRoom) (room : WorkRoom)
     (plan : Plan) (sight : Sight) (schema : Schema) (on : TableSearch)
-    → IsHeld state writer made desks cuts undo room → IsTold state → doing_at s desks ≡ Nothing → slice_get state.schemas table ≡ Some schema → plan.which ≤
+    → IsHeld state writer desks cuts undo room → IsTold state → doing_at s desks ≡ Nothing → slice_get state.schemas table ≡ Some schema → plan.which ≤
     length schema.keys
-    → SightHolds state writer s sight → IsBegun table plan sight schema cuts on → IsHeld state writer made (with_doing s (Searching on) desks) cuts undo room
-begun s table state writer made desks cuts undo room plan sight schema on held told idle there le sees is =
-    held_stays s state state (none_moves s state) writer made desks cuts undo room held (Searching on) (ap is_quiet_doing idle) refl told mine
+    → SightHolds state writer s sight → IsBegun table plan sight schema cuts on → IsHeld state writer (with_doing s (Searching on) desks) cuts undo room
+begun s table state writer desks cuts undo room plan sight schema on held told idle there le sees is =
+    held_stays s state state (none_moves s state) writer desks cuts undo room held (Searching on) (ap is_quiet_doing idle) refl told mine
   where
     finding : IsFinding s on.schema state held.chains on.search
     finding =
         subst (λ (t : Schema). IsFinding s t state held.chains on.search) (sym is.schema_is)
         (new_finding s table plan sight schema state held.chains on.search is.search there
-        (columns_held state writer made desks cuts undo room table schema held told there) le)
+        (columns_held state writer desks cuts undo room table schema held told there) le)
 
     mine : IsSearchHeld held.chains state writer cuts s on
     mine = record {

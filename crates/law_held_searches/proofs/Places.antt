@@ -6,6 +6,7 @@ use Rattle.entries.specs.Index.{AreKept}
 use Rattle.entries.specs.Calls.{Leaves}
 use Rattle.chain.specs.Versions.{Versions, Stays}
 use Rattle.world.specs.State.{WorldState}
+use Rattle.world.proofs.Stores.{store_stays, store_goes_on}
 use Rattle.world.specs.Told.{IsTold, LeavesRows}
 use Rattle.world.specs.Indexes.{Calls}
 use Rattle.world.specs.Undoing.{IsUnchanged}
@@ -36,7 +37,7 @@ stays_then old between new first second =
 -- ---- which steps are such
 
 pub none_moves : (s : ℕ) (state : WorldState) → MovesPlaces s state state
-none_moves s state = record { pairs = λ index. kept_same _ _ refl; places = λ other index differs. refl; versions = stays_same state.versions; rest = refl }
+none_moves s state = record { pairs = λ index. kept_same _ _ refl; places = λ other index differs. refl; versions = stays_same state.versions; rest = refl; later = store_stays state.paged }
 
 pub moves_then : (s : ℕ) (old between new : WorldState) → MovesPlaces s old between → MovesPlaces s between new → MovesPlaces s old new
 moves_then s old between new first second = record {
@@ -44,6 +45,7 @@ moves_then s old between new first second = record {
   places = λ other index differs. second.places other index differs ∙ first.places other index differs;
   versions = stays_then old.versions between.versions new.versions first.versions second.versions;
   rest = second.rest ∙ ap (λ (state : WorldState). record state { indexes = new.indexes; versions = new.versions; paged = new.paged }) first.rest;
+  later = store_goes_on old.paged between.paged new.paged first.later second.later;
 }
 
 pub moves_in_one : (s index : ℕ) (old new : WorldState) → OnlyMoves s index old new → MovesPlaces s old new
@@ -56,6 +58,7 @@ moves_in_one s index old new moves = record {
       (cases_eq at index);
   versions = moves.versions;
   rest = moves.rest;
+  later = moves.later;
 }
 
 pub moves_nothing : (s : ℕ) (old new : WorldState) → IsUnchanged old new → MovesPlaces s old new
@@ -64,6 +67,7 @@ moves_nothing s old new same = record {
   places = λ other index differs. ap (λ place. place other) (same.indexes index).place;
   versions = same.versions;
   rest = same.rest;
+  later = same.later;
 }
 
 pub leaving_moves : (s index : ℕ) (old new : WorldState) → Calls index (Leaves s) old new → MovesPlaces s old new
@@ -81,6 +85,7 @@ leaving_moves s index old new calls = record {
       (cases_eq at index);
   versions = calls.beside.versions;
   rest = calls.beside.rest;
+  later = calls.beside.later;
 }
 
 -- ---- what they leave

@@ -27,7 +27,7 @@ use Rattle.desks.specs.declared.desk.Desk.{Desk}
 use Rattle.desks.specs.declared.desk.Doing.{Doing}
 use Rattle.desks.specs.declared.desk.Doing.TheVariants.{Nothing, Searching, Changing, Lagging, Undoing}
 use Rattle.desks.specs.Desks.{doing_at, with_doing, is_quiet_doing}
-use Rattle.desks.specs.Holding.{HasRoom, IsLast, IsLastIfTold, RowsHeld, RowsHeldBy, SearchHeld, MakesTables, IsHeld}
+use Rattle.desks.specs.Holding.{HasRoom, IsLast, IsLastIfTold, RowsHeld, RowsHeldBy, SearchHeld, IsHeld}
 use Rattle.desks.specs.Leaves.{LeavesOthers}
 use Rattle.desks.proofs.Leaving.{search_left}
 use Rattle.law_held_searches.specs.Begun.{ViewsHaveNext}
@@ -183,8 +183,8 @@ module _ (s : ℕ) (old : WorldState) (indexes : ℕ → Index) (versions : Vers
     ends = λ u session work is. has.ends u session work (has_back u session work is);
   }
 
-  module _ (writer : Option ℕ) (made : Bool) (desks : List Desk) (cuts : ℕ) (undo : UndoRoom) (room : WorkRoom)
-      (held : IsHeld old writer made desks cuts undo room) (doing : Doing) (was : is_quiet_doing (doing_at s desks) ≡ true)
+  module _ (writer : Option ℕ) (desks : List Desk) (cuts : ℕ) (undo : UndoRoom) (room : WorkRoom)
+      (held : IsHeld old writer desks cuts undo room) (doing : Doing) (was : is_quiet_doing (doing_at s desks) ≡ true)
       (is : is_quiet_doing doing ≡ true) where
     quiet_on : (u : ℕ) → writer ≢ Some u → is_quiet_doing (doing_at u (with_doing s doing desks)) ≡ true
     quiet_on u differs =
@@ -193,7 +193,7 @@ module _ (s : ℕ) (old : WorldState) (indexes : ℕ → Index) (versions : Vers
         (λ other. ap is_quiet_doing other ∙ held.quiet u differs)
         (doing_cases s doing desks u)
 
-    held_at : IsTold new → SearchHeld held.chains new writer cuts s doing → IsHeld new writer made (with_doing s doing desks) cuts undo room
+    held_at : IsTold new → SearchHeld held.chains new writer cuts s doing → IsHeld new writer (with_doing s doing desks) cuts undo room
     held_at told mine = record {
       chains = held.chains;
       agrees = agrees_on held.chains writer held.agrees;
@@ -206,14 +206,10 @@ module _ (s : ℕ) (old : WorldState) (indexes : ℕ → Index) (versions : Vers
       started = λ u. held.started u ∙ sym (started_stays s doing desks u);
       count = as_many s doing desks ∙ held.count;
       few = held.few;
-      makes = makes_on writer held.makes;
       cut = held.cut;
       short = held.short;
       whole = held.whole;
     }
-      where
-        makes_on : (by : Option ℕ) → MakesTables by made old.past → MakesTables by made new.past
-        makes_on by makes = makes
 
 -- ---- whatever the new world is
 
@@ -223,21 +219,21 @@ module _ (s : ℕ) (old new : WorldState) (moves : MovesPlaces s old new) where
       subst (Agrees chains writer) (sym moves.rest)
       (agrees_on s old new.indexes new.versions new.paged (subst (MovesPlaces s old) moves.rest moves) chains writer agreed)
 
-  pub held_stays : (writer : Option ℕ) (made : Bool) (desks : List Desk) (cuts : ℕ) (undo : UndoRoom) (room : WorkRoom)
-      (held : IsHeld old writer made desks cuts undo room) (doing : Doing)
+  pub held_stays : (writer : Option ℕ) (desks : List Desk) (cuts : ℕ) (undo : UndoRoom) (room : WorkRoom)
+      (held : IsHeld old writer desks cuts undo room) (doing : Doing)
       → is_quiet_doing (doing_at s desks) ≡ true → is_quiet_doing doing ≡ true → IsTold new → SearchHeld held.chains new writer cuts s doing
-      → IsHeld new writer made (with_doing s doing desks) cuts undo room
-  held_stays writer made desks cuts undo room held doing was is told mine =
-      subst (λ (state : WorldState). IsHeld state writer made (with_doing s doing desks) cuts undo room) (sym moves.rest)
-      (held_at s old new.indexes new.versions new.paged (subst (MovesPlaces s old) moves.rest moves) writer made desks cuts undo room held doing was is
+      → IsHeld new writer (with_doing s doing desks) cuts undo room
+  held_stays writer desks cuts undo room held doing was is told mine =
+      subst (λ (state : WorldState). IsHeld state writer (with_doing s doing desks) cuts undo room) (sym moves.rest)
+      (held_at s old new.indexes new.versions new.paged (subst (MovesPlaces s old) moves.rest moves) writer desks cuts undo room held doing was is
       (subst IsTold moves.rest told) (subst (λ (state : WorldState). SearchHeld held.chains state writer cuts s doing) moves.rest mine))
 
   pub views_stay : ViewsHaveNext old → ViewsHaveNext new
   views_stay views = subst ViewsHaveNext (sym moves.rest) (views_on s old new.indexes new.versions new.paged (subst (MovesPlaces s old) moves.rest moves) views)
 
-pub held_idle : (s : ℕ) (old new : WorldState) (writer : Option ℕ) (made : Bool) (desks : List Desk) (cuts : ℕ) (undo : UndoRoom) (room : WorkRoom)
-    → IsHeld old writer made desks cuts undo room
-    → doing_at s desks ≡ Nothing → MovesPlaces s old new → IsTold new → IsHeld new writer made desks cuts undo room
-held_idle s old new writer made desks cuts undo room held idle moves told =
-    subst (λ (at : List Desk). IsHeld new writer made at cuts undo room) (doing_stays s desks idle)
-    (held_stays s old new moves writer made desks cuts undo room held Nothing (ap is_quiet_doing idle) refl told (record {}))
+pub held_idle : (s : ℕ) (old new : WorldState) (writer : Option ℕ) (desks : List Desk) (cuts : ℕ) (undo : UndoRoom) (room : WorkRoom)
+    → IsHeld old writer desks cuts undo room
+    → doing_at s desks ≡ Nothing → MovesPlaces s old new → IsTold new → IsHeld new writer desks cuts undo room
+held_idle s old new writer desks cuts undo room held idle moves told =
+    subst (λ (at : List Desk). IsHeld new writer at cuts undo room) (doing_stays s desks idle)
+    (held_stays s old new moves writer desks cuts undo room held Nothing (ap is_quiet_doing idle) refl told (record {}))

@@ -144,8 +144,8 @@ module _ (chains : Chains) (writer : Option ℕ) (state : WorldState) (agrees : 
 
 -- ---- in a held world
 
-module _ (s : ℕ) (old : WorldState) (writer : Option ℕ) (made : Bool) (desks : List Desk) (cuts : ℕ) (undo : UndoRoom) (room : WorkRoom) (on : TableSearch)
-    (held : IsHeld old writer made desks cuts undo room) (is : doing_at s desks ≡ Searching on) where
+module _ (s : ℕ) (old : WorldState) (writer : Option ℕ) (desks : List Desk) (cuts : ℕ) (undo : UndoRoom) (room : WorkRoom) (on : TableSearch)
+    (held : IsHeld old writer desks cuts undo room) (is : doing_at s desks ≡ Searching on) where
   is_searching : is_quiet_doing (doing_at s desks) ≡ true
   is_searching = ap is_quiet_doing is
 
@@ -156,8 +156,8 @@ module _ (s : ℕ) (old : WorldState) (writer : Option ℕ) (made : Bool) (desks
   some_rows told = some_rows_by held.chains old told writer desks (read_into undo) room held.rows
 
   -- it is given up, or over
-  pub over : (new : WorldState) → MovesPlaces s old new → IsTold new → IsHeld new writer made (with_doing s Nothing desks) cuts undo room
-  over new moves told = held_stays s old new moves writer made desks cuts undo room held Nothing is_searching refl told (record {})
+  pub over : (new : WorldState) → MovesPlaces s old new → IsTold new → IsHeld new writer (with_doing s Nothing desks) cuts undo room
+  over new moves told = held_stays s old new moves writer desks cuts undo room held Nothing is_searching refl told (record {})
 
   module _ (search : RowSearch) (taken : IsTakenUp cuts on search) where
     taken_up : IsTaken s old held.chains on search
@@ -176,13 +176,13 @@ module _ (s : ℕ) (old : WorldState) (writer : Option ℕ) (made : Bool) (desks
 
     module _ (new : WorldState) (told : IsTold new) where
       pub went : (next : RowSearch) → GoesOn s on.schema old new search next
-          → IsHeld new writer made (with_doing s (Searching (record on { search = next; cuts = cuts })) desks) cuts undo room × MovesPlaces s old new ×
+          → IsHeld new writer (with_doing s (Searching (record on { search = next; cuts = cuts })) desks) cuts undo room × MovesPlaces s old new ×
           IsSameScan on.search.scan next.scan
       went next goes =
           let moves : MovesPlaces s old new = moves_in_one s _ old new goes.moves in
           let on_now : IsFinding s on.schema new held.chains next × IsSameScan search.scan next.scan
           = goes_on s on.schema old new held.chains search next taken_up.0 (shows (moves_told s old new moves told)) goes told in (
-            held_stays s old new moves writer made desks cuts undo room held (Searching (record on { search = next; cuts = cuts })) is_searching refl told
+            held_stays s old new moves writer desks cuts undo room held (Searching (record on { search = next; cuts = cuts })) is_searching refl told
                 (record {
                   there = on_now.0.searching.there;
                   which = on_now.0.searching.key;
@@ -196,7 +196,7 @@ module _ (s : ℕ) (old : WorldState) (writer : Option ℕ) (made : Bool) (desks
           )
 
       pub ended : (found : List FoundRow) → Ends s on.schema old new search found
-          → IsHeld new writer made (with_doing s Nothing desks) cuts undo room × MovesPlaces s old new
+          → IsHeld new writer (with_doing s Nothing desks) cuts undo room × MovesPlaces s old new
           × AreFoundBy (reading_of on.search.scan.sight) on.search.scan.table (plan_of on) old.past s (map (λ (f : FoundRow). f.row) found)
       ended found ends =
           let moves : MovesPlaces s old new = leaving_moves s _ old new ends.leaves in
@@ -219,7 +219,7 @@ module _ (s : ℕ) (old : WorldState) (writer : Option ℕ) (made : Bool) (desks
           )
 
   pub given_up : (index : ℕ) (new later : WorldState) → MovesPlaces s old new → Calls index (Leaves s) new later → IsTold later
-      → IsHeld later writer made (with_doing s Nothing desks) cuts undo room × MovesPlaces s old later
+      → IsHeld later writer (with_doing s Nothing desks) cuts undo room × MovesPlaces s old later
   given_up index new later first leaves told =
       let moves : MovesPlaces s old later = moves_then s old new later first (leaving_moves s index new later leaves) in
       (over later moves told, moves)

@@ -3,6 +3,7 @@ use Rattle.std.specs.Prelude.{◌≡◌, ◌≢◌, ℕ}
 use Rattle.entries.specs.Index.{AreKept}
 use Rattle.chain.specs.Versions.{Stays}
 use Rattle.world.specs.State.{WorldState}
+use Rattle.world.specs.Stores.{StoreGoes}
 
 -- Nothing has changed but the session's places in indexes, and what is known of pages.
 pub record MovesPlaces (s : ℕ) (old new : WorldState) : Type 0 where
@@ -10,3 +11,4 @@ pub record MovesPlaces (s : ℕ) (old new : WorldState) : Type 0 where
   pub places : (other index : ℕ) → other ≢ s → (new.indexes index).place other ≡ (old.indexes index).place other
   pub versions : Stays old.versions new.versions
   pub rest : new ≡ record old { indexes = new.indexes; versions = new.versions; paged = new.paged }
+  pub later : StoreGoes old.paged new.paged

@@ -26,24 +26,24 @@ pub fn a_search_is_begun()
     ensures new { (table : ℕ) (plan : Plan) (sight : Sight) (search : RowSearch)
         → search.scan ≡ record { table = table; which = plan.which; range = plan.range; sight = sight; rows = search.scan.rows }
         → BeginsWithNothing search → MayBegin search → IsNewSearch table plan sight search }
-    ensures held { (s table : ℕ) (state : WorldState) (writer : Option ℕ) (made : _) (desks : List Desk) (cuts : ℕ) (undo : UndoRoom) (room : WorkRoom)
+    ensures held { (s table : ℕ) (state : WorldState) (writer : Option ℕ) (desks : List Desk) (cuts : ℕ) (undo : UndoRoom) (room : WorkRoom)
         (plan : Plan) (sight : Sight) (schema : Schema) (on : TableSearch)
-        → IsHeld state writer made desks cuts undo room → IsTold state → doing_at s desks ≡ Nothing
+        → IsHeld state writer desks cuts undo room → IsTold state → doing_at s desks ≡ Nothing
         → slice_get state.schemas table ≡ Some schema → plan.which ≤ length schema.keys
         → SightHolds state writer s sight → IsBegun table plan sight schema cuts on
-        → IsHeld state writer made (with_doing s (Searching on) desks) cuts undo room }
-    ensures tables { (state : WorldState) (writer : Option ℕ) (made : _) (desks : List Desk) (cuts : ℕ) (undo : UndoRoom) (room : WorkRoom)
-        → IsHeld state writer made desks cuts undo room → state.schemas ≡ created state.past }
-    ensures few { (state : WorldState) (writer : Option ℕ) (made : _) (desks : List Desk) (cuts : ℕ) (undo : UndoRoom) (room : WorkRoom)
+        → IsHeld state writer (with_doing s (Searching on) desks) cuts undo room }
+    ensures tables { (state : WorldState) (writer : Option ℕ) (desks : List Desk) (cuts : ℕ) (undo : UndoRoom) (room : WorkRoom)
+        → IsHeld state writer desks cuts undo room → state.schemas ≡ created state.past }
+    ensures few { (state : WorldState) (writer : Option ℕ) (desks : List Desk) (cuts : ℕ) (undo : UndoRoom) (room : WorkRoom)
         (table : ℕ) (schema : Schema)
-        → IsHeld state writer made desks cuts undo room → IsTold state → slice_get state.schemas table ≡ Some schema → length schema.keys ≤ 4 }
+        → IsHeld state writer desks cuts undo room → IsTold state → slice_get state.schemas table ≡ Some schema → length schema.keys ≤ 4 }
 {}
 
 /// Where the past says that the open transaction has a view, the session has one; it is its own, as the world's answers tell it.
 /// That some id was the next one when it was taken is to be known beside.
 pub fn a_reader_has_its_view()
-    ensures view { (s : ℕ) (state : WorldState) (writer : Option ℕ) (made : _) (desks : List Desk) (cuts : ℕ) (undo : UndoRoom) (room : WorkRoom)
-        → IsHeld state writer made desks cuts undo room → IsOpen s state.past → is_some (view_of s state.past) ≡ true → HasView s state }
+    ensures view { (s : ℕ) (state : WorldState) (writer : Option ℕ) (desks : List Desk) (cuts : ℕ) (undo : UndoRoom) (room : WorkRoom)
+        → IsHeld state writer desks cuts undo room → IsOpen s state.past → is_some (view_of s state.past) ≡ true → HasView s state }
     ensures there { (s : ℕ) (state : WorldState) (active : List ℕ) (next : Option ℕ) (has : HasView s state)
         → IsShown has.work.view active next → next ≢ None }
     ensures next { (s : ℕ) (state : WorldState) (active : List ℕ) (n : ℕ) (has : HasView s state)

@@ -25,30 +25,30 @@ ghost use Rattle.law_held_searches.specs.TakenUp.{IsTakenUp, MayStep, plan_of};
 
 /// A search that is under way may make its next step, or be given up.
 pub fn a_search_may_step()
-    ensures { (s : ℕ) (state : WorldState) (writer : Option ℕ) (made : _) (desks : List Desk) (cuts : ℕ) (undo : UndoRoom) (room : WorkRoom)
+    ensures { (s : ℕ) (state : WorldState) (writer : Option ℕ) (desks : List Desk) (cuts : ℕ) (undo : UndoRoom) (room : WorkRoom)
         (on : TableSearch) (search : RowSearch)
-        → IsHeld state writer made desks cuts undo room → IsTold state → doing_at s desks ≡ Searching on → IsTakenUp cuts on search
+        → IsHeld state writer desks cuts undo room → IsTold state → doing_at s desks ≡ Searching on → IsTakenUp cuts on search
         → MayStep s on.schema state search }
 {}
 
 /// A step leaves the search as far as it came, or ends with the rows that its reader sees in its range. The rows of a world
 /// are never malformed. One that is hindered may be given up.
 pub fn a_search_goes_on()
-    ensures went { (s : ℕ) (old new : WorldState) (writer : Option ℕ) (made : _) (desks : List Desk) (cuts : ℕ) (undo : UndoRoom) (room : WorkRoom)
+    ensures went { (s : ℕ) (old new : WorldState) (writer : Option ℕ) (desks : List Desk) (cuts : ℕ) (undo : UndoRoom) (room : WorkRoom)
         (on : TableSearch) (search next : RowSearch)
-        → IsHeld old writer made desks cuts undo room → doing_at s desks ≡ Searching on → IsTakenUp cuts on search
+        → IsHeld old writer desks cuts undo room → doing_at s desks ≡ Searching on → IsTakenUp cuts on search
         → Searches s on.schema old new search (Went next) → IsTold new
-        → IsHeld new writer made (with_doing s (Searching (record on { search = next; cuts = cuts })) desks) cuts undo room
+        → IsHeld new writer (with_doing s (Searching (record on { search = next; cuts = cuts })) desks) cuts undo room
         × MovesPlaces s old new × IsSameScan on.search.scan next.scan }
-    ensures done { (s : ℕ) (old new : WorldState) (writer : Option ℕ) (made : _) (desks : List Desk) (cuts : ℕ) (undo : UndoRoom) (room : WorkRoom)
+    ensures done { (s : ℕ) (old new : WorldState) (writer : Option ℕ) (desks : List Desk) (cuts : ℕ) (undo : UndoRoom) (room : WorkRoom)
         (on : TableSearch) (search : RowSearch) (rows : Vec FoundRow Global)
-        → IsHeld old writer made desks cuts undo room → doing_at s desks ≡ Searching on → IsTakenUp cuts on search
+        → IsHeld old writer desks cuts undo room → doing_at s desks ≡ Searching on → IsTakenUp cuts on search
         → Searches s on.schema old new search (Done rows) → IsTold new
-        → IsHeld new writer made (with_doing s Nothing desks) cuts undo room × MovesPlaces s old new
+        → IsHeld new writer (with_doing s Nothing desks) cuts undo room × MovesPlaces s old new
         × AreFoundBy (reading_of on.search.scan.sight) on.search.scan.table (plan_of on) old.past s (map (λ (found : FoundRow). found.row) rows.items) }
-    ensures hindered { (s : ℕ) (old new : WorldState) (writer : Option ℕ) (made : _) (desks : List Desk) (cuts : ℕ) (undo : UndoRoom) (room : WorkRoom)
+    ensures hindered { (s : ℕ) (old new : WorldState) (writer : Option ℕ) (desks : List Desk) (cuts : ℕ) (undo : UndoRoom) (room : WorkRoom)
         (on : TableSearch) (search same : RowSearch) (why : Move)
-        → IsHeld old writer made desks cuts undo room → doing_at s desks ≡ Searching on → IsTakenUp cuts on search
+        → IsHeld old writer desks cuts undo room → doing_at s desks ≡ Searching on → IsTakenUp cuts on search
         → Searches s on.schema old new search (Hindered same why) → IsTold new
         → MayStep s on.schema new same × MovesPlaces s old new }
     ensures malformed { (s : ℕ) (old new : WorldState) (on : TableSearch) (search same : RowSearch)
@@ -57,9 +57,9 @@ pub fn a_search_goes_on()
 
 /// A search is given up as its session leaves the index, at once or after steps that moved places.
 pub fn a_search_is_given_up()
-    ensures { (s index : ℕ) (old new later : WorldState) (writer : Option ℕ) (made : _) (desks : List Desk) (cuts : ℕ) (undo : UndoRoom) (room : WorkRoom)
+    ensures { (s index : ℕ) (old new later : WorldState) (writer : Option ℕ) (desks : List Desk) (cuts : ℕ) (undo : UndoRoom) (room : WorkRoom)
         (on : TableSearch)
-        → IsHeld old writer made desks cuts undo room → doing_at s desks ≡ Searching on → MovesPlaces s old new
+        → IsHeld old writer desks cuts undo room → doing_at s desks ≡ Searching on → MovesPlaces s old new
         → Calls index (Leaves s) new later → IsTold later
-        → IsHeld later writer made (with_doing s Nothing desks) cuts undo room × MovesPlaces s old later }
+        → IsHeld later writer (with_doing s Nothing desks) cuts undo room × MovesPlaces s old later }
 {}

@@ -30,12 +30,12 @@ pub fn places_move()
 /// What is held stays so as places of a session move that has nothing under way, or gives a search up. And so does what is
 /// known beside it.
 pub fn a_held_world_stays_held()
-    ensures nothing { (s : ℕ) (old new : WorldState) (writer : Option ℕ) (made : _) (desks : List Desk) (cuts : ℕ) (undo : UndoRoom) (room : WorkRoom)
-        → IsHeld old writer made desks cuts undo room → is_quiet_doing (doing_at s desks) ≡ true → MovesPlaces s old new → IsTold new
-        → IsHeld new writer made (with_doing s Nothing desks) cuts undo room }
-    ensures idle { (s : ℕ) (old new : WorldState) (writer : Option ℕ) (made : _) (desks : List Desk) (cuts : ℕ) (undo : UndoRoom) (room : WorkRoom)
-        → IsHeld old writer made desks cuts undo room → doing_at s desks ≡ Nothing → MovesPlaces s old new → IsTold new
-        → IsHeld new writer made desks cuts undo room }
+    ensures nothing { (s : ℕ) (old new : WorldState) (writer : Option ℕ) (desks : List Desk) (cuts : ℕ) (undo : UndoRoom) (room : WorkRoom)
+        → IsHeld old writer desks cuts undo room → is_quiet_doing (doing_at s desks) ≡ true → MovesPlaces s old new → IsTold new
+        → IsHeld new writer (with_doing s Nothing desks) cuts undo room }
+    ensures idle { (s : ℕ) (old new : WorldState) (writer : Option ℕ) (desks : List Desk) (cuts : ℕ) (undo : UndoRoom) (room : WorkRoom)
+        → IsHeld old writer desks cuts undo room → doing_at s desks ≡ Nothing → MovesPlaces s old new → IsTold new
+        → IsHeld new writer desks cuts undo room }
     ensures views { (s : ℕ) (old new : WorldState) → ViewsHaveNext old → MovesPlaces s old new → ViewsHaveNext new }
     ensures twice { (s : ℕ) (first second : Doing) (desks : List Desk) → with_doing s second (with_doing s first desks) ≡ with_doing s second desks }
 {}

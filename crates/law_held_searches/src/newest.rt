@@ -30,8 +30,8 @@ ghost use Rattle.law_held_searches.specs.Newest.{plan_read, TellsTable, IsReadin
 /// A held world tells a table to a search of the newest rows: by any plan while no change is under way, and else by that of
 /// the whole table. The search begins, may step, goes on, ends, and may be given up as often as places move.
 pub fn the_newest_rows_are_read()
-    ensures tells { (state : WorldState) (writer : Option ℕ) (made : _) (desks : List Desk) (cuts : ℕ) (undo : UndoRoom) (room : WorkRoom)
-        (table : ℕ) (plan : Plan) (schema : Schema) (held : IsHeld state writer made desks cuts undo room)
+    ensures tells { (state : WorldState) (writer : Option ℕ) (desks : List Desk) (cuts : ℕ) (undo : UndoRoom) (room : WorkRoom)
+        (table : ℕ) (plan : Plan) (schema : Schema) (held : IsHeld state writer desks cuts undo room)
         → IsTold state → slice_get state.schemas table ≡ Some schema → plan.which ≤ length schema.keys
         → TellsTable held.chains table (plan_read (is_quiet writer desks) plan) schema state }
     ensures begins { (chains : Chains) (s table : ℕ) (plan : Plan) (schema : Schema) (state : WorldState) (search : RowSearch)
@@ -56,8 +56,8 @@ pub fn the_newest_rows_are_read()
 
 /// The rows that were read are the newest ones of the past, in the plan's range or all of them.
 pub fn what_was_read_is_what_the_past_says()
-    ensures { (state : WorldState) (writer : Option ℕ) (made : _) (desks : List Desk) (cuts : ℕ) (undo : UndoRoom) (room : WorkRoom)
-        (table : ℕ) (plan : Plan) (schema : Schema) (rows : List FoundRow) (held : IsHeld state writer made desks cuts undo room)
+    ensures { (state : WorldState) (writer : Option ℕ) (desks : List Desk) (cuts : ℕ) (undo : UndoRoom) (room : WorkRoom)
+        (table : ℕ) (plan : Plan) (schema : Schema) (rows : List FoundRow) (held : IsHeld state writer desks cuts undo room)
         → AreRead held.chains table (plan_read (is_quiet writer desks) plan) schema state rows
         → (w : ℕ) → ((u : ℕ) → u ≢ w → own u state.past ≡ [])
         → AreNewestRows table plan state.past w (map (λ (found : FoundRow). found.row) rows) }

@@ -27,7 +27,7 @@ use Rattle.desks.specs.declared.desk.Desk.{Desk}
 use Rattle.desks.specs.declared.desk.Doing.{Doing}
 use Rattle.desks.specs.Desks.{doing_at, is_quiet_doing}
 use Rattle.desks.specs.Leaves.{LeavesOthers}
-use Rattle.desks.specs.Holding.{HasRoom, RowsHeld, RowsHeldBy, IsLast, SearchHeld, MakesTables, IsHeld}
+use Rattle.desks.specs.Holding.{HasRoom, RowsHeld, RowsHeldBy, IsLast, SearchHeld, IsHeld}
 use Rattle.desks.proofs.Leaving.{search_left}
 use Rattle.law_held_undoing.proofs.Desks.{GivesDoing}
 use Rattle.law_held_undoing.proofs.Stepping.{LeavesAll}
@@ -125,9 +125,9 @@ module _ (s : ℕ) (doing : Doing) (writer : Option ℕ) (desks now : List Desk)
 
 -- ---- the whole
 
-module _ (s : ℕ) (old new : WorldState) (writer : Option ℕ) (made : Bool) (desks now : List Desk) (cuts : ℕ) (undo other : UndoRoom) (room next : WorkRoom)
+module _ (s : ℕ) (old new : WorldState) (writer : Option ℕ) (desks now : List Desk) (cuts : ℕ) (undo other : UndoRoom) (room next : WorkRoom)
     (doing : Doing)
-    (held : IsHeld old writer made desks cuts undo room) (mine : writer ≡ Some s) (leaves : LeavesAll old new) (told : IsTold old) (tells : IsTold new)
+    (held : IsHeld old writer desks cuts undo room) (mine : writer ≡ Some s) (leaves : LeavesAll old new) (told : IsTold old) (tells : IsTold new)
     (gives : GivesDoing s doing desks now) where
   past : new.past ≡ old.past
   past = ap (λ (x : WorldState). x.past) leaves.rest
@@ -156,7 +156,7 @@ module _ (s : ℕ) (old new : WorldState) (writer : Option ℕ) (made : Bool) (d
   }
 
   pub held_beside : RowsHeld held.chains new s (read_into other) next doing → LogsAgree new → SearchHeld held.chains new writer cuts s doing → IsWhole next
-      → IsHeld new writer made now cuts other next
+      → IsHeld new writer now cuts other next
   held_beside rows logs search whole = record {
     chains = held.chains;
     agrees = agrees_now;
@@ -169,7 +169,6 @@ module _ (s : ℕ) (old new : WorldState) (writer : Option ℕ) (made : Bool) (d
     started = λ t. ap (started t) past ∙ held.started t ∙ sym (gives.started t);
     count = gives.count ∙ held.count ∙ ap length (sym names);
     few = subst (λ (n : List (List ℕ)). length n ≤ 68) (sym names) held.few;
-    makes = subst (MakesTables writer made) (sym past) held.makes;
     cut = subst (λ (h : List Event). cuts ≤ length h) (sym past) held.cut;
     short = λ place. subst (λ (h : List Event). length (versions_at place held.chains) ≤ length h + 2 ^ 62) (sym past) (held.short place);
     whole = whole;

@@ -1,34 +1,15 @@
 -- Which answers a world in memory does not give.
-use Rattle.std.proofs.Common.{◌≡◌, ℕ, Bool, Option, Some, None, refl}
+use Rattle.std.proofs.Common.{◌≡◌, ℕ, Bool, refl}
 use Rattle.store_api.specs.declared.moves.Move.{Move}
 use Rattle.store_api.specs.declared.moves.Move.TheVariants.{At, End, Done, Step, Latch, Again, Full, TooDeep, Failed, Bad, NoMemory}
-use Rattle.entries.specs.Index.{Paged, InPages}
 use Rattle.store_api.specs.declared.answers.Undo.{Undo}
 use Rattle.world.specs.State.{WorldState}
-use Rattle.world.specs.Undoing.{Delays, ReadsLast, CutsBack}
+use Rattle.world.specs.Undoing.{ReadsLast, CutsBack}
 use Rattle.undo_apply.specs.declared.work_room.Stage.{Stage}
 use Rattle.undo_apply.specs.declared.work_room.Stage.TheVariants.{Find, Key, Walk, Mark, Await, Remove, Unmark, AwaitRecords, Record}
 use Rattle.undo_apply.specs.Stages.{Stops, StopsAt}
 use Rattle.world.specs.Memory.{IsInMemory}
-
--- no cause that only pages have
-no_pages : (P : Paged → Paged → Type 0) (old new : Option Paged) → old ≡ None → InPages P old new → ⊥
-no_pages P None None none cause = cause
-no_pages P None (Some new) none cause = cause
-no_pages P (Some old) new none cause = absurd (cc)
-
-not_delayed : (s : ℕ) (old new : WorldState) (answer : Move) → IsInMemory old → Delays s old new answer → ⊥
-not_delayed s old new Step memory off = no_pages _ old.paged new.paged memory.no_pages off.cause
-not_delayed s old new (Latch by) memory off = no_pages _ old.paged new.paged memory.no_pages off.cause
-not_delayed s old new Again memory off = no_pages _ old.paged new.paged memory.no_pages off.cause
-not_delayed s old new Failed memory off = no_pages _ old.paged new.paged memory.no_pages off.cause
-not_delayed s old new (Bad page rule) memory off = no_pages _ old.paged new.paged memory.no_pages off.cause
-not_delayed s old new (At key value) memory off = off
-not_delayed s old new End memory off = off
-not_delayed s old new Done memory off = off
-not_delayed s old new (Full need free) memory off = off
-not_delayed s old new TooDeep memory off = off
-not_delayed s old new NoMemory memory off = off
+use Rattle.world.proofs.Memory.{no_pages, not_delayed}
 
 -- the newest record of a log is read at once
 pub read_at_once : (actor slot : ℕ) (read : Undo) (there : Bool) (old new : WorldState) (answer : Move) → IsInMemory old

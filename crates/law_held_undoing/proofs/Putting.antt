@@ -1,5 +1,5 @@
 -- A change that is being taken back goes on, and less of it is left with each step.
-use Rattle.std.proofs.Common.{◌≡◌, ◌≢◌, ⊎_elim, ℕ, ◌^◌, ◌<◌, ◌≤◌, Bool, List, length, Option, Some, refl, sym, ap, subst, ◌∙◌, arith, slice_get}
+use Rattle.std.proofs.Common.{◌≡◌, ◌≢◌, ⊎_elim, ℕ, ◌^◌, ◌<◌, ◌≤◌, List, length, Option, Some, refl, sym, ap, subst, ◌∙◌, arith, slice_get}
 use Rattle.inno_types.specs.declared.value.Schema.{Schema}
 use Rattle.store_api.specs.declared.moves.Move.{Move}
 use Rattle.store_api.specs.declared.moves.Move.TheVariants.{Done, Step}
@@ -79,8 +79,8 @@ left_same table stage old new schemas kept =
     ap (λ (s : List Schema). left_at (keys_if (slice_get s table)) most_versions new.versions.kept_at stage) schemas
     ∙ ap (λ (k : ℕ → Option Kept). left_at (keys_if (slice_get old.schemas table)) most_versions k stage) kept
 
-module _ (s : ℕ) (old new : WorldState) (writer : Option ℕ) (made : Bool) (desks : List Desk) (cuts : ℕ) (undo : UndoRoom) (room next : WorkRoom)
-    (held : IsHeld old writer made desks cuts undo room) (busy : doing_at s desks ≡ Undoing) where
+module _ (s : ℕ) (old new : WorldState) (writer : Option ℕ) (desks : List Desk) (cuts : ℕ) (undo : UndoRoom) (room next : WorkRoom)
+    (held : IsHeld old writer desks cuts undo room) (busy : doing_at s desks ≡ Undoing) where
   pub mine : writer ≡ Some s
   mine = nothing_under_way s writer desks Undoing held.quiet busy refl
 
@@ -102,7 +102,7 @@ module _ (s : ℕ) (old new : WorldState) (writer : Option ℕ) (made : Bool) (d
   still_putting answer put not_done = stays_putting held.chains going.place s (read_into undo) room next old new answer not_done (answers answer put)
 
   pub held_on : (answer : Move) → IsInMemory old → IsInMemory new → HasPutBack s (read_into undo) room next old new answer → answer ≢ Done
-      → IsHeld new writer made desks cuts undo next
+      → IsHeld new writer desks cuts undo next
   held_on answer memory later put not_done =
       let stays = still_putting answer put not_done in
       let rows : IsGoingBack held.chains new s (read_into undo) next
@@ -115,7 +115,7 @@ module _ (s : ℕ) (old new : WorldState) (writer : Option ℕ) (made : Bool) (d
             going.undo_is;
         putting = stays.putting;
       } in
-      held_beside s old new writer made desks desks cuts undo undo room next Undoing held mine stays.leaves memory.told later.told
+      held_beside s old new writer desks desks cuts undo undo room next Undoing held mine stays.leaves memory.told later.told
       (kept_on s Undoing desks busy)
       rows (step_all held.chains going.place s (read_into undo) room next old new answer (answers answer put) not_done held.logs) (record {})
       stays.putting.whole

@@ -112,8 +112,8 @@ last_if s keep state session work (change ∷ before) has own_is may stands =
       },
     )
 
-module _ (s keep : ℕ) (state : WorldState) (writer : Option ℕ) (made : Bool) (desks : List Desk) (cuts : ℕ) (undo : UndoRoom) (room : WorkRoom)
-    (held : IsHeld state writer made desks cuts undo room) where
+module _ (s keep : ℕ) (state : WorldState) (writer : Option ℕ) (desks : List Desk) (cuts : ℕ) (undo : UndoRoom) (room : WorkRoom)
+    (held : IsHeld state writer desks cuts undo room) where
   pub may_write : MayCome state.past (Undone s keep) → writer ≡ Some s
   may_write may = writes_if s keep state.past writer held.agrees.lists.writes may.1
 
@@ -192,23 +192,23 @@ unchanged_rows old new same =
 few_left : (keys most : ℕ) (kept : ℕ → Option Kept) (stage : Stage) → keys ≤ 4 → stage ≡ Find → left_at keys most kept stage < 2 ^ 70
 few_left keys most kept stage few anew = subst (λ (at : Stage). left_at keys most kept at < 2 ^ 70) (sym anew) (omega (arith, few))
 
-module _ (s keep : ℕ) (old new : WorldState) (writer : Option ℕ) (made : Bool) (desks : List Desk) (cuts : ℕ) (undo read : UndoRoom) (room : WorkRoom)
-    (there : Bool) (held : IsHeld old writer made desks cuts undo room) (may : MayCome old.past (Undone s keep))
+module _ (s keep : ℕ) (old new : WorldState) (writer : Option ℕ) (desks : List Desk) (cuts : ℕ) (undo read : UndoRoom) (room : WorkRoom)
+    (there : Bool) (held : IsHeld old writer desks cuts undo room) (may : MayCome old.past (Undone s keep))
     (reads : ReadsLast s s (read_into read) there old new Done) where
   pub is_there : there ≡ true
   is_there =
-      let last = (has_last s keep old writer made desks cuts undo room held may).2 in
+      let last = (has_last s keep old writer desks cuts undo room held may).2 in
       (read_there last.work.log _ last.log (read_into read) there last.log_is (reads.0 last.session last.work last.has_work)).0
 
   module _ (joined : s < length desks) (ready : IsReady (doing_at s desks)) (memory : IsInMemory new) where
     mine : writer ≡ Some s
-    mine = may_write s keep old writer made desks cuts undo room held may
+    mine = may_write s keep old writer desks cuts undo room held may
 
     begin : MayBegin held.chains old s room
     begin =
         begin_from held.chains old s room held.logs held.whole (read_into undo) (doing_at s desks) ready
         (rows_of_writer s writer held.chains old desks (read_into undo) room (doing_at s desks) mine refl held.rows)
-        (has_last s keep old writer made desks cuts undo room held may)
+        (has_last s keep old writer desks cuts undo room held may)
 
     read_is : read_into read ≡ begin.logged.undo
     read_is =
@@ -232,9 +232,9 @@ module _ (s keep : ℕ) (old new : WorldState) (writer : Option ℕ) (made : Boo
           (others_leave held.chains begin.place begin.logged.undo room old new begin.putting left_rows);
     }
 
-    pub held_begun : IsHeld new writer made (with_doing s Undoing desks) cuts read room
+    pub held_begun : IsHeld new writer (with_doing s Undoing desks) cuts read room
     held_begun =
-        held_beside s old new writer made desks (with_doing s Undoing desks) cuts undo read room room Undoing held mine left_all
+        held_beside s old new writer desks (with_doing s Undoing desks) cuts undo read room room Undoing held mine left_all
         (leaves_told left_rows memory.told) memory.told (given s Undoing desks joined)
         going_back (all_left old new (rows_leave old new left_rows) (logs_beside old new left_all.rest) held.logs) (record {}) held.whole
 

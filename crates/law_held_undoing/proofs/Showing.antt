@@ -125,22 +125,22 @@ module _ (s keep : ℕ) (old new : WorldState) (writer : Option ℕ) (desks late
 
 -- ---- the steps
 
-pub shows_begun : (s keep : ℕ) (old new : WorldState) (writer : Option ℕ) (made : Bool) (desks : List Desk) (cuts : ℕ) (undo read : UndoRoom)
-    (room : WorkRoom) (there : Bool) → IsHeld old writer made desks cuts undo room → s < length desks → IsReady (doing_at s desks) → MayCome old.past
+pub shows_begun : (s keep : ℕ) (old new : WorldState) (writer : Option ℕ) (desks : List Desk) (cuts : ℕ) (undo read : UndoRoom)
+    (room : WorkRoom) (there : Bool) → IsHeld old writer desks cuts undo room → s < length desks → IsReady (doing_at s desks) → MayCome old.past
     (Undone s keep) → IsInMemory new
     → ReadsLast s s (read_into read) there old new Done → TakesBackIn s keep (lists_held old writer desks undo room)
     (lists_held new writer (with_doing s Undoing desks) read room) undone.Went
-shows_begun s keep old new writer made desks cuts undo read room there held joined ready may memory reads =
+shows_begun s keep old new writer desks cuts undo read room there held joined ready may memory reads =
     let left = undo_left_in undo.table room.stage old in
-    let few = few_begun s keep old new writer made desks cuts undo read room there held may reads joined ready memory in
+    let few = few_begun s keep old new writer desks cuts undo read room there held may reads joined ready memory in
     let all : undo_to_go (task_of s (lists_of old writer desks left).state) ≡ 2 ^ 70 =
     ap undo_to_go (task_is s left old writer desks) ∙ ready_to_go old.schemas left (doing_at s desks) ready in
     seen_went s keep old new writer desks (with_doing s Undoing desks) left (undo_left_in read.table room.stage new)
-    (may_write s keep old writer made desks cuts undo room held may) held.quiet (given s Undoing desks joined) reads.1.rest
+    (may_write s keep old writer desks cuts undo room held may) held.quiet (given s Undoing desks joined) reads.1.rest
     (subst (λ (n : ℕ). undo_left_in read.table room.stage new < n) (sym all) few)
 
-module _ (s keep : ℕ) (old new : WorldState) (writer : Option ℕ) (made : Bool) (desks : List Desk) (cuts : ℕ) (undo : UndoRoom) (room next : WorkRoom)
-    (held : IsHeld old writer made desks cuts undo room) (busy : doing_at s desks ≡ Undoing) where
+module _ (s keep : ℕ) (old new : WorldState) (writer : Option ℕ) (desks : List Desk) (cuts : ℕ) (undo : UndoRoom) (room next : WorkRoom)
+    (held : IsHeld old writer desks cuts undo room) (busy : doing_at s desks ≡ Undoing) where
   abbrev was : ℕ
   was = undo_left_in undo.table room.stage old
 
@@ -148,7 +148,7 @@ module _ (s keep : ℕ) (old new : WorldState) (writer : Option ℕ) (made : Boo
   is = undo_left_in undo.table next.stage new
 
   by_me : writer ≡ Some s
-  by_me = mine s old new writer made desks cuts undo room next held busy
+  by_me = mine s old new writer desks cuts undo room next held busy
 
   to_go : undo_to_go (task_of s (lists_of old writer desks was).state) ≡ was
   to_go = ap undo_to_go (task_is s was old writer desks ∙ ap (shown old.schemas was) busy)
@@ -157,30 +157,30 @@ module _ (s keep : ℕ) (old new : WorldState) (writer : Option ℕ) (made : Boo
       → TakesBackIn s keep (lists_held old writer desks undo room) (lists_held new writer desks undo next) undone.Went
   shows_went memory later put =
       seen_went s keep old new writer desks desks was is by_me held.quiet (kept_on s Undoing desks busy)
-      (rest_beside s old new writer made desks cuts undo room next held busy Step put)
-      (subst (λ (n : ℕ). is < n) (sym to_go) (nearer s old new writer made desks cuts undo room next held busy memory later put))
+      (rest_beside s old new writer desks cuts undo room next held busy Step put)
+      (subst (λ (n : ℕ). is < n) (sym to_go) (nearer s old new writer desks cuts undo room next held busy memory later put))
 
   pub shows_hindered : (answer : Move) → IsInMemory new → HasPutBack s (read_into undo) room next old new answer → answer ≢ Done → answer ≢ Step
       → TakesBackIn s keep (lists_held old writer desks undo room) (lists_held new writer desks undo next) undone.NoMemory
   shows_hindered answer later put not_done not_step =
       seen_hindered s keep old new writer desks desks was is by_me held.quiet (kept_on s Undoing desks busy)
-      (rest_beside s old new writer made desks cuts undo room next held busy answer put) busy
-      (same_left s old new writer made desks cuts undo room next held busy answer later put not_done not_step)
+      (rest_beside s old new writer desks cuts undo room next held busy answer put) busy
+      (same_left s old new writer desks cuts undo room next held busy answer later put not_done not_step)
 
 -- ---- the entry of the history
 
-pub shows_undone : (s keep : ℕ) (old mid cut new : WorldState) (writer : Option ℕ) (made : Bool) (desks : List Desk) (cuts : ℕ) (undo other : UndoRoom)
-    (room next : WorkRoom) (held : IsHeld old writer made desks cuts undo room) → s < length desks → (busy : doing_at s desks ≡ Undoing)
+pub shows_undone : (s keep : ℕ) (old mid cut new : WorldState) (writer : Option ℕ) (desks : List Desk) (cuts : ℕ) (undo other : UndoRoom)
+    (room next : WorkRoom) (held : IsHeld old writer desks cuts undo room) → s < length desks → (busy : doing_at s desks ≡ Undoing)
     → (put : HasPutBack s (read_into undo) room next old mid Done) → (back : IsCutBack s mid cut) →
     (added : (session : Session) (work : Work) → HasWork s session work cut → new ≡ undone_added s keep session work cut)
     → TakesBackIn s keep (lists_held old writer desks undo room) (lists_held new writer (with_doing s Nothing desks) other next) undone.Undone
-shows_undone s keep old mid cut new writer made desks cuts undo other room next held joined busy put back added = record {
+shows_undone s keep old mid cut new writer desks cuts undo other room next held joined busy put back added = record {
   takes =
       shows_now s Nothing (Undone s keep ∷ old.past) old new writer desks (with_doing s Nothing desks) (undo_left_in undo.table room.stage old)
-      (undo_left_in other.table next.stage new) (mine s old mid writer made desks cuts undo room next held busy) held.quiet (given s Nothing desks joined)
-      (names_now s old mid writer made desks cuts undo room next held busy put cut back keep new added)
-      (schemas_now s old mid writer made desks cuts undo room next held busy put cut back keep new added)
-      (past_now s old mid writer made desks cuts undo room next held busy put cut back keep new added) tasks.Idle refl;
-  settings = settings_now s old mid writer made desks cuts undo room next held busy put cut back keep new added;
-  rows = count_rows_now s old mid writer made desks cuts undo room next held busy put cut back keep new added;
+      (undo_left_in other.table next.stage new) (mine s old mid writer desks cuts undo room next held busy) held.quiet (given s Nothing desks joined)
+      (names_now s old mid writer desks cuts undo room next held busy put cut back keep new added)
+      (schemas_now s old mid writer desks cuts undo room next held busy put cut back keep new added)
+      (past_now s old mid writer desks cuts undo room next held busy put cut back keep new added) tasks.Idle refl;
+  settings = settings_now s old mid writer desks cuts undo room next held busy put cut back keep new added;
+  rows = count_rows_now s old mid writer desks cuts undo room next held busy put cut back keep new added;
 }

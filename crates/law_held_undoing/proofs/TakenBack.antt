@@ -43,12 +43,12 @@ use Rattle.desks.specs.declared.desk.Desk.{Desk}
 use Rattle.desks.specs.declared.desk.Doing.TheVariants.{Nothing, Undoing}
 use Rattle.desks.specs.Desks.{doing_at, with_doing}
 use Rattle.desks.specs.Leaves.{LeavesOthers}
-use Rattle.desks.specs.Holding.{HasRoom, MakesTables, IsGoingBack, IsHeld}
+use Rattle.desks.specs.Holding.{HasRoom, IsGoingBack, IsHeld}
 use Rattle.law_held_undoing.specs.Undoing.{HasPutBack}
 use Rattle.law_held_undoing.proofs.Desks.{given}
 use Rattle.law_held_undoing.proofs.Stepping.{LeavesAll, done_leaves}
 use Rattle.law_held_undoing.proofs.Popping.{without_newest, popped_newest, popped_fewer}
-use Rattle.law_held_undoing.proofs.Last.{has_place, alone_if, makes_still}
+use Rattle.law_held_undoing.proofs.Last.{has_place, alone_if}
 use Rattle.law_held_undoing.proofs.Beside.{rows_by_writer, quiet_still, searches_still}
 use Rattle.law_held_undoing.proofs.Putting.{mine, going, answers}
 
@@ -58,16 +58,16 @@ same_pairs index = go index.pairs where
   go None = record {}
   go (Some pairs) = refl
 
-module _ (s : ℕ) (old mid : WorldState) (writer : Option ℕ) (made : Bool) (desks : List Desk) (cuts : ℕ) (undo : UndoRoom) (room next : WorkRoom)
-    (held : IsHeld old writer made desks cuts undo room) (busy : doing_at s desks ≡ Undoing) (put : HasPutBack s (read_into undo) room next old mid Done) where
+module _ (s : ℕ) (old mid : WorldState) (writer : Option ℕ) (desks : List Desk) (cuts : ℕ) (undo : UndoRoom) (room next : WorkRoom)
+    (held : IsHeld old writer desks cuts undo room) (busy : doing_at s desks ≡ Undoing) (put : HasPutBack s (read_into undo) room next old mid Done) where
   abbrev back_to : IsGoingBack held.chains old s (read_into undo) room
-  back_to = going s old mid writer made desks cuts undo room next held busy
+  back_to = going s old mid writer desks cuts undo room next held busy
 
   by_me : writer ≡ Some s
-  by_me = mine s old mid writer made desks cuts undo room next held busy
+  by_me = mine s old mid writer desks cuts undo room next held busy
 
   pub done : IsDone held.chains back_to.place (read_into undo) room next old mid
-  done = answers s old mid writer made desks cuts undo room next held busy Done put
+  done = answers s old mid writer desks cuts undo room next held busy Done put
 
   pub left_all : LeavesAll old mid
   left_all = done_leaves held.chains back_to.place s (read_into undo) room next old mid done
@@ -375,7 +375,7 @@ module _ (s : ℕ) (old mid : WorldState) (writer : Option ℕ) (made : Bool) (d
         }
 
         pub held_then : (other : UndoRoom) → s < length desks → IsInMemory old → length new.past < 2 ^ 63
-            → IsHeld new writer made (with_doing s Nothing desks) (cuts + 1) other next
+            → IsHeld new writer (with_doing s Nothing desks) (cuts + 1) other next
         held_then other joined memory few =
             let gives = given s Nothing desks joined in
             let long = ap length past_now in
@@ -393,9 +393,6 @@ module _ (s : ℕ) (old mid : WorldState) (writer : Option ℕ) (made : Bool) (d
               started = λ t. ap (started t) past_now ∙ held.started t ∙ sym (gives.started t);
               count = gives.count ∙ held.count ∙ ap length (sym names_now);
               few = subst (λ (n : List (List ℕ)). length n ≤ 68) (sym names_now) held.few;
-              makes =
-                  subst (MakesTables writer made) (sym past_now)
-                  (makes_still s keep writer made old.past back_to.last.change back_to.last.before by_me back_to.last.own_is of_row own_now held.makes);
               cut = let was = held.cut in omega (arith, was, long);
               short =
                   λ place. let was = held.short place in let fewer = popped_fewer back_to.place place held.chains after pops in omega (arith, was, fewer, long);

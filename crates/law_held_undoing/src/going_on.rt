@@ -1,6 +1,6 @@
 //! A change is taken back, step by step, until its record is what was before.
 
-ghost use Rattle.std.specs.Prelude.{◌≡◌, ◌≢◌, ℕ, ◌<◌, Bool, List, Option};
+ghost use Rattle.std.specs.Prelude.{◌≡◌, ◌≢◌, ℕ, ◌<◌, List, Option};
 ghost use Rattle.store_api.specs.declared.moves.Move.{Move};
 ghost use Rattle.store_api.specs.declared.moves.Move.TheVariants.{Done, Step};
 ghost use Rattle.row_versions.specs.declared.place.Place.{Place};
@@ -22,28 +22,28 @@ ghost use Rattle.law_held_undoing.specs.Undoing.{HasPutBack};
 
 /// Until it is done, less and less is left of it; a step that was hindered leaves as much.
 pub fn a_taking_back_goes_on()
-    ensures asks { (s : ℕ) (state : WorldState) (writer : Option ℕ) (made : Bool) (desks : List Desk) (cuts : ℕ)
+    ensures asks { (s : ℕ) (state : WorldState) (writer : Option ℕ) (desks : List Desk) (cuts : ℕ)
         (undo : UndoRoom) (room : WorkRoom)
-        → IsHeld state writer made desks cuts undo room → doing_at s desks ≡ Undoing → IsInMemory state
+        → IsHeld state writer desks cuts undo room → doing_at s desks ≡ Undoing → IsInMemory state
         → ((chains : Chains) × (place : Place) × IsPuttingBack chains place (read_into undo) room state)
         × TellsTogether state }
-    ensures held { (s : ℕ) (old new : WorldState) (writer : Option ℕ) (made : Bool) (desks : List Desk) (cuts : ℕ)
+    ensures held { (s : ℕ) (old new : WorldState) (writer : Option ℕ) (desks : List Desk) (cuts : ℕ)
         (undo : UndoRoom) (room next : WorkRoom) (answer : Move)
-        → IsHeld old writer made desks cuts undo room → doing_at s desks ≡ Undoing → IsInMemory old → IsInMemory new
+        → IsHeld old writer desks cuts undo room → doing_at s desks ≡ Undoing → IsInMemory old → IsInMemory new
         → HasPutBack s (read_into undo) room next old new answer → answer ≢ Done
-        → IsHeld new writer made desks cuts undo next }
-    ensures rest { (s : ℕ) (old new : WorldState) (writer : Option ℕ) (made : Bool) (desks : List Desk) (cuts : ℕ)
+        → IsHeld new writer desks cuts undo next }
+    ensures rest { (s : ℕ) (old new : WorldState) (writer : Option ℕ) (desks : List Desk) (cuts : ℕ)
         (undo : UndoRoom) (room next : WorkRoom) (answer : Move)
-        → IsHeld old writer made desks cuts undo room → doing_at s desks ≡ Undoing
+        → IsHeld old writer desks cuts undo room → doing_at s desks ≡ Undoing
         → HasPutBack s (read_into undo) room next old new answer → ChangesPairsAlone old new }
-    ensures nears { (s : ℕ) (old new : WorldState) (writer : Option ℕ) (made : Bool) (desks : List Desk) (cuts : ℕ)
+    ensures nears { (s : ℕ) (old new : WorldState) (writer : Option ℕ) (desks : List Desk) (cuts : ℕ)
         (undo : UndoRoom) (room next : WorkRoom)
-        → IsHeld old writer made desks cuts undo room → doing_at s desks ≡ Undoing → IsInMemory old → IsInMemory new
+        → IsHeld old writer desks cuts undo room → doing_at s desks ≡ Undoing → IsInMemory old → IsInMemory new
         → HasPutBack s (read_into undo) room next old new Step
         → undo_left_in undo.table next.stage new < undo_left_in undo.table room.stage old }
-    ensures same { (s : ℕ) (old new : WorldState) (writer : Option ℕ) (made : Bool) (desks : List Desk) (cuts : ℕ)
+    ensures same { (s : ℕ) (old new : WorldState) (writer : Option ℕ) (desks : List Desk) (cuts : ℕ)
         (undo : UndoRoom) (room next : WorkRoom) (answer : Move)
-        → IsHeld old writer made desks cuts undo room → doing_at s desks ≡ Undoing → IsInMemory new
+        → IsHeld old writer desks cuts undo room → doing_at s desks ≡ Undoing → IsInMemory new
         → HasPutBack s (read_into undo) room next old new answer → answer ≢ Done → answer ≢ Step
         → undo_left_in undo.table next.stage new ≡ undo_left_in undo.table room.stage old }
 {}

@@ -27,26 +27,26 @@ pub fn what_callers_see()
     ensures doing { (s : ℕ) (state : WorldState) (writer : Option ℕ) (desks : List Desk) (undo : UndoRoom) (room : WorkRoom)
         → MayTakeBack (task_of s (lists_held state writer desks undo room).state)
         → IsReady (doing_at s desks) ⊎ (doing_at s desks ≡ Undoing) }
-    ensures begun { (s keep : ℕ) (old new : WorldState) (writer : Option ℕ) (made : Bool) (desks : List Desk) (cuts : ℕ)
+    ensures begun { (s keep : ℕ) (old new : WorldState) (writer : Option ℕ) (desks : List Desk) (cuts : ℕ)
         (undo read : UndoRoom) (room : WorkRoom) (there : Bool)
-        → IsHeld old writer made desks cuts undo room → s < length desks → IsReady (doing_at s desks)
+        → IsHeld old writer desks cuts undo room → s < length desks → IsReady (doing_at s desks)
         → MayCome old.past (Undone s keep) → IsInMemory new → ReadsLast s s (read_into read) there old new Done
         → TakesBackIn s keep (lists_held old writer desks undo room)
         (lists_held new writer (with_doing s Undoing desks) read room) undone.Went }
-    ensures went { (s keep : ℕ) (old new : WorldState) (writer : Option ℕ) (made : Bool) (desks : List Desk) (cuts : ℕ)
+    ensures went { (s keep : ℕ) (old new : WorldState) (writer : Option ℕ) (desks : List Desk) (cuts : ℕ)
         (undo : UndoRoom) (room next : WorkRoom)
-        → IsHeld old writer made desks cuts undo room → doing_at s desks ≡ Undoing → IsInMemory old → IsInMemory new
+        → IsHeld old writer desks cuts undo room → doing_at s desks ≡ Undoing → IsInMemory old → IsInMemory new
         → HasPutBack s (read_into undo) room next old new Step
         → TakesBackIn s keep (lists_held old writer desks undo room) (lists_held new writer desks undo next) undone.Went }
-    ensures hindered { (s keep : ℕ) (old new : WorldState) (writer : Option ℕ) (made : Bool) (desks : List Desk)
+    ensures hindered { (s keep : ℕ) (old new : WorldState) (writer : Option ℕ) (desks : List Desk)
         (cuts : ℕ) (undo : UndoRoom) (room next : WorkRoom) (answer : Move)
-        → IsHeld old writer made desks cuts undo room → doing_at s desks ≡ Undoing → IsInMemory new
+        → IsHeld old writer desks cuts undo room → doing_at s desks ≡ Undoing → IsInMemory new
         → HasPutBack s (read_into undo) room next old new answer → answer ≢ Done → answer ≢ Step
         → TakesBackIn s keep (lists_held old writer desks undo room) (lists_held new writer desks undo next)
         undone.NoMemory }
-    ensures undone { (s keep : ℕ) (old mid cut new : WorldState) (writer : Option ℕ) (made : Bool) (desks : List Desk)
+    ensures undone { (s keep : ℕ) (old mid cut new : WorldState) (writer : Option ℕ) (desks : List Desk)
         (cuts : ℕ) (undo other : UndoRoom) (room next : WorkRoom)
-        → IsHeld old writer made desks cuts undo room → s < length desks → doing_at s desks ≡ Undoing
+        → IsHeld old writer desks cuts undo room → s < length desks → doing_at s desks ≡ Undoing
         → HasPutBack s (read_into undo) room next old mid Done → IsCutBack s mid cut
         → ((session : Session) (work : Work) → HasWork s session work cut → new ≡ undone_added s keep session work cut)
         → TakesBackIn s keep (lists_held old writer desks undo room)

@@ -13,7 +13,7 @@ use Rattle.row_versions.specs.Chains.{Chains, in_model, versions_at}
 use Rattle.law_past_agreement.specs.Slots.{id_for}
 use Rattle.law_past_agreement.specs.Agreement.{IsOpenedWith}
 use Rattle.world.specs.State.{WorldState, Session, Work, HasWork}
-use Rattle.world.specs.Sessions.{fresh_work, begun, begin_added, view_added, committed_added, rolled_back_added, ended}
+use Rattle.world.specs.Sessions.{fresh_work, begun, begin_added, view_added}
 use Rattle.sql_history.specs.Settings.{at_begin}
 
 -- the session as it has begun its next transaction
@@ -28,13 +28,6 @@ opened s level session state =
 -- a view is taken of what is open now, and its entry added
 abbrev pub viewed : ℕ → Session → Work → WorldState → WorldState
 viewed s session work state = view_added s (ids_of state.txns.open_txns) state.txns.next session work state
-
--- a transaction is committed, or rolled back, and is no longer open
-abbrev pub committed : ℕ → Session → Work → WorldState → WorldState
-committed s session work state = ended work.txn (committed_added s session work state)
-
-abbrev pub rolled_back : ℕ → Session → Work → WorldState → WorldState
-rolled_back s session work state = ended work.txn (rolled_back_added s session work state)
 
 -- the transaction has made one change more
 pub record HasOneMore (before after : Work) (id : ℕ) : Type 0 where

@@ -6,8 +6,9 @@ ghost use Rattle.inno_model.specs.Past.{own};
 ghost use Rattle.row_versions.specs.Chains.{Chains};
 ghost use Rattle.law_past_agreement.specs.Slots.{writer_without};
 ghost use Rattle.world.specs.State.{WorldState, Session, Work, IsSession, HasWork};
+ghost use Rattle.world.specs.Endings.{IsCommitted, IsRolledBack};
 ghost use Rattle.law_world_agreement.specs.Agreement.{Agrees};
-ghost use Rattle.law_world_agreement.specs.Steps.{opened, viewed, committed, rolled_back};
+ghost use Rattle.law_world_agreement.specs.Steps.{opened, viewed};
 
 /// A session without a transaction opens one.
 pub fn a_transaction_opens()
@@ -25,10 +26,10 @@ pub fn a_view_is_taken()
 
 /// A transaction is committed, or rolled back once its changes are taken back. Its session may write no longer.
 pub fn a_transaction_ends()
-    ensures committed { (chains : Chains) (writer : Option ℕ) (old : WorldState) (s : ℕ) (session : Session) (work : Work)
-        → Agrees chains writer old → HasWork s session work old → length old.past + 1 < 2 ^ 63
-        → Agrees chains (writer_without writer s) (committed s session work old) }
-    ensures rolled_back { (chains : Chains) (writer : Option ℕ) (old : WorldState) (s : ℕ) (session : Session) (work : Work)
-        → Agrees chains writer old → HasWork s session work old → own s old.past ≡ [] → length old.past + 1 < 2 ^ 63
-        → Agrees chains (writer_without writer s) (rolled_back s session work old) }
+    ensures committed { (chains : Chains) (writer : Option ℕ) (old new : WorldState) (s : ℕ)
+        → Agrees chains writer old → IsCommitted s old new → length old.past + 1 < 2 ^ 63
+        → Agrees chains (writer_without writer s) new }
+    ensures rolled_back { (chains : Chains) (writer : Option ℕ) (old new : WorldState) (s : ℕ)
+        → Agrees chains writer old → IsRolledBack s old new → own s old.past ≡ [] → length old.past + 1 < 2 ^ 63
+        → Agrees chains (writer_without writer s) new }
 {}

@@ -71,7 +71,7 @@ pub calls_one : (p : Parts) (index : ℕ) (old new : ListIndex) (step : Index �
     → step (shown old) (shown new) → Told AreSound (shown new) → Calls index step (world_of p) (world_of (record p { indexes = slice_set p.indexes index new }))
 calls_one p index old new step there stepped sound = record {
   index_is = in_index p.indexes p (record p { indexes = slice_set p.indexes index new }) index old new step there refl stepped sound;
-  beside = record { versions = record { told = λ told. told; kept = λ told. refl }; rest = refl };
+  beside = record { versions = record { told = λ told. told; kept = λ told. refl }; rest = refl; later = tt };
 }
 
 pub inserts_with : (undo : Undo) (actor : ℕ) (key value : List ℕ) (old new : Index) (answer : Move) → Inserts actor key value old new answer
@@ -146,6 +146,7 @@ changes_logged p q index actor undo old new call there called sound is logged = 
         next = logged.next;
         kept = logged.kept;
         rest = logged.rest;
+        later = logged.later;
       };
 }
 

@@ -156,12 +156,26 @@ impl World for ListWorld {
         Some(made)
     }
 
-    fn end(&mut self, txn: u64) {
+    fn commit(&mut self, s: u32) -> Move {
+        let Some(txn) = self.sessions[s as usize].commit() else {
+            unreachable!()
+        };
         self.txns.end(txn);
-        match holder(&self.sessions, txn) {
-            Some(s) => self.sessions[s].end(),
-            None => {}
-        }
+        self.history.add(Event::Committed { s });
+        Move::Done
+    }
+
+    fn roll_back(&mut self, s: u32) -> Move {
+        let Some(txn) = self.sessions[s as usize].end() else {
+            unreachable!()
+        };
+        self.txns.end(txn);
+        self.history.add(Event::RolledBack { s });
+        Move::Done
+    }
+
+    fn free_log(&mut self, _s: u32) -> Move {
+        Move::Done
     }
 
     fn event_room(&mut self, s: u32) -> Result<(), NoMemory> {
@@ -214,16 +228,6 @@ impl World for ListWorld {
     fn add_undone(&mut self, s: u32, keep: u64) {
         self.sessions[s as usize].undone();
         self.history.add(Event::Undone { s, keep });
-    }
-
-    fn add_committed(&mut self, s: u32) {
-        self.sessions[s as usize].committed();
-        self.history.add(Event::Committed { s });
-    }
-
-    fn add_rolled_back(&mut self, s: u32) {
-        self.sessions[s as usize].rolled_back();
-        self.history.add(Event::RolledBack { s });
     }
 
     fn schema(&self, table: u8) -> Option<&Schema> {

@@ -15,6 +15,8 @@ use Rattle.store_api.specs.declared.moves.Move.TheVariants as moves
 use Rattle.entries.specs.Calls.{Inserts}
 use Rattle.law_coded_rows.specs.Edits.{clustered_index}
 use Rattle.world.specs.State.{WorldState}
+use Rattle.world.specs.Stores.{StoreGoes}
+use Rattle.world.proofs.Stores.{store_stays, store_goes_on}
 use Rattle.world.specs.Indexes.{Changes}
 use Rattle.row_changes.specs.declared.keys_change.KeysChange.{KeysChange}
 use Rattle.row_changes.specs.declared.reached.Reached.TheVariants.{Went, Done}
@@ -61,9 +63,16 @@ pub record IsTaking (start : KeysChange) (old now : WorldState) (change : KeysCh
   pub holds : IsChangingKeys chains now change
   pub follows : (those : Chains) → IsChangingKeys those old start → IsChangingKeys those now change
   pub rest : now ≡ record old { indexes = now.indexes; versions = now.versions; paged = now.paged }
+  pub later : StoreGoes old.paged now.paged
 
 pub taking_first : (start : KeysChange) (state : WorldState) (chains : Chains) → IsChangingKeys chains state start → IsTaking start state state start
-taking_first start state chains holds = record { chains = chains; holds = holds; follows = λ those is. is; rest = refl }
+taking_first start state chains holds = record {
+  chains = chains;
+  holds = holds;
+  follows = λ those is. is;
+  rest = refl;
+  later = store_stays state.paged;
+}
 
 -- what two steps leave as it was
 rests : (old mid new : WorldState) → mid ≡ record old { indexes = mid.indexes; versions = mid.versions; paged = mid.paged }
@@ -81,6 +90,7 @@ module _ (start : KeysChange) (old mid new : WorldState) (change : KeysChange) (
         holds = mine.holds;
         follows = λ those is. (step those (taking.follows those is)).holds;
         rest = rests old mid new taking.rest mine.stays.rest;
+        later = store_goes_on old.paged mid.paged new.paged taking.later mine.stays.later;
       }
 
   pub taken_rows : ((chains : Chains) → IsChangingKeys chains mid change → ChangesKeys 0 chains mid new change Done) → (chains : Chains)
@@ -90,3 +100,6 @@ module _ (start : KeysChange) (old mid new : WorldState) (change : KeysChange) (
   pub taken_rest : ((chains : Chains) → IsChangingKeys chains mid change → ChangesKeys 0 chains mid new change Done)
       → new ≡ record old { indexes = new.indexes; versions = new.versions; paged = new.paged }
   taken_rest step = rests old mid new taking.rest (step taking.chains taking.holds).0.rest
+
+  pub taken_later : ((chains : Chains) → IsChangingKeys chains mid change → ChangesKeys 0 chains mid new change Done) → StoreGoes old.paged new.paged
+  taken_later step = store_goes_on old.paged mid.paged new.paged taking.later (step taking.chains taking.holds).0.later

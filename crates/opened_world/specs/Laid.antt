@@ -15,6 +15,7 @@ use Rattle.row_versions.specs.declared.version.Version.{Version}
 use Rattle.row_versions.specs.Chains.{Chains, in_model, versions_at}
 use Rattle.law_coded_rows.specs.Edits.{clustered_index}
 use Rattle.world.specs.State.{WorldState}
+use Rattle.world.specs.Stores.{StoreGoes}
 use Rattle.world.specs.Indexes.{Changes}
 use Rattle.row_changes.specs.Told.{HasRows}
 use Rattle.row_changes.specs.Edits.{IsRowFor}
@@ -74,3 +75,4 @@ pub record TakesKeysOver (table : ℕ) (key : List ℕ) (row : List Value) (old 
   pub rows : (chains : Chains) → IsChangingKeys chains old (record { table = table; key = key; before = None; after = Some row; which = 0; put = None })
       → HasRows chains new
   pub rest : new ≡ record old { indexes = new.indexes; versions = new.versions; paged = new.paged }
+  pub later : StoreGoes old.paged new.paged

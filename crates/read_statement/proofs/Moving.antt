@@ -8,7 +8,7 @@ use Rattle.shared_lists.specs.State.{State, Stays}
 use Rattle.sql_lists.specs.declared.advance.Advance.{Advance}
 use Rattle.sql_lists.specs.declared.advance.Advance.TheVariants as advance
 use Rattle.sql_lists.specs.Going.{Nears, left}
-use Rattle.sql_lists.specs.Steps.{Steps, WaitsFor, HasRowsAlone, open_txn, plain_edge}
+use Rattle.sql_lists.specs.Steps.{Steps, WaitsFor, AsksToWrite, HasRowsAlone, open_txn, plain_edge}
 use Rattle.sql_lists.proofs.Moving.{moves_then, moves_stays}
 use Rattle.read_statement.specs.declared.machine.Found.{Found}
 use Rattle.read_statement.specs.declared.machine.ReadStatement.{ReadStatement}
@@ -31,6 +31,7 @@ stays_then s old mid new first second =
 waits_before : (s by : ℕ) (blockers : List _) (old mid : State) → Stays s old mid → WaitsFor s by blockers mid → WaitsFor s by blockers old
 waits_before s by blockers old mid stays waits =
     record {
+      asks = subst (AsksToWrite s) stays.past_is waits.asks;
       other = waits.other;
       holds = sym stays.writer_is ∙ waits.holds;
       is_open = subst (IsOpen by) stays.past_is waits.is_open;

@@ -20,7 +20,7 @@ use Rattle.plain_sql.specs.Finding.{IsReadFrom}
 use Rattle.sql_plan.specs.Visits.{IsRowOf}
 use Rattle.shared_lists.specs.Fitting.{FitsThen}
 use Rattle.shared_lists.specs.Steps.{rows_in_range}
-use Rattle.sql_lists.specs.Kept.{IsOnlyMaker, AreStanding, made}
+use Rattle.sql_lists.specs.Kept.{AreStanding, made}
 use Rattle.law_found_rows.proofs.FittingDatabases.{seen_coded}
 use Rattle.law_found_rows.proofs.Fits.{fitting_rows_fit}
 use Rattle.read_statement.specs.declared.machine.Found.{Found}
@@ -52,9 +52,9 @@ seen_tabled h s n ordered = all_joined (IsTabled (length (created h))) (own s h)
 
 -- ---- the reply
 
-module _ (h : List Event) (s : ℕ) (standing : AreStanding h) (only : IsOnlyMaker s h) where
+module _ (h : List Event) (s : ℕ) (standing : AreStanding h) where
   tables : created h ≡ schemas_now s h
-  tables = standing.tables s only
+  tables = standing.tables s
 
   -- the table has the same rows in the database that the view shows
   same_rows : (n table : ℕ) → rows_of table (seen_by s n h) ≡ rows_of table (changed (with_all_tables h) (seen h s n))

@@ -39,7 +39,7 @@ module _ (h : List Event) (w : ℕ) (alone : (u : ℕ) → u ≢ w → own u h �
   now_is = newest_is h w ordered alone
 
   tables_seen : created h ≡ (changed (opening h) (seen h w (commits h))).schemas
-  tables_seen = stands.tables w (λ other ne. ap (list_any is_creation) (alone other ne))
+  tables_seen = stands.tables w
 
   tables_now : (newest h).schemas ≡ created h
   tables_now = ap (λ (db : Database). db.schemas) now_is ∙ sym tables_seen

@@ -1,11 +1,10 @@
-//! How a SELECT answers by the rows that it has found, in one step: where no other session makes a table.
+//! How a SELECT answers by the rows that it has found, in one step.
 
 ghost use Rattle.std.specs.Prelude.{◌≡◌, ◌≢◌, ◌<◌, ◌+◌, length, IfOk, IfSome, IfNone, Some, true};
 ghost use Rattle.inno_model.specs.Past.{IsOpen};
 ghost use Rattle.sql_history.specs.Counts.{rows_kept, rows_of_reply, most_rows};
 ghost use Rattle.sql_history.specs.Legal.{IsWithin};
 ghost use Rattle.sql_lists.specs.Going.{Nears};
-ghost use Rattle.sql_lists.specs.Kept.{IsOnlyMaker};
 ghost use Rattle.sql_lists.specs.Steps.{Steps};
 ghost use Rattle.read_statement.specs.Going.{to_go};
 ghost use Rattle.read_statement.specs.Running.{IsRunning, IsEarly, HasFound, IsSeen, IsAnswered, answers_rows, is_rows};
@@ -20,7 +19,7 @@ use sql_lists::{Advance, SqlLists};
 use std::alloc::Global;
 use store_api::NoMemory;
 
-/// Answers. Where another session makes a table this one waits: which tables stand is not settled.
+/// Answers by the rows that were found.
 pub fn step_found<L: SharedLists>(
     alloc: Global,
     found: Found,
@@ -32,41 +31,12 @@ pub fn step_found<L: SharedLists>(
     ensures steps { Steps IsRunning session lists.old lists.new result.0 result.1 }
     ensures nears { Nears to_go session lists.old (ReadStatement.Found found) lists.new result.0 result.1 }
 {
-    if let Some(by) = lists.other_maker(session) {
-        return wait_for(by, found, session, lists);
-    }
     let alone = found.alone;
     let settled = settle_found(alloc, &found, session, lists);
     drop(found);
     match settled {
         Ok(settled) => close(alone, settled, session, lists),
         Err(_) => (ReadStatement::Failed { alone }, Advance::NoMemory),
-    }
-}
-
-/// Waits for the transaction that makes a table.
-fn wait_for<L: SharedLists>(
-    by: u32,
-    found: Found,
-    session: u32,
-    lists: &mut SqlLists<L>,
-) -> (ReadStatement, Advance)
-    requires joined { (session < length lists.old.names) × (by < length lists.old.names) }
-    requires running { IsRunning lists.old session (ReadStatement.Found found) }
-    requires held { (by ≢ session) × (lists.old.writer ≡ Some by) × IsOpen by lists.old.past }
-    ensures steps { Steps IsRunning session lists.old lists.new result.0 result.1 }
-    ensures nears { Nears to_go session lists.old (ReadStatement.Found found) lists.new result.0 result.1 }
-{
-    let alone = found.alone;
-    match lists.edge_to(session, by) {
-        Ok(blockers) => (
-            ReadStatement::Found(found),
-            Advance::Waiting { by, blockers },
-        ),
-        Err(_) => {
-            drop(found);
-            (ReadStatement::Failed { alone }, Advance::NoMemory)
-        }
     }
 }
 
@@ -78,7 +48,6 @@ fn settle_found<L: SharedLists>(
     lists: &SqlLists<L>,
 ) -> Result<Settled, NoMemory>
     requires found { HasFound lists.now.past session found.now }
-    requires tables { IsOnlyMaker session lists.now.past }
     ensures answered { IfOk result (λ settled. IsAnswered lists.now.past session found.now.alone settled.kept settled.given) }
     ensures within { IfOk result (λ settled. IsWithin settled.kept lists.now.past) }
 {
@@ -94,7 +63,6 @@ fn reply_by<L: SharedLists>(
     lists: &SqlLists<L>,
 ) -> Result<Reply, NoMemory>
     requires found { HasFound lists.now.past session found.now }
-    requires tables { IsOnlyMaker session lists.now.past }
     ensures seen { IfOk result (λ reply. IsSeen lists.now.past lists.now.past session found.now.stmt reply) }
     ensures kind { IfOk result (λ reply. answers_rows reply ≡ true) }
 {
@@ -110,7 +78,6 @@ fn outcome_by<L: SharedLists>(
     lists: &SqlLists<L>,
 ) -> Result<Outcome, NoMemory>
     requires found { HasFound lists.now.past session found.now }
-    requires tables { IsOnlyMaker session lists.now.past }
     ensures { IfOk result (λ outcome. IsSeen lists.now.past lists.now.past session found.now.stmt outcome.reply) }
 {
     let _ = session;

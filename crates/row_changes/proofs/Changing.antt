@@ -10,6 +10,8 @@ use Rattle.std.specs.Prelude.{slice_set, length}
 use Rattle.std.proofs.lemmas.List.{length-set}
 use Rattle.chain.specs.Versions.{Stays}
 use Rattle.world.specs.State.{WorldState, Session, Work, IsSession, HasWork, with_session}
+use Rattle.world.specs.Stores.{StoreGoes}
+use Rattle.world.proofs.Stores.{store_stays}
 use Rattle.world.specs.Indexes.{Calls}
 use Rattle.entries.specs.Calls.{Fetches}
 use Rattle.row_changes.proofs.Worlds.{stays_if}
@@ -153,8 +155,8 @@ same_rest old new after s sessions indexes versions = cc
 
 -- a session alone is another, and what is known of pages
 abbrev pub readied_in_pages : (s : ℕ) (before after : Session) (old new : WorldState) → IsSession s before old → IsReadied before after
-    → new ≡ record (with_session s after old) { paged = new.paged } → StepsAside s old new
-readied_in_pages s before after old new there readied is =
+    → new ≡ record (with_session s after old) { paged = new.paged } → StoreGoes old.paged new.paged → StepsAside s old new
+readied_in_pages s before after old new there readied is later =
     let sessions = ap (λ (state : WorldState). state.sessions) is in
     record {
       pairs =
@@ -170,6 +172,7 @@ readied_in_pages s before after old new there readied is =
       others = λ t differs. ap (λ (xs : List Session). slice_get xs t) sessions ∙ set_other old.sessions s t after differs;
       count = ap length sessions ∙ length-set old.sessions s after;
       rest = is ∙ same_rest old new after s sessions (ap (λ (state : WorldState). state.indexes) is) (ap (λ (state : WorldState). state.versions) is);
+      later = later;
     }
 
 -- its log has room for the undo record
@@ -182,14 +185,21 @@ room_made s old new change p at ready =
     subst (λ (x : Session). new ≡ record (with_session s (record x { undo_room = 1098; next_pointer = ready.pointer }) old) { paged = new.paged }) same
     ready.rest in
     let aside =
-    readied_in_pages s p.session after old new p.has_work.session_is (record { setting = refl; work = refl; can_reply = refl; can_ack = refl }) is in
+    readied_in_pages s p.session after old new p.has_work.session_is (record { setting = refl; work = refl; can_reply = refl; can_ack = refl }) is
+    ready.later in
     let can_change = subst (λ stage. StageHolds stage p.schema change.edit change.key p.session (old.indexes (clustered_index change.table))) at p.stage in
     goes_on s old new change Find p aside (record { entry = can_change; leads = ready.leads; undo = omega arith })
     (subst (λ stage. 3 < record_steps stage) (sym at) (omega arith))
 
 pub unchanged_stays : (old new : WorldState) → IsUnchanged old new → RowsStay old new
 unchanged_stays old new same =
-    record { pairs = λ index. (same.indexes index).pairs; places = λ index. (same.indexes index).place; versions = same.versions; rest = same.rest }
+    record {
+      pairs = λ index. (same.indexes index).pairs;
+      places = λ index. (same.indexes index).place;
+      versions = same.versions;
+      rest = same.rest;
+      later = same.later;
+    }
 
 -- room for an undo record was not made
 pub no_room_stays : (s bytes : ℕ) (old new : WorldState) (why : Move) → MakesRoom s bytes old new why → why ≢ moves.Done → RowsStay old new
@@ -241,7 +251,13 @@ spoiled schema key bytes index moves.Failed s new there h = absurd h
 
 pub same_rows : (state : WorldState) → RowsStay state state
 same_rows state =
-    record { pairs = λ index. same_pairs (state.indexes index).pairs; places = λ index. refl; versions = same_versions state.versions; rest = refl }
+    record {
+      pairs = λ index. same_pairs (state.indexes index).pairs;
+      places = λ index. refl;
+      versions = same_versions state.versions;
+      rest = refl;
+      later = store_stays state.paged;
+    }
 
 pub awaited : (s : ℕ) (old new : WorldState) (change : RecordChange) (p : IsChangingRecord s old change) → change.stage ≡ Next → RowsStay old new
     → GoesOnWithRecord s old new change (record change { stage = Insert })

@@ -126,6 +126,7 @@ beside_stay old new stay = record {
   places = stay.places;
   versions = stay.versions;
   rest = stay.rest;
+  later = stay.later;
 }
 
 beside_put : (index : ℕ) (key : List ℕ) (value : Option (List ℕ)) (old new : WorldState) → ((table : ℕ) → clustered_index table ≢ index)
@@ -136,6 +137,7 @@ beside_put index key value old new no_rows puts = record {
   places = puts.places;
   versions = puts.versions;
   rest = puts.rest;
+  later = puts.later;
 }
 
 -- the index of a key holds no records

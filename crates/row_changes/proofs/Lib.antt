@@ -1,4 +1,5 @@
 pub mod Worlds
+pub mod Putting
 pub mod Sessions
 pub mod Changing
 pub mod Ids

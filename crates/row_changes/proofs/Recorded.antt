@@ -18,6 +18,7 @@ use Rattle.row_codec.specs.Rows.{version_code}
 use Rattle.law_fitting_rows.proofs.Coding.{short_key, short_value}
 use Rattle.law_coded_rows.specs.Edits.{clustered_index, with_value}
 use Rattle.world.specs.State.{WorldState, Session, Work, IsIndex, HasWork}
+use Rattle.world.specs.Stores.{StoreGoes}
 use Rattle.txn_table.specs.Txns.{Txns, is_there, id_at}
 use Rattle.world.specs.Indexes.{MayLog, IsLogged, KeepsIf, Changes, Brings, StaysBeside, InsertsWith, ReplacesWith}
 use Rattle.row_changes.specs.declared.record_change.RecordChange.{RecordChange}
@@ -194,6 +195,7 @@ recorded s change rows table key bytes undo old mid new logged enters here elsew
           (ap (λ (state : WorldState). state.past) enters.rest ∙ ap (λ (state : WorldState). Changed s change ∷ state.past) logged.rest)
           (ap (λ (state : WorldState). state.rows) enters.rest ∙ ap (λ (state : WorldState). state.rows + rows) logged.rest)
           (ap (λ (state : WorldState). state.schemas) enters.rest ∙ ap (λ (state : WorldState). state.schemas) logged.rest);
+      later = subst (StoreGoes old.paged) (sym (ap (λ (state : WorldState). state.paged) enters.rest)) logged.later;
     }
 
 -- ---- the step behind the call

@@ -5,6 +5,7 @@ use Rattle.std.proofs.lemmas.List.{length-set}
 use Rattle.entries.specs.Index.{AreKept}
 use Rattle.chain.specs.Versions.{Versions, Stays}
 use Rattle.world.specs.State.{WorldState, Session, IsSession, with_session}
+use Rattle.world.proofs.Stores.{store_stays}
 use Rattle.row_changes.specs.Asides.{IsReadied, StepsAside}
 use Rattle.row_changes.specs.Pairs.{RowsStay}
 
@@ -48,6 +49,7 @@ readied_alone s before after old there readied =
       others = λ t differs. set_other old.sessions s t after differs;
       count = length-set old.sessions s after;
       rest = refl;
+      later = store_stays old.paged;
     }
 
 -- nothing has changed but pairs that are told no longer
@@ -67,4 +69,5 @@ aside_of_stay {s} {session} {old} {new} there stay =
       rest =
           stay.rest ∙ ap (λ (sessions : List Session). record old { indexes = new.indexes; versions = new.versions; paged = new.paged; sessions = sessions })
           (sym (ap (λ (state : WorldState). state.sessions) stay.rest));
+      later = stay.later;
     }

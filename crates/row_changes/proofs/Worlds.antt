@@ -33,7 +33,13 @@ pairs_if {index} {step} {old} {new} is kept i =
 pub stays_if : {index : ℕ} {call : Index → Index → Type 0} {old new : WorldState} → Calls index call old new
     → HasStayed (old.indexes index) (new.indexes index) → RowsStay old new
 stays_if {index} {call} {old} {new} c kept =
-    record { pairs = pairs_if c.index_is kept.0; places = places_if c.index_is kept.1; versions = c.beside.versions; rest = c.beside.rest }
+    record {
+      pairs = pairs_if c.index_is kept.0;
+      places = places_if c.index_is kept.1;
+      versions = c.beside.versions;
+      rest = c.beside.rest;
+      later = c.beside.later;
+    }
 
 -- what a delay leaves
 pub delay_keeps : (actor : ℕ) (old new : Index) (move : Move) → Delays actor old new move → HasStayed old new
@@ -134,12 +140,19 @@ puts_if key value c here =
       places = places_if c.index_is here.place;
       versions = c.beside.versions;
       rest = c.beside.rest;
+      later = c.beside.later;
     }
 
 pub change_stays_if : {index actor : ℕ} {call : Index → Index → Move → Type 0} {old new : WorldState} {answer : Move}
     → Changes index actor None call old new answer → HasStayed (old.indexes index) (new.indexes index) → RowsStay old new
 change_stays_if {index} {actor} {call} {old} {new} c kept =
-    record { pairs = pairs_if c.index_is kept.0; places = places_if c.index_is kept.1; versions = c.beside.versions; rest = c.beside.rest }
+    record {
+      pairs = pairs_if c.index_is kept.0;
+      places = places_if c.index_is kept.1;
+      versions = c.beside.versions;
+      rest = c.beside.rest;
+      later = c.beside.later;
+    }
 
 -- what is known of the key and what was answered contradict each other, so the pairs aren't told
 there_and_not : (entry : List ℕ) (index : Index) → IsThere true entry index → Told (λ pairs. value_of entry pairs ≡ None) index → index.pairs ≡ None

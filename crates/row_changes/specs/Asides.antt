@@ -3,6 +3,7 @@ use Rattle.std.specs.Prelude.{◌≡◌, ◌≢◌, ℕ, length, slice_get}
 use Rattle.entries.specs.Index.{AreKept}
 use Rattle.chain.specs.Versions.{Stays}
 use Rattle.world.specs.State.{WorldState, Session, IsSession}
+use Rattle.world.specs.Stores.{StoreGoes}
 
 -- the session has other rooms for entries and undo records, and all else as it was
 pub record IsReadied (before after : Session) : Type 0 where
@@ -24,3 +25,4 @@ pub record StepsAside (s : ℕ) (old new : WorldState) : Type 0 where
   pub others : (t : ℕ) → t ≢ s → slice_get new.sessions t ≡ slice_get old.sessions t
   pub count : length new.sessions ≡ length old.sessions
   pub rest : new ≡ record old { indexes = new.indexes; versions = new.versions; paged = new.paged; sessions = new.sessions }
+  pub later : StoreGoes old.paged new.paged

@@ -11,6 +11,7 @@ use Rattle.row_versions.specs.Chains.{Chains, versions_at, newest}
 use Rattle.law_coded_rows.specs.Edits.{clustered_index, key_index}
 use Rattle.law_coded_rows.specs.Tables.{Said, LagAt}
 use Rattle.world.specs.State.{WorldState}
+use Rattle.world.specs.Stores.{StoreGoes}
 use Rattle.row_changes.specs.declared.entry_put.EntryPut.{EntryPut}
 use Rattle.row_changes.specs.declared.entry_put.PutPhase.TheVariants.{Look}
 use Rattle.row_changes.specs.declared.keys_change.KeysChange.{KeysChange}
@@ -97,6 +98,7 @@ pub record StaysBesideKeys (old new : WorldState) : Type 0 where
   pub places : (index : ℕ) → (new.indexes index).place ≡ (old.indexes index).place
   pub versions : Stays old.versions new.versions
   pub rest : new ≡ record old { indexes = new.indexes; versions = new.versions; paged = new.paged }
+  pub later : StoreGoes old.paged new.paged
 
 -- the same change, some steps nearer
 pub record GoesOnWithKeys (chains : Chains) (old new : WorldState) (change next : KeysChange) : Type 0 where

@@ -7,6 +7,7 @@ use Rattle.entries.specs.Calls.{Delays, LacksPages, IsKeptOff}
 use Rattle.chain.specs.Versions.{Stays}
 use Rattle.law_coded_rows.specs.Edits.{with_value}
 use Rattle.world.specs.State.{WorldState}
+use Rattle.world.specs.Stores.{StoreGoes}
 
 -- no pair has changed anywhere, and no actor's place
 pub record RowsStay (old new : WorldState) : Type 0 where
@@ -14,6 +15,7 @@ pub record RowsStay (old new : WorldState) : Type 0 where
   pub places : (index : ℕ) → (new.indexes index).place ≡ (old.indexes index).place
   pub versions : Stays old.versions new.versions
   pub rest : new ≡ record old { indexes = new.indexes; versions = new.versions; paged = new.paged }
+  pub later : StoreGoes old.paged new.paged
 
 -- At one index the key has this value now, or none; no other pair has changed, and no actor's place.
 pub record PutsPair (index : ℕ) (key : List ℕ) (value : Option (List ℕ)) (old new : WorldState) : Type 0 where
@@ -22,6 +24,7 @@ pub record PutsPair (index : ℕ) (key : List ℕ) (value : Option (List ℕ)) (
   pub places : (index : ℕ) → (new.indexes index).place ≡ (old.indexes index).place
   pub versions : Stays old.versions new.versions
   pub rest : new ≡ record old { indexes = new.indexes; versions = new.versions; paged = new.paged }
+  pub later : StoreGoes old.paged new.paged
 
 -- Why a call of an index has not done what it was asked, and is to be made again. A pair that is there against what is
 -- known, or missing, comes only where pairs aren't told.

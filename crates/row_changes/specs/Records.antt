@@ -16,6 +16,7 @@ use Rattle.law_fitting_rows.specs.Storable.{IsStorable}
 use Rattle.law_coded_rows.specs.Edits.{clustered_index, with_value}
 use Rattle.law_coded_rows.specs.Records.{IsCodeOf, row_shown}
 use Rattle.world.specs.State.{WorldState, Session, Work, Logged, HasWork}
+use Rattle.world.specs.Stores.{StoreGoes}
 use Rattle.world.specs.Indexes.{KeepsIf}
 use Rattle.world.specs.Undoing.{MakesRoom}
 use Rattle.row_changes.specs.declared.record_change.RecordChange.{RecordChange}
@@ -148,6 +149,7 @@ pub record Records (s : ℕ) (change : Change) (rows : ℕ) (table : ℕ) (key b
     sessions = new.sessions;
     txns = new.txns;
   }
+  pub later : StoreGoes old.paged new.paged
 
 -- a record that replaces none: its undo record tells of a new row
 abbrev pub undo_of_new : ℕ → List ℕ → Undo

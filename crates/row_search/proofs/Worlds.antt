@@ -10,6 +10,7 @@ use Rattle.chain.specs.Versions.{Versions, Stays}
 use Rattle.world.specs.State.{WorldState}
 use Rattle.world.specs.Indexes.{Calls}
 use Rattle.world.specs.Undoing.{IsUnchanged}
+use Rattle.world.proofs.Stores.{store_stays}
 use Rattle.row_search.specs.Steps.{OnlyMoves, MayWait}
 
 -- ---- delays
@@ -111,10 +112,16 @@ moves_itself actor index state =
       awaited = λ other. refl;
       versions = stays_itself state.versions;
       rest = refl;
+      later = store_stays state.paged;
     }
 
 pub unchanged_itself : (state : WorldState) → IsUnchanged state state
-unchanged_itself state = record { indexes = λ index. as_before_itself (state.indexes index); versions = stays_itself state.versions; rest = refl }
+unchanged_itself state = record {
+  indexes = λ index. as_before_itself (state.indexes index);
+  versions = stays_itself state.versions;
+  rest = refl;
+  later = store_stays state.paged;
+}
 
 -- nothing that has changed is no more than a move
 pub moves_unchanged : (actor index : ℕ) (old new : WorldState) → IsUnchanged old new → OnlyMoves actor index old new
@@ -126,6 +133,7 @@ moves_unchanged actor index old new u =
       awaited = λ other. (u.indexes other).awaited;
       versions = u.versions;
       rest = u.rest;
+      later = u.later;
     }
 
 module _ {index : ℕ} {call : Index → Index → Type 0} {old new : WorldState} (c : Calls index call old new) where
@@ -137,6 +145,7 @@ module _ {index : ℕ} {call : Index → Index → Type 0} {old new : WorldState
             (cases_eq other index);
         versions = c.beside.versions;
         rest = c.beside.rest;
+        later = c.beside.later;
       }
 
   pub call_moves : (actor : ℕ) (pair : Pair) → IsGiven actor pair (old.indexes index) (new.indexes index) → OnlyMoves actor index old new
@@ -152,6 +161,7 @@ module _ {index : ℕ} {call : Index → Index → Type 0} {old new : WorldState
             (λ apart. (c.index_is.elsewhere other apart).awaited) (cases_eq other index);
         versions = c.beside.versions;
         rest = c.beside.rest;
+        later = c.beside.later;
       }
 
 -- the same call, of an index and with an answer that are known to be these

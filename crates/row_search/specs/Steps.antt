@@ -12,6 +12,7 @@ use Rattle.chain.specs.Versions.{Versions, Stays}
 use Rattle.chain.specs.Calls.{IsUnseen}
 use Rattle.row_versions.specs.declared.version.Version.{Version}
 use Rattle.world.specs.State.{WorldState, index_of}
+use Rattle.world.specs.Stores.{StoreGoes}
 use Rattle.world.specs.Indexes.{Calls}
 use Rattle.world.specs.Undoing.{IsUnchanged}
 use Rattle.row_search.specs.declared.scan.Scan.{Scan}
@@ -34,6 +35,7 @@ pub record OnlyMoves (actor index : ℕ) (old new : WorldState) : Type 0 where
   pub awaited : (other : ℕ) → (new.indexes other).awaited ≡ (old.indexes other).awaited
   pub versions : Stays old.versions new.versions
   pub rest : new ≡ record old { indexes = new.indexes; versions = new.versions; paged = new.paged }
+  pub later : StoreGoes old.paged new.paged
 
 -- the same index, range and reader
 pub record IsSameScan (scan other : Scan) : Type 0 where

@@ -69,7 +69,12 @@ module _ (s : ℕ) (old new : Lists) (out : IsGoingOut s old) where
         moves_closes s (events.RolledBack s) old new (grind (arith, nat_tests)) refl refl closes,
         goes_one (events.RolledBack s) (grind (arith, nat_tests)) tt closes.past_is,
         record {
-          may = subst (MayGoOut s) (sym closes.past_is) (record { rests = out.may.rests; rows_alone = rows_of_none s (events.RolledBack s ∷ old.past) own_rolled_back });
+          may =
+              subst (MayGoOut s) (sym closes.past_is) (record {
+                rests = out.may.rests;
+                rows_alone = rows_of_none s (events.RolledBack s ∷ old.past)
+                    own_rolled_back;
+              });
           task = subst (λ n. TakesBackTo 0 n (task_of s new)) (sym now) (subst (TakesBackTo 0 (length (own s old.past))) (sym closes.task_is) out.task);
         },
         refl,

@@ -1,5 +1,5 @@
 -- What holds of the seats is kept by each call of the engine.
-use Rattle.std.proofs.Common.{◌≡◌, ◌≢◌, ℕ, zero, suc, ◌+◌, ◌<◌, ◌≤◌, Bool, true, false, Option, Some, None, List, [], ◌∷◌, ◌++◌, length, get_or, set, refl, sym, ap, subst, ◌∙◌, inl, inr, arith}
+use Rattle.std.proofs.Common.{◌≡◌, ◌≢◌, ◌⊎◌, ℕ, zero, suc, ◌+◌, ◌<◌, ◌≤◌, Bool, true, false, Option, Some, None, List, [], ◌∷◌, ◌++◌, length, get_or, set, refl, sym, ap, subst, ◌∙◌, inl, inr, arith}
 use Rattle.std.proofs.lemmas.Bool.Decides.{nat_tests, eqb_tells}
 use Rattle.std.proofs.lemmas.Bool.{false≢true}
 use Rattle.std.proofs.lemmas.List.{get_or-set_same, get_or-set_other, length-set, length-append}
@@ -22,7 +22,7 @@ use Rattle.shared_lists.specs.State.{State as Lists, Lists as AllLists, IsFirst,
 use Rattle.sql_lists.specs.declared.advance.Advance.{Advance}
 use Rattle.sql_lists.specs.declared.advance.Advance.TheVariants as advance
 use Rattle.sql_history.specs.Counts.{last_moment}
-use Rattle.sql_lists.specs.Steps.{Moves, Adding, IsEntryOf, Steps, HasRowsAlone}
+use Rattle.sql_lists.specs.Steps.{Moves, Adding, AsksToWrite, IsEntryOf, Steps, HasRowsAlone}
 use Rattle.sql_lists.proofs.Moving.{adding_none, adding_one, moves_none, moves_stays, moves_adds}
 use Rattle.sql_lists.specs.Going.{Nears as StatementNears}
 use Rattle.statement.specs.declared.under_way.Statement.{Statement}
@@ -65,10 +65,18 @@ pub record SessionMoves (t : ℕ) (old new : Lists) : Type 0 where
   pub names_stay : new.names ≡ old.names
   pub adding : Adding t old new
   pub writer_stays : (s : ℕ) → s ≢ t → old.writer ≡ Some s → new.writer ≡ Some s
+  pub may_write : new.writer ≡ Some t → (old.writer ≡ Some t) ⊎ AsksToWrite t old.past
   pub tasks_stay : (s : ℕ) → s ≢ t → task_of s new ≡ task_of s old
 
 pub of_statement : (t : ℕ) (old new : Lists) → Moves t old new → SessionMoves t old new
-of_statement t old new moves = record { names_stay = moves.names_stay; adding = moves.adding; writer_stays = moves.writer_stays; tasks_stay = moves.tasks_stay }
+of_statement t old new moves =
+    record {
+      names_stay = moves.names_stay;
+      adding = moves.adding;
+      writer_stays = moves.writer_stays;
+      may_write = moves.may_write;
+      tasks_stay = moves.tasks_stay;
+    }
 
 of_acknowledgement : (t moment : ℕ) (old new : Lists) → Adds (events.Acked t moment) t old new → SessionMoves t old new
 of_acknowledgement t moment old new adds =
@@ -76,6 +84,7 @@ of_acknowledgement t moment old new adds =
       names_stay = adds.names_are;
       adding = adding_one t (events.Acked t moment) old new (grind (arith, nat_tests)) adds.past_is (λ changes. absurd (false≢true changes));
       writer_stays = λ s differ held. adds.writer_is ∙ held;
+      may_write = λ mine. inl (sym adds.writer_is ∙ mine);
       tasks_stay = adds.others;
     }
 
@@ -263,6 +272,7 @@ module _ (old new : Lists) (seats : List Seat) (s : ℕ) (are : AreSeats old sea
         disk_stays = refl;
         names_stay = moves.names_stay;
         others_write = moves.writer_stays;
+        may_write = moves.may_write;
         others_go_on = moves.tasks_stay;
         others_stay = λ u apart.
             ap (λ xs. get_or xs u Idle) (twice seat) ∙ others_set seats s seat u apart;

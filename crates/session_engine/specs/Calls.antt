@@ -14,7 +14,7 @@ use Rattle.shared_lists.specs.Tasks as tasks
 use Rattle.shared_lists.specs.State.{State as Lists, Adds, task_of}
 use Rattle.sql_lists.specs.declared.advance.Advance.{Advance}
 use Rattle.sql_lists.specs.declared.advance.Advance.TheVariants as advance
-use Rattle.sql_lists.specs.Steps.{Moves, Steps, WaitsFor}
+use Rattle.sql_lists.specs.Steps.{Moves, AsksToWrite, Steps, WaitsFor}
 use Rattle.statement.specs.declared.under_way.Statement.{Statement}
 use Rattle.statement.specs.Running.{IsRunning, owes_ack, acked}
 use Rattle.session_engine.specs.declared.seats.Seat.{Seat}
@@ -81,6 +81,7 @@ pub record StepsOn {D : Type 0} (s : ℕ) (old new : State D) : Type 0 where
   pub disk_stays : new.disk ≡ old.disk
   pub names_stay : new.lists.names ≡ old.lists.names
   pub others_write : (u : ℕ) → u ≢ s → old.lists.writer ≡ Some u → new.lists.writer ≡ Some u
+  pub may_write : new.lists.writer ≡ Some s → (old.lists.writer ≡ Some s) ⊎ AsksToWrite s old.lists.past
   pub others_go_on : (u : ℕ) → u ≢ s → task_of u new.lists ≡ task_of u old.lists
   pub others_stay : OthersStay s old.seats new.seats
 

@@ -1,12 +1,14 @@
 //! The calls of an engine. Each step of a session is a step of its statement, or acknowledges that statement's commit; the
 //! seats say which sessions are at work.
 
-ghost use Rattle.std.specs.Prelude.{◌≡◌, ℕ, ◌<◌, ◌^◌, [], length, Ok, IsTrue, IfOk, OnOk, OnErr};
+ghost use Rattle.std.specs.Prelude.{◌≡◌, ℕ, ◌<◌, ◌^◌, [], length, false, Ok, IsTrue, IfOk, OnOk, OnErr};
+ghost use Rattle.std.specs.List.{list_any};
 ghost use Rattle.inno_types.specs.declared.reply.Item.TheVariants.{Sql};
 ghost use Rattle.inno_db.specs.Database.{Database};
 ghost use Rattle.shared_lists.specs.Tasks.{Idle as TaskIdle};
 ghost use Rattle.shared_lists.specs.State.{task_of};
 ghost use Rattle.statement.specs.Running.{ReadsItem};
+ghost use Rattle.law_page_errors.specs.Space.{ends_for_pages};
 ghost use Rattle.session_engine.specs.Calls.{AreFirst};
 
 use crate::seats::{Seat, Seats};
@@ -49,6 +51,7 @@ impl<D: Disk, L: SharedLists> SessionEngine<D, L> {
     ghost use Rattle.session_engine.specs.Seats.{has_left, is_working, seat_at};
     ghost use Rattle.sql_grammar.specs.Grammar.{Spells};
     ghost use Rattle.sql_history.specs.Legal.{IsLegal};
+    ghost use Rattle.sql_history.specs.Counts.{has_stopped};
 
     /// An engine that nobody has joined.
     pub fn new(alloc: Global, disk: D, lists: SqlLists<L>) -> Self
@@ -64,11 +67,14 @@ impl<D: Disk, L: SharedLists> SessionEngine<D, L> {
         }
     }
 
-    /// What has happened, which is legal.
+    /// What has happened, which is legal. No device has stopped the engine, and as long as no store keeps pages, no item ends
+    /// with 1114 for want of one.
     pub fn history(&self) -> &History
         ensures names { result.now.names ≡ self.now.lists.names }
         ensures past { result.now.past ≡ self.now.lists.past }
         ensures legal { IsLegal Spells self.now.lists.past }
+        ensures runs { has_stopped self.now.lists.past ≡ false }
+        ensures for_pages { list_any ends_for_pages self.now.lists.past ≡ false }
     {
         self.lists.history()
     }
@@ -165,6 +171,7 @@ impl<D: Disk, L: SharedLists> SessionEngine<D, L> {
         ensures names { result.1.names ≡ self.lists.names }
         ensures past { result.1.past ≡ self.lists.past }
         ensures legal { IsLegal Spells self.lists.past }
+        ensures runs { has_stopped self.lists.past ≡ false }
         ensures ok { result.2 ≡ Ok tt }
     {
         let SessionEngine {

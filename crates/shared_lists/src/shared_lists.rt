@@ -1,7 +1,6 @@
 //! The calls of whatever keeps the lists. A session may have one thing under way with rows at a time.
 
 ghost use Rattle.std.specs.Prelude.{◌≡◌, ◌≢◌, ℕ, ◌+◌, ◌-◌, ◌<◌, ◌≤◌, ◌^◌, [], ◌∷◌, ◌++◌, true, false, length, is_some, OnOk, OnErr, IfOk, IfSome, IfNone, Some, None, slice_get, slice_index_or, slice_set};
-ghost use Rattle.std.specs.List.{list_any};
 ghost use Rattle.inno_types.specs.declared.value.Schema.{Schema};
 ghost use Rattle.inno_db.specs.declared.change.Change.TheVariants.{Create};
 ghost use Rattle.inno_model.specs.declared.event.Event.TheVariants.{Begin, Started, View, Changed as ChangedEvent, Undone as UndoneEvent, Ended, Committed, Acked, RolledBack};
@@ -9,7 +8,7 @@ ghost use Rattle.inno_model.specs.Past.{under_way, level, own, started, begins, 
 ghost use Rattle.sql_history.specs.Counts.{rows_of_reply};
 ghost use Rattle.sql_history.specs.Settings.{at_first, at_begin, at_end, saved, set_by};
 ghost use Rattle.law_fitting_rows.specs.Storable.{IsStorable};
-ghost use Rattle.law_past_agreement.specs.Order.{created, is_creation, IsOfRow, MayCome, IsOrdered};
+ghost use Rattle.law_past_agreement.specs.Order.{created, IsOfRow, MayCome, IsOrdered};
 ghost use Rattle.shared_lists.specs.Fitting.{FitsWell, FitsThen};
 ghost use Rattle.shared_lists.specs.Tasks.{Idle, Searching, is_changing, asked, steps_left, MayTakeBack};
 ghost use Rattle.shared_lists.specs.State.{Lists, task_of, Adds, Closes, Turns, Stays, IsNow, writer_without};
@@ -76,11 +75,6 @@ pub trait SharedLists: Drop {
     fn change_count(&self, session: u32) -> usize
         requires { session < length (lists self.now).state.names }
         ensures { result ≡ length (own session (lists self.now).state.past) };
-
-    /// Whether the session's open transaction makes a table.
-    fn makes_table(&self, session: u32) -> bool
-        requires { session < length (lists self.now).state.names }
-        ensures { result ≡ list_any is_creation (own session (lists self.now).state.past) };
 
     /// The session that may write.
     fn writer(&self) -> Option<u32>

@@ -1,8 +1,8 @@
-mod CompleteAtoms
+pub mod CompleteAtoms
 pub mod CompleteConditions
 pub mod CompleteExpressions
-mod Operands
+pub mod Operands
 mod Settled
 mod SettledExpressions
-mod SoundAtoms
-mod Waiting
+pub mod SoundAtoms
+pub mod Waiting

@@ -5,7 +5,7 @@ use Rattle.std.proofs.lemmas.Bool.Decides.{nat_tests, eqb_tells}
 use Rattle.std.proofs.lemmas.List.{length-set, length-append}
 use Rattle.std.proofs.lemmas.List.Sums.{sum_by-cons}
 use Rattle.std.specs.List.{list_any}
-use Rattle.std.specs.Prelude.{is_some, Result, Ok, Err, OnOk, OnErr}
+use Rattle.std.specs.Prelude.{is_some, Result, Ok, Err, OnOk, OnErr, IfNone}
 use Rattle.inno_types.specs.declared.lock.Level.{Level}
 use Rattle.inno_types.specs.declared.lock.Level.TheVariants.{ReadUncommitted, ReadCommitted, RepeatableRead, Serializable}
 use Rattle.inno_types.specs.declared.value.Value.{Value}
@@ -40,10 +40,12 @@ use Rattle.shared_lists.specs.declared.answers.Undone.TheVariants as undone
 use Rattle.shared_lists.specs.Tasks.{Task, Idle, asked, left_by}
 use Rattle.shared_lists.specs.State.{State, Lists, IsFirst, IsNow, Adds, Closes, Turns, Stays, task_of, writer_without}
 use Rattle.shared_lists.specs.Steps.{Searches, Changes, TakesBack, rows_of_change, rows_entered}
+use Rattle.sql_lists.specs.Tables.{MayMake, begun, created_by, table_made, none_made}
 use Rattle.sql_lists.specs.Kept.{IsKept, MayReply, OwesAck, SetsQuietly, AreStanding, IsInOrder, made as tables_made}
 use Rattle.sql_lists.proofs.Settings.{AllSet, set_other, sets_one, sets_none, sets_joined, set_at_begin, set_at_commit, set_at_rollback, set_at_end, set_at_done}
+use Rattle.sql_lists.proofs.Moving.{then_adds, then_closes, then_locks, writer_gone}
 use Rattle.sql_lists.proofs.Ordered.{same_seen, ordered_changed, ordered_undone, ordered_committed}
-use Rattle.sql_lists.proofs.Standing.{schemas_after, committed_is, stands_plain, stands_row, stands_begun, stands_rolled_back, stands_undone, stands_committed, stands_created}
+use Rattle.sql_lists.proofs.Standing.{schemas_after, committed_is, stands_plain, stands_row, stands_begun, stands_rolled_back, stands_undone, stands_committed, stands_made}
 
 cons_is_some : (e : Event) (h : List Event) → e ∷ h ≡ [] → ⊥
 cons_is_some e h is = cc
@@ -86,7 +88,7 @@ module _ (names : List (List ℕ)) (h : List Event) (settings : List Setting) (r
       → IsTabled (length ((opening h).schemas ++ tables_made (own s h ++ committed (commits h) h))) change
   tabled_now s change alone tabled =
       subst (λ (schemas : List Schema). IsTabled (length schemas) change)
-      (kept.stands.tables s (λ other ne. ap (list_any is_creation) (alone other ne)) ∙ schemas_after (opening h) (own s h ++ committed (commits h) h)) tabled
+      (kept.stands.tables s ∙ schemas_after (opening h) (own s h ++ committed (commits h) h)) tabled
 
   own_gone_at : (t : ℕ) (g : List Event) → own t g ≡ [] → (u : ℕ) → cond (eqb t u) [] (own u g) ≡ own u g
   own_gone_at t g none u = elim (eqb_tells t u) [ inl same ↦ rw same.0 (sym (subst (λ v. own v g ≡ []) same.1 none)) | inr differ ↦ rw differ.0 refl ]
@@ -144,7 +146,7 @@ module _ (names : List (List ℕ)) (h : List Event) (settings : List Setting) (r
       adds (events.Committed s) (set settings s (at_end (get_or settings s at_first))) (kept.opened, kept.runs, may, pays _) may.is_open
       (sets_one (events.Committed s) h settings s (at_end (get_or settings s at_first)) (within s joined) (mine_alone s (events.Committed s) (commit_of s))
       kept.set (set_at_commit h s (get_or settings s at_first) (kept.set s)))
-      (length-set settings s _) refl kept.runs refl (stands_committed s h kept.stands) (ordered_committed s h (committed_is s h kept.stands) kept.ordered)
+      (length-set settings s _) refl kept.runs refl (stands_committed s h kept.stands) (ordered_committed s h (committed_is s h) kept.ordered)
 
   rollback_of : (s : ℕ) → is_of s (events.RolledBack s) ≡ true
   rollback_of s = grind (arith, nat_tests)
@@ -172,13 +174,6 @@ module _ (names : List (List ℕ)) (h : List Event) (settings : List Setting) (r
       (sets_none (events.Changed s (Remove table key)) h settings (λ u x held. held) kept.set) refl refl kept.runs refl
       (stands_row s (Remove table key) h refl kept.stands)
       (ordered_changed s (Remove table key) h (tabled_now s (Remove table key) alone tabled) kept.ordered)
-
-  pub kept_create : (s : ℕ) (schema : Schema) → MayChange Spells s (Create schema) h → ((other : ℕ) → other ≢ s → own other h ≡ [])
-      → length (created h) < MOST_TABLES → IsKept names (events.Changed s (Create schema) ∷ h) settings rows
-  kept_create s schema may alone room =
-      adds (events.Changed s (Create schema)) settings (kept.opened, kept.runs, may, pays _) (may.is_open, tt)
-      (sets_none (events.Changed s (Create schema)) h settings (λ u x held. held) kept.set) refl refl kept.runs refl
-      (stands_created s schema h alone room kept.stands) (ordered_changed s (Create schema) h tt kept.ordered)
 
   -- a row more
   pub kept_put : (s table : ℕ) (row : List Value) → MayChange Spells s (Put table row) h → IsTabled (length (created h)) (Put table row)
@@ -273,6 +268,54 @@ module _ (names : List (List ℕ)) (h : List Event) (settings : List Setting) (r
         ordered = kept.ordered;
       }
 
+-- ---- a table
+
+-- what the session has set after a transaction that began and ended
+abbrev pub set_after : List Setting → ℕ → List Setting
+set_after settings s =
+    let begun = set settings s (at_begin (get_or settings s at_first)) in set begun s (at_end (get_or begun s at_first))
+
+module _ (names : List (List ℕ)) (h : List Event) (settings : List Setting) (rows : ℕ) (kept : IsKept names h settings rows) (s : ℕ) (l : Level)
+    (schema : Schema) (joined : s < length names) (may : MayMake s l schema h) where
+  abbrev early : List Setting
+  early = set settings s (at_begin (get_or settings s at_first))
+
+  first : IsKept names (begun s l h) early rows
+  first = kept_begin names h settings rows kept s l joined may.may_begin
+
+  -- nothing is made
+  pub kept_none_made : IsKept names (none_made s l h) (set_after settings s) rows
+  kept_none_made = kept_rollback names (begun s l h) early rows first s joined may.may_roll_back
+
+  second : AllSet (created_by s l schema h) early
+  second = sets_none (events.Changed s (Create schema)) (begun s l h) early (λ u x held. held) first.set
+
+  new : own s (begun s l h) ≡ []
+  new = grind (arith, nat_tests)
+
+  commits_it : is_of s (events.Committed s) ≡ true
+  commits_it = grind (arith, nat_tests)
+
+  -- it is made and committed
+  pub kept_made : length (created h) < MOST_TABLES → IsKept names (table_made s l schema h) (set_after settings s) rows
+  kept_made room =
+      record {
+        legal = ((cons_is_some _ (begun s l h), first.runs, may.may_commit, tt), ((first.opened, first.runs, may.may_create, tt), first.legal));
+        opened = cons_is_some _ (created_by s l schema h);
+        comes = (may.may_commit.is_open, ((may.may_create.is_open, tt), first.comes));
+        set = sets_one (events.Committed s) (created_by s l schema h) early s (at_end (get_or early s at_first)) (omega (arith, joined, first.enough))
+            (λ u differ. not_of s u (events.Committed s) commits_it differ) second
+            (set_at_commit (created_by s l schema h) s (get_or early s at_first) (second s));
+        enough = subst (λ n. length names ≤ n) (sym (length-set early s _)) first.enough;
+        counted = first.counted;
+        few = first.few;
+        runs = first.runs;
+        paid = refl;
+        stands = stands_made s schema (begun s l h) new room first.stands;
+        ordered = ordered_committed s (created_by s l schema h) (committed_is s (created_by s l schema h))
+            (ordered_changed s (Create schema) (begun s l h) tt first.ordered);
+      }
+
 -- ---- from the clauses of what keeps the lists
 
 -- the invariant
@@ -303,7 +346,7 @@ kept_first lists first =
       few = subst (λ n. n ≤ most_rows) (sym first.rows) first.few_rows;
       runs = refl;
       paid = refl;
-      stands = record { one = λ a b is also. absurd (false≢true is); tables = λ s only. refl; few = first.few_tables };
+      stands = record { none = λ s. refl; tables = λ s. refl; few = first.few_tables };
       ordered = λ s. tt;
     })))
 
@@ -438,3 +481,66 @@ sets_quietly other s made h x quiet = refl
 pub saves_as : (name : List ℕ) (made : ℕ) (l : Option Level) (x : Setting) → is_some l ≡ true
     → record x { saves = saved name made true x.saves } ≡ set_by (stmts.Savepoint name) made (is_some l) x
 saves_as name made l x is_open = rw is_open refl
+
+-- ---- a table is made by the calls of one step
+
+if_none : (told : Option ℕ) (P : Type 0) → told ≡ None → IfNone told P → P
+if_none None P is holds = holds
+if_none (Some other) P is holds = (let x : Some other ≡ None = is in cc)
+
+-- its transaction has begun, and may write
+pub now_locked : (s : ℕ) (l : Level) (told : Option ℕ) (old one two : State) → old.writer ≡ None → task_of s old ≡ Idle
+    → Adds (events.Begin s (begins old.past + 1) l) s old one → told ≡ writer_without one.writer s
+    → IfNone told (IsNow one.past s (task_of s one) (Some s) one two) → IsNow (begun s l old.past) s Idle (Some s) old two
+now_locked s l told old one two free idle adds is locks =
+    let locked = if_none told _ (is ∙ ap (λ w. writer_without w s) (adds.writer_is ∙ free)) locks in
+    then_locks s (begun s l old.past) Idle None old one two (record {
+      names_are = adds.names_are;
+      past_is = adds.past_is;
+      writer_is = adds.writer_is ∙ free;
+      task_is = adds.task_is ∙ idle;
+      others = adds.others;
+    }) locked
+
+-- what is set behind
+sets_after : (s : ℕ) (old mid new : Lists) → mid.settings ≡ set old.settings s (at_begin (get_or old.settings s at_first))
+    → new.settings ≡ set mid.settings s (at_end (get_or mid.settings s at_first)) → new.settings ≡ set_after old.settings s
+sets_after s old mid new sets ends = ends ∙ ap (λ (x : List Setting). set x s (at_end (get_or x s at_first))) sets
+
+module _ (s : ℕ) (l : Level) (schema : Schema) (old two three new : Lists) (kept : AreKept old) (joined : s < length old.state.names)
+    (may : MayMake s l schema old.state.past) (locked : IsNow (begun s l old.state.past) s Idle (Some s) old.state two.state)
+    (sets : three.settings ≡ set old.settings s (at_begin (get_or old.settings s at_first))) (counts : three.rows ≡ old.rows)
+    (ends : new.settings ≡ set three.settings s (at_end (get_or three.settings s at_first))) (still : new.rows ≡ three.rows) where
+  pub now_made : Adds (events.Changed s (Create schema)) s two.state three.state → Closes (events.Committed s) s three.state new.state
+      → IsNow (table_made s l schema old.state.past) s Idle None old.state new.state
+  now_made adds closes =
+      let created_now = then_adds s (begun s l old.state.past) Idle (Some s) old.state two.state three.state locked (events.Changed s (Create schema)) adds in
+      subst (λ w. IsNow (table_made s l schema old.state.past) s Idle w old.state new.state) (writer_gone s)
+      (then_closes s (created_by s l schema old.state.past) Idle (Some s) old.state three.state new.state created_now (events.Committed s) closes)
+
+  pub by_made : length (created old.state.past) < MOST_TABLES → Adds (events.Changed s (Create schema)) s two.state three.state
+      → Closes (events.Committed s) s three.state new.state → AreKept new
+  by_made room adds closes =
+      by_now (table_made s l schema old.state.past) s Idle None old new (set_after old.settings s) old.rows (now_made adds closes)
+      (sets_after s old three new sets ends) (still ∙ counts)
+      (kept_made old.state.names old.state.past old.settings old.rows kept s l schema joined may room)
+
+  pub now_none_made : Stays s two.state three.state → Closes (events.RolledBack s) s three.state new.state
+      → IsNow (none_made s l old.state.past) s Idle None old.state new.state
+  now_none_made stays closes =
+      let same_now : IsNow (begun s l old.state.past) s Idle (Some s) old.state three.state =
+      record {
+        names_are = stays.names_are ∙ locked.names_are;
+        past_is = stays.past_is ∙ locked.past_is;
+        writer_is = stays.writer_is ∙ locked.writer_is;
+        task_is = stays.task_is ∙ locked.task_is;
+        others = λ t differ. stays.others t differ ∙ locked.others t differ;
+      } in
+      subst (λ w. IsNow (none_made s l old.state.past) s Idle w old.state new.state) (writer_gone s)
+      (then_closes s (begun s l old.state.past) Idle (Some s) old.state three.state new.state same_now (events.RolledBack s) closes)
+
+  pub by_none_made : Stays s two.state three.state → Closes (events.RolledBack s) s three.state new.state → AreKept new
+  by_none_made stays closes =
+      by_now (none_made s l old.state.past) s Idle None old new (set_after old.settings s) old.rows (now_none_made stays closes)
+      (sets_after s old three new sets ends) (still ∙ counts)
+      (kept_none_made old.state.names old.state.past old.settings old.rows kept s l schema joined may)

@@ -1,12 +1,15 @@
 -- What the calls of the lists do to what all sessions share, as steps of statements say it.
-use Rattle.std.proofs.Common.{◌≡◌, ◌≢◌, ◌⊎◌, ℕ, ◌<◌, ◌-◌, true, false, Option, Some, None, List, [], ◌∷◌, ◌++◌, length, refl, sym, ap, subst, ◌∙◌, inl, inr, arith}
+use Rattle.std.proofs.Common.{◌≡◌, ◌≢◌, ◌⊎◌, ℕ, ◌+◌, ◌<◌, ◌-◌, true, false, Option, Some, None, List, [], ◌∷◌, ◌++◌, length, refl, sym, ap, subst, ◌∙◌, inl, inr, arith}
 use Rattle.std.proofs.lemmas.Bool.Decides.{nat_tests, eqb_tells}
 use Rattle.std.specs.List.{AllByRecursion}
 use Rattle.std.proofs.lemmas.Bool.{false≢true}
 use Rattle.std.proofs.lemmas.List.{length-drop}
 use Rattle.inno_model.specs.declared.event.Event.{Event}
 use Rattle.inno_model.specs.declared.event.Event.TheVariants as events
-use Rattle.inno_model.specs.Past.{is_of, own}
+use Rattle.inno_model.specs.Past.{is_of, own, begins}
+use Rattle.inno_types.specs.declared.lock.Level.{Level}
+use Rattle.inno_types.specs.declared.value.Schema.{Schema}
+use Rattle.inno_db.specs.declared.change.Change.TheVariants.{Create}
 use Rattle.sql_plan.specs.declared.choice.Plan.{Plan}
 use Rattle.shared_lists.specs.declared.answers.Reading.{Reading}
 use Rattle.shared_lists.specs.declared.answers.Searched.{Searched}
@@ -19,7 +22,8 @@ use Rattle.shared_lists.specs.Tasks.{Task, Idle, asked, left_by}
 use Rattle.shared_lists.specs.State.{State, IsNow, Adds, Closes, Turns, Stays, task_of, writer_without}
 use Rattle.shared_lists.specs.Steps.{Searches, GoesOn, Enters, Changes, TakesBack}
 use Rattle.sql_history.specs.Counts.{last_moment}
-use Rattle.sql_lists.specs.Steps.{Adding, IsEntryOf, Moves, StaysRunning, changes_rows}
+use Rattle.sql_lists.specs.Steps.{Adding, IsEntryOf, MayWriteAlone, AsksToWrite, Moves, StaysRunning, changes_rows}
+use Rattle.sql_lists.specs.Tables.{table_made, none_made}
 use Rattle.sql_lists.specs.Going.{left, to_close, to_roll_back}
 use Rattle.inno_types.specs.Order.{IsBelow}
 
@@ -28,13 +32,18 @@ use Rattle.inno_types.specs.Order.{IsBelow}
 pub adding_none : (t : ℕ) (old new : State) → new.past ≡ old.past → Adding t old new
 adding_none t old new past_is = record { entries = []; past_is = past_is; each = tt }
 
-pub adding_one : (t : ℕ) (e : Event) (old new : State) → is_of t e ≡ true → new.past ≡ e ∷ old.past → (changes_rows e ≡ true → new.writer ≡ Some t)
+-- who may write does so alone
+pub writes_alone : (t : ℕ) (writer : Option ℕ) → writer ≡ Some t → MayWriteAlone t writer
+writes_alone t writer mine s differ theirs = (let same : Some t ≡ Some s = sym mine ∙ theirs in let x : t ≡ s = cc in differ (sym x))
+
+pub adding_one : (t : ℕ) (e : Event) (old new : State) → is_of t e ≡ true → new.past ≡ e ∷ old.past → (changes_rows e ≡ true → MayWriteAlone t new.writer)
     → Adding t old new
-adding_one t e old new mine past_is locked = record { entries = e ∷ []; past_is = past_is; each = ((mine, locked), tt) }
+adding_one t e old new mine past_is alone = record { entries = e ∷ []; past_is = past_is; each = ((mine, alone), tt) }
 
 -- one entry at most
 abbrev pub AddingOne : ℕ → State → State → Type 0
-AddingOne t old new = (new.past ≡ old.past) ⊎ ((e : Event) × (is_of t e ≡ true) × (new.past ≡ e ∷ old.past) × (changes_rows e ≡ true → new.writer ≡ Some t))
+AddingOne t old new =
+    (new.past ≡ old.past) ⊎ ((e : Event) × (is_of t e ≡ true) × (new.past ≡ e ∷ old.past) × (changes_rows e ≡ true → MayWriteAlone t new.writer))
 
 pub adding_at_most_one : (t : ℕ) (old new : State) → AddingOne t old new → Adding t old new
 adding_at_most_one t old new adding = elim adding [ inl stays ↦ adding_none t old new stays | inr adds ↦ adding_one t adds.0 old new adds.1 adds.2 adds.3 ]
@@ -48,6 +57,7 @@ moves_turns t task old new turns =
       adding = adding_none t old new turns.past_is;
       acks_none = ap last_moment turns.past_is;
       writer_stays = λ s differ held. turns.writer_is ∙ held;
+      may_write = λ mine. inl (sym turns.writer_is ∙ mine);
       tasks_stay = turns.others;
     }
 
@@ -69,13 +79,15 @@ carried P t old new stays before =
     (subst (λ task. P old.past old.writer task) (sym stays.task_is) before))
 
 -- the session takes the right to write
-pub moves_locked : (t : ℕ) (old new : State) → writer_without old.writer t ≡ None → IsNow old.past t (task_of t old) (Some t) old new → Moves t old new
-moves_locked t old new free now =
+pub moves_locked : (t : ℕ) (old new : State) → AsksToWrite t old.past → writer_without old.writer t ≡ None
+    → IsNow old.past t (task_of t old) (Some t) old new → Moves t old new
+moves_locked t old new asks free now =
     record {
       names_stay = now.names_are;
       adding = adding_none t old new now.past_is;
       acks_none = ap last_moment now.past_is;
       writer_stays = λ s differ held. absurd (still_held s differ (ap (λ w. writer_without w t) (sym held) ∙ free));
+      may_write = λ mine. inr asks;
       tasks_stay = now.others;
     } where
       still_held : (s : ℕ) → s ≢ t → writer_without (Some s) t ≡ None → ⊥
@@ -90,6 +102,10 @@ moves_then t old mid new same first second =
           record { entries = second.adding.entries; past_is = second.adding.past_is ∙ ap (λ h. second.adding.entries ++ h) same; each = second.adding.each };
       acks_none = second.acks_none ∙ ap last_moment same;
       writer_stays = λ s differ held. second.writer_stays s differ (first.writer_stays s differ held);
+      may_write = λ mine. elim (second.may_write mine) [
+        | inl was ↦ first.may_write was
+        | inr asks ↦ inr (subst (AsksToWrite t) same asks)
+      ];
       tasks_stay = λ s differ. second.tasks_stay s differ ∙ first.tasks_stay s differ;
     }
 
@@ -101,9 +117,10 @@ pub moves_entry : (t : ℕ) (e : Event) (task : Task) (old new : State) → is_o
 moves_entry t e task old new mine unacked locked now =
     record {
       names_stay = now.names_are;
-      adding = adding_one t e old new mine now.past_is (λ changes. now.writer_is ∙ locked changes);
+      adding = adding_one t e old new mine now.past_is (λ changes. writes_alone t new.writer (now.writer_is ∙ locked changes));
       acks_none = ap last_moment now.past_is ∙ unacked;
       writer_stays = λ s differ held. now.writer_is ∙ held;
+      may_write = λ mine. inl (sym now.writer_is ∙ mine);
       tasks_stay = now.others;
     }
 
@@ -114,6 +131,14 @@ moves_adds t e old new mine unacked locked adds = moves_entry t e (task_of t old
 still_another : (w : Option ℕ) (t s : ℕ) → s ≢ t → w ≡ Some s → writer_without w t ≡ Some s
 still_another w t s differ held = ap (λ x. writer_without x t) held ∙ elim (eqb_tells s t) [ inl same ↦ absurd (differ same.1) | inr other ↦ rw other.0 refl ]
 
+-- who was without the right has none behind
+none_left : (w : Option ℕ) (t : ℕ) → writer_without w t ≡ Some t → ⊥
+none_left None t is = (let x : None ≡ Some t = is in cc)
+none_left (Some w) t is = elim (eqb_tells w t) [
+  | inl same ↦ (let x : None ≡ Some t = sym (rw same.0 refl) ∙ is in cc)
+  | inr differ ↦ (let x : Some w ≡ Some t = sym (rw differ.0 refl) ∙ is in let y : w ≡ t = cc in differ.1 y)
+]
+
 pub moves_closes : (t : ℕ) (e : Event) (old new : State) → is_of t e ≡ true → last_moment (e ∷ old.past) ≡ last_moment old.past → changes_rows e ≡ false
     → Closes e t old new → Moves t old new
 moves_closes t e old new mine unacked spares closes =
@@ -122,8 +147,91 @@ moves_closes t e old new mine unacked spares closes =
       adding = adding_one t e old new mine closes.past_is (λ changes. absurd (false≢true (sym spares ∙ changes)));
       acks_none = ap last_moment closes.past_is ∙ unacked;
       writer_stays = λ s differ held. closes.writer_is ∙ still_another old.writer t s differ held;
+      may_write = λ mine. absurd (none_left old.writer t (sym closes.writer_is ∙ mine));
       tasks_stay = closes.others;
     }
+
+-- ---- several calls of one step
+
+module _ (s : ℕ) (past : List Event) (task : Task) (writer : Option ℕ) (old mid new : State) (first : IsNow past s task writer old mid) where
+  pub then_adds : (e : Event) → Adds e s mid new → IsNow (e ∷ past) s task writer old new
+  then_adds e adds =
+      record {
+        names_are = adds.names_are ∙ first.names_are;
+        past_is = adds.past_is ∙ ap (λ h. e ∷ h) first.past_is;
+        writer_is = adds.writer_is ∙ first.writer_is;
+        task_is = adds.task_is ∙ first.task_is;
+        others = λ t differ. adds.others t differ ∙ first.others t differ;
+      }
+
+  pub then_closes : (e : Event) → Closes e s mid new → IsNow (e ∷ past) s task (writer_without writer s) old new
+  then_closes e closes =
+      record {
+        names_are = closes.names_are ∙ first.names_are;
+        past_is = closes.past_is ∙ ap (λ h. e ∷ h) first.past_is;
+        writer_is = closes.writer_is ∙ ap (λ w. writer_without w s) first.writer_is;
+        task_is = closes.task_is ∙ first.task_is;
+        others = λ t differ. closes.others t differ ∙ first.others t differ;
+      }
+
+  pub then_locks : IsNow mid.past s (task_of s mid) (Some s) mid new → IsNow past s task (Some s) old new
+  then_locks locks =
+      record {
+        names_are = locks.names_are ∙ first.names_are;
+        past_is = locks.past_is ∙ first.past_is;
+        writer_is = locks.writer_is;
+        task_is = locks.task_is ∙ first.task_is;
+        others = λ t differ. locks.others t differ ∙ first.others t differ;
+      }
+
+pub writer_gone : (s : ℕ) → writer_without (Some s) s ≡ None
+writer_gone s = elim (eqb_tells s s) [ inl same ↦ rw same.0 refl | inr differ ↦ absurd (differ.1 refl) ]
+
+nobody_else : (t : ℕ) (writer : Option ℕ) → writer ≡ None → MayWriteAlone t writer
+nobody_else t writer none s differ theirs = (let x : None ≡ Some s = sym none ∙ theirs in cc)
+
+no_writer : (s : ℕ) (writer : Option ℕ) → writer ≡ None → writer ≡ Some s → ⊥
+no_writer s writer none theirs = (let x : None ≡ Some s = sym none ∙ theirs in cc)
+
+module _ (t : ℕ) (l : Level) (old new : State) (free : old.writer ≡ None) where
+  -- a table is made
+  pub moves_made : (schema : Schema) → IsNow (table_made t l schema old.past) t Idle None old new → Moves t old new
+  moves_made schema now =
+      let mine : (is_of t (events.Committed t) ≡ true) × (is_of t (events.Changed t (Create schema)) ≡ true)
+      × (is_of t (events.Begin t (begins old.past + 1) l) ≡ true) = (grind (arith, nat_tests), grind (arith, nat_tests), grind (arith, nat_tests)) in
+      record {
+        names_stay = now.names_are;
+        adding = record {
+          entries = events.Committed t ∷ (events.Changed t (Create schema) ∷ (events.Begin t (begins old.past + 1) l ∷ []));
+          past_is = now.past_is;
+          each = (
+            (mine.0, λ changes. absurd (false≢true changes)),
+            ((mine.1, λ changes. nobody_else t new.writer now.writer_is), ((mine.2, λ changes. absurd (false≢true changes)), tt)),
+          );
+        };
+        acks_none = ap last_moment now.past_is;
+        writer_stays = λ s differ held. absurd (no_writer s old.writer free held);
+        may_write = λ mine. absurd (no_writer t new.writer now.writer_is mine);
+        tasks_stay = now.others;
+      }
+
+  -- or none is
+  pub moves_none_made : IsNow (none_made t l old.past) t Idle None old new → Moves t old new
+  moves_none_made now =
+      let mine : (is_of t (events.RolledBack t) ≡ true) × (is_of t (events.Begin t (begins old.past + 1) l) ≡ true) =
+      (grind (arith, nat_tests), grind (arith, nat_tests)) in
+      record {
+        names_stay = now.names_are;
+        adding = record {
+          entries = events.RolledBack t ∷ (events.Begin t (begins old.past + 1) l ∷ []);
+          past_is = now.past_is;
+          each = ((mine.0, λ changes. absurd (false≢true changes)), ((mine.1, λ changes. absurd (false≢true changes)), tt));
+        };
+        acks_none = ap last_moment now.past_is;
+        writer_stays = λ s differ held. absurd (no_writer s old.writer free held);
+        may_write = λ mine. absurd (no_writer t new.writer now.writer_is mine);
+        tasks_stay = now.others;
+      }
 
 -- ---- the steps of a session's task
 

@@ -1,4 +1,4 @@
--- Which tables stand for a session, as entries come: one session at a time makes a table.
+-- Which tables stand for a session, as entries come: a table is made and committed in one step.
 use Rattle.std.proofs.Common.{◌≡◌, ◌≢◌, ℕ, ◌+◌, ◌-◌, ◌<◌, ◌≤◌, Bool, true, false, cond, eqb, List, [], ◌∷◌, ◌++◌, length, drop, refl, sym, ap, subst, ◌∙◌, inl, inr, arith}
 use Rattle.std.proofs.lemmas.Bool.Decides.{nat_tests, eqb_tells}
 use Rattle.std.proofs.lemmas.Bool.{false≢true}
@@ -14,7 +14,7 @@ use Rattle.inno_model.specs.declared.event.Event.TheVariants as events
 use Rattle.inno_model.specs.Past.{own, oldest, commits, committed, opening, changed}
 use Rattle.sql_history.specs.Statements.{schemas_now}
 use Rattle.law_past_agreement.specs.Order.{created, is_creation, IsUndoable}
-use Rattle.sql_lists.specs.Kept.{IsOnlyMaker, AreStanding, made}
+use Rattle.sql_lists.specs.Kept.{AreStanding, made}
 use Rattle.sql_lists.proofs.Staying.{committed_more}
 
 -- the tables of a database after changes
@@ -49,14 +49,11 @@ module _ (old new : List Event)
     (tables : created new ≡ created old)
     (now : (s : ℕ) → schemas_now s new ≡ schemas_now s old)
     (stands : AreStanding old) where
-  only_before : (s : ℕ) → IsOnlyMaker s new → IsOnlyMaker s old
-  only_before s only other ne = sym (makers other) ∙ only other ne
-
   pub stands_same : AreStanding new
   stands_same =
       record {
-        one = λ a b is_a is_b. stands.one a b (sym (makers a) ∙ is_a) (sym (makers b) ∙ is_b);
-        tables = λ s only. tables ∙ (stands.tables s (only_before s only) ∙ sym (now s));
+        none = λ s. makers s ∙ stands.none s;
+        tables = λ s. tables ∙ (stands.tables s ∙ sym (now s));
         few = subst (λ (schemas : List Schema). length schemas ≤ MOST_TABLES) (sym tables) stands.few;
       }
 
@@ -149,117 +146,78 @@ stands_undone t keep h undoable stands =
 
 -- ---- a commit
 
+pub committed_is : (t : ℕ) (h : List Event) → committed (commits h + 1) (events.Committed t ∷ h) ≡ own t h ++ committed (commits h) h
+committed_is t h = grind (arith, nat_tests, committed_more (commits h + 1) h (omega arith))
+
 module _ (t : ℕ) (h : List Event) (stands : AreStanding h) where
-  abbrev after : List Event
-  after = events.Committed t ∷ h
+  abbrev tables_before : List Schema
+  tables_before = made (committed (commits h) h)
 
-  pub committed_is : committed (commits h + 1) (events.Committed t ∷ h) ≡ own t h ++ committed (commits h) h
-  committed_is = grind (arith, nat_tests, committed_more (commits h + 1) h (omega arith))
-
-  not_true : (b : Bool) → (b ≡ true → ⊥) → b ≡ false
-  not_true true refuted = absurd (refuted refl)
-  not_true false refuted = refl
-
-  -- who makes a table after the commit made it before, and is another session
-  maker_before : (b : Bool) (changes : List Change) → list_any is_creation (cond b [] changes) ≡ true → (b ≡ false) × (list_any is_creation changes ≡ true)
-  maker_before true changes is = absurd (false≢true is)
-  maker_before false changes is = (refl, is)
-
-  own_after : (u : ℕ) → u ≢ t → own u (events.Committed t ∷ h) ≡ own u h
-  own_after u differ = elim (eqb_tells t u) [ inl same ↦ absurd (differ (sym same.1)) | inr apart ↦ rw apart.0 refl ]
+  -- a session's changes make no table, before the commit and after it
+  none_after : (s : ℕ) → list_any is_creation (own s (events.Committed t ∷ h)) ≡ false
+  none_after s = one_of Bool (list_any is_creation) (eqb t s) [] (own s h) (λ is. sym (stands.none s)) ∙ stands.none s
 
   now_after : (s : ℕ)
-      → schemas_now s (events.Committed t ∷ h) ≡ (opening h).schemas ++
-      ((made (committed (commits h) h) ++ made (own t h)) ++ made (own s (events.Committed t ∷ h)))
+      → schemas_now s (events.Committed t ∷ h) ≡ (opening h).schemas ++ ((tables_before ++ made (own t h)) ++ made (own s (events.Committed t ∷ h)))
   now_after s =
       now_is s (events.Committed t ∷ h)
       ∙ ap (λ schemas. (opening h).schemas ++ (schemas ++ made (own s (events.Committed t ∷ h))))
-      (ap made committed_is ∙ made_append (own t h) (committed (commits h) h))
+      (ap made (committed_is t h) ∙ made_append (own t h) (committed (commits h) h))
 
-  -- what is left of the session's own tables after the commit
-  none_left : (b : Bool) (changes : List Change) → (b ≡ false → made changes ≡ []) → made (cond b [] changes) ≡ []
-  none_left true changes none = refl
-  none_left false changes none = none refl
+  mine : (s : ℕ) → made (own s (events.Committed t ∷ h)) ≡ made (own s h)
+  mine s = made_none (own s (events.Committed t ∷ h)) (none_after s) ∙ sym (made_none (own s h) (stands.none s))
 
-  -- it commits a table: nobody else was making one
-  by_maker : list_any is_creation (own t h) ≡ true → (s : ℕ) → created h ≡ schemas_now s (events.Committed t ∷ h)
-  by_maker makes s =
-      let lone : IsOnlyMaker t h = λ other ne. not_true (list_any is_creation (own other h)) (λ is. ne (stands.one other t is makes)) in
-      let left : made (own s (events.Committed t ∷ h)) ≡ [] =
-      none_left (eqb t s) (own s h) (λ no. elim (eqb_tells t s)
-      [ inl same ↦ absurd (false≢true (sym no ∙ same.0)) | inr differ ↦ made_none (own s h) (lone s (λ is. differ.1 (sym is))) ]) in
-      stands.tables t lone ∙ (now_is t h ∙ (ap (λ schemas. (opening h).schemas ++ schemas)
-      (sym (append-nil (made (committed (commits h) h) ++ made (own t h)))) ∙
-      (ap (λ schemas. (opening h).schemas ++ ((made (committed (commits h) h) ++ made (own t h)) ++ schemas)) (sym left) ∙ sym (now_after s))))
-
-  -- it commits none
-  by_other : list_any is_creation (own t h) ≡ false → (s : ℕ) → IsOnlyMaker s (events.Committed t ∷ h) → created h ≡ schemas_now s (events.Committed t ∷ h)
-  by_other none s only =
-      let before : IsOnlyMaker s h =
-      λ other ne. elim (eqb_tells other t) [
-        | inl same ↦ subst (λ v. list_any is_creation (own v h) ≡ false) (sym same.1) none
-        | inr differ ↦ ap
-            (list_any is_creation) (sym (own_after other differ.1)) ∙ only other ne
-      ] in
-      let mine : made (own s (events.Committed t ∷ h)) ≡ made (own s h) =
-      one_of (List Schema) made (eqb t s) [] (own s h) (λ at. sym (at_session t s (λ v. made (own v h) ≡ []) (made_none (own t h) none) at)) in
-      stands.tables s before ∙ (now_is s h ∙ (ap (λ schemas. (opening h).schemas ++ (schemas ++ made (own s h)))
-      (sym (append-nil (made (committed (commits h) h)))) ∙
-      (ap (λ schemas. (opening h).schemas ++ ((made (committed (commits h) h) ++ schemas) ++ made (own s h))) (sym (made_none (own t h) none)) ∙
-      (ap (λ schemas. (opening h).schemas ++ ((made (committed (commits h) h) ++ made (own t h)) ++ schemas)) (sym mine) ∙ sym (now_after s)))))
-
-  by_either : (b : Bool) → list_any is_creation (own t h) ≡ b → (s : ℕ) → IsOnlyMaker s (events.Committed t ∷ h)
-      → created h ≡ schemas_now s (events.Committed t ∷ h)
-  by_either true is s only = by_maker is s
-  by_either false is s only = by_other is s only
+  tables_after : (s : ℕ) → created h ≡ schemas_now s (events.Committed t ∷ h)
+  tables_after s =
+      stands.tables s ∙ (now_is s h
+      ∙ (ap (λ schemas. (opening h).schemas ++ (schemas ++ made (own s h))) (sym (append-nil tables_before))
+      ∙ (ap (λ schemas. (opening h).schemas ++ ((tables_before ++ schemas) ++ made (own s h))) (sym (made_none (own t h) (stands.none t)))
+      ∙ (ap (λ schemas. (opening h).schemas ++ ((tables_before ++ made (own t h)) ++ schemas)) (sym (mine s)) ∙ sym (now_after s)))))
 
   pub stands_committed : AreStanding (events.Committed t ∷ h)
-  stands_committed =
+  stands_committed = record { none = none_after; tables = tables_after; few = stands.few }
+
+-- ---- a table is made and committed, by a session without other changes
+
+module _ (t : ℕ) (schema : Schema) (h : List Event) (new : own t h ≡ []) (room : length (created h) < MOST_TABLES) (stands : AreStanding h) where
+  abbrev with_table : List Event
+  with_table = events.Changed t (Create schema) ∷ h
+
+  abbrev first : List Schema
+  first = (opening h).schemas
+
+  abbrev before : List Schema
+  before = made (committed (commits h) h)
+
+  own_here : own t with_table ≡ Create schema ∷ []
+  own_here = (let x : own t with_table ≡ Create schema ∷ own t h = grind (arith, nat_tests) in x) ∙ ap (λ changes. Create schema ∷ changes) new
+
+  none_now : (s : ℕ) → list_any is_creation (own s (events.Committed t ∷ with_table)) ≡ false
+  none_now s = elim (eqb_tells t s) [ inl same ↦ rw same.0 refl | inr apart ↦ rw apart.0 (stands.none s) ]
+
+  left : (s : ℕ) → made (own s (events.Committed t ∷ with_table)) ≡ []
+  left s = made_none (own s (events.Committed t ∷ with_table)) (none_now s)
+
+  below : (s : ℕ) → created h ≡ first ++ before
+  below s =
+      stands.tables s ∙ (now_is s h ∙ (ap (λ schemas. first ++ (before ++ schemas)) (made_none (own s h) (stands.none s))
+      ∙ ap (λ schemas. first ++ schemas) (append-nil before)))
+
+  made_now : made (committed (commits h + 1) (events.Committed t ∷ with_table)) ≡ before ++ schema ∷ []
+  made_now = ap made (committed_is t with_table) ∙ ap (λ changes. made (changes ++ committed (commits h) h)) own_here
+
+  tables_here : (s : ℕ) → created h ++ schema ∷ [] ≡ schemas_now s (events.Committed t ∷ with_table)
+  tables_here s =
+      ap (λ schemas. schemas ++ schema ∷ []) (below s) ∙ (append_assoc first before (schema ∷ [])
+      ∙ (ap (λ schemas. first ++ schemas) (sym made_now)
+      ∙ (ap (λ schemas. first ++ schemas) (sym (append-nil (made (committed (commits h + 1) (events.Committed t ∷ with_table)))))
+      ∙ (ap (λ schemas. first ++ (made (committed (commits h + 1) (events.Committed t ∷ with_table)) ++ schemas)) (sym (left s))
+      ∙ sym (now_is s (events.Committed t ∷ with_table))))))
+
+  pub stands_made : AreStanding (events.Committed t ∷ (events.Changed t (Create schema) ∷ h))
+  stands_made =
       record {
-        one = λ a b is_a is_b. stands.one a b (maker_before (eqb t a) (own a h) is_a).1 (maker_before (eqb t b) (own b h) is_b).1;
-        tables = λ s only. by_either (list_any is_creation (own t h)) refl s only;
-        few = stands.few;
-      }
-
--- ---- a table is made, while nobody else has changes
-
-module _ (t : ℕ) (schema : Schema) (h : List Event) (alone : (other : ℕ) → other ≢ t → own other h ≡ []) (room : length (created h) < MOST_TABLES)
-    (stands : AreStanding h) where
-  own_apart : (u : ℕ) → u ≢ t → own u (events.Changed t (Create schema) ∷ h) ≡ []
-  own_apart u differ = elim (eqb_tells t u) [ inl same ↦ absurd (differ (sym same.1)) | inr apart ↦ rw apart.0 (alone u differ) ]
-
-  maker_is : (u : ℕ) → list_any is_creation (own u (events.Changed t (Create schema) ∷ h)) ≡ true → u ≡ t
-  maker_is u is = elim (eqb_tells t u) [
-    | inl same ↦ sym same.1
-    | inr differ ↦ absurd (false≢true (sym (ap (list_any is_creation) (own_apart u (λ is. differ.1 (sym is)))) ∙ is))
-  ]
-
-  own_here : own t (events.Changed t (Create schema) ∷ h) ≡ Create schema ∷ own t h
-  own_here = grind (arith, nat_tests)
-
-  lone : IsOnlyMaker t h
-  lone other ne = ap (list_any is_creation) (alone other ne)
-
-  here : created h ++ schema ∷ [] ≡ schemas_now t (events.Changed t (Create schema) ∷ h)
-  here =
-      ap (λ schemas. schemas ++ schema ∷ []) (stands.tables t lone ∙ now_is t h)
-      ∙ (append_assoc (opening h).schemas (made (committed (commits h) h) ++ made (own t h)) (schema ∷ [])
-      ∙ (ap (λ schemas. (opening h).schemas ++ schemas) (append_assoc (made (committed (commits h) h)) (made (own t h)) (schema ∷ []))
-      ∙ (ap (λ changes. (opening h).schemas ++ (made (committed (commits h) h) ++ made changes)) (sym own_here) ∙ sym
-      (now_is t (events.Changed t (Create schema) ∷ h)))))
-
-  only_here : (s : ℕ) → IsOnlyMaker s (events.Changed t (Create schema) ∷ h) → s ≡ t
-  only_here s only =
-      elim (eqb_tells s t) [
-        | inl same ↦ same.1
-        | inr differ ↦ absurd
-            (false≢true (sym (only t (λ is. differ.1 (sym is))) ∙ ap (list_any is_creation) own_here))
-      ]
-
-  pub stands_created : AreStanding (events.Changed t (Create schema) ∷ h)
-  stands_created =
-      record {
-        one = λ a b is_a is_b. maker_is a is_a ∙ sym (maker_is b is_b);
-        tables = λ s only. here ∙ ap (λ v. schemas_now v (events.Changed t (Create schema) ∷ h)) (sym (only_here s only));
+        none = none_now;
+        tables = tables_here;
         few = subst (λ n. n ≤ MOST_TABLES) (sym (length-append (created h) (schema ∷ []))) (omega (arith, room));
       }

@@ -109,9 +109,6 @@ committed_all (events.Committed t') h t mine none =
     ]
 committed_all e h t mine none = refl
 
-same_session : (s t : ℕ) → Some s ≡ Some t → s ≡ t
-same_session s t is = cc
-
 -- without a change of rows nobody has changes who had none
 none_more : (e : Event) (h : List Event) (u : ℕ) → changes_rows e ≡ false → own u h ≡ [] → own u (e ∷ h) ≡ []
 none_more (events.Changed t change) h u spares none = cc
@@ -134,7 +131,7 @@ module _ (old new : State) (t s : ℕ) (differ : t ≢ s) (adding : AddingOne t 
         alone = λ other ne. elim adding [
           | inl same ↦ ap (own other) same ∙ steady.alone other ne
           | inr adds ↦
-              let spares = not_true (changes_rows adds.0) (λ is. differ (same_session t s (sym (adds.3 is) ∙ still_locked))) in
+              let spares = not_true (changes_rows adds.0) (λ is. adds.3 is s (λ same. differ (sym same)) still_locked) in
               ap (own other) adds.2 ∙ none_more adds.0 old.past other spares (steady.alone other ne)
         ];
       }

@@ -18,15 +18,10 @@ use Rattle.sql_history.specs.Legal.{IsLegal, EndsBy, owes_commit}
 use Rattle.sql_history.specs.Statements.{schemas_now}
 use Rattle.law_past_agreement.specs.Order.{created, is_creation, IsTabled, IsOrdered}
 
--- no other session is making a table
-abbrev pub IsOnlyMaker : ℕ → List Event → Type 0
-IsOnlyMaker s past = (other : ℕ) → other ≢ s → list_any is_creation (own other past) ≡ false
-
--- One session at a time makes a table. While no other one does, the tables that were made are those that stand for a
--- session, committed or its own.
+-- No open transaction has made a table: those that were made are those that stand for each session, and they are few.
 pub record AreStanding (past : List Event) : Type 0 where
-  pub one : (a b : ℕ) → list_any is_creation (own a past) ≡ true → list_any is_creation (own b past) ≡ true → a ≡ b
-  pub tables : (s : ℕ) → IsOnlyMaker s past → created past ≡ schemas_now s past
+  pub none : (s : ℕ) → list_any is_creation (own s past) ≡ false
+  pub tables : (s : ℕ) → created past ≡ schemas_now s past
   pub few : length (created past) ≤ MOST_TABLES
 
 -- the tables that changes make, the first made first

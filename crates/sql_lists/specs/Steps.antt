@@ -1,5 +1,5 @@
 -- What a step of one session's statement does, by its answer, whatever the statement is.
-use Rattle.std.specs.Prelude.{◌≡◌, ◌≢◌, ℕ, Bool, true, false, if◌then◌else◌, is_some, Option, Some, None, List, [], ◌∷◌, ◌++◌}
+use Rattle.std.specs.Prelude.{◌≡◌, ◌≢◌, ◌⊎◌, ℕ, Bool, true, false, if◌then◌else◌, is_some, Option, Some, None, List, [], ◌∷◌, ◌++◌}
 use Rattle.std.specs.List.{AllByRecursion}
 use Rattle.inno_types.specs.declared.lock.Level.TheVariants.{RepeatableRead}
 use Rattle.inno_types.specs.declared.lock.Edge.{Edge}
@@ -10,7 +10,7 @@ use Rattle.inno_model.specs.declared.event.Event.{Event}
 use Rattle.inno_model.specs.declared.event.Event.TheVariants.{Changed, Ended, Acked}
 use Rattle.inno_model.specs.Past.{is_of, started, of_item, own, level, txn, IsOpen}
 use Rattle.sql_grammar.specs.Grammar.{Spells}
-use Rattle.sql_history.specs.Legal.{Takes}
+use Rattle.sql_history.specs.Legal.{Takes, IsWriting, IsCreation}
 use Rattle.sql_history.specs.Counts.{last_moment}
 use Rattle.law_past_agreement.specs.Order.{IsOfRow}
 use Rattle.shared_lists.specs.Tasks.{Idle}
@@ -34,9 +34,13 @@ abbrev pub changes_rows : Event → Bool
 changes_rows (Changed t change) = true
 changes_rows other = false
 
--- an entry of the session's; changes are made by the session that may write alone
+-- no other session may write
+abbrev pub MayWriteAlone : ℕ → Option ℕ → Type 0
+MayWriteAlone t writer = (s : ℕ) → s ≢ t → writer ≢ Some s
+
+-- an entry of the session's; changes are made where no other session may write
 abbrev pub IsEntryOf : ℕ → Option ℕ → Event → Type 0
-IsEntryOf t writer e = (is_of t e ≡ true) × (changes_rows e ≡ true → writer ≡ Some t)
+IsEntryOf t writer e = (is_of t e ≡ true) × (changes_rows e ≡ true → MayWriteAlone t writer)
 
 -- entries of the session's are added, the newest first
 pub record Adding (t : ℕ) (old new : State) : Type 0 where
@@ -44,12 +48,18 @@ pub record Adding (t : ℕ) (old new : State) : Type 0 where
   pub past_is : new.past ≡ entries ++ old.past
   pub each : AllByRecursion (IsEntryOf t new.writer) entries
 
+-- the session's item asks to write: for INSERT, UPDATE, DELETE and CREATE TABLE alone
+abbrev pub AsksToWrite : ℕ → List Event → Type 0
+AsksToWrite s past = (statement : Stmt) × Takes Spells s statement past × (IsWriting statement ⊎ IsCreation statement)
+
 -- A step of the session's statement. Its commit is acknowledged by others than the statement.
 pub record Moves (t : ℕ) (old new : State) : Type 0 where
   pub names_stay : new.names ≡ old.names
   pub adding : Adding t old new
   pub acks_none : last_moment new.past ≡ last_moment old.past
   pub writer_stays : (s : ℕ) → s ≢ t → old.writer ≡ Some s → new.writer ≡ Some s
+  -- none but an item that asks to write takes the right to
+  pub may_write : new.writer ≡ Some t → (old.writer ≡ Some t) ⊎ AsksToWrite t old.past
   pub tasks_stay : (s : ℕ) → s ≢ t → task_of s new ≡ task_of s old
 
 -- the edge of a wait for the one plain lock
@@ -66,8 +76,9 @@ plain_edge waiter holder =
 abbrev pub open_txn : ℕ → List Event → ℕ
 open_txn s past = if is_some (level s past) then txn s past else 0
 
--- the session waits for one other, which alone may write
+-- the session's item asks to write, and waits for one other, which alone may
 pub record WaitsFor (s by : ℕ) (blockers : List Edge) (state : State) : Type 0 where
+  pub asks : AsksToWrite s state.past
   pub other : by ≢ s
   pub holds : state.writer ≡ Some by
   pub is_open : IsOpen by state.past

@@ -2,17 +2,16 @@
 
 ghost use Rattle.std.specs.Prelude.{◌≡◌, ◌≢◌, ℕ, ◌+◌, ◌-◌, ◌<◌, ◌≤◌, ◌^◌, [], ◌∷◌, ◌++◌, length, true, false, is_some, OnOk, OnErr, IfOk, IfSome, IfNone, Some, None, slice_get};
 ghost use Rattle.inno_db.specs.declared.limits.TheConstants.{MOST_TABLES};
-ghost use Rattle.inno_db.specs.declared.change.Change.TheVariants.{Create};
 ghost use Rattle.inno_types.specs.declared.value.Schema.{Schema};
 ghost use Rattle.inno_types.specs.declared.reply.Reply.TheVariants.{Done};
 ghost use Rattle.inno_types.specs.declared.stmt.Stmt.TheVariants.{Savepoint as SavepointStmt};
 ghost use Rattle.inno_types.specs.declared.lock.Level.TheVariants.{Serializable};
-ghost use Rattle.inno_model.specs.declared.event.Event.TheVariants.{Begin, Started, View, Changed as ChangedEvent, Ended, Committed, Acked, RolledBack};
+ghost use Rattle.inno_model.specs.declared.event.Event.TheVariants.{Begin, Started, View, Ended, Committed, Acked, RolledBack};
 ghost use Rattle.inno_model.specs.Past.{under_way, level, own, started, begins, view_of, txn, IsOpen};
 ghost use Rattle.sql_grammar.specs.Grammar.{Spells};
 ghost use Rattle.sql_history.specs.Items.{Asks};
 ghost use Rattle.sql_history.specs.Settings.{HasSet};
-ghost use Rattle.sql_history.specs.Counts.{last_moment, rows_kept, rows_of_reply, most_rows};
+ghost use Rattle.sql_history.specs.Counts.{has_stopped, last_moment, rows_kept, rows_of_reply, most_rows};
 ghost use Rattle.sql_history.specs.Legal.{IsLegal, MayBegin, MayView, MayChange, MayUndo, MayCommit, MayRollBack, is_leaving};
 ghost use Rattle.law_fitting_rows.specs.Storable.{IsStorable};
 ghost use Rattle.law_past_agreement.specs.Order.{created, IsOfRow, IsTabled, IsUndoable, IsOrdered};
@@ -20,7 +19,8 @@ ghost use Rattle.shared_lists.specs.Fitting.{FitsWell, FitsThen};
 ghost use Rattle.shared_lists.specs.Tasks.{Idle, Searching, is_changing, asked, steps_left, MayTakeBack};
 ghost use Rattle.shared_lists.specs.State.{IsFirst, IsNow, Adds, Closes, Turns, Stays, task_of, writer_without};
 ghost use Rattle.shared_lists.specs.Steps.{Searches, AreNewestRows, Changes, TakesBack};
-ghost use Rattle.sql_lists.specs.Kept.{MayReply, OwesAck, SetsQuietly, IsOnlyMaker, AreStanding, IsInOrder};
+ghost use Rattle.sql_lists.specs.Kept.{MayReply, OwesAck, SetsQuietly, AreStanding, IsInOrder};
+ghost use Rattle.sql_lists.specs.Tables.{MayMake, MakesNone, table_made};
 ghost use Rattle.sql_lists.specs.Steps.{open_txn, plain_edge};
 
 use crate::advance::plain_edge;
@@ -67,6 +67,7 @@ impl<L: SharedLists> SqlLists<L> {
     pub fn lists(&self) -> &L
         ensures same { (L.lists result.now).state ≡ self.now }
         ensures tables { AreStanding self.now.past }
+        ensures within { rows_kept self.now.past ≤ most_rows }
         ensures ordered { IsInOrder self.now.past }
         ensures sound { IsOrdered self.now.past }
         ensures legal { IsLegal Spells self.now.past }
@@ -82,6 +83,7 @@ impl<L: SharedLists> SqlLists<L> {
         ensures names { result.now.names ≡ self.now.names }
         ensures past { result.now.past ≡ self.now.past }
         ensures legal { IsLegal Spells self.now.past }
+        ensures runs { has_stopped self.now.past ≡ false }
         ensures sound { IsOrdered self.now.past }
         ensures fits { FitsThen self.now.past }
     {
@@ -93,6 +95,7 @@ impl<L: SharedLists> SqlLists<L> {
         ensures names { result.names ≡ self.names }
         ensures past { result.past ≡ self.past }
         ensures legal { IsLegal Spells self.past }
+        ensures runs { has_stopped self.past ≡ false }
     {
         let SqlLists { lists, .. } = self;
         lists.into_history()
@@ -114,22 +117,6 @@ impl<L: SharedLists> SqlLists<L> {
     {
         let rows = self.lists.rows() + more;
         if rows > MOST_ROWS { Some(rows) } else { None }
-    }
-
-    /// Another session whose open transaction makes a table. What tables stand is settled when that transaction ends.
-    pub fn other_maker(&self, session: u32) -> Option<u32>
-        ensures none { IfNone result (IsOnlyMaker session self.now.past) }
-        ensures some { IfSome result (λ by. (by ≢ session) × (self.now.writer ≡ Some by) × IsOpen by self.now.past × (by < length self.now.names)) }
-    {
-        let by = self.lists.writer()?;
-        if by == session {
-            return None;
-        }
-        if self.lists.makes_table(by) {
-            Some(by)
-        } else {
-            None
-        }
     }
 
     /// The edge by which the session waits for another one's transaction.
@@ -249,20 +236,31 @@ impl<L: SharedLists> SqlLists<L> {
         self.lists.lock(session)
     }
 
-    /// Makes a table, by the session that may write. It is the first change of its transaction. An `Err` changes nothing.
-    pub fn create(&mut self, session: u32, schema: Schema) -> Result<(), NoMemory>
+    /// Makes a table in a transaction of its own, which is committed: nobody meets a table that isn't. Where no memory is
+    /// found nothing is made, and a transaction that was opened for it is rolled back.
+    /// MySQL 8.0 Reference Manual, "Atomic Data Definition Statement Support".
+    pub fn make_table(&mut self, session: u32, level: Level, schema: Schema) -> Result<(), NoMemory>
         requires joined { session < length self.old.names }
-        requires may { MayChange Spells session (Create schema) self.old.past }
-        requires locked { self.old.writer ≡ Some session }
-        requires alone { (other : ℕ) → other ≢ session → own other self.old.past ≡ [] }
+        requires may { MayMake session level schema self.old.past }
+        requires free { self.old.writer ≡ None }
         requires few { length (created self.old.past) < MOST_TABLES }
         requires idle { task_of session self.old ≡ Idle }
-        requires first { own session self.old.past ≡ [] }
         requires storable { IsStorable schema }
-        ensures ok { OnOk result (Adds (ChangedEvent session (Create schema)) session self.old self.new) }
-        ensures err { OnErr result (Stays session self.old self.new) }
+        ensures ok { OnOk result (IsNow (table_made session level schema self.old.past) session Idle None self.old self.new) }
+        ensures err { OnErr result (MakesNone session level self.old self.new) }
     {
-        self.lists.create(session, schema)
+        self.lists.begin(session, level)?;
+        let _ = self.lists.lock(session);
+        match self.lists.create(session, schema) {
+            Ok(()) => {
+                self.lists.commit(session);
+                Ok(())
+            }
+            Err(_) => {
+                self.lists.roll_back(session);
+                Err(NoMemory)
+            }
+        }
     }
 
     /// Begins a search of a table, in the index and the range of a plan. An `Err` changes nothing.

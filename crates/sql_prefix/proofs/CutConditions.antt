@@ -12,7 +12,7 @@ use Rattle.sql_grammar.specs.declared.token.Token.{Token}
 use Rattle.sql_grammar.specs.declared.token.Token.TheVariants.{Key, Compare, Open, Close}
 use Rattle.sql_grammar.specs.Grammar.{plain_number, Name, Lit, Tuple, Oper, Atom, Condition, Strength, Loose, Tight, Single, Where}
 use Rattle.sql_grammar.specs.Grammar as grammar
-use Rattle.sql_prefix.specs.Fronts.{level}
+use Rattle.sql_prefix.proofs.Depth.{level}
 use Rattle.sql_prefix.proofs.Cuts.{Like, Under, Cut, Just, just, closers, deeper, inside, beyond, cut, keep, X, Zero, seq, made, wider, behind, InTuple, name_cut, lit_cut, tuple_cut}
 use Rattle.sql_prefix.proofs.Cuts as cuts
 use Rattle.sql_prefix.proofs.Ends.{End}

@@ -8,7 +8,7 @@ use Rattle.sql_grammar.specs.declared.token.Token.{Token}
 use Rattle.sql_grammar.specs.declared.token.Token.TheVariants.{Compare, Open, Close, Star, Plus, Minus}
 use Rattle.sql_grammar.specs.Grammar.{plain_number, negative_number, Name, Commas, BeginsNoNumber, Expression, Strength, Loose, Tight, Single, Assignment}
 use Rattle.sql_grammar.specs.Grammar as grammar
-use Rattle.sql_prefix.specs.Fronts.{level}
+use Rattle.sql_prefix.proofs.Depth.{level}
 use Rattle.sql_prefix.proofs.Cuts.{Like, Under, Cut, closers, inside, beyond, cut, keep, X, Zero, seq, made, wider, behind, lit_cut, commas_cut}
 use Rattle.sql_prefix.proofs.Cuts as cuts
 use Rattle.sql_prefix.proofs.CutConditions.{Ending, zero_end, closed_last}

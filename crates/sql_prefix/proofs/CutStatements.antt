@@ -24,7 +24,7 @@ use Rattle.sql_grammar.specs.declared.token.Token.{Token}
 use Rattle.sql_grammar.specs.declared.token.Token.TheVariants.{Key, Bare, Quoted, Compare, Open, Close}
 use Rattle.sql_grammar.specs.Grammar.{plain_number, size_of, Name, Commas, Tuple, Where, Assignment, ColumnKind, Nullable, Primary, KeyWord, Bracketed, Define, IfNotExists, Engine, Choice, Locking, Into, ColumnList, ValuesWord, Work, SavepointWord, Switch, Scope, LevelName, Statement}
 use Rattle.sql_grammar.specs.Grammar as grammar
-use Rattle.sql_prefix.specs.Fronts.{level}
+use Rattle.sql_prefix.proofs.Depth.{level}
 use Rattle.sql_prefix.proofs.Cuts.{Like, Under, Cut, Just, just, closers, deeper, inside, beyond, cut, keep, X, Zero, seq, made, wider, behind, names_cut, tuples_cut, commas_cut}
 use Rattle.sql_prefix.proofs.Cuts as cuts
 use Rattle.sql_prefix.proofs.CutConditions.{Ending, tuple_end, closed_last, where_cut}

@@ -8,7 +8,7 @@ use Rattle.sql_grammar.specs.declared.token.Token.{Token}
 use Rattle.sql_grammar.specs.declared.token.Token.TheVariants.{Key, Bare, Quoted, Number, Text, Compare, Open, Close, Comma, Star, Plus, Minus}
 use Rattle.sql_grammar.specs.Grammar.{plain_number, negative_number, Name, Lit, Commas, Tuple}
 use Rattle.sql_grammar.specs.Grammar as grammar
-use Rattle.sql_prefix.specs.Fronts.{level}
+use Rattle.sql_prefix.proofs.Depth.{level}
 
 -- ---- fronts of tokens
 

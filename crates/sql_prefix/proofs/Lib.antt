@@ -3,8 +3,11 @@ mod Ends
 mod CutConditions
 mod CutExpressions
 mod CutStatements
+mod Depth
 mod Spelled
+mod Seam
 mod Words
 mod Tokens
 mod Finished
 mod Refusals
+mod Longer

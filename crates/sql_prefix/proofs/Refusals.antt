@@ -1,20 +1,21 @@
--- From the parser's answers to those of this crate.
-use Rattle.std.proofs.Common.{◌≡◌, ℕ, List, true, false, refl, sym, subst}
+-- From the parser's answers to those of this crate, and what a refusal's place is.
+use Rattle.std.proofs.Common.{◌≡◌, ℕ, ◌≤◌, List, length, refl, sym, subst, arith}
 use Rattle.std.specs.Prelude.{min}
-use Rattle.std.specs.Bool.{Decides}
-use Rattle.inno_types.specs.declared.stmt.Stmt.{Stmt}
-use Rattle.sql_grammar.specs.Grammar.{Spells}
-use Rattle.sql_text.specs.declared.parser.ParseBad.{ParseBad}
-use Rattle.sql_text.specs.declared.parser.ParseBad.TheVariants.{Syntax}
+use Rattle.sql_text.specs.declared.parser.NotParsed.TheVariants.{NoStatement}
 use Rattle.sql_text.specs.Parsed.{IsRefused}
-use Rattle.sql_prefix.specs.Prefix.{IsStatement, IsLongestPrefix}
-use Rattle.sql_prefix.specs.Refused.{IsRefusedAt}
+use Rattle.sql_prefix.specs.declared.parser.ParseBad.{ParseBad}
+use Rattle.sql_prefix.specs.declared.parser.ParseBad.TheVariants.{Syntax}
+use Rattle.sql_prefix.specs.Prefix.{IsLongestPrefix}
+use Rattle.sql_prefix.specs.Refused.{IsFirstBad, IsRefusedAt}
 
-pub is_one : (bytes : List ℕ) (s : Stmt) → Spells bytes s → Decides true (IsStatement bytes)
-is_one bytes s p = ((λ f. (s, p)), (λ g. refl))
+pub refused_at : (bytes : List ℕ) (e : ParseBad) (longest : ℕ) → e ≡ Syntax (min longest 4294967295) → IsLongestPrefix bytes longest
+    → IsRefused bytes NoStatement → IsRefusedAt bytes e
+refused_at bytes e longest same l r = subst (λ (z : ParseBad). IsRefusedAt bytes z) (sym same) (longest, l, refl, r)
 
-pub is_none : (bytes : List ℕ) (at : ℕ) → IsRefused bytes (Syntax at) → Decides false (IsStatement bytes)
-is_none bytes at r = ((λ f. absurd (cc)), (λ p. absurd (r.1 p.0 p.1)))
+pub first_bad : (bytes : List ℕ) (at : ℕ) → IsRefusedAt bytes (Syntax at) → IsFirstBad bytes at
+first_bad bytes at r = (r.0, r.1, r.2)
 
-pub refused_at : (bytes : List ℕ) (e : ParseBad) (longest at : ℕ) → e ≡ Syntax (min longest 4294967295) → IsLongestPrefix bytes longest → IsRefused bytes (Syntax at) → IsRefusedAt bytes e
-refused_at bytes e longest at same l r = subst (λ (z : ParseBad). IsRefusedAt bytes z) (sym same) (longest, l, refl, r.1)
+pub exactly : (bytes : List ℕ) (at : ℕ) → IsFirstBad bytes at → length bytes ≤ 4294967295 → IsLongestPrefix bytes at
+exactly bytes at p le =
+    let same : p.0 ≡ at = omega (arith, p.2, p.1.within, le) in
+    subst (λ (n : ℕ). IsLongestPrefix bytes n) same p.1

@@ -1,4 +1,3 @@
-pub mod Fronts
 pub mod Endings
 pub mod Prefix
 pub mod Refused

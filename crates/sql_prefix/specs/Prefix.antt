@@ -1,5 +1,5 @@
 -- Which bytes begin a statement, how far the longest front that does goes, and how that is found by trying.
-use Rattle.std.specs.Prelude.{◌≡◌, ℕ, ◌+◌, ◌-◌, ◌<◌, ◌≤◌, List, [], ◌∷◌, ◌++◌, length, take, drop, replicate, Bool, true}
+use Rattle.std.specs.Prelude.{◌≡◌, ℕ, ◌+◌, ◌-◌, ◌<◌, ◌≤◌, List, [], ◌∷◌, ◌++◌, length, take, drop, Bool, true}
 use Rattle.std.specs.Str.{bytes_eq}
 use Rattle.inno_types.specs.declared.stmt.Stmt.{Stmt}
 use Rattle.sql_grammar.specs.declared.token.Token.{Token}
@@ -7,10 +7,9 @@ use Rattle.sql_grammar.specs.declared.token.Word.{Word}
 use Rattle.sql_grammar.specs.Words.{capitals, spelling}
 use Rattle.sql_grammar.specs.Tokens.{AreTokens}
 use Rattle.sql_grammar.specs.Grammar.{Spells}
-use Rattle.sql_prefix.specs.declared.ending.Ending.{Ending}
+use Rattle.sql_text.specs.Parsed.{IsFront}
 use Rattle.sql_prefix.specs.declared.prefix.TokenEnd.{TokenEnd}
-use Rattle.sql_prefix.specs.Endings.{before, behind, token_end}
-use Rattle.sql_prefix.specs.Fronts.{level}
+use Rattle.sql_prefix.specs.Endings.{token_end}
 
 -- the bytes are in the grammar
 abbrev pub IsStatement : List ℕ → Type 0
@@ -35,22 +34,15 @@ pub record IsBetween (bytes : List ℕ) (low high : ℕ) : Type 0 where
   pub begins : Begins (take low bytes)
   pub fails : Begins (take high bytes) → ⊥
 
--- the ending makes the text, with so many brackets closed, a statement
-abbrev pub Finishes : List ℕ → ℕ → Ending → Type 0
-Finishes text depth ending = IsStatement (text ++ (before ending ++ (replicate depth 41 ++ behind ending)))
-
-abbrev pub IsFinished : List ℕ → ℕ → Type 0
-IsFinished text depth = (ending : Ending) × Finishes text depth ending
-
 -- the bytes, such an end of their last token, and a new line
 abbrev pub ended : List ℕ → List ℕ → List ℕ
 ended bytes end = bytes ++ (end ++ (10 ∷ []))
 
--- with such an end of their last token, the bytes are the tokens of a statement that is cut off
+-- with such an end of their last token, the bytes are the first tokens of a statement
 pub record IsCutOff (bytes end : List ℕ) : Type 0 where
   pub tokens : List Token
   pub lexed : AreTokens (ended bytes end) tokens
-  pub finished : IsFinished (ended bytes end) (level 0 tokens)
+  pub begun : IsFront tokens
 
 abbrev pub GoesOnByToken : List ℕ → Type 0
 GoesOnByToken bytes = (end : TokenEnd) × IsCutOff bytes (token_end end)

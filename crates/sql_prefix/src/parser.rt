@@ -1,29 +1,33 @@
 //! The tree that the bytes of a statement spell, or the place up to which they begin one.
-//! What callers call to read a statement; the parser below gives a coarser place.
+//! What callers call to read a statement.
 
-ghost use Rattle.std.specs.Prelude.{◌≡◌, IfOk, IfErr, min};
-ghost use Rattle.std.specs.Bool.{Decides};
+ghost use Rattle.std.specs.Prelude.{◌≡◌, ℕ, ◌≤◌, List, length, IfOk, IfErr, min};
 ghost use Rattle.sql_grammar.specs.Grammar.{Spells};
-ghost use Rattle.sql_text.specs.declared.parser.ParseBad.TheVariants.{Syntax};
-ghost use Rattle.sql_prefix.specs.Prefix.{IsStatement};
-ghost use Rattle.sql_prefix.specs.Refused.{IsRefusedAt};
+ghost use Rattle.sql_prefix.specs.declared.parser.ParseBad.TheVariants.{Syntax, NoMemory};
+ghost use Rattle.sql_prefix.specs.Refused.{IsFirstBad, IsRefusedAt};
+ghost use Rattle.sql_prefix.specs.Prefix.{IsLongestPrefix};
 
 use crate::place::longest_prefix;
 use inno_types::Stmt;
-use sql_text::ParseBad;
+use sql_text::NotParsed;
 use std::alloc::{AllocError, Global};
+use thiserror::Error;
 
-/// Whether the bytes are in the grammar.
-pub(crate) fn is_statement(alloc: Global, bytes: &[u8]) -> Result<bool, AllocError>
-    ensures { IfOk result (λ b. Decides b (IsStatement bytes.now)) }
-{
-    match sql_text::parse(alloc, bytes) {
-        Ok(stmt) => {
-            drop(stmt);
-            Ok(true)
-        }
-        Err(ParseBad::Syntax { .. }) => Ok(false),
-        Err(ParseBad::NoMemory) => Err(AllocError),
+/// Why bytes were not parsed.
+#[derive(Debug, Drop, Error)]
+pub enum ParseBad {
+    /// No statement begins with more of the bytes than stand before this one.
+    #[error("no statement goes on as it does at byte {at}")]
+    Syntax { at: u32 },
+    #[error("out of memory")]
+    NoMemory,
+}
+
+impl From<AllocError> for ParseBad {
+    ghost from_gives = { λ _ e. e ≡ NoMemory };
+
+    fn from(_e: AllocError) -> ParseBad {
+        ParseBad::NoMemory
     }
 }
 
@@ -35,11 +39,11 @@ pub fn parse(alloc: Global, bytes: &[u8]) -> Result<Stmt, ParseBad>
 {
     match sql_text::parse(alloc, bytes) {
         Ok(stmt) => Ok(stmt),
-        Err(ParseBad::Syntax { .. }) => {
+        Err(NotParsed::NoStatement) => {
             let at = longest_prefix(alloc, bytes)?;
             Err(syntax(at))
         }
-        Err(ParseBad::NoMemory) => Err(ParseBad::NoMemory),
+        Err(NotParsed::NoMemory) => Err(ParseBad::NoMemory),
     }
 }
 
@@ -51,3 +55,10 @@ fn syntax(at: usize) -> ParseBad
     }
     ParseBad::Syntax { at: u32::MAX }
 }
+
+/// A refusal for its syntax names the first bad byte of a text, and exactly so where 32 bits have its length.
+/// The body is empty: the contract is the law.
+pub fn refusals_name_the_first_bad_byte()
+    ensures named { (bytes : List ℕ) (at : ℕ) → IsRefusedAt bytes (Syntax at) → IsFirstBad bytes at }
+    ensures exact { (bytes : List ℕ) (at : ℕ) → IsFirstBad bytes at → length bytes ≤ u32.MAX → IsLongestPrefix bytes at }
+{}

@@ -7,9 +7,8 @@ ghost use Rattle.sql_grammar.specs.Words as key_words;
 ghost use Rattle.sql_prefix.specs.Endings as spelled;
 ghost use Rattle.sql_prefix.specs.Prefix.{ends_in as ends_so, Begins, GoesOn, GoesOnAt, GoesOnByToken, GoesOnByWord, IsCutOff};
 
-use crate::depth::depth_of;
-use crate::ending::is_finished;
 use sql_grammar::Word;
+use sql_text::tokens_left;
 use sql_tokens::{lex, other_words, reserved_words, spelling};
 use std::alloc::{AllocError, Global};
 
@@ -77,7 +76,7 @@ fn with_end(alloc: Global, bytes: &[u8], end: &[u8]) -> Result<Vec<u8>, AllocErr
     Ok(text)
 }
 
-/// Whether the bytes with such an end are the tokens of a statement that is cut off.
+/// Whether the bytes with such an end are the first tokens of a statement.
 fn is_cut_off(alloc: Global, bytes: &[u8], end: &[u8]) -> Result<bool, AllocError>
     ensures { IfOk result (λ b. Decides b (IsCutOff bytes.now end.now)) }
 {
@@ -86,8 +85,8 @@ fn is_cut_off(alloc: Global, bytes: &[u8], end: &[u8]) -> Result<bool, AllocErro
     if lexed.unread > 0 {
         return Ok(false);
     }
-    let depth = depth_of(lexed.tokens.as_slice());
-    is_finished(alloc, text.as_slice(), depth)
+    let left = tokens_left(alloc, lexed.tokens.as_slice())?;
+    Ok(left == 0)
 }
 
 fn goes_on_by_one(alloc: Global, ends: &[TokenEnd], bytes: &[u8]) -> Result<bool, AllocError>

@@ -1,21 +1,14 @@
 -- From the reading of the tokens to what the bytes spell.
-use Rattle.std.proofs.Common.{◌≡◌, ℕ, List, length, Ok, Err, subst}
+use Rattle.std.proofs.Common.{◌≡◌, ℕ, List, Ok, Err, subst}
 use Rattle.inno_types.specs.declared.stmt.Stmt.{Stmt}
 use Rattle.sql_grammar.specs.declared.token.Token.{Token}
 use Rattle.sql_grammar.specs.Tokens.{AreTokens}
 use Rattle.sql_grammar.specs.Grammar.{Statement, Spells}
-use Rattle.sql_text.specs.declared.parser.ParseBad.{ParseBad}
-use Rattle.sql_text.specs.declared.parser.ParseBad.TheVariants.{Syntax, NoMemory}
-use Rattle.sql_text.specs.Parsed.{IsRefused, IsSyntaxWithin}
 use Rattle.sql_text.specs.Whole.{statement_of}
 use Rattle.sql_text.proofs.CompleteStatements.{statement_complete}
 
 pub spells : (bytes : List ℕ) (tokens : List Token) (s : Stmt) → AreTokens bytes tokens → Statement tokens s → Spells bytes s
 spells bytes tokens s l p = record { tokens = tokens; lexed = l; parsed = p }
-
-pub refused : (bytes : List ℕ) (e : ParseBad) → IsSyntaxWithin (length bytes) e → ((s : Stmt) → Spells bytes s → ⊥) → IsRefused bytes e
-refused bytes (Syntax at) w h = (w, h)
-refused bytes NoMemory w h = absurd w
 
 pub some_unread : (bytes : List ℕ) (tokens : List Token) (unread : ℕ) → ((others : List Token) → AreTokens bytes others → (unread ≡ 0) × (others ≡ tokens)) → (unread ≡ 0 → ⊥) → (s : Stmt) → Spells bytes s → ⊥
 some_unread bytes tokens unread only h s p = h (only p.tokens p.lexed).0

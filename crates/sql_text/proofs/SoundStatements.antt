@@ -42,7 +42,7 @@ equal_sound [] = tt
 equal_sound (Compare Equal ∷ ys) = refl
 equal_sound (other ∷ ys) = tt
 
-choice_sound : (xs : List Token) → IfOk (read.choice_at xs) (λ r. Choice xs r.0 r.1)
+pub choice_sound : (xs : List Token) → IfOk (read.choice_at xs) (λ r. Choice xs r.0 r.1)
 unfolding read.choice_at
 choice_sound (Star ∷ rest) = grammar.all
 choice_sound xs = bind (commas_at name_at xs) (λ names. Ok (Columns names.0, names.1)) (λ r. Commas Name xs r.0 r.1) (λ r. Choice xs r.0 r.1) (items_sound name_at Name name_sound (length xs) xs) (λ names c. grammar.some c)
@@ -73,7 +73,7 @@ for_lock_sound (Bare (Some word.Share) a ∷ xs) = ends_sound (Some S) (λ lock.
 for_lock_sound (Key word.Update ∷ xs) = ends_sound (Some X) (λ lock. Locking (Key word.For ∷ Key word.Update ∷ xs) lock) xs (λ e. subst (λ (ts : List Token). Locking (Key word.For ∷ Key word.Update ∷ ts) (Some X)) (sym e) grammar.for_update)
 for_lock_sound (other ∷ xs) = tt
 
-locking_sound : (xs : List Token) → IfOk (read.locking_of xs) (λ lock. Locking xs lock)
+pub locking_sound : (xs : List Token) → IfOk (read.locking_of xs) (λ lock. Locking xs lock)
 unfolding read.locking_of
 locking_sound [] = grammar.unsaid
 locking_sound (Key word.For ∷ xs) = for_lock_sound xs
@@ -88,13 +88,13 @@ where_sound (other ∷ xs) rest e = cc
 pub where_spelled : (xs behind rest : List Token) (f : Filter) → read.behind_where xs ≡ Some behind → Condition Loose behind f rest → Where xs (Some f) rest
 where_spelled xs behind rest f e c = subst (λ (ts : List Token). Where ts (Some f) rest) (sym (where_sound xs behind e)) (grammar.those c)
 
-from_table_sound : (xs : List Token) → IfOk (read.from_table_at xs) (λ r. (from : List Token) × (xs ≡ Key word.From ∷ from) × Name from r.0 r.1)
+pub from_table_sound : (xs : List Token) → IfOk (read.from_table_at xs) (λ r. (from : List Token) × (xs ≡ Key word.From ∷ from) × Name from r.0 r.1)
 unfolding read.from_table_at
 from_table_sound xs =
     bind (read.after_from xs) (λ from. name_at from) (λ ys. xs ≡ Key word.From ∷ ys) (λ r. (from : List Token) × (xs ≡ Key word.From ∷ from) × Name from r.0 r.1) (from_sound xs)
     (λ from e. weaker (name_at from) (λ r. Name from r.0 r.1) (λ r. (from : List Token) × (xs ≡ Key word.From ∷ from) × Name from r.0 r.1) (name_sound from) (λ r n. (from, e, n)))
 
-set_table_sound : (xs : List Token) → IfOk (read.set_table_at xs) (λ r. Name xs r.0 (Key word.Set ∷ r.1))
+pub set_table_sound : (xs : List Token) → IfOk (read.set_table_at xs) (λ r. Name xs r.0 (Key word.Set ∷ r.1))
 unfolding read.set_table_at
 set_table_sound xs =
     bind (name_at xs) (λ table. read.after_set table.1 >>= λ rest. Ok (table.0, rest)) (λ r. Name xs r.0 r.1) (λ r. Name xs r.0 (Key word.Set ∷ r.1)) (name_sound xs)

@@ -1,15 +1,16 @@
--- What a refusal of bytes says.
-use Rattle.std.specs.Prelude.{ℕ, ◌≤◌, List, length}
+-- What a refusal of bytes says, and which tokens a statement begins with.
+use Rattle.std.specs.Prelude.{ℕ, List, ◌++◌}
 use Rattle.inno_types.specs.declared.stmt.Stmt.{Stmt}
-use Rattle.sql_grammar.specs.Grammar.{Spells}
-use Rattle.sql_text.specs.declared.parser.ParseBad.{ParseBad}
-use Rattle.sql_text.specs.declared.parser.ParseBad.TheVariants.{Syntax, NoMemory}
+use Rattle.sql_grammar.specs.declared.token.Token.{Token}
+use Rattle.sql_grammar.specs.Grammar.{Statement, Spells}
+use Rattle.sql_text.specs.declared.parser.NotParsed.{NotParsed}
+use Rattle.sql_text.specs.declared.parser.NotParsed.TheVariants.{NoStatement, NoMemory}
 
--- the bytes spell no statement, and the place lies within them or at their end
-abbrev pub IsRefused : List ℕ → ParseBad → Type 0
-IsRefused bytes (Syntax at) = (at ≤ length bytes) × ((s : Stmt) → Spells bytes s → ⊥)
+-- the bytes spell no statement
+abbrev pub IsRefused : List ℕ → NotParsed → Type 0
+IsRefused bytes NoStatement = (s : Stmt) → Spells bytes s → ⊥
 IsRefused bytes NoMemory = Unit {0}
 
-abbrev pub IsSyntaxWithin : ℕ → ParseBad → Type 0
-IsSyntaxWithin len (Syntax at) = at ≤ len
-IsSyntaxWithin len NoMemory = ⊥
+-- the tokens are a statement, or more of them behind these are one
+abbrev pub IsFront : List Token → Type 0
+IsFront tokens = (more : List Token) × (s : Stmt) × Statement (tokens ++ more) s

@@ -7,4 +7,4 @@ mod select;
 mod selected;
 mod statement;
 
-pub use parser::{ParseBad, parse};
+pub use parser::{NotParsed, parse, tokens_left};

@@ -1,40 +1,41 @@
-//! The tree that the bytes of a statement spell: what callers of this crate call.
-//! The place of a refusal is that of a token; `sql_prefix` finds the exact byte.
+//! The tree that the bytes of a statement spell, and whether a statement begins with some tokens.
+//! What callers of this crate call. Where a refused text goes wrong is not said here; `sql_prefix` finds the byte.
 
-ghost use Rattle.std.specs.Prelude.{◌≡◌, IfOk, IfErr};
+ghost use Rattle.std.specs.Prelude.{◌≡◌, ◌==◌, IfOk, IfErr};
 ghost use Rattle.sql_grammar.specs.Grammar.{Spells};
-ghost use Rattle.sql_text.specs.Parsed.{IsRefused, IsSyntaxWithin};
-ghost use Rattle.sql_text.specs.declared.parser.ParseBad.TheVariants.{NoMemory};
+ghost use Rattle.std.specs.Bool.{Decides};
+ghost use Rattle.sql_text.specs.Parsed.{IsRefused, IsFront};
+ghost use Rattle.sql_text.specs.declared.parser.NotParsed.TheVariants.{NoMemory};
 
 use crate::statement::statement;
 use inno_types::Stmt;
+use sql_grammar::Token;
 use sql_literals::Refusal;
-use sql_tokens::{Lexed, lex};
+use sql_tokens::lex;
 use std::alloc::{AllocError, Global};
 use thiserror::Error;
 
 /// Why bytes were not parsed.
 #[derive(Debug, Drop, Error)]
-pub enum ParseBad {
-    /// No statement begins so: the first token that can't stand there, or the end, is at this byte.
-    #[error("no statement goes on as it does at byte {at}")]
-    Syntax { at: u32 },
+pub enum NotParsed {
+    #[error("the bytes spell no statement")]
+    NoStatement,
     #[error("out of memory")]
     NoMemory,
 }
 
-impl From<AllocError> for ParseBad {
+impl From<AllocError> for NotParsed {
     ghost from_gives = { λ _ e. e ≡ NoMemory };
 
-    fn from(_e: AllocError) -> ParseBad {
-        ParseBad::NoMemory
+    fn from(_e: AllocError) -> NotParsed {
+        NotParsed::NoMemory
     }
 }
 
 /// The statement that the bytes spell.
-pub fn parse(alloc: Global, bytes: &[u8]) -> Result<Stmt, ParseBad>
+pub fn parse(alloc: Global, bytes: &[u8]) -> Result<Stmt, NotParsed>
     ensures spelled { IfOk result (λ s. Spells bytes.now s) }
-    // A refusal for its syntax comes only where they spell no statement.
+    // NoStatement comes only where they spell none.
     ensures refused { IfErr result (λ e. IsRefused bytes.now e) }
 {
     let lexed = lex(alloc, bytes)?;
@@ -44,25 +45,23 @@ pub fn parse(alloc: Global, bytes: &[u8]) -> Result<Stmt, ParseBad>
                 return Ok(stmt);
             }
             drop(stmt);
-            Err(syntax(bytes.len(), lexed.unread))
+            Err(NotParsed::NoStatement)
         }
-        Err(Refusal::Unexpected { left }) => Err(syntax(bytes.len(), bytes_left(&lexed, left))),
-        Err(Refusal::NoMemory) => Err(ParseBad::NoMemory),
+        Err(Refusal::Unexpected { .. }) => Err(NotParsed::NoStatement),
+        Err(Refusal::NoMemory) => Err(NotParsed::NoMemory),
     }
 }
 
-/// How many bytes stand from the first of the last tokens on.
-fn bytes_left(lexed: &Lexed, tokens: usize) -> usize {
-    let first = lexed.tokens.len().saturating_sub(tokens);
-    lexed.lefts.get(first).copied().unwrap_or(lexed.unread)
-}
-
-fn syntax(len: usize, left: usize) -> ParseBad
-    ensures { IsSyntaxWithin len result }
+/// How many tokens stand from the first on that no statement has there: none where one begins with all of them.
+pub fn tokens_left(alloc: Global, tokens: &[Token]) -> Result<usize, AllocError>
+    ensures { IfOk result (λ left. Decides (left == 0) (IsFront tokens.now)) }
 {
-    let at = len.saturating_sub(left);
-    if at < u32::MAX as usize {
-        return ParseBad::Syntax { at: at as u32 };
+    match statement(alloc, tokens) {
+        Ok(stmt) => {
+            drop(stmt);
+            Ok(0)
+        }
+        Err(Refusal::Unexpected { left }) => Ok(left),
+        Err(Refusal::NoMemory) => Err(AllocError),
     }
-    ParseBad::Syntax { at: u32::MAX }
 }

@@ -7,7 +7,7 @@ ghost use Rattle.inno_db.specs.Refusals.{refused_if};
 ghost use Rattle.inno_model.specs.Past.{level_or, IsOpen};
 ghost use Rattle.sql_history.specs.Settings.{next_level};
 ghost use Rattle.sql_history.specs.Statements.{session_refusal, is_serializable};
-ghost use Rattle.sql_lists.specs.Kept.{IsOnlyMaker, OwesAck};
+ghost use Rattle.sql_lists.specs.Kept.{OwesAck};
 ghost use Rattle.sql_lists.specs.Steps.{Steps, GoesOnAcked};
 ghost use Rattle.sql_lists.specs.Going.{Nears, NearsAcked};
 ghost use Rattle.statement.specs.Running.{IsRunning, IsOfKind, LooksAs, IsBegun, is_went, is_done, owes_ack, acked};
@@ -139,9 +139,7 @@ fn give_up<L: SharedLists>(session: u32, lists: &mut SqlLists<L>) -> (Statement,
     (Statement::Failed, Advance::Done(Reply::NoMemory))
 }
 
-/// Looks whether something refuses the statement at once, and else begins it. Which tables stand is settled only while
-/// no other session makes one.
-/// MySQL 8.0 Reference Manual, "Metadata Locking".
+/// Looks whether something refuses the statement at once, and else begins it.
 fn first_step<L: SharedLists>(
     alloc: Global,
     stmt: Stmt,
@@ -153,38 +151,12 @@ fn first_step<L: SharedLists>(
     ensures steps { Steps IsRunning session lists.old lists.new result.0 result.1 }
     ensures nears { Nears statement_to_go session lists.old (Statement.Asked stmt) lists.new result.0 result.1 }
 {
-    if let Some(by) = lists.other_maker(session) {
-        return wait_for(by, stmt, session, lists);
-    }
     match examine(alloc, &stmt, session, lists) {
         Ok(Look::Refused(error)) => refuse_at_once(error, stmt, session, lists),
         Ok(Look::Ready { autocommit, level }) => (
             begin(stmt, autocommit, level, session, lists),
             Advance::Went,
         ),
-        Err(_) => {
-            drop(stmt);
-            (Statement::Failed, Advance::NoMemory)
-        }
-    }
-}
-
-/// Another session makes a table: the statement waits for its transaction.
-fn wait_for<L: SharedLists>(
-    by: u32,
-    stmt: Stmt,
-    session: u32,
-    lists: &mut SqlLists<L>,
-) -> (Statement, Advance)
-    requires running { IsRunning lists.old session (Statement.Asked stmt) }
-    requires joined { (session < length lists.old.names) × (by < length lists.old.names) }
-    requires is_open { IsOpen by lists.old.past }
-    requires held { (lists.old.writer ≡ Some by) × (by ≢ session) }
-    ensures steps { Steps IsRunning session lists.old lists.new result.0 result.1 }
-    ensures stays { is_went result.1 ≡ false }
-{
-    match lists.edge_to(session, by) {
-        Ok(blockers) => (Statement::Asked(stmt), Advance::Waiting { by, blockers }),
         Err(_) => {
             drop(stmt);
             (Statement::Failed, Advance::NoMemory)
@@ -208,7 +180,6 @@ fn examine<L: SharedLists>(
     lists: &SqlLists<L>,
 ) -> Result<Look, AllocError>
     requires joined { session < length lists.now.names }
-    requires lone { IsOnlyMaker session lists.now.past }
     ensures { IfOk result (LooksAs session stmt.now lists.now.past) }
 {
     let setting = lists.setting(session);

@@ -15,4 +15,6 @@ mod flushes;
 #[cfg(test)]
 mod groups;
 #[cfg(test)]
+mod mounts;
+#[cfg(test)]
 mod placed_pages;

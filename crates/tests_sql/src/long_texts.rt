@@ -1,7 +1,6 @@
 //! A text that is cut off at each of its bytes, and one with brackets as deep as a text has room for.
 
-use sql_prefix::parse;
-use sql_text::ParseBad;
+use sql_prefix::{ParseBad, parse};
 use std::alloc::{AllocError, Global};
 use std::test::Fail;
 

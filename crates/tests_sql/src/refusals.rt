@@ -1,7 +1,6 @@
 //! Texts that spell no statement, each with the length of its longest prefix that begins one.
 
-use sql_prefix::parse;
-use sql_text::ParseBad;
+use sql_prefix::{ParseBad, parse};
 use std::alloc::{AllocError, Global};
 use std::process::Abort;
 use std::test::Fail;

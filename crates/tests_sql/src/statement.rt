@@ -6,15 +6,15 @@ use inno_types::{
     DeclaredKind, Definition, Definitions, Filter, Level, LevelScope, Mode, Names, Selected, Sets,
     Stmt, Tuples,
 };
-use sql_text::{ParseBad, parse};
+use sql_text::{NotParsed, parse};
 use std::alloc::{AllocError, Global};
 
 /// The tree of the statement that the bytes spell; nothing where they spell none.
 pub fn tree(alloc: Global, bytes: &[u8]) -> Result<Vec<u8>, AllocError> {
     match parse(alloc, bytes) {
         Ok(stmt) => spelled(alloc, stmt),
-        Err(ParseBad::Syntax { .. }) => Ok(Vec::new(alloc)),
-        Err(ParseBad::NoMemory) => Err(AllocError),
+        Err(NotParsed::NoStatement) => Ok(Vec::new(alloc)),
+        Err(NotParsed::NoMemory) => Err(AllocError),
     }
 }
 

@@ -9,6 +9,7 @@ use Rattle.entries.specs.Index.{AreKept}
 use Rattle.row_versions.specs.declared.place.Place.{Place}
 use Rattle.row_versions.specs.Chains.{Chains}
 use Rattle.world.specs.State.{WorldState}
+use Rattle.world.proofs.Stores.{store_stays}
 use Rattle.world.specs.Undoing.{IsUnchanged}
 use Rattle.row_changes.specs.Pairs.{RowsStay}
 use Rattle.undo_apply.specs.declared.work_room.WorkRoom.{WorkRoom}
@@ -32,13 +33,19 @@ stays_same state =
       pairs = λ index. same_pairs (state.indexes index).pairs;
       places = λ index. refl;
       versions = record { told = λ h. h; kept = λ h. refl };
-      rest =
-          refl;
+      rest = refl;
+      later = store_stays state.paged;
     }
 
 pub unchanged_stays : (old new : WorldState) → IsUnchanged old new → RowsStay old new
 unchanged_stays old new same =
-    record { pairs = λ index. (same.indexes index).pairs; places = λ index. (same.indexes index).place; versions = same.versions; rest = same.rest }
+    record {
+      pairs = λ index. (same.indexes index).pairs;
+      places = λ index. (same.indexes index).place;
+      versions = same.versions;
+      rest = same.rest;
+      later = same.later;
+    }
 
 -- ---- what is known after a step
 

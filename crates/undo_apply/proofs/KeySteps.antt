@@ -84,6 +84,7 @@ removed_if key c here = record {
   places = places_if c.index_is here.place;
   versions = c.beside.versions;
   rest = c.beside.rest;
+  later = c.beside.later;
 }
 
 -- a key that isn't there is removed from the pairs of an index in vain

@@ -11,6 +11,7 @@ use Rattle.entries.specs.Calls.{is_done, Inserts, Replaces}
 use Rattle.chain.specs.Versions.{Versions, Stays}
 use Rattle.row_codec.specs.Rows.{IsRecordOf, IsVersion}
 use Rattle.world.specs.State.{WorldState, Session, Work, HasWork, with_work}
+use Rattle.world.specs.Stores.{StoreGoes}
 
 -- One index has gone on by a step; the others are as they were, and so is all else.
 pub record InIndex (index : ℕ) (step : Index → Index → Type 0) (old new : WorldState) : Type 0 where
@@ -78,11 +79,13 @@ pub record IsLogged (actor : ℕ) (undo : Undo) (old new : WorldState) : Type 0 
   pub rest : new ≡ record (with_work actor (record session { undo_room = 0; next_pointer = next })
       (record work { log = record { pointer = session.next_pointer; undo = undo } ∷ work.log }) old)
       { indexes = new.indexes; versions = new.versions; paged = new.paged }
+  pub later : StoreGoes old.paged new.paged
 
 -- no undo record comes, and all but indexes is as it was
 pub record StaysBeside (old new : WorldState) : Type 0 where
   pub versions : Stays old.versions new.versions
   pub rest : new ≡ record old { indexes = new.indexes; versions = new.versions; paged = new.paged }
+  pub later : StoreGoes old.paged new.paged
 
 -- what comes beside the change of an index that has been made, or not
 abbrev pub Brings : ℕ → Option Undo → Bool → WorldState → WorldState → Type 0

@@ -1,7 +1,9 @@
 pub mod State
+pub mod Stores
 pub mod Indexes
 pub mod Undoing
 pub mod Sessions
+pub mod Endings
 pub mod Told
 pub mod EngineCalls
 pub mod Memory

@@ -2,9 +2,9 @@
 use Rattle.std.specs.Prelude.{◌≡◌, ℕ, ◌+◌, ◌-◌, ◌==◌, true, false, if◌then◌else◌, List, [], ◌∷◌, ◌++◌, map, Option, None, Some}
 use Rattle.inno_types.specs.declared.lock.Level.{Level}
 use Rattle.inno_db.specs.declared.change.Change.{Change}
-use Rattle.inno_model.specs.declared.event.Event.TheVariants.{Begin, View, Changed, Undone, Committed, RolledBack}
-use Rattle.sql_history.specs.Settings.{at_begin, at_end, saved, back_to}
-use Rattle.txn_table.specs.Txns.{with_id as with_txn_id, without}
+use Rattle.inno_model.specs.declared.event.Event.TheVariants.{Begin, View, Changed, Undone}
+use Rattle.sql_history.specs.Settings.{at_begin, saved, back_to}
+use Rattle.txn_table.specs.Txns.{with_id as with_txn_id}
 use Rattle.world.specs.State.{WorldState, Session, Work, Seen, with_session, with_work, with_entry}
 
 -- a transaction that has done nothing
@@ -43,14 +43,6 @@ identified txn state =
       sessions = change_txn txn (λ session. record session { work = work_with_id state.txns.next session.work }) state.sessions;
     }
 
--- the transaction is no longer open
-abbrev pub ended : ℕ → WorldState → WorldState
-ended txn state =
-    record state {
-      txns = record state.txns { open_txns = without txn state.txns.open_txns };
-      sessions = change_txn txn (λ session. record session { setting = at_end session.setting; work = None }) state.sessions;
-    }
-
 -- the transaction has a savepoint of this name, in place of an older one
 abbrev pub with_save : ℕ → List ℕ → ℕ → WorldState → WorldState
 with_save txn name made state =
@@ -87,12 +79,6 @@ change_added s change rows session work state =
 
 abbrev pub undone_added : ℕ → ℕ → Session → Work → WorldState → WorldState
 undone_added s keep session work state = with_entry (Undone s keep) (with_work s session (record work { own = work.own - 1 }) state)
-
-abbrev pub committed_added : ℕ → Session → Work → WorldState → WorldState
-committed_added s session work state = with_entry (Committed s) (with_work s (record session { can_ack = true }) (record work { can_end = false }) state)
-
-abbrev pub rolled_back_added : ℕ → Session → Work → WorldState → WorldState
-rolled_back_added s session work state = with_entry (RolledBack s) (with_work s session (record work { can_end = false }) state)
 
 -- what is told of the view that a transaction keeps
 abbrev pub IsShown : Option Seen → List ℕ → Option ℕ → Type 0

@@ -9,12 +9,14 @@ use Rattle.inno_types.specs.Order.{IsBelow}
 use Rattle.chain.specs.Versions.{Stays}
 use Rattle.world.specs.declared.undo_room.UndoRoom.{UndoRoom}
 use Rattle.world.specs.State.{WorldState, Session, Work, Logged, IsSession, HasWork, with_session, with_work}
+use Rattle.world.specs.Stores.{StoreGoes}
 
 -- Nothing has changed but what is known of pages.
 pub record IsUnchanged (old new : WorldState) : Type 0 where
   pub indexes : (index : ℕ) → IsAsBefore (old.indexes index) (new.indexes index)
   pub versions : Stays old.versions new.versions
   pub rest : new ≡ record old { indexes = new.indexes; versions = new.versions; paged = new.paged }
+  pub later : StoreGoes old.paged new.paged
 
 -- The call has not ended, by a cause that only a world in pages has.
 pub record IsPutOff (why : Paged → Paged → Type 0) (old new : WorldState) : Type 0 where
@@ -36,6 +38,7 @@ pub record IsReady (actor bytes : ℕ) (old new : WorldState) : Type 0 where
   pub pointer : ℕ
   pub leads : pointer ≢ 0
   pub rest : new ≡ record (with_session actor (record session { undo_room = bytes; next_pointer = pointer }) old) { paged = new.paged }
+  pub later : StoreGoes old.paged new.paged
 
 abbrev pub MakesRoom : ℕ → ℕ → WorldState → WorldState → Move → Type 0
 MakesRoom actor bytes old new Done = IsReady actor bytes old new
@@ -85,6 +88,7 @@ pub record IsCutBack (slot : ℕ) (old new : WorldState) : Type 0 where
   pub next : ℕ
   pub rest : new ≡ record (with_work slot (record session { undo_room = 0; next_pointer = next }) (record work { log = log }) old)
       { versions = new.versions; paged = new.paged }
+  pub later : StoreGoes old.paged new.paged
 
 abbrev pub CutsBack : ℕ → ℕ → WorldState → WorldState → Move → Type 0
 CutsBack actor slot old new Done = IsCutBack slot old new

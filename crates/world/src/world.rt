@@ -10,7 +10,8 @@ ghost use Rattle.sql_history.specs.Settings.{made_at};
 ghost use Rattle.world.specs.State.{WorldState, Session, Work, IsIndex, IsSession, HasWork, standing_of};
 ghost use Rattle.world.specs.Indexes.{Calls, Changes, MayBring, InsertsWith, ReplacesWith};
 ghost use Rattle.world.specs.Undoing.{IsUnchanged, MakesRoom, HoldsRecord, read_into, ReadsLast, CutsBack};
-ghost use Rattle.world.specs.Sessions.{IsShown, begun, identified, ended, with_save, back_at_save, with_room, begin_added, view_added, change_added, undone_added, committed_added, rolled_back_added};
+ghost use Rattle.world.specs.Sessions.{IsShown, begun, identified, with_save, back_at_save, with_room, begin_added, view_added, change_added, undone_added};
+ghost use Rattle.world.specs.Endings.{Commits, RollsBack, FreesLog};
 
 use crate::undo_room::UndoRoom;
 use chain::ChainBad;
@@ -176,9 +177,20 @@ pub trait World {
         ensures some { IfSome result (λ _. state self.new ≡ back_at_save txn name.now (state self.old)) }
         ensures none { IfNone result (state self.new ≡ state self.old) };
 
-    /// The transaction is no longer open.
-    fn end(&mut self, txn: u64)
-        ensures { state self.new ≡ ended txn (state self.old) };
+    /// Commits the session's open transaction. The history tells it, and it is to be acknowledged. It takes no memory.
+    fn commit(&mut self, s: u32) -> Move
+        requires { (session : Session) × (work : Work) × HasWork s session work (state self.old) × (work.can_end ≡ true) }
+        ensures { Commits s (state self.old) (state self.new) result };
+
+    /// Ends the session's open transaction, whose changes are taken back. The history tells it. It takes no memory.
+    fn roll_back(&mut self, s: u32) -> Move
+        requires { (session : Session) × (work : Work) × HasWork s session work (state self.old) × (work.can_end ≡ true) }
+        ensures { RollsBack s (state self.old) (state self.new) result };
+
+    /// Gives back what the log of the session's last transaction kept, up to `Done`. It takes no memory.
+    fn free_log(&mut self, s: u32) -> Move
+        requires { (session : Session) × IsSession s session (state self.old) × (session.work ≡ None) }
+        ensures { FreesLog s (state self.old) (state self.new) result };
 
     // ---- the history
 
@@ -219,16 +231,6 @@ pub trait World {
     fn add_undone(&mut self, s: u32, keep: u64)
         requires { (session : Session) × (work : Work) × HasWork s session work (state self.old) × (0 < work.own) }
         ensures { (session : Session) (work : Work) → HasWork s session work (state self.old) → state self.new ≡ undone_added s keep session work (state self.old) };
-
-    /// Adds the entry of a commit. It takes no memory.
-    fn add_committed(&mut self, s: u32)
-        requires { (session : Session) × (work : Work) × HasWork s session work (state self.old) × (work.can_end ≡ true) }
-        ensures { (session : Session) (work : Work) → HasWork s session work (state self.old) → state self.new ≡ committed_added s session work (state self.old) };
-
-    /// Adds the entry of a rollback. It takes no memory.
-    fn add_rolled_back(&mut self, s: u32)
-        requires { (session : Session) × (work : Work) × HasWork s session work (state self.old) × (work.can_end ≡ true) }
-        ensures { (session : Session) (work : Work) → HasWork s session work (state self.old) → state self.new ≡ rolled_back_added s session work (state self.old) };
 
     // ---- what is read
 

@@ -1,5 +1,5 @@
 -- A change of a row begins.
-use Rattle.std.proofs.Common.{◌≡◌, ℕ, zero, suc, ◌<◌, ◌^◌, Bool, true, List, [], ◌∷◌, length, Option, Some, refl, sym, ap, subst, ◌∙◌, arith}
+use Rattle.std.proofs.Common.{◌≡◌, ℕ, zero, suc, ◌<◌, ◌^◌, true, List, [], ◌∷◌, length, Option, Some, refl, sym, ap, subst, ◌∙◌, arith}
 use Rattle.std.specs.Prelude.{slice_get, slice_index_or}
 use Rattle.inno_types.specs.declared.value.Column.{Column}
 use Rattle.inno_types.specs.declared.value.Schema.{Schema}
@@ -73,11 +73,11 @@ there_at state table edit found can at =
 
 -- ---- the change
 
-module _ (state : WorldState) (s : ℕ) (writer : Option ℕ) (made : Bool) (desks : List Desk) (cuts : ℕ) (undo : UndoRoom) (room : WorkRoom) (left : ℕ)
-    (change : Change) (held : IsHeld state writer made desks cuts undo room) (may : MayBegin s change (lists_of state writer desks left)) (table : ℕ)
+module _ (state : WorldState) (s : ℕ) (writer : Option ℕ) (desks : List Desk) (cuts : ℕ) (undo : UndoRoom) (room : WorkRoom) (left : ℕ)
+    (change : Change) (held : IsHeld state writer desks cuts undo room) (may : MayBegin s change (lists_of state writer desks left)) (table : ℕ)
     (edit : RowEdit) (is : change_of table edit ≡ change) where
-  held_mine : IsHeld state (Some s) made desks cuts undo room
-  held_mine = subst (λ (w : Option ℕ). IsHeld state w made desks cuts undo room) may.locked held
+  held_mine : IsHeld state (Some s) desks cuts undo room
+  held_mine = subst (λ (w : Option ℕ). IsHeld state w desks cuts undo room) may.locked held
 
   fits_mine : FitsWell (created state.past) (change_of table edit)
   fits_mine = subst (FitsWell (created state.past)) (sym is) may.fits
@@ -86,27 +86,27 @@ module _ (state : WorldState) (s : ℕ) (writer : Option ℕ) (made : Bool) (des
   within = let count = held.count in let joined : s < length state.names = may.joined in omega arith
 
   pub can_edit : IsEditable state table edit
-  can_edit = can_be_keyed state s made desks cuts undo room held_mine table edit fits_mine
+  can_edit = can_be_keyed state s desks cuts undo room held_mine table edit fits_mine
 
   module _ (found : Schema) (at : found ≡ slice_index_or state.schemas table found) (key : List ℕ) (spelled : IsKeyOfEdit found edit key) (first : RowChange)
       (is_first : first ≡ begun table edit key) (later : List Desk) (gives_first : later ≡ with_doing s (Changing first) desks) where
     gives : later ≡ with_doing s (Changing (begun table edit key)) desks
     gives = subst (λ (c : RowChange). later ≡ with_doing s (Changing c) desks) is_first gives_first
 
-    pub begun_held : IsHeld state writer made later cuts undo room
+    pub begun_held : IsHeld state writer later cuts undo room
     begun_held =
-        subst (λ (w : Option ℕ). IsHeld state w made later cuts undo room) (sym may.locked)
-        (subst (λ (ds : List Desk). IsHeld state (Some s) made ds cuts undo room) (sym gives)
-        (begins state s made desks cuts undo room held_mine table found edit key (nothing_if state writer desks left s may.idle) may.is_open fits_mine
+        subst (λ (w : Option ℕ). IsHeld state w later cuts undo room) (sym may.locked)
+        (subst (λ (ds : List Desk). IsHeld state (Some s) ds cuts undo room) (sym gives)
+        (begins state s desks cuts undo room held_mine table found edit key (nothing_if state writer desks left s may.idle) may.is_open fits_mine
         (there_at state table edit found can_edit at) spelled))
 
     pub begun_shows : Begins s change (lists_of state writer desks left) (lists_of state writer later left)
     begun_shows =
         let now : Lists = lists_of state (Some s) (with_doing s (Changing (begun table edit key)) desks) left in
-        let task = begun_task state s made desks cuts undo room held_mine within left table edit key now refl in
+        let task = begun_task state s desks cuts undo room held_mine within left table edit key now refl in
         let mine : Begins s change (lists_of state (Some s) desks left) now
         = record {
-          turns = begun_turns state s made desks cuts undo room held_mine within left left table edit key now refl;
+          turns = begun_turns state s desks cuts undo room held_mine within left left table edit key now refl;
           changing = task.0;
           asked_is = subst (λ (asks : Change). asked (task_of s now.state) ≡ Some asks) is task.1;
           few = task.2;

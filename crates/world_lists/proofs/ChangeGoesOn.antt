@@ -1,5 +1,5 @@
 -- A step of a change, with the indexes that one leaves which was hindered.
-use Rattle.std.proofs.Common.{◌≡◌, ℕ, ◌+◌, ◌<◌, ◌^◌, Bool, false, List, length, Option, Some, refl, sym, ap, subst, ◌∙◌, arith}
+use Rattle.std.proofs.Common.{◌≡◌, ℕ, ◌+◌, ◌<◌, ◌^◌, false, List, length, Option, Some, refl, sym, ap, subst, ◌∙◌, arith}
 use Rattle.inno_model.specs.declared.event.Event.{Event}
 use Rattle.world.specs.State.{WorldState}
 use Rattle.world.specs.Told.{IsTold}
@@ -43,8 +43,8 @@ no_more : (new old : ℕ) → new ≡ old → new ≡ old + 0
 no_more new old same = omega arith
 
 -- what a step shows, by how far it came
-module _ (s : ℕ) (made : Bool) (desks : List Desk) (cuts : ℕ) (undo : UndoRoom) (room : WorkRoom) (old new : WorldState) (left later : ℕ)
-    (held : IsHeld old (Some s) made desks cuts undo room) (leaves : LeavesLists old new) where
+module _ (s : ℕ) (desks : List Desk) (cuts : ℕ) (undo : UndoRoom) (room : WorkRoom) (old new : WorldState) (left later : ℕ)
+    (held : IsHeld old (Some s) desks cuts undo room) (leaves : LeavesLists old new) where
   abbrev Shows : RowChange → Reached RowChange → Type 0
   Shows change came =
       ChangesIn s (lists_of old (Some s) desks left) (lists_of new (Some s) (with_doing s (doing_after change came) desks) later) (answer_for change came)
@@ -52,13 +52,13 @@ module _ (s : ℕ) (made : Bool) (desks : List Desk) (cuts : ℕ) (undo : UndoRo
   came_shown : (change : RowChange) (came : Reached RowChange) → doing_at s desks ≡ Changing change → Comes s old new change came → Shows change came
   came_shown (Record change key after) (reached.Went (Record next key' after')) at comes =
       record {
-        changes = went_shown s made desks cuts undo room old new left later held leaves (Record change key after) at (Record next key' after') comes;
+        changes = went_shown s desks cuts undo room old new left later held leaves (Record change key after) at (Record next key' after') comes;
         settings = leaves.settings;
         rows = no_more new.rows old.rows comes.adds.rows;
       }
   came_shown (Record change key after) (reached.Went (Keys next)) at comes =
       record {
-        changes = entered_shown s made desks cuts undo room old new left later held leaves (Record change key after) at (Keys next) comes;
+        changes = entered_shown s desks cuts undo room old new left later held leaves (Record change key after) at (Keys next) comes;
         settings =
             leaves.settings;
         rows = rows_shown s desks old new (Record change key after) (Keys next) left at comes;
@@ -66,7 +66,7 @@ module _ (s : ℕ) (made : Bool) (desks : List Desk) (cuts : ℕ) (undo : UndoRo
   came_shown (Keys change) (reached.Went (Record next key' after')) at comes = absurd comes
   came_shown (Keys change) (reached.Went (Keys next)) at comes =
       record {
-        changes = went_shown s made desks cuts undo room old new left later held leaves (Keys change) at (Keys next) comes;
+        changes = went_shown s desks cuts undo room old new left later held leaves (Keys change) at (Keys next) comes;
         settings =
             leaves.settings;
         rows = no_more new.rows old.rows comes.adds.rows;
@@ -74,27 +74,27 @@ module _ (s : ℕ) (made : Bool) (desks : List Desk) (cuts : ℕ) (undo : UndoRo
   came_shown (Record change key after) reached.Done at comes = absurd (let none = comes.1 in cc)
   came_shown (Keys change) reached.Done at comes =
       record {
-        changes = done_shown s made desks cuts undo room old new left later held leaves (Keys change) at comes.0 comes.1;
+        changes = done_shown s desks cuts undo room old new left later held leaves (Keys change) at comes.0 comes.1;
         settings = leaves.settings;
         rows = no_more new.rows old.rows comes.0.rows;
       }
   came_shown (Record change key after) (reached.Hindered same why) at comes =
       record {
-        changes = given_up_shown s made desks cuts undo room old new left later held leaves (Record change key after) at comes.0;
+        changes = given_up_shown s desks cuts undo room old new left later held leaves (Record change key after) at comes.0;
         settings =
             leaves.settings;
         rows = no_more new.rows old.rows comes.0.rows;
       }
   came_shown (Keys change) (reached.Hindered same why) at comes =
       record {
-        changes = given_up_shown s made desks cuts undo room old new left later held leaves (Keys change) at comes.0;
+        changes = given_up_shown s desks cuts undo room old new left later held leaves (Keys change) at comes.0;
         settings = leaves.settings;
         rows
             = no_more new.rows old.rows comes.0.rows;
       }
 
-module _ (s : ℕ) (made : Bool) (desks : List Desk) (cuts : ℕ) (undo : UndoRoom) (room : WorkRoom) (old new : WorldState) (change : RowChange) (doing : Doing)
-    (answer : Changed) (step : StepsChange s change old new doing answer) (held : IsHeld old (Some s) made desks cuts undo room)
+module _ (s : ℕ) (desks : List Desk) (cuts : ℕ) (undo : UndoRoom) (room : WorkRoom) (old new : WorldState) (change : RowChange) (doing : Doing)
+    (answer : Changed) (step : StepsChange s change old new doing answer) (held : IsHeld old (Some s) desks cuts undo room)
     (at : doing_at s desks ≡ Changing change) (was : IsTold old) (told : IsTold new) (few : length new.past < 2 ^ 63) where
   told_mid : IsTold step.mid
   told_mid =
@@ -105,49 +105,49 @@ module _ (s : ℕ) (made : Bool) (desks : List Desk) (cuts : ℕ) (undo : UndoRo
             step.left.versions;
       }) told
 
-  is_made : MakesChange s made desks cuts undo room old step.mid change step.reached
+  is_made : MakesChange s desks cuts undo room old step.mid change step.reached
   is_made =
-      change_made s made desks cuts undo room old step.mid change step.reached held at step.made was told_mid
+      change_made s desks cuts undo room old step.mid change step.reached held at step.made was told_mid
       (subst (λ (past : List Event). length past < 2 ^ 63) (ap (λ (state : WorldState). state.past) step.left.rest) few)
 
-  mine_held : IsHeld new (Some s) made (with_doing s doing desks) cuts undo room
+  mine_held : IsHeld new (Some s) (with_doing s doing desks) cuts undo room
   mine_held =
       let desks_then = with_doing s (doing_after change step.reached) desks in
       let none : is_searching (doing_at s desks_then) ≡ false =
       ap is_searching (doing_here s (doing_after change step.reached) desks (changes_at_a_desk s change desks at)) ∙ not_searching change step.reached in
-      subst (λ (d : Doing). IsHeld new (Some s) made (with_doing s d desks) cuts undo room) (sym step.doing_is)
-      (held_left s (Some s) step.mid new step.left made desks_then cuts undo room is_made.held none told)
+      subst (λ (d : Doing). IsHeld new (Some s) (with_doing s d desks) cuts undo room) (sym step.doing_is)
+      (held_left s (Some s) step.mid new step.left desks_then cuts undo room is_made.held none told)
 
   mine_shown : (left later : ℕ) → ChangesIn s (lists_of old (Some s) desks left) (lists_of new (Some s) (with_doing s doing desks) later) answer
   mine_shown left later =
       let desks_then = with_doing s (doing_after change step.reached) desks in
       let before : Lists = lists_of old (Some s) desks left in
-      let shows = came_shown s made desks cuts undo room old step.mid left later held is_made.leaves change step.reached at is_made.comes in
+      let shows = came_shown s desks cuts undo room old step.mid left later held is_made.leaves change step.reached at is_made.comes in
       subst (λ (d : Doing). ChangesIn s before (lists_of new (Some s) (with_doing s d desks) later) answer) (sym step.doing_is)
       (subst (λ (a : Changed). ChangesIn s before (lists_of new (Some s) desks_then later) a) (sym step.answer_is)
       (subst (λ (now : Lists). ChangesIn s before now (answer_for change step.reached)) (sym (left_shown s (Some s) desks_then later step.mid new step.left))
       shows))
 
 -- The session may write, and its desk is taken and given back.
-module _ (s : ℕ) (writer : Option ℕ) (made : Bool) (desks : List Desk) (cuts : ℕ) (undo : UndoRoom) (room : WorkRoom) (old new : WorldState)
+module _ (s : ℕ) (writer : Option ℕ) (desks : List Desk) (cuts : ℕ) (undo : UndoRoom) (room : WorkRoom) (old new : WorldState)
     (change : RowChange) (doing : Doing) (answer : Changed) (step : StepsChange s change old new doing answer) (locked : writer ≡ Some s)
-    (held : IsHeld old writer made desks cuts undo room) (at : doing_at s desks ≡ Changing change) (was : IsTold old) (told : IsTold new)
+    (held : IsHeld old writer desks cuts undo room) (at : doing_at s desks ≡ Changing change) (was : IsTold old) (told : IsTold new)
     (few : length new.past < 2 ^ 63) (taken later : List Desk) (takes : taken ≡ with_doing s Nothing desks)
     (gives : later ≡ with_doing s doing taken) where
-  held_mine : IsHeld old (Some s) made desks cuts undo room
-  held_mine = subst (λ (w : Option ℕ). IsHeld old w made desks cuts undo room) locked held
+  held_mine : IsHeld old (Some s) desks cuts undo room
+  held_mine = subst (λ (w : Option ℕ). IsHeld old w desks cuts undo room) locked held
 
   gives_all : with_doing s doing desks ≡ later
   gives_all = sym (gives ∙ ap (with_doing s doing) takes ∙ given_again s Nothing doing desks)
 
-  pub step_held : IsHeld new writer made later cuts undo room
+  pub step_held : IsHeld new writer later cuts undo room
   step_held =
-      subst (λ (w : Option ℕ). IsHeld new w made later cuts undo room) (sym locked)
-      (subst (λ (ds : List Desk). IsHeld new (Some s) made ds cuts undo room) gives_all
-      (mine_held s made desks cuts undo room old new change doing answer step held_mine at was told few))
+      subst (λ (w : Option ℕ). IsHeld new w later cuts undo room) (sym locked)
+      (subst (λ (ds : List Desk). IsHeld new (Some s) ds cuts undo room) gives_all
+      (mine_held s desks cuts undo room old new change doing answer step held_mine at was told few))
 
   pub step_shown : (left left_now : ℕ) → ChangesIn s (lists_of old writer desks left) (lists_of new writer later left_now) answer
   step_shown left left_now =
       subst (λ (w : Option ℕ). ChangesIn s (lists_of old w desks left) (lists_of new w later left_now) answer) (sym locked)
       (subst (λ (ds : List Desk). ChangesIn s (lists_of old (Some s) desks left) (lists_of new (Some s) ds left_now) answer) gives_all
-      (mine_shown s made desks cuts undo room old new change doing answer step held_mine at was told few left left_now))
+      (mine_shown s desks cuts undo room old new change doing answer step held_mine at was told few left left_now))

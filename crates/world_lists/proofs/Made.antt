@@ -18,8 +18,9 @@ use Rattle.law_past_agreement.specs.Order.{MayCome}
 use Rattle.world.specs.State.{WorldState, Session, Work, IsSession, HasWork, txn_of}
 use Rattle.world.specs.Told.{IsTold}
 use Rattle.world.specs.Sessions.{change_txn, with_save}
+use Rattle.world.specs.Endings.{IsCommitted, IsRolledBack}
 use Rattle.world.specs.declared.undo_room.UndoRoom.{UndoRoom}
-use Rattle.law_world_agreement.specs.Steps.{viewed, committed, rolled_back}
+use Rattle.law_world_agreement.specs.Steps.{viewed}
 use Rattle.undo_apply.specs.declared.work_room.WorkRoom.{WorkRoom}
 use Rattle.world.specs.EngineCalls.{item_started, item_ended, acknowledged, with_setting}
 use Rattle.row_changes.specs.Records.{IsListed}
@@ -71,8 +72,8 @@ pub pushed : {X : Type 0} {T E : Type 0} (result : Result T E) (value : T) (item
 pushed (Ok x) value items more less is items_are = items_are
 pushed (Err e) value items more less is items_are = absurd (cc)
 
-module _ (s : ℕ) (old : WorldState) (writer : Option ℕ) (made : Bool) (desks : List Desk) (cuts : ℕ) (undo : UndoRoom) (room : WorkRoom) (lists : Lists)
-    (held : IsHeld old writer made desks cuts undo room) (view_is : seen_of undo.table room.stage old writer desks ≡ lists) where
+module _ (s : ℕ) (old : WorldState) (writer : Option ℕ) (desks : List Desk) (cuts : ℕ) (undo : UndoRoom) (room : WorkRoom) (lists : Lists)
+    (held : IsHeld old writer desks cuts undo room) (view_is : seen_of undo.table room.stage old writer desks ≡ lists) where
   pub joined_here : s < length lists.state.names → s < length old.names
   joined_here joined = subst (λ (l : Lists). s < length l.state.names) (sym view_is) joined
 
@@ -80,12 +81,12 @@ module _ (s : ℕ) (old : WorldState) (writer : Option ℕ) (made : Bool) (desks
   past_here P given = subst (λ (l : Lists). P l.state.past) (sym view_is) given
 
   pub its_session : s < length lists.state.names → (session : Session) × IsSession s session old
-  its_session joined = there old writer made desks cuts undo room held s (joined_here joined)
+  its_session joined = there old writer desks cuts undo room held s (joined_here joined)
 
   pub its_work : s < length lists.state.names → IsOpen s lists.state.past → (session : Session) × (work : Work) × HasWork s session work old
   its_work joined is_open =
       let found = its_session joined in
-      let has = open_has old writer made desks cuts undo room held s found.0 found.1 (past_here (IsOpen s) is_open) in
+      let has = open_has old writer desks cuts undo room held s found.0 found.1 (past_here (IsOpen s) is_open) in
       (found.0, has.0, has.1)
 
   pub at_rest : task_of s lists.state ≡ Idle → doing_at s desks ≡ Nothing
@@ -144,61 +145,56 @@ module _ (s : ℕ) (old : WorldState) (writer : Option ℕ) (made : Bool) (desks
     few_by e target new_is past few = few_more old.past e new few (ap (λ (w : WorldState). w.past) new_is ∙ past)
 
     pub acked_made : (moment : ℕ) → MayCome lists.state.past (Acked s moment) → length new.past < 2 ^ 63 → new ≡ acknowledged s moment session old
-        → IsHeld new writer made desks cuts undo room
+        → IsHeld new writer desks cuts undo room
     acked_made moment may few new_is =
-        subst (λ (w : WorldState). IsHeld w writer made desks cuts undo room) (sym new_is)
-        (acked_held writer made cuts undo room old desks held s (at_rest idle) told session is moment (joined_here joined)
+        subst (λ (w : WorldState). IsHeld w writer desks cuts undo room) (sym new_is)
+        (acked_held writer cuts undo room old desks held s (at_rest idle) told session is moment (joined_here joined)
         (past_here (λ h. MayCome h (Acked s moment)) may) (few_by (Acked s moment) (acknowledged s moment session old) new_is refl few))
 
     pub ended_made : (j : ℕ) (reply : Reply) → MayCome lists.state.past (Ended s j reply) → length new.past < 2 ^ 63
-        → new ≡ item_ended s j reply session old → IsHeld new writer made desks cuts undo room
+        → new ≡ item_ended s j reply session old → IsHeld new writer desks cuts undo room
     ended_made j reply may few new_is =
-        subst (λ (w : WorldState). IsHeld w writer made desks cuts undo room) (sym new_is)
-        (ended_held writer made cuts undo room old desks held s (at_rest idle) told session is j reply (old.rows + rows_of_reply reply) (joined_here joined)
+        subst (λ (w : WorldState). IsHeld w writer desks cuts undo room) (sym new_is)
+        (ended_held writer cuts undo room old desks held s (at_rest idle) told session is j reply (old.rows + rows_of_reply reply) (joined_here joined)
         (past_here (λ h. MayCome h (Ended s j reply)) may) (few_by (Ended s j reply) (item_ended s j reply session old) new_is refl few))
 
     pub started_made : (j : ℕ) (item : Item) → under_way s lists.state.past ≡ None → j ≡ started s lists.state.past + 1 → length new.past < 2 ^ 63
-        → new ≡ item_started s j item session old → IsHeld new writer made (with_start s desks) cuts undo room
+        → new ≡ item_started s j item session old → IsHeld new writer (with_start s desks) cuts undo room
     started_made j item none j_is few new_is =
-        subst (λ (w : WorldState). IsHeld w writer made (with_start s desks) cuts undo room) (sym new_is)
-        (started_held writer made cuts undo room old desks held s (at_rest idle) told session is j item (joined_here joined)
+        subst (λ (w : WorldState). IsHeld w writer (with_start s desks) cuts undo room) (sym new_is)
+        (started_held writer cuts undo room old desks held s (at_rest idle) told session is j item (joined_here joined)
         (past_here (λ h. under_way s h ≡ None) none) (past_here (λ h. j ≡ started s h + 1) j_is)
         (few_by (Started s j item) (item_started s j item session old) new_is refl few))
 
-    pub set_made : (stmt : Stmt) → new ≡ with_setting s stmt session old → IsHeld new writer made desks cuts undo room
+    pub set_made : (stmt : Stmt) → new ≡ with_setting s stmt session old → IsHeld new writer desks cuts undo room
     set_made stmt new_is =
-        subst (λ (w : WorldState). IsHeld w writer made desks cuts undo room) (sym new_is)
-        (unentered_held writer made cuts undo room old desks held s (at_rest idle) told session is
+        subst (λ (w : WorldState). IsHeld w writer desks cuts undo room) (sym new_is)
+        (unentered_held writer cuts undo room old desks held s (at_rest idle) told session is
         (record session { setting = set_by stmt 0 false session.setting }) refl refl refl)
 
     pub saved_made : (name : List ℕ) (count : ℕ) (work : Work) → session.work ≡ Some work → new ≡ with_save work.txn name count old
-        → IsHeld new writer made desks cuts undo room
+        → IsHeld new writer desks cuts undo room
     saved_made name count work has new_is =
-        subst (λ (w : WorldState). IsHeld w writer made desks cuts undo room) (sym new_is)
-        (saved_held writer made cuts undo room old desks held s (at_rest idle) told session is work has name count)
+        subst (λ (w : WorldState). IsHeld w writer desks cuts undo room) (sym new_is)
+        (saved_held writer cuts undo room old desks held s (at_rest idle) told session is work has name count)
 
     pub viewed_made : (work : Work) → session.work ≡ Some work → length new.past < 2 ^ 63 → new ≡ viewed s session work old
-        → IsHeld new writer made desks cuts undo room
+        → IsHeld new writer desks cuts undo room
     viewed_made work has few new_is =
-        subst (λ (w : WorldState). IsHeld w writer made desks cuts undo room) (sym new_is)
-        (viewed_held writer made cuts undo room old desks held s (at_rest idle) told session is work has
+        subst (λ (w : WorldState). IsHeld w writer desks cuts undo room) (sym new_is)
+        (viewed_held writer cuts undo room old desks held s (at_rest idle) told session is work has
         (few_by (View s) (viewed s session work old) new_is refl few))
 
-    pub committed_made : (now : Bool) (work : Work) → session.work ≡ Some work → (writer ≡ Some s → now ≡ false) → (writer ≢ Some s → now ≡ made)
-        → length new.past < 2 ^ 63 → new ≡ committed s session work old
-        → IsHeld new (writer_without writer s) now desks cuts undo room
-    committed_made now work has mine theirs few new_is =
-        subst (λ (w : WorldState). IsHeld w (writer_without writer s) now desks cuts undo room) (sym new_is)
-        (committed_held writer made cuts undo room old desks held s (at_rest idle) told session is work has now mine theirs
-        (few_by (Committed s) (committed s session work old) new_is refl few))
+    pub committed_made : length new.past < 2 ^ 63 → IsCommitted s old new → IsHeld new (writer_without writer s) desks cuts undo room
+    committed_made few ends =
+        committed_held writer cuts undo room old new desks held s (at_rest idle) told
+        (few_more old.past (Committed s) new few (ap (λ (w : WorldState). w.past) ends.rest)) ends
 
-    pub rolled_back_made : (now : Bool) (work : Work) → session.work ≡ Some work → own s lists.state.past ≡ [] → (writer ≡ Some s → now ≡ false)
-        → (writer ≢ Some s → now ≡ made) → length new.past < 2 ^ 63 → new ≡ rolled_back s session work old
-        → IsHeld new (writer_without writer s) now desks cuts undo room
-    rolled_back_made now work has none mine theirs few new_is =
-        subst (λ (w : WorldState). IsHeld w (writer_without writer s) now desks cuts undo room) (sym new_is)
-        (rolled_back_held writer made cuts undo room old desks held s (at_rest idle) told session is work has now (past_here (λ h. own s h ≡ []) none) mine
-        theirs (few_by (RolledBack s) (rolled_back s session work old) new_is refl few))
+    pub rolled_back_made : own s lists.state.past ≡ [] → length new.past < 2 ^ 63 → IsRolledBack s old new
+        → IsHeld new (writer_without writer s) desks cuts undo room
+    rolled_back_made none few ends =
+        rolled_back_held writer cuts undo room old new desks held s (at_rest idle) told
+        (few_more old.past (RolledBack s) new few (ap (λ (w : WorldState). w.past) ends.rest)) (past_here (λ h. own s h ≡ []) none) ends
 
   -- the session's open transaction is among the open ones
   pub its_listed : (session : Session) (work : Work) → HasWork s session work old → IsListed s work old
@@ -209,7 +205,7 @@ module _ (s : ℕ) (old : WorldState) (writer : Option ℕ) (made : Bool) (desks
 
   pub its_txn : (session : Session) (work : Work) → HasWork s session work old → txn s lists.state.past ≡ work.txn
   its_txn session work has =
-      sym (ap (λ (l : Lists). txn s l.state.past) view_is) ∙ txn_is old writer made desks cuts undo room held s session has.session_is work.txn
+      sym (ap (λ (l : Lists). txn s l.state.past) view_is) ∙ txn_is old writer desks cuts undo room held s session has.session_is work.txn
       (ap txn_of has.work_is)
 
   -- ---- what sessions have set, where a transaction's session is another now

@@ -1,5 +1,5 @@
 -- What held lists know of a table that is to be searched, and of who reads it.
-use Rattle.std.proofs.Common.{◌≡◌, ℕ, ◌<◌, Bool, true, List, length, get_or, Option, Some, None, slice_get, refl, sym, ap, subst, ◌∙◌, arith}
+use Rattle.std.proofs.Common.{◌≡◌, ℕ, ◌<◌, true, List, length, get_or, Option, Some, None, slice_get, refl, sym, ap, subst, ◌∙◌, arith}
 use Rattle.std.specs.Prelude.{◌≤◌, is_some, IfSome}
 use Rattle.std.proofs.lemmas.Option.{slice_get_within, get_or_from_slice_get}
 use Rattle.inno_types.specs.declared.lock.Level.{Level}
@@ -69,8 +69,8 @@ pub copied : (tables : List Schema) (table : ℕ) (schema copy found : Schema) �
     → found ≡ get_or tables table found → copy ≡ schema
 copied tables table schema copy found there same read = same ∙ (read ∙ get_or_from_slice_get tables table schema found there)
 
-module _ (s : ℕ) (state : WorldState) (writer : Option ℕ) (made : Bool) (desks : List Desk) (cuts : ℕ) (undo : UndoRoom) (room : WorkRoom) (lists : Lists)
-    (held : IsHeld state writer made desks cuts undo room) (view : seen_of undo.table room.stage state writer desks ≡ lists) where
+module _ (s : ℕ) (state : WorldState) (writer : Option ℕ) (desks : List Desk) (cuts : ℕ) (undo : UndoRoom) (room : WorkRoom) (lists : Lists)
+    (held : IsHeld state writer desks cuts undo room) (view : seen_of undo.table room.stage state writer desks ≡ lists) where
   pub writer_within : IfSome writer (λ w. w < length desks)
   writer_within = by writer (held.agrees.lists.writes) where
     by : (who : Option ℕ) → WriterAgrees state.past who → IfSome who (λ w. w < length desks)
@@ -102,10 +102,10 @@ module _ (s : ℕ) (state : WorldState) (writer : Option ℕ) (made : Bool) (des
   module _ (table : ℕ) (plan : Plan) (reading : Reading) (sight : Sight) (on : TableSearch) (is : IsBegun table plan sight on.schema cuts on)
       (after : List Desk) (at : after ≡ with_doing s (Searching on) desks) (reads : ReadsBy s state writer reading sight) where
     pub begun_held : IsTold state → doing_at s desks ≡ Nothing → slice_get state.schemas table ≡ Some on.schema → plan.which ≤ length on.schema.keys
-        → IsHeld state writer made after cuts undo room
+        → IsHeld state writer after cuts undo room
     begun_held told idle there le =
-        subst (λ (d : List Desk). IsHeld state writer made d cuts undo room) (sym at)
-        (begun s table state writer made desks cuts undo room plan sight on.schema on held told idle there le reads.0 is)
+        subst (λ (d : List Desk). IsHeld state writer d cuts undo room) (sym at)
+        (begun s table state writer desks cuts undo room plan sight on.schema on held told idle there le reads.0 is)
 
     pub begun_seen : s < length desks → Turns s (tasks.Searching table plan reading) lists.state (seen_of undo.table room.stage state writer after).state
     begun_seen mine =

@@ -1,5 +1,5 @@
 -- The newest rows of a table, read at once in held lists.
-use Rattle.std.proofs.Common.{◌≡◌, ◌≢◌, ℕ, Bool, List, [], map, length, Option, Some, slice_get, Result, Ok, Err, refl, sym, subst, ◌∙◌}
+use Rattle.std.proofs.Common.{◌≡◌, ◌≢◌, ℕ, List, [], map, length, Option, Some, slice_get, Result, Ok, Err, refl, sym, subst, ◌∙◌}
 use Rattle.std.specs.Prelude.{◌≤◌, IfOk}
 use Rattle.inno_types.specs.declared.value.Value.{Value}
 use Rattle.inno_types.specs.declared.value.Schema.{Schema}
@@ -32,8 +32,8 @@ pub answered : {E : Type 0} (found : List (List Value)) (answer : Result (List (
 answered found (Ok rows) IsRight is right = subst IsRight (sym is) right
 answered found (Err why) IsRight is right = record {}
 
-module _ (s : ℕ) (state : WorldState) (writer : Option ℕ) (made : Bool) (desks : List Desk) (cuts : ℕ) (undo : UndoRoom) (room : WorkRoom) (lists : Lists)
-    (held : IsHeld state writer made desks cuts undo room) (view : seen_of undo.table room.stage state writer desks ≡ lists) where
+module _ (s : ℕ) (state : WorldState) (writer : Option ℕ) (desks : List Desk) (cuts : ℕ) (undo : UndoRoom) (room : WorkRoom) (lists : Lists)
+    (held : IsHeld state writer desks cuts undo room) (view : seen_of undo.table room.stage state writer desks ≡ lists) where
   pub nothing_seen : (new : WorldState) → MovesPlaces s state new → IsTold new → Stays s lists.state (seen_of undo.table room.stage new writer desks).state
   nothing_seen new moves told =
       subst (λ (l : Lists). Stays s lists.state l.state)
@@ -45,12 +45,12 @@ module _ (s : ℕ) (state : WorldState) (writer : Option ℕ) (made : Bool) (des
     pub tells_now : TellsTable held.chains table by schema state
     tells_now =
         subst (λ (p : Plan). TellsTable held.chains table p schema state) (sym by_is)
-        (tells_held state writer made desks cuts undo room table plan schema held told there le)
+        (tells_held state writer desks cuts undo room table plan schema held told there le)
 
     pub read_now : (rows : List FoundRow) → ((chains : Chains) → TellsTable chains table by schema state → AreRead chains table by schema state rows)
         → (w : ℕ) → ((u : ℕ) → u ≢ w → own u lists.state.past ≡ []) → AreNewestRows table plan lists.state.past w (map (λ (found : FoundRow). found.row) rows)
     read_now rows read =
         subst (λ (l : Lists). (w : ℕ) → ((u : ℕ) → u ≢ w → own u l.state.past ≡ []) → AreNewestRows table plan l.state.past w
         (map (λ (found : FoundRow). found.row) rows)) view
-        (are_newest state writer made desks cuts undo room table plan schema held rows
+        (are_newest state writer desks cuts undo room table plan schema held rows
         (subst (λ (p : Plan). AreRead held.chains table p schema state rows) by_is (read held.chains tells_now)))

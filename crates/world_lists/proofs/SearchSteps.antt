@@ -69,15 +69,15 @@ found_as table plan reading s past rows on is found =
     (subst (λ (p : Plan). AreFoundBy (reading_of is.0.search.scan.sight) table p past s rows) (sym is.3)
     (subst (λ (n : ℕ). AreFoundBy (reading_of is.0.search.scan.sight) n (plan_of is.0) past s rows) (sym is.2) by))
 
-module _ (s : ℕ) (old : WorldState) (writer : Option ℕ) (made : Bool) (desks : List Desk) (cuts : ℕ) (undo : UndoRoom) (room : WorkRoom) (lists : Lists)
-    (held : IsHeld old writer made desks cuts undo room) (view : seen_of undo.table room.stage old writer desks ≡ lists) where
+module _ (s : ℕ) (old : WorldState) (writer : Option ℕ) (desks : List Desk) (cuts : ℕ) (undo : UndoRoom) (room : WorkRoom) (lists : Lists)
+    (held : IsHeld old writer desks cuts undo room) (view : seen_of undo.table room.stage old writer desks ≡ lists) where
   abbrev now_in : WorldState → List Desk → State
   now_in state at = (seen_of undo.table room.stage state writer at).state
 
   module _ (on : TableSearch) (is : doing_at s desks ≡ Searching on) where
     pub stays_held : (new : WorldState) (after : List Desk) (doing : Doing) → after ≡ with_doing s doing desks
-        → IsHeld new writer made (with_doing s doing desks) cuts undo room → IsHeld new writer made after cuts undo room
-    stays_held new after doing at now = subst (λ (d : List Desk). IsHeld new writer made d cuts undo room) (sym at) now
+        → IsHeld new writer (with_doing s doing desks) cuts undo room → IsHeld new writer after cuts undo room
+    stays_held new after doing at now = subst (λ (d : List Desk). IsHeld new writer d cuts undo room) (sym at) now
 
     -- it is over, or given up
     turns_idle : (new : WorldState) (after : List Desk) → after ≡ with_doing s Nothing desks → MovesPlaces s old new → IsTold new
@@ -96,41 +96,41 @@ module _ (s : ℕ) (old : WorldState) (writer : Option ℕ) (made : Bool) (desks
 
     module _ (index : ℕ) (between later : WorldState) (moves : MovesPlaces s old between) (leaves : Calls index (Leaves s) between later)
         (told : IsTold later) (after : List Desk) (at : after ≡ with_doing s Nothing desks) where
-      pub given_up_held : IsHeld later writer made after cuts undo room
-      given_up_held = stays_held later after Nothing at (given_up s old writer made desks cuts undo room on held is index between later moves leaves told).0
+      pub given_up_held : IsHeld later writer after cuts undo room
+      given_up_held = stays_held later after Nothing at (given_up s old writer desks cuts undo room on held is index between later moves leaves told).0
 
       pub given_up_seen : Turns s tasks.Idle lists.state (now_in later after)
-      given_up_seen = turns_idle later after at (given_up s old writer made desks cuts undo room on held is index between later moves leaves told).1 told
+      given_up_seen = turns_idle later after at (given_up s old writer desks cuts undo room on held is index between later moves leaves told).1 told
 
     module _ (search : RowSearch) (taken : IsTakenUp cuts on search) where
       pub may_step_now : IsTold old → MayStep s on.schema old search
-      may_step_now told = steps s old writer made desks cuts undo room on held is search taken told
+      may_step_now told = steps s old writer desks cuts undo room on held is search taken told
 
       module _ (new : WorldState) (told : IsTold new) (after : List Desk) where
         module _ (next : RowSearch) (goes : GoesOn s on.schema old new search next)
             (at : after ≡ with_doing s (Searching (record on { search = next; cuts = cuts })) desks) where
-          pub went_held : IsHeld new writer made after cuts undo room
+          pub went_held : IsHeld new writer after cuts undo room
           went_held =
               stays_held new after (Searching (record on { search = next; cuts = cuts })) at
-              (went s old writer made desks cuts undo room on held is search taken new told next goes).0
+              (went s old writer desks cuts undo room on held is search taken new told next goes).0
 
           pub went_seen : Turns s (task_of s lists.state) lists.state (now_in new after)
           went_seen =
-              let on_now = went s old writer made desks cuts undo room on held is search taken new told next goes in
+              let on_now = went s old writer desks cuts undo room on held is search taken new told next goes in
               subst (λ (l : Lists). Turns s (task_of s l.state) l.state (now_in new after)) view
               (subst (λ (d : List Desk). Turns s (task_of s (now_in old desks)) (now_in old desks) (now_in new d)) (sym at)
               (searches_on s undo.table room.stage writer desks old new cuts on next is on_now.1 on_now.2 told))
 
         module _ (found : List FoundRow) (ends : Ends s on.schema old new search found) (at : after ≡ with_doing s Nothing desks) where
-          pub ended_held : IsHeld new writer made after cuts undo room
-          ended_held = stays_held new after Nothing at (ended s old writer made desks cuts undo room on held is search taken new told found ends).0
+          pub ended_held : IsHeld new writer after cuts undo room
+          ended_held = stays_held new after Nothing at (ended s old writer desks cuts undo room on held is search taken new told found ends).0
 
           pub ended_seen : (answer : Searched) → ((rows : List (List Value)) → answer ≡ searched.Found rows → rows ≡ map (λ (f : FoundRow). f.row) found)
               → answer ≢ searched.Went
               → (table : ℕ) (plan : Plan) (reading : Reading) → task_of s lists.state ≡ tasks.Searching table plan reading → Searches table plan reading s
               lists.state (now_in new after) answer
           ended_seen answer rows over table plan reading task =
-              let on_now = ended s old writer made desks cuts undo room on held is search taken new told found ends in
+              let on_now = ended s old writer desks cuts undo room on held is search taken new told found ends in
               over_by table plan reading s lists.state (now_in new after) (map (λ (f : FoundRow). f.row) found) answer rows over
               (turns_idle new after at on_now.1 told)
               (found_as table plan reading s lists.state.past (map (λ (f : FoundRow). f.row) found) on (search_of table plan reading task)
@@ -138,4 +138,4 @@ module _ (s : ℕ) (old : WorldState) (writer : Option ℕ) (made : Bool) (desks
               (map (λ (f : FoundRow). f.row) found)) view on_now.2))
 
         pub hindered_moves : (same : RowSearch) (why : Move) → Waits s on.schema old new search same why → MovesPlaces s old new
-        hindered_moves same why waits = (waited s old writer made desks cuts undo room on held is search taken new told same why waits).1
+        hindered_moves same why waits = (waited s old writer desks cuts undo room on held is search taken new told same why waits).1

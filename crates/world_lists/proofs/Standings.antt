@@ -1,9 +1,8 @@
 -- What is read of a session's open transaction is what the past says.
-use Rattle.std.proofs.Common.{◌≡◌, ◌≢◌, ℕ, zero, suc, ◌<◌, Bool, true, false, Option, Some, None, List, [], ◌∷◌, length, map, refl, sym, ap, subst, ◌∙◌, arith}
+use Rattle.std.proofs.Common.{◌≡◌, ◌≢◌, ℕ, zero, suc, ◌<◌, true, false, Option, Some, None, List, [], ◌∷◌, length, map, refl, sym, ap, subst, ◌∙◌, arith}
 use Rattle.std.specs.Prelude.{slice_get, is_some, option_map}
-use Rattle.std.specs.List.{list_any}
 use Rattle.inno_model.specs.Past.{own, level, txn, view_of, IsOpen}
-use Rattle.law_past_agreement.specs.Order.{created, is_creation}
+use Rattle.law_past_agreement.specs.Order.{created}
 use Rattle.law_past_agreement.specs.Rows.{place_in}
 use Rattle.law_past_agreement.specs.Agreement.{IsIdle, IsWorkOf, ViewAgrees, WriterAgrees}
 use Rattle.world.specs.State.{WorldState, Session, Work, Seen, IsSession, HasWork, standing_of, txn_of, own_of, level_of}
@@ -12,7 +11,7 @@ use Rattle.law_world_agreement.proofs.Opening.{idle_of}
 use Rattle.law_world_agreement.proofs.Ending.{work_of}
 use Rattle.desks.specs.declared.desk.Desk.{Desk}
 use Rattle.world_lists.proofs.Strangers.{joined_of_open}
-use Rattle.desks.specs.Holding.{IsHeld, MakesTables}
+use Rattle.desks.specs.Holding.{IsHeld}
 use Rattle.world.specs.declared.undo_room.UndoRoom.{UndoRoom}
 use Rattle.undo_apply.specs.declared.work_room.WorkRoom.{WorkRoom}
 
@@ -24,8 +23,8 @@ there_at (first ∷ sessions) (suc s) within = there_at sessions s (omega (arith
 none_some : {X : Type 0} (x : X) → None ≡ Some x → ⊥
 none_some x same = cc
 
-module _ (state : WorldState) (writer : Option ℕ) (made : Bool) (desks : List Desk) (cuts : ℕ) (undo : UndoRoom) (room : WorkRoom)
-    (held : IsHeld state writer made desks cuts undo room) where
+module _ (state : WorldState) (writer : Option ℕ) (desks : List Desk) (cuts : ℕ) (undo : UndoRoom) (room : WorkRoom)
+    (held : IsHeld state writer desks cuts undo room) where
   pub as_many : length state.sessions ≡ length state.names
   as_many = held.agrees.count
 
@@ -117,13 +116,3 @@ module _ (state : WorldState) (writer : Option ℕ) (made : Bool) (desks : List 
   -- who has an open transaction has joined
   pub open_joined : (w : ℕ) → IsOpen w state.past → w < length state.names
   open_joined w open_is = joined_of_open state w (held.agrees.lists.strangers w) open_is
-
-  pub makes_is : (s : ℕ) → writer ≡ Some s → made ≡ list_any is_creation (own s state.past)
-  makes_is s is = subst (λ w. MakesTables w made state.past) is held.makes
-
-  pub makes_none : (s : ℕ) → writer ≢ Some s → list_any is_creation (own s state.past) ≡ false
-  makes_none s other = by_writer writer refl
-    where
-      by_writer : (w : Option ℕ) → writer ≡ w → list_any is_creation (own s state.past) ≡ false
-      by_writer None was = ap (list_any is_creation) (nobody_writes was s)
-      by_writer (Some w) was = ap (list_any is_creation) ((writer_alone w was).1 s (λ same. other (was ∙ ap Some (sym same))))

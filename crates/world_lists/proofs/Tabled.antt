@@ -142,11 +142,11 @@ module _ (s : ℕ) (schema : Schema) (old mid : WorldState) (makes : MakesTable 
         gives.now refl same_else
         ∙ set-get_or (settings_of old.sessions) s at_first
 
-    pub created_now : (had : Bool) (cuts : ℕ) (undo : UndoRoom) (room : WorkRoom) (desks : List Desk) → IsHeld old (Some s) had desks cuts undo room
+    pub created_now : (cuts : ℕ) (undo : UndoRoom) (room : WorkRoom) (desks : List Desk) → IsHeld old (Some s) desks cuts undo room
         → doing_at s desks ≡ Nothing → IsTold old → IsTold new
-        → IsStorable schema → length new.past < 2 ^ 63 → own s old.past ≡ [] → IsHeld new (Some s) true desks cuts undo room
-    created_now had cuts undo room desks held rests told told_now storable few none =
-        created_held had cuts undo room old new desks s schema held rests told told_now changed_by rooms
+        → IsStorable schema → length new.past < 2 ^ 63 → own s old.past ≡ [] → IsHeld new (Some s) desks cuts undo room
+    created_now cuts undo room desks held rests told told_now storable few none =
+        created_held cuts undo room old new desks s schema held rests told told_now changed_by rooms
         (λ index. ap (λ (w : WorldState). w.indexes index) gives.rest ∙ makes.same index)
         (ap (λ (w : WorldState). w.versions) gives.rest ∙ ap (λ (w : WorldState). w.versions) makes.rest)
         (λ which within. ap (λ (w : WorldState). w.indexes (Rattle.world.specs.State.index_of (length old.schemas) which)) gives.rest ∙ makes.empty which

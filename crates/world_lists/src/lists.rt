@@ -18,8 +18,6 @@ pub struct WorldLists<W: EngineWorld> {
     pub(crate) world: W,
     /// The session that may write.
     pub(crate) writer: Option<u32>,
-    /// Whether its open transaction has made a table.
-    pub(crate) has_made_table: bool,
     /// By the numbers of the sessions.
     pub(crate) desks: Vec<Desk>,
     /// How many older versions were dropped.
@@ -42,7 +40,7 @@ impl<W: EngineWorld> Model for WorldLists<W> {
 
     ghost view = { λ l. lists_of (W.state l.world) l.writer l.desks.items (undo_left_in l.undo.table l.room.stage (W.state l.world)) };
 
-    ghost invariant = { λ l. IsHeld (W.state l.world) l.writer l.has_made_table l.desks.items l.cuts l.undo l.room };
+    ghost invariant = { λ l. IsHeld (W.state l.world) l.writer l.desks.items l.cuts l.undo l.room };
 }
 
 impl<W: EngineWorld> WorldLists<W> {
@@ -56,7 +54,6 @@ impl<W: EngineWorld> WorldLists<W> {
             alloc,
             world,
             writer: None,
-            has_made_table: false,
             desks: Vec::new(alloc),
             cuts: 0,
             undo: UndoRoom::new(alloc)?,

@@ -63,13 +63,6 @@ impl<W: EngineWorld> SharedLists for WorldLists<W> {
         self.world.session(session).own as usize
     }
 
-    fn makes_table(&self, session: u32) -> bool {
-        match self.writer {
-            Some(writer) if writer == session => self.has_made_table,
-            _ => false,
-        }
-    }
-
     fn writer(&self) -> Option<u32> {
         self.writer
     }
@@ -147,19 +140,18 @@ impl<W: EngineWorld> SharedLists for WorldLists<W> {
         let id = self.world.session(session).id;
         self.world.add_table(session, schema)?;
         give_first_id(&mut self.world, txn, id);
-        self.has_made_table = true;
         is_short(&self.world);
         Ok(())
     }
 
     fn commit(&mut self, session: u32) {
-        let txn = self.txn_of(session);
-        self.world.add_committed(session);
-        self.world.end(txn);
-        let makes = still_makes(self.writer, self.has_made_table, session);
-        self.has_made_table = makes;
-        self.writer = without(self.writer, session);
-        is_short(&self.world);
+        match self.world.commit(session) {
+            Move::Done => {
+                self.writer = without(self.writer, session);
+                is_short(&self.world);
+            }
+            _ => unreachable!(),
+        }
     }
 
     fn ack(&mut self, session: u32, moment: u64) {
@@ -168,13 +160,13 @@ impl<W: EngineWorld> SharedLists for WorldLists<W> {
     }
 
     fn roll_back(&mut self, session: u32) {
-        let txn = self.txn_of(session);
-        self.world.add_rolled_back(session);
-        self.world.end(txn);
-        let makes = still_makes(self.writer, self.has_made_table, session);
-        self.has_made_table = makes;
-        self.writer = without(self.writer, session);
-        is_short(&self.world);
+        match self.world.roll_back(session) {
+            Move::Done => {
+                self.writer = without(self.writer, session);
+                is_short(&self.world);
+            }
+            _ => unreachable!(),
+        }
     }
 
     fn begin_search(
@@ -367,17 +359,6 @@ fn without(writer: Option<u32>, session: u32) -> Option<u32>
     match writer {
         Some(w) if w != session => Some(w),
         _ => None,
-    }
-}
-
-/// Whether who may write has made a table, once the transaction of this session has ended.
-fn still_makes(writer: Option<u32>, made: bool, session: u32) -> bool
-    ensures mine { writer ≡ Some session → result ≡ false }
-    ensures theirs { writer ≢ Some session → result ≡ made }
-{
-    match writer {
-        Some(w) if w == session => false,
-        _ => made,
     }
 }
 

@@ -1,6 +1,6 @@
 //! The parts of changes of rows, and of their taking back.
 
-ghost use Rattle.std.specs.Prelude.{◌≡◌, ◌≢◌, ℕ, ◌-◌, ◌<◌, Bool, Option, [], length, slice_get, Some, IsTrue, ◌↔◌, IfSome, IfNone};
+ghost use Rattle.std.specs.Prelude.{◌≡◌, ◌≢◌, ℕ, ◌-◌, ◌<◌, Option, [], length, slice_get, Some, IsTrue, ◌↔◌, IfSome, IfNone};
 ghost use Rattle.inno_types.specs.declared.value.Schema.{Schema};
 ghost use Rattle.row_versions.specs.declared.place.Place.{Place};
 ghost use Rattle.row_versions.specs.Chains.{Chains};
@@ -199,12 +199,12 @@ pub fn take_newest_back<W: EngineWorld>(
     undo: &mut UndoRoom,
     room: &mut WorkRoom,
 ) -> Undone
-    requires held { (writer : Option ℕ) × (made : Bool) × IsHeld (W.state world.old) writer made desks.old.items cuts.old undo.old room.old }
+    requires held { (writer : Option ℕ) × IsHeld (W.state world.old) writer desks.old.items cuts.old undo.old room.old }
     requires joined { session < length desks.old.items }
     requires busy { doing_at session desks.old.items ≡ Doing.Undoing }
-    ensures held { (writer : Option ℕ) (made : Bool) → IsHeld (W.state world.old) writer made desks.old.items cuts.old undo.old room.old
-        → IsHeld (W.state world.new) writer made desks.new.items cuts.new undo.new room.new }
-    ensures takes { (writer : Option ℕ) (made : Bool) → IsHeld (W.state world.old) writer made desks.old.items cuts.old undo.old room.old
+    ensures held { (writer : Option ℕ) → IsHeld (W.state world.old) writer desks.old.items cuts.old undo.old room.old
+        → IsHeld (W.state world.new) writer desks.new.items cuts.new undo.new room.new }
+    ensures takes { (writer : Option ℕ) → IsHeld (W.state world.old) writer desks.old.items cuts.old undo.old room.old
         → TakesBackIn session (length (own session (W.state world.old).past) - 1) (lists_held (W.state world.old) writer desks.old.items undo.old room.old) (lists_held (W.state world.new) writer desks.new.items undo.new room.new) result }
 {
     match step_undo(alloc, world, session, undo, room) {

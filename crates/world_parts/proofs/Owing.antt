@@ -1,6 +1,7 @@
 -- What is owed to a session once it has changed.
 use Rattle.std.proofs.Common.{◌≡◌, ℕ, ◌+◌, ◌-◌, ◌<◌, ◌≤◌, ◌^◌, Bool, true, false, List, [], ◌∷◌, length, Option, None, Some, refl, ap, arith}
 use Rattle.std.specs.Prelude.{option_map}
+use Rattle.sql_history.specs.Settings.{at_end}
 use Rattle.world.specs.State.{Work, Session, txn_of}
 use Rattle.world.specs.Sessions.{work_with_id}
 use Rattle.std.proofs.lemmas.List.Sums.{sum_by-cons}
@@ -54,14 +55,12 @@ pub owes_undone : (session : Session) (work : Work) → session.work ≡ Some wo
 owes_undone session work is some = omega (arith, owed_open session.work work is, changed_open session.work work (λ w. record w { own = w.own - 1 }) is)
 
 pub owes_committed : (session : Session) (work : Work) → session.work ≡ Some work → work.can_end ≡ true
-    → owed_of (working (λ w. record w { can_end = false }) (record session { can_ack = true })) + 1 ≤ owed_of session
-owes_committed session work is ends =
-    omega (arith, rw ends at (owed_open session.work work is), changed_open session.work work (λ w. record w { can_end = false }) is)
+    → owed_of (record session { setting = at_end session.setting; work = None; can_ack = true }) + 1 ≤ owed_of session
+owes_committed session work is ends = omega (arith, rw ends at (owed_open session.work work is))
 
 pub owes_rolled_back : (session : Session) (work : Work) → session.work ≡ Some work → work.can_end ≡ true
-    → owed_of (working (λ w. record w { can_end = false }) session) + 1 ≤ owed_of session
-owes_rolled_back session work is ends =
-    omega (arith, rw ends at (owed_open session.work work is), changed_open session.work work (λ w. record w { can_end = false }) is)
+    → owed_of (record session { setting = at_end session.setting; work = None }) + 1 ≤ owed_of session
+owes_rolled_back session work is ends = omega (arith, rw ends at (owed_open session.work work is))
 
 -- some changes stand, so something is owed
 pub owes_own : (session : Session) (work : Work) → session.work ≡ Some work → work.own ≤ owed_of session

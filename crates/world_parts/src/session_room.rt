@@ -3,7 +3,7 @@
 
 ghost use Rattle.std.specs.Prelude.{◌≡◌, ℕ, ◌+◌, ◌-◌, ◌<◌, ◌≤◌, ◌^◌, true, false, [], ◌∷◌, None, Some, IfOk, IfSome, IfNone, SomeIff, OnOk, OnErr, option_map, option_copied, vec_len, vec_capacity};
 ghost use Rattle.sql_history.specs.Settings.{at_begin, at_end, saved, back_to, made_at, set_by};
-ghost use Rattle.world.specs.State.{Work, standing_of};
+ghost use Rattle.world.specs.State.{Work, standing_of, txn_of};
 ghost use Rattle.world.specs.Sessions.{fresh_work, work_with_id};
 ghost use Rattle.world.specs.Undoing.{newest, older};
 ghost use Rattle.world.specs.EngineCalls.{fresh_session};
@@ -108,12 +108,34 @@ impl SessionRoom {
         }
     }
 
-    /// The transaction is no longer open.
-    pub fn end(&mut self)
-        ensures { self.new ≡ record self.old { setting = at_end self.old.setting; work = None } }
+    /// The number of the open transaction.
+    pub fn txn(&self) -> Option<u64>
+        ensures { result ≡ txn_of self.now.work }
     {
+        match &self.work {
+            Some(work) => Some(work.txn),
+            None => None,
+        }
+    }
+
+    /// The open transaction, of which this gives the number, is open no longer.
+    pub fn end(&mut self) -> Option<u64>
+        ensures number { result ≡ txn_of self.old.work }
+        ensures ended { self.new ≡ record self.old { setting = at_end self.old.setting; work = None } }
+    {
+        let txn = self.txn();
         self.settings.end();
         self.work = None;
+        txn
+    }
+
+    /// The same by a commit, which is to be acknowledged.
+    pub fn commit(&mut self) -> Option<u64>
+        ensures number { result ≡ txn_of self.old.work }
+        ensures committed { self.new ≡ record self.old { setting = at_end self.old.setting; work = None; can_ack = true } }
+    {
+        self.can_ack = true;
+        self.end()
     }
 
     /// Keeps a savepoint. An `Err` changes nothing.
@@ -262,21 +284,6 @@ impl SessionRoom {
     {
         if let Some(work) = &mut self.work {
             work.own -= 1;
-        }
-    }
-
-    pub fn committed(&mut self)
-        ensures { self.new ≡ working (λ work. record work { can_end = false }) (record self.old { can_ack = true }) }
-    {
-        self.can_ack = true;
-        self.rolled_back();
-    }
-
-    pub fn rolled_back(&mut self)
-        ensures { self.new ≡ working (λ work. record work { can_end = false }) self.old }
-    {
-        if let Some(work) = &mut self.work {
-            work.can_end = false;
         }
     }
 

@@ -3,23 +3,24 @@ use Rattle.std.proofs.Common.{◌≡◌, ℕ, ◌<◌, Bool, true, false, Option
 use Rattle.std.proofs.lemmas.List.{append-nil, append_assoc, length-append}
 use Rattle.std.specs.FinMap.{insert, remove}
 use Rattle.std.specs.List.{list_any, list_all}
-use Rattle.std.specs.Prelude.{All, ◌&&◌, not, filter, slice_get}
+use Rattle.std.specs.Prelude.{All, ◌&&◌, ◌==◌, not, filter, slice_get}
 use Rattle.inno_types.specs.declared.value.Value.{Value}
 use Rattle.inno_types.specs.declared.value.Schema.{Schema}
 use Rattle.inno_types.specs.declared.stmt.Filter.{Filter}
+use Rattle.inno_types.specs.declared.stmt.Literal.{Literal}
 use Rattle.inno_types.specs.declared.stmt.Set.{Set}
 use Rattle.inno_types.specs.declared.stmt.Stmt.{Stmt}
 use Rattle.inno_types.specs.declared.stmt.Stmt.TheVariants as stmt
 use Rattle.inno_types.specs.declared.reply.SqlError.{SqlError}
-use Rattle.inno_types.specs.declared.reply.SqlError.TheVariants.{NoColumn, Syntax}
+use Rattle.inno_types.specs.declared.reply.SqlError.TheVariants.{NoColumn, NoDefault, Syntax, TwiceNamed, WrongCount}
 use Rattle.inno_db.specs.declared.change.Change.{Change}
 use Rattle.inno_db.specs.declared.change.Change.TheVariants.{Create, Put, Remove}
 use Rattle.inno_db.specs.declared.outcome.Outcome.{Outcome}
 use Rattle.inno_db.specs.Database.{Database, RowMap, key_in, rows_of}
 use Rattle.inno_db.specs.Names.{table_place}
-use Rattle.inno_db.specs.Outcome.{outcome, answer_to, unless_refused}
-use Rattle.inno_db.specs.Refusals.{refusal, refused_if, on_table, schema_at, schema_named, update_refusal, delete_refusal}
-use Rattle.inno_db.specs.Typing.{filter_fits, set_fits, set_known, where_fits, where_known}
+use Rattle.inno_db.specs.Outcome.{outcome, answer_to, unless_refused, counted, inserted, insert_answer, on_number, on_schema}
+use Rattle.inno_db.specs.Refusals.{refusal, refused_if, on_table, schema_at, schema_named, insert_refusal, update_refusal, delete_refusal, names_known, names_twice, width_of, leaves_out}
+use Rattle.inno_db.specs.Typing.{filter_fits, set_fits, set_known, tuple_fits, where_fits, where_known}
 use Rattle.inno_db.proofs.Outcomes.{table_read}
 use Rattle.inno_model.specs.declared.event.Event.{Event}
 use Rattle.inno_model.specs.Past.{own, commits, committed, opening, changed}
@@ -42,7 +43,8 @@ use Rattle.sql_plan.specs.Visits.{is_within, index_key, IsRowOf}
 use Rattle.sql_lists.specs.Kept.{AreStanding, AreInOrder, IsInOrder, made}
 use Rattle.write_statement.specs.declared.machine.Search.{Search}
 use Rattle.write_statement.specs.declared.settling.Settled.{Settled}
-use Rattle.write_statement.specs.Planning.{Covers, HoldsMatches}
+use Rattle.write_plan.specs.Planning.{Covers, HoldsKeys, HoldsMatches}
+use Rattle.write_plan.proofs.Inserting.{other_keys}
 use Rattle.write_statement.specs.Running.{IsEarly, HasRight, IsFound, AreEnough, IsChanging}
 use Rattle.write_statement.specs.Settling.{IsSettledBy}
 
@@ -89,7 +91,7 @@ module _ (past : List Event) (writer : Option ℕ) (s : ℕ) (right : HasRight s
   base_seen = ap (λ changes. changed (opening past) (changes ++ committed (commits past) past)) (sym unchanged)
 
   tables_now : created past ≡ (changed (opening past) (seen past s (commits past))).schemas
-  tables_now = stands.tables s (λ other ne. ap (list_any is_creation) (right.alone other ne))
+  tables_now = stands.tables s
 
   tables_are : created past ≡ (base s past).schemas
   tables_are = tables_now ∙ ap (λ (db : Database). db.schemas) (sym base_seen)
@@ -123,6 +125,14 @@ update_fits sets filter_by schema is =
 
 delete_fits : (filter_by : Filter) (schema : Schema) → delete_refusal (Some filter_by) schema ≡ None → filter_fits schema.columns filter_by ≡ true
 delete_fits filter_by schema is = passed_both (where_known schema.columns (Some filter_by)) (where_fits schema.columns (Some filter_by)) NoColumn (Syntax 0) is
+
+fourth : (a b c d : Bool) (rest : Option SqlError)
+    → refused_if (not a) NoColumn (refused_if b TwiceNamed (refused_if (not c) WrongCount (refused_if (not d) (Syntax 0) rest))) ≡ None → d ≡ true
+fourth a b c true rest is = refl
+fourth true false true false rest is = cc
+fourth true false false false rest is = cc
+fourth true true c false rest is = cc
+fourth false b c false rest is = cc
 
 module _ (db : Database) (n : ℕ) (schema : Schema) (plan : Plan) (there : slice_get db.schemas n ≡ Some schema)
     (fit : All (IsRowOf schema.columns) (rows_of n db)) where
@@ -159,6 +169,34 @@ module _ (db : Database) (n : ℕ) (schema : Schema) (plan : Plan) (there : slic
   found_named : (table : List ℕ) → table_place db.schemas table ≡ Some n → schema_named db.schemas table ≡ Some schema
   found_named table at = ap (schema_at db.schemas) at ∙ there
 
+  module _ (table : List ℕ) (names : Option (List (List ℕ))) (tuples : List (List Literal)) (at : table_place db.schemas table ≡ Some n) where
+    inserting : (rows : RowMap) → answer_to (stmt.Insert table names tuples) (record db { rows = rows })
+        ≡ counted (inserted n schema names (rows_of n (record db { rows = rows })) tuples)
+    inserting rows =
+        ap (λ o. on_number (record db { rows = rows }) o (insert_answer names tuples)) at
+        ∙ ap (λ o. on_schema n o (rows_of n (record db { rows = rows })) (insert_answer names tuples)) there
+
+    tuples_fit : insert_refusal names tuples schema ≡ None → list_all (λ t. tuple_fits names t 0 schema.columns) tuples ≡ true
+    tuples_fit is =
+        fourth (names_known schema.columns names) (names_twice names) (list_all (λ t. length t == width_of schema.columns names) tuples)
+        (list_all (λ t. tuple_fits names t 0 schema.columns) tuples) (refused_if (leaves_out schema.columns names) NoDefault None) is
+
+    by_tuples : HoldsKeys schema names tuples plan → HasSameOutcome (stmt.Insert table names tuples)
+    by_tuples holds = go (refusal db.schemas (stmt.Insert table names tuples)) refl where
+      go : (o : Option SqlError) → refusal db.schemas (stmt.Insert table names tuples) ≡ o → HasSameOutcome (stmt.Insert table names tuples)
+      go (Some error) is = refused_anyway (stmt.Insert table names tuples) error is
+      go None is =
+          let rows = passing_map in_range db.rows in
+          let fits = tuples_fit (sym (ap (λ o. on_table o (insert_refusal names tuples)) (found_named table at)) ∙ is) in
+          let same = ap (λ others. inserted n schema names others tuples) (rows_of-passing in_range n db)
+          ∙ other_keys in_range n schema names (rows_of n db) fit tuples (holds fits) in (
+            rows,
+            rows_of-passing in_range n db,
+            ap (λ o. unless_refused o (answer_to (stmt.Insert table names tuples) (record db { rows = rows }))) is
+                ∙ (inserting rows ∙ (ap counted same
+                ∙ (sym (inserting db.rows) ∙ sym (ap (λ o. unless_refused o (answer_to (stmt.Insert table names tuples) db)) is)))),
+          )
+
   same_outcome : (statement : Stmt) → IsWriting statement → HoldsMatches schema statement plan → table_read db.schemas statement ≡ Some n
       → HasSameOutcome statement
   same_outcome (stmt.Update table sets (Some filter_by)) writes holds at =
@@ -169,7 +207,7 @@ module _ (db : Database) (n : ℕ) (schema : Schema) (plan : Plan) (there : slic
       (λ is. delete_fits filter_by schema (sym (ap (λ o. on_table o (delete_refusal (Some filter_by))) (found_named table at)) ∙ is)) holds
   same_outcome (stmt.Update table sets None) writes holds at = all_read (stmt.Update table sets None) holds
   same_outcome (stmt.Delete table None) writes holds at = all_read (stmt.Delete table None) holds
-  same_outcome (stmt.Insert table columns tuples) writes holds at = all_read (stmt.Insert table columns tuples) holds
+  same_outcome (stmt.Insert table names tuples) writes holds at = by_tuples table names tuples at holds
   same_outcome other writes holds at = absurd writes
 
 -- ---- what was found
@@ -188,7 +226,7 @@ found_enough state s search rows r stands ordered in-order fits =
     let same = read.early.unchanged in
     let db = base s past in
     let tables = tables_are past state.writer s read.right same stands in
-    let coded = unchanged_coded past s fits ordered in-order stands read.right.alone same in
+    let coded = unchanged_coded past s fits ordered in-order stands same in
     let there : slice_get db.schemas read.table ≡ Some read.schema = ap (λ schemas. slice_get schemas read.table) (sym tables) ∙ read.there in
     let at : table_read db.schemas search.stmt ≡ Some read.table = ap (λ schemas. table_read schemas search.stmt) (sym tables) ∙ read.table_is in
     let fit = fitting_rows_fit db read.table read.schema coded.fitting coded.numbers there in

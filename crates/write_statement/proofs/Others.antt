@@ -22,7 +22,7 @@ use Rattle.sql_history.specs.Waiting.{is_victim}
 use Rattle.shared_lists.specs.Tasks.{Idle, is_changing, asked, MayTakeBack}
 use Rattle.shared_lists.specs.State.{State, task_of}
 use Rattle.law_past_agreement.specs.Order.{created, IsOfRow}
-use Rattle.sql_lists.specs.Steps.{IsTaken, StaysRunning, changes_rows}
+use Rattle.sql_lists.specs.Steps.{IsTaken, StaysRunning, MayWriteAlone, changes_rows}
 use Rattle.sql_lists.proofs.Moving.{AddingOne, stays_running}
 use Rattle.sql_lists.proofs.Staying.{other_of, not_starting, at_work, point_now, point_stays, IsSteady, steady_on, base_on}
 use Rattle.write_statement.specs.declared.machine.Search.{Search}
@@ -32,9 +32,6 @@ use Rattle.write_statement.specs.declared.machine.WriteStatement.TheVariants as 
 use Rattle.write_statement.specs.Running.{Joins, HasOpened, InTxn, IsWorking, GoesOn, IsEarly, IsChanging, HasReply, HasRight, IsReading, IsMaking, IsFinishing, MovesOn, IsBackingOut, MayGoBack, MayAnswer, EndsTxn, IsClosing, IsRunning}
 use Rattle.write_statement.proofs.Replies.{reply_stays, reply_goes_on}
 use Rattle.write_statement.proofs.Ends.{rolls_back_on, txn_ends_on}
-
-same_session : (s t : ℕ) → Some s ≡ Some t → s ≡ t
-same_session s t is = cc
 
 not_true : (b : Bool) → (b ≡ true → ⊥) → b ≡ false
 not_true true refuted = absurd (refuted refl)
@@ -100,8 +97,8 @@ module _ (old new : State) (t s : ℕ) (differ : t ≢ s) (adding : AddingOne t 
     base_is : base s new.past ≡ base s old.past
     base_is = base_on old new t s differ adding keeps steady
 
-    spares : (e : Event) → (changes_rows e ≡ true → new.writer ≡ Some t) → changes_rows e ≡ false
-    spares e writes = not_true (changes_rows e) (λ is. differ (same_session t s (sym (writes is) ∙ keeps right.locked)))
+    spares : (e : Event) → (changes_rows e ≡ true → MayWriteAlone t new.writer) → changes_rows e ≡ false
+    spares e writes = not_true (changes_rows e) (λ is. writes is s (λ same. differ (sym same)) (keeps right.locked))
 
     tables_are : created new.past ≡ created old.past
     tables_are = elim adding [ inl same ↦ ap created same | inr a ↦ ap created a.2 ∙ no_table_more a.0 old.past t a.1 (spares a.0 a.3) ]

@@ -8,6 +8,7 @@ use Rattle.inno_types.specs.declared.value.Column.{Column}
 use Rattle.inno_types.specs.declared.value.Key.{Key}
 use Rattle.inno_types.specs.declared.value.Schema.{Schema}
 use Rattle.inno_types.specs.declared.stmt.Filter.{Filter}
+use Rattle.inno_types.specs.declared.stmt.Literal.{Literal}
 use Rattle.inno_types.specs.declared.stmt.Stmt.{Stmt}
 use Rattle.inno_types.specs.declared.stmt.Stmt.TheVariants as stmt
 use Rattle.search_range.specs.declared.interval.Interval.{Interval}
@@ -16,7 +17,8 @@ use Rattle.sql_plan.specs.declared.part.Bounding.{Bounding}
 use Rattle.sql_plan.specs.Parts.{ranges_of}
 use Rattle.sql_plan.specs.Plans.{places_of, key_on, after_clustered, index_on, chosen_column, allowed, plan_if, plan_by, plan_of, whole_index}
 use Rattle.sql_plan.specs.Visits.{are_indexable}
-use Rattle.write_statement.specs.Planning.{plan_for, HoldsMatches, IsPlanFor}
+use Rattle.write_plan.specs.Keys.{is_plain_key, has_given_key}
+use Rattle.write_plan.specs.Planning.{plan_for, plan_by_tuples, plan_by_keys, HoldsMatches, IsPlanFor}
 
 key_within : (keys : List Key) (place k : ℕ) → key_on keys place ≡ Some k → k < length keys
 key_within keys place k is = (position-Some (λ (key : Key). key.column == place) keys k (record { name = []; column = 0 }) is).0
@@ -44,7 +46,16 @@ by_keys : (schema : Schema) (filter_by : Filter) (b : Bool) → (if b then plan_
 by_keys schema filter_by true = planned_by schema (ranges_of schema.columns filter_by) (chosen_column schema (places_of (ranges_of schema.columns filter_by)))
 by_keys schema filter_by false = omega arith
 
+by_tuples : (schema : Schema) (names : Option (List (List ℕ))) (tuples : List (List Literal)) (o : Option Column)
+    → (plan_by_tuples schema names tuples o).which ≤ length schema.keys
+by_tuples schema names tuples None = omega arith
+by_tuples schema names tuples (Some column) = go (is_plain_key schema.columns schema.primary column) where
+  go : (b : Bool) → (if b then plan_by_keys schema (has_given_key names tuples schema.primary column) else whole_index).which ≤ length schema.keys
+  go true = by_keys schema (has_given_key names tuples schema.primary column) (are_indexable schema)
+  go false = omega arith
+
 within_keys : (schema : Schema) (statement : Stmt) → (plan_for schema statement).which ≤ length schema.keys
+within_keys schema (stmt.Insert table names tuples) = by_tuples schema names tuples (slice_get schema.columns schema.primary)
 within_keys schema (stmt.Update table sets (Some filter_by)) = by_keys schema filter_by (are_indexable schema)
 within_keys schema (stmt.Delete table (Some filter_by)) = by_keys schema filter_by (are_indexable schema)
 within_keys schema (stmt.Update table sets None) = omega arith

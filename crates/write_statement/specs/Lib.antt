@@ -1,4 +1,3 @@
-pub mod Planning
 pub mod Settling
 pub mod Running
 pub mod Going

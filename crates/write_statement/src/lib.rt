@@ -10,7 +10,6 @@ mod ending;
 mod machine;
 mod making;
 mod opening;
-mod planning;
 mod searching;
 mod settling;
 

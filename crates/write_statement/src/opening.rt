@@ -12,13 +12,12 @@ ghost use Rattle.shared_lists.specs.State.{task_of};
 ghost use Rattle.sql_lists.specs.Steps.{Steps};
 ghost use Rattle.sql_lists.specs.Going.{Nears};
 ghost use Rattle.write_statement.specs.Going.{to_go};
-ghost use Rattle.write_statement.specs.Planning.{IsPlanFor};
+ghost use Rattle.write_plan.specs.Planning.{IsPlanFor};
 ghost use Rattle.write_statement.specs.Running.{IsEarly, HasRight, IsRunning};
 ghost use Rattle.write_statement.specs.Settling.{IsTableNamed};
 
 use crate::answering::{answer, give_up};
 use crate::machine::{Search, WriteStatement};
-use crate::planning::plan_for;
 use inno_types::{Bytes, Listed, Rows, Schema, Stmt};
 use shared_lists::{Reading, SharedLists};
 use sql_lists::{Advance, SqlLists};
@@ -26,6 +25,7 @@ use sql_plan::Plan;
 use sql_values::place_of_table;
 use std::alloc::Global;
 use store_api::NoMemory;
+use write_plan::plan_for;
 
 pub fn step_fresh<L: SharedLists>(
     stmt: Stmt,

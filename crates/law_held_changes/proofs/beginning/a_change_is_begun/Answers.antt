@@ -2,5 +2,5 @@ use Rattle.law_held_changes.proofs.Begun.{begins}
 use Rattle.law_held_changes.proofs.beginning.a_change_is_begun.Goals as goal
 
 pub returns : goal.returns
-returns c = λ state s made desks cuts undo room table schema edit key held nothing is_open fits there spelled.
-    begins state s made desks cuts undo room held table schema edit key nothing is_open fits there spelled
+returns c = λ state s desks cuts undo room table schema edit key held nothing is_open fits there spelled.
+    begins state s desks cuts undo room held table schema edit key nothing is_open fits there spelled

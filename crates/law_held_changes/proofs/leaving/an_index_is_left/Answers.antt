@@ -12,4 +12,4 @@ returns-clause-more c = left_then
 
 pub returns-clause-held : goal.returns-clause-held
 returns-clause-held c =
-    λ s writer made desks cuts undo room old new held none leaves told. held_left s writer old new leaves made desks cuts undo room held none told
+    λ s writer desks cuts undo room old new held none leaves told. held_left s writer old new leaves desks cuts undo room held none told

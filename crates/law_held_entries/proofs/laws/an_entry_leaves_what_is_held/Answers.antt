@@ -3,4 +3,4 @@ use Rattle.law_held_entries.proofs.laws.an_entry_leaves_what_is_held.Goals as go
 
 pub returns : goal.returns
 returns c =
-    λ t writer later had made cuts undo room old new desks now held rests is. entered t writer later had made cuts undo room old new desks now held rests is
+    λ t writer later cuts undo room old new desks now held rests is. entered t writer later cuts undo room old new desks now held rests is

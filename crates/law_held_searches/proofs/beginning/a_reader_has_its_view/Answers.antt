@@ -3,7 +3,7 @@ use Rattle.law_held_searches.proofs.Begins.{has_view, next_there, next_some, own
 use Rattle.law_held_searches.proofs.beginning.a_reader_has_its_view.Goals as goal
 
 pub returns-clause-view : goal.returns-clause-view
-returns-clause-view c = λ s state writer made desks cuts undo room held. has_view s held.chains writer state held.agrees
+returns-clause-view c = λ s state writer desks cuts undo room held. has_view s held.chains writer state held.agrees
 
 pub returns-clause-there : goal.returns-clause-there
 returns-clause-there c = next_there

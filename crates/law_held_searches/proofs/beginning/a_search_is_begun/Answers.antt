@@ -8,9 +8,9 @@ pub returns-clause-held : goal.returns-clause-held
 returns-clause-held c = begun
 
 pub returns-clause-tables : goal.returns-clause-tables
-returns-clause-tables c = λ state writer made desks cuts undo room held. held.agrees.lists.tables
+returns-clause-tables c = λ state writer desks cuts undo room held. held.agrees.lists.tables
 
 pub returns-clause-few : goal.returns-clause-few
 returns-clause-few c =
-    λ state writer made desks cuts undo room table schema held told there.
-    (columns_held state writer made desks cuts undo room table schema held told there).few
+    λ state writer desks cuts undo room table schema held told there.
+    (columns_held state writer desks cuts undo room table schema held told there).few

@@ -3,17 +3,17 @@ use Rattle.law_held_searches.proofs.going.a_search_goes_on.Goals as goal
 
 pub returns-clause-went : goal.returns-clause-went
 returns-clause-went c =
-    λ s old new writer made desks cuts undo room on search next held is taken goes told. went s old writer made desks cuts undo room on held is search taken
+    λ s old new writer desks cuts undo room on search next held is taken goes told. went s old writer desks cuts undo room on held is search taken
     new told next goes
 
 pub returns-clause-done : goal.returns-clause-done
 returns-clause-done c =
-    λ s old new writer made desks cuts undo room on search rows held is taken ends told. ended s old writer made desks cuts undo room on held is search taken
+    λ s old new writer desks cuts undo room on search rows held is taken ends told. ended s old writer desks cuts undo room on held is search taken
     new told rows.items ends
 
 pub returns-clause-hindered : goal.returns-clause-hindered
 returns-clause-hindered c =
-    λ s old new writer made desks cuts undo room on search same why held is taken waits told. waited s old writer made desks cuts undo room on held is search
+    λ s old new writer desks cuts undo room on search same why held is taken waits told. waited s old writer desks cuts undo room on held is search
     taken new told same why waits
 
 pub returns-clause-malformed : goal.returns-clause-malformed

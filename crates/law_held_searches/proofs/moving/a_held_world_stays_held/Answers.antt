@@ -6,7 +6,7 @@ use Rattle.law_held_searches.proofs.moving.a_held_world_stays_held.Goals as goal
 
 pub returns-clause-nothing : goal.returns-clause-nothing
 returns-clause-nothing c =
-    λ s old new writer made desks cuts undo room held quiet moves told. held_stays s old new moves writer made desks cuts undo room held Nothing quiet refl
+    λ s old new writer desks cuts undo room held quiet moves told. held_stays s old new moves writer desks cuts undo room held Nothing quiet refl
     told (record {})
 
 pub returns-clause-idle : goal.returns-clause-idle

@@ -8,4 +8,4 @@ pub returns-clause-last : goal.returns-clause-last
 returns-clause-last c = has_last
 
 pub returns-clause-joined : goal.returns-clause-joined
-returns-clause-joined c = λ s state writer made desks cuts undo room held joined. has_joined s 0 state writer made desks cuts undo room held joined
+returns-clause-joined c = λ s state writer desks cuts undo room held joined. has_joined s 0 state writer desks cuts undo room held joined

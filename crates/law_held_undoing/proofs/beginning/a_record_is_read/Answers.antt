@@ -8,15 +8,15 @@ returns-clause-sure c = λ s old new read there answer memory reads. read_at_onc
 
 pub returns-clause-there : goal.returns-clause-there
 returns-clause-there c =
-    λ s keep old new writer made desks cuts undo read room there held may reads. is_there s keep old new writer made desks cuts undo read room there held may
+    λ s keep old new writer desks cuts undo read room there held may reads. is_there s keep old new writer desks cuts undo read room there held may
     reads
 
 pub returns-clause-held : goal.returns-clause-held
 returns-clause-held c =
-    λ s keep old new writer made desks cuts undo read room there held joined ready may memory reads. held_begun s keep old new writer made desks cuts undo
+    λ s keep old new writer desks cuts undo read room there held joined ready may memory reads. held_begun s keep old new writer desks cuts undo
     read room there held may reads joined ready memory
 
 pub returns-clause-few : goal.returns-clause-few
 returns-clause-few c =
-    λ s keep old new writer made desks cuts undo read room there held joined ready may memory reads. few_begun s keep old new writer made desks cuts undo
+    λ s keep old new writer desks cuts undo read room there held joined ready may memory reads. few_begun s keep old new writer desks cuts undo
     read room there held may reads joined ready memory

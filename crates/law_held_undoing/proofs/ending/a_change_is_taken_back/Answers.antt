@@ -4,7 +4,7 @@ use Rattle.law_held_undoing.proofs.ending.a_change_is_taken_back.Goals as goal
 
 pub returns-clause-number : goal.returns-clause-number
 returns-clause-number c =
-    λ s old mid writer made desks cuts undo room next session held busy put is. own_number s old mid writer made desks cuts undo room next held busy put
+    λ s old mid writer desks cuts undo room next session held busy put is. own_number s old mid writer desks cuts undo room next held busy put
     session is
 
 pub returns-clause-logged : goal.returns-clause-logged
@@ -15,8 +15,8 @@ returns-clause-sure c = λ s mid cut answer memory cuts. cut_at_once s s mid cut
 
 pub returns-clause-may : goal.returns-clause-may
 returns-clause-may c =
-    λ s old mid cut writer made desks cuts undo room next held busy put back. may_add s old mid writer made desks cuts undo room next held busy put cut back
+    λ s old mid cut writer desks cuts undo room next held busy put back. may_add s old mid writer desks cuts undo room next held busy put cut back
 
 pub returns-clause-held : goal.returns-clause-held
-returns-clause-held c = λ s keep old mid cut new writer made desks cuts undo other room next held joined busy memory put back keep_is added few.
-    held_then s old mid writer made desks cuts undo room next held busy put cut back keep new added keep_is other joined memory few
+returns-clause-held c = λ s keep old mid cut new writer desks cuts undo other room next held joined busy memory put back keep_is added few.
+    held_then s old mid writer desks cuts undo room next held busy put cut back keep new added keep_is other joined memory few

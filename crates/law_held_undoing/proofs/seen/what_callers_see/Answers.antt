@@ -13,7 +13,7 @@ returns-clause-went c = shows_went
 
 pub returns-clause-hindered : goal.returns-clause-hindered
 returns-clause-hindered c =
-    λ s keep old new writer made desks cuts undo room next answer held busy later put not_done not_step. shows_hindered s keep old new writer made desks cuts
+    λ s keep old new writer desks cuts undo room next answer held busy later put not_done not_step. shows_hindered s keep old new writer desks cuts
     undo room next held busy answer later put not_done not_step
 
 pub returns-clause-undone : goal.returns-clause-undone

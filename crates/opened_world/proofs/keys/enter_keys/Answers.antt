@@ -1,11 +1,12 @@
 use Rattle.list_world.specs.Parts.{world_of}
-use Rattle.opened_world.proofs.Taking.{taking_next, taken_rows, taken_rest}
+use Rattle.opened_world.proofs.Taking.{taking_next, taken_rows, taken_rest, taken_later}
 use Rattle.opened_world.proofs.keys.enter_keys.Goals as goal
 
 pub returns-in-Done : goal.returns-in-Done
 returns-in-Done c = record {
   rows = taken_rows _ (world_of c.args.world.now) (world_of c.loop.world) (world_of c.step.new.world) c.loop.change c.loop.invariant c.in-Done.ensures;
   rest = taken_rest _ (world_of c.args.world.now) (world_of c.loop.world) (world_of c.step.new.world) c.loop.change c.loop.invariant c.in-Done.ensures;
+  later = taken_later _ (world_of c.args.world.now) (world_of c.loop.world) (world_of c.step.new.world) c.loop.change c.loop.invariant c.in-Done.ensures;
 }
 
 pub loop-preserved : goal.loop-preserved

@@ -13,4 +13,5 @@ end-requires-clause-may g c = no_statement c.args.session c.requires.running.0 c
 pub returns-clause-steps : goal.returns-clause-steps
 returns-clause-steps g c =
     let r = c.requires.running in
-    ended IsRunning c.args.session c.args.lists.now c.end.new.self (Fail (Syntax c.args.at)) (Fail (Syntax c.args.at)) Failed refl r.1.rows_alone r.3 c.end.ensures
+    ended IsRunning c.args.session c.args.lists.now c.end.new.self (Fail (Syntax c.args.at)) (Fail (Syntax c.args.at)) Failed refl r.1.rows_alone r.3
+    c.end.ensures

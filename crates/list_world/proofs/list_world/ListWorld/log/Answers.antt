@@ -83,4 +83,5 @@ returns-clause-logged c =
           rw (← c.self.view_is, c.fill_if.ensures, pointer)
           (keeps (c.args.brought.undo.kind == 2) l.schemas session.next_pointer c.args.brought.undo c.args.brought.kept l.slots kept slot.0 slot.1 slot.2);
       rest = rw (← c.self.view_is, c.log.ensures, here, has.work_is) refl;
+      later = tt;
     }

@@ -15,8 +15,8 @@ unchanged_taken p =
     record {
       indexes = λ index. as_before (slice_get p.indexes index);
       versions = record { told = λ told. told; kept = λ told. kept_taken p.slots };
-      rest =
-          refl;
+      rest = refl;
+      later = tt;
     }
 
 pub invariant_of-self-in_err-make_room : goal.invariant_of-self-in_err-make_room
@@ -74,4 +74,5 @@ returns-clause-ready c =
       pointer = length l.slots + 1;
       leads = λ none. omega (arith, none);
       rest = rw (← c.self.view_is, c.in_ok-make_room.ensures.ok, c.in_ok-pointer.ensures.ok, c.in_ok-pointer.ensures.pointer, kept_taken l.slots) refl;
+      later = tt;
     }

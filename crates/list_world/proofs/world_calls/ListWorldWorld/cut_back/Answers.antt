@@ -45,4 +45,5 @@ returns c =
       behind_new = λ kind told. rw (← c.self.view_is) refl;
       next = session.next_pointer;
       rest = rw (← c.self.view_is, c.cut_back.ensures, here, has.work_is, cut) refl;
+      later = tt;
     }

@@ -1,5 +1,6 @@
 use Rattle.row_changes.proofs.record_change.RecordChange.replace.Goals as goal
 use Rattle.std.proofs.Common.{◌<◌, ◌^◌, arith}
+use Rattle.std.proofs.lemmas.Option.{slice_get_within}
 use Rattle.row_changes.proofs.Changing.{lacks_memory}
 use Rattle.row_changes.proofs.Recorded.{rows_index, value_of_row, found_at, value_short, version_next, may_log_former, may_enter_over, replaced_logs, replaced, replace_hindered}
 
@@ -44,3 +45,14 @@ returns-in_default-replace g c =
 
 abbrev pub returns-in_default-coded : goal.returns-in_default-coded
 returns-in_default-coded g c = lacks_memory c.args.s _ c.args.self c.requires.changing
+
+abbrev pub returns-in_default : goal.returns-in_default
+returns-in_default g c = lacks_memory c.args.s _ c.args.self c.requires.changing
+
+abbrev pub next_pointer-pointer-requires : goal.next_pointer-pointer-requires
+next_pointer-pointer-requires g c =
+    let p = c.requires.changing in
+    slice_get_within _ c.args.s p.session p.has_work.session_is
+
+abbrev pub returns-in_default-version : goal.returns-in_default-version
+returns-in_default-version g c = lacks_memory c.args.s _ c.args.self c.requires.changing

@@ -38,7 +38,8 @@ invariant_of-self-in_default g c =
       agree = rw (c.replace-in_default.ensures.is, c.replace.ensures.is)
           (out_keeps engine.lists out.new.lists engine.seats c.args.s c.self.invariant.agree joined leaving out.result.0 out.result.1 out.ensures.goes);
       timed =
-          subst (λ n. n ≤ (g.D.Disk.past engine.disk).moment) (sym (out_timed engine.lists out.new.lists engine.seats c.args.s c.self.invariant.agree joined leaving out.result.0 out.result.1
+          subst (λ n. n ≤ (g.D.Disk.past engine.disk).moment) (sym (out_timed engine.lists out.new.lists engine.seats c.args.s c.self.invariant.agree joined
+          leaving out.result.0 out.result.1
           out.ensures.goes))
           c.self.invariant.timed;
     }
@@ -50,7 +51,8 @@ returns-in-Busy-clause-steps g c =
     let step = c.go_on-statement in
     let seat = c.settled-seat in
     rw (← c.self.view_is, c.replace-in-Busy.ensures.is, c.replace.ensures.is)
-    (goes_does engine.lists step.new.lists engine.seats c.args.s c.self.invariant.agree joined c.moment-moment.result c.in-Busy.statement step.result.0 step.result.1
+    (goes_does engine.lists step.new.lists engine.seats c.args.s c.self.invariant.agree joined c.moment-moment.result c.in-Busy.statement step.result.0
+    step.result.1
     seat.result.0 seat.result.1 seat.ensures engine.disk step.ensures.goes)
 
 pub returns-in_default-clause-steps : goal.returns-in_default-clause-steps

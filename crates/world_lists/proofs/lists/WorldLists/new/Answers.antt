@@ -1,4 +1,4 @@
-use Rattle.std.proofs.Common.{List, None, false, refl, sym, ap, subst}
+use Rattle.std.proofs.Common.{List, None, refl, sym, ap, subst}
 use Rattle.desks.specs.declared.desk.Desk.{Desk}
 use Rattle.desks.specs.Holding.{IsHeld}
 use Rattle.law_held_entries.proofs.Joining.{first_held}
@@ -7,7 +7,7 @@ use Rattle.world_lists.proofs.lists.WorldLists.new.Goals as goal
 
 pub invariant_of-result : goal.invariant_of-result
 invariant_of-result g c =
-    subst (λ (desks : List Desk). IsHeld (g.W.World.state c.args.world) None false desks 0 c.in_ok-new.field-0 c.in_ok-new-2.field-0) (sym c.new.ensures.items)
+    subst (λ (desks : List Desk). IsHeld (g.W.World.state c.args.world) None desks 0 c.in_ok-new.field-0 c.in_ok-new-2.field-0) (sym c.new.ensures.items)
     (first_held (g.W.World.state c.args.world) c.in_ok-new.field-0 c.in_ok-new-2.field-0 c.requires c.in_ok-new-2.ensures.whole c.in_ok-new-2.ensures.stage)
 
 pub returns-clause-first : goal.returns-clause-first

@@ -9,7 +9,7 @@ pub invariant_of-self : goal.invariant_of-self
 invariant_of-self g c =
     let self = c.self.inside in
     let may = subst (MayUndo c.args.session) (sym c.self.view_is) (record { joined = c.requires.joined; may = c.requires.may; task = c.requires.task }) in
-    read_held c.args.session (g.W.World.state self.world) (g.W.World.state c.last.new.self) self.writer self.has_made_table self.desks.items self.cuts
+    read_held c.args.session (g.W.World.state self.world) (g.W.World.state c.last.new.self) self.writer self.desks.items self.cuts
     self.undo c.last.new.into self.room c.last.new.there c.self.invariant may
     (λ left busy. c.requires.waits left (ap (λ (lists : Lists). task_of c.args.session lists.state) (sym c.self.view_is) ∙ busy))
     (g.met.W.EngineWorld.tells c.last.new.self) c.in-Done.ensures.answer c.give_doing.new.desks.items c.give_doing.ensures
@@ -19,7 +19,7 @@ returns g c =
     let self = c.self.inside in
     let may = subst (MayUndo c.args.session) (sym c.self.view_is) (record { joined = c.requires.joined; may = c.requires.may; task = c.requires.task }) in
     let shows =
-    read_shown c.args.session (g.W.World.state self.world) (g.W.World.state c.last.new.self) self.writer self.has_made_table self.desks.items self.cuts
+    read_shown c.args.session (g.W.World.state self.world) (g.W.World.state c.last.new.self) self.writer self.desks.items self.cuts
     self.undo c.last.new.into self.room c.last.new.there c.self.invariant may
     (λ left busy. c.requires.waits left (ap (λ (lists : Lists). task_of c.args.session lists.state) (sym c.self.view_is) ∙ busy))
     (g.met.W.EngineWorld.tells c.last.new.self) c.in-Done.ensures.answer c.give_doing.new.desks.items c.give_doing.ensures in

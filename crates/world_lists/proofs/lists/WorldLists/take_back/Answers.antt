@@ -11,4 +11,4 @@ returns g c =
     subst (λ (was : Lists). TakesBackIn c.args.session (length (own c.args.session was.state.past) - 1) was
     (lists_held new self.writer c.take_newest_back.new.desks.items c.take_newest_back.new.undo c.take_newest_back.new.room) c.take_newest_back.result)
     c.self.view_is
-    (c.take_newest_back.ensures.takes self.writer self.has_made_table c.self.invariant)
+    (c.take_newest_back.ensures.takes self.writer c.self.invariant)

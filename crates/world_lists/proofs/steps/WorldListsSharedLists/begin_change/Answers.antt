@@ -14,7 +14,7 @@ bounds-as_slice-table g c =
     subst (MayBegin c.args.session c.args.change) (sym c.self.view_is)
     (record { joined = c.requires.joined; is_open = c.requires.is_open; locked = c.requires.locked; idle = c.requires.idle; fits = c.requires.fits }) in
     let can =
-    can_edit state c.args.session self.writer self.has_made_table self.desks.items self.cuts self.undo self.room
+    can_edit state c.args.session self.writer self.desks.items self.cuts self.undo self.room
     (undo_left_in self.undo.table self.room.stage state) c.args.change c.self.invariant may c.in-Some.table c.in-Some.edit c.in-Some.ensures.some in
     subst (λ (schemas : List Schema). c.in-Some.table < length schemas) (sym (c.as_slice.ensures ∙ c.tables.ensures)) can.within
 
@@ -26,7 +26,7 @@ key_of_edit-requires g c =
     subst (MayBegin c.args.session c.args.change) (sym c.self.view_is)
     (record { joined = c.requires.joined; is_open = c.requires.is_open; locked = c.requires.locked; idle = c.requires.idle; fits = c.requires.fits }) in
     let can =
-    can_edit state c.args.session self.writer self.has_made_table self.desks.items self.cuts self.undo self.room
+    can_edit state c.args.session self.writer self.desks.items self.cuts self.undo self.room
     (undo_left_in self.undo.table self.room.stage state) c.args.change c.self.invariant may c.in-Some.table c.in-Some.edit c.in-Some.ensures.some in
     let found = c.index-as_slice-table.result in
     keyed_at state c.in-Some.table c.in-Some.edit found can
@@ -40,7 +40,7 @@ invariant_of-self g c =
     subst (MayBegin c.args.session c.args.change) (sym c.self.view_is)
     (record { joined = c.requires.joined; is_open = c.requires.is_open; locked = c.requires.locked; idle = c.requires.idle; fits = c.requires.fits }) in
     let found = c.index-as_slice-table.result in
-    begun_held state c.args.session self.writer self.has_made_table self.desks.items self.cuts self.undo self.room
+    begun_held state c.args.session self.writer self.desks.items self.cuts self.undo self.room
     (undo_left_in self.undo.table self.room.stage state) c.args.change c.self.invariant may c.in-Some.table c.in-Some.edit c.in-Some.ensures.some
     found (item_of state.schemas c.tables.result.now c.as_slice.result.now c.in-Some.table found c.index-as_slice-table.is c.as_slice.ensures c.tables.ensures)
     c.in_ok-key.key c.in_ok-key.ensures c.in_ok-change.change c.in_ok-change.ensures c.give_doing.new.desks.items c.give_doing.ensures
@@ -54,7 +54,7 @@ returns g c =
     (record { joined = c.requires.joined; is_open = c.requires.is_open; locked = c.requires.locked; idle = c.requires.idle; fits = c.requires.fits }) in
     let found = c.index-as_slice-table.result in
     let shows =
-    begun_shows state c.args.session self.writer self.has_made_table self.desks.items self.cuts self.undo self.room
+    begun_shows state c.args.session self.writer self.desks.items self.cuts self.undo self.room
     (undo_left_in self.undo.table self.room.stage state) c.args.change c.self.invariant may c.in-Some.table c.in-Some.edit c.in-Some.ensures.some
     found (item_of state.schemas c.tables.result.now c.as_slice.result.now c.in-Some.table found c.index-as_slice-table.is c.as_slice.ensures c.tables.ensures)
     c.in_ok-key.key c.in_ok-key.ensures c.in_ok-change.change c.in_ok-change.ensures c.give_doing.new.desks.items c.give_doing.ensures in

@@ -10,7 +10,7 @@ invariant_of-self g c =
     let self = c.self.inside in
     let old = g.W.World.state self.world in
     let new = g.W.World.state c.step_change-doing.new.world in
-    step_held c.args.session self.writer self.has_made_table self.desks.items self.cuts self.undo self.room old new c.in-Changing.change
+    step_held c.args.session self.writer self.desks.items self.cuts self.undo self.room old new c.in-Changing.change
     c.step_change-doing.result.0 c.step_change-doing.result.1 c.step_change-doing.ensures
     (ap (λ (lists : Lists). lists.state.writer) c.self.view_is ∙ c.requires.locked) c.self.invariant (sym c.take_doing-doing.ensures.was ∙ c.in-Changing.is)
     (g.met.W.EngineWorld.tells self.world).told (g.met.W.EngineWorld.tells c.step_change-doing.new.world).told
@@ -22,7 +22,7 @@ returns g c =
     let old = g.W.World.state self.world in
     let new = g.W.World.state c.step_change-doing.new.world in
     let shows =
-    step_shown c.args.session self.writer self.has_made_table self.desks.items self.cuts self.undo self.room old new c.in-Changing.change
+    step_shown c.args.session self.writer self.desks.items self.cuts self.undo self.room old new c.in-Changing.change
     c.step_change-doing.result.0 c.step_change-doing.result.1 c.step_change-doing.ensures
     (ap (λ (lists : Lists). lists.state.writer) c.self.view_is ∙ c.requires.locked) c.self.invariant (sym c.take_doing-doing.ensures.was ∙ c.in-Changing.is)
     (g.met.W.EngineWorld.tells self.world).told (g.met.W.EngineWorld.tells c.step_change-doing.new.world).told

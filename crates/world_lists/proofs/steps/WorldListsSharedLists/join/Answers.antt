@@ -14,7 +14,7 @@ returns-in_err-session-clause-tasks g c =
     let l = c.self.inside in
     let old : WorldState = g.W.World.state l.world in
     let failed = c.in_err-session.ensures.err in
-    tasks_same 0 old l.writer l.has_made_table l.desks.items l.cuts l.undo l.room c.args.self.now c.self.invariant c.self.view_is
+    tasks_same 0 old l.writer l.desks.items l.cuts l.undo l.room c.args.self.now c.self.invariant c.self.view_is
     (g.W.World.state c.join.new.self) c.reserve.new.self.items
     (ap (λ (w : WorldState). w.schemas) failed) (ap (λ (w : WorldState). w.versions) failed) (λ u. ap (doing_at u) c.reserve.ensures.items)
 
@@ -27,9 +27,9 @@ invariant_of-self-2 g c =
     let items : c.push.new.self.items ≡ l.desks.items ++ fresh_desk ∷ [] =
     pushed c.push.result c.unwrap.result c.push.new.self.items _ _ c.unwrap.ensures c.push.ensures.items ∙ ap (λ (xs : List Desk). xs ++ fresh_desk ∷ [])
     c.reserve.ensures.items in
-    subst (λ (w : WorldState). IsHeld w l.writer l.has_made_table c.push.new.self.items l.cuts l.undo l.room) (sym c.in_ok-session.ensures.ok)
-    (subst (λ (desks : List Desk). IsHeld (joined c.args.name old) l.writer l.has_made_table desks l.cuts l.undo l.room) (sym items)
-    (joined_held l.writer l.has_made_table l.cuts l.undo l.room old l.desks.items c.self.invariant told c.args.name few))
+    subst (λ (w : WorldState). IsHeld w l.writer c.push.new.self.items l.cuts l.undo l.room) (sym c.in_ok-session.ensures.ok)
+    (subst (λ (desks : List Desk). IsHeld (joined c.args.name old) l.writer desks l.cuts l.undo l.room) (sym items)
+    (joined_held l.writer l.cuts l.undo l.room old l.desks.items c.self.invariant told c.args.name few))
 
 pub returns-clause-tasks : goal.returns-clause-tasks
 returns-clause-tasks g c =
@@ -38,7 +38,7 @@ returns-clause-tasks g c =
     let items : c.push.new.self.items ≡ l.desks.items ++ fresh_desk ∷ [] =
     pushed c.push.result c.unwrap.result c.push.new.self.items _ _ c.unwrap.ensures c.push.ensures.items ∙ ap (λ (xs : List Desk). xs ++ fresh_desk ∷ [])
     c.reserve.ensures.items in
-    tasks_same 0 old l.writer l.has_made_table l.desks.items l.cuts l.undo l.room c.args.self.now c.self.invariant c.self.view_is
+    tasks_same 0 old l.writer l.desks.items l.cuts l.undo l.room c.args.self.now c.self.invariant c.self.view_is
     (g.W.World.state c.join.new.self) c.push.new.self.items
     (ap (λ (w : WorldState). w.schemas) c.in_ok-session.ensures.ok) (ap (λ (w : WorldState). w.versions) c.in_ok-session.ensures.ok)
     (λ u. ap (doing_at u) items ∙ ap (λ (desk : Desk). desk.doing) (one_more l.desks.items u))

@@ -16,7 +16,7 @@ step-requires-clause-searching g c =
     =
     taken_by _ l.cuts on c.taken_up-search.result (λ same. grind (arith, nat_tests, same)) c.taken_up-search.ensures.as_it_was
     c.taken_up-search.ensures.anew in
-    (may_step_now c.args.session (g.W.World.state l.world) l.writer l.has_made_table l.desks.items l.cuts l.undo l.room c.args.self.now c.self.invariant
+    (may_step_now c.args.session (g.W.World.state l.world) l.writer l.desks.items l.cuts l.undo l.room c.args.self.now c.self.invariant
     c.self.view_is on is c.taken_up-search.result taken
     (g.met.W.EngineWorld.tells l.world).told).searching
 
@@ -29,7 +29,7 @@ step-requires-clause-table g c =
     =
     taken_by _ l.cuts on c.taken_up-search.result (λ same. grind (arith, nat_tests, same)) c.taken_up-search.ensures.as_it_was
     c.taken_up-search.ensures.anew in
-    (may_step_now c.args.session (g.W.World.state l.world) l.writer l.has_made_table l.desks.items l.cuts l.undo l.room c.args.self.now c.self.invariant
+    (may_step_now c.args.session (g.W.World.state l.world) l.writer l.desks.items l.cuts l.undo l.room c.args.self.now c.self.invariant
     c.self.view_is on is c.taken_up-search.result taken
     (g.met.W.EngineWorld.tells l.world).told).table
 
@@ -42,7 +42,7 @@ invariant_of-self g c =
     =
     taken_by _ l.cuts on c.taken_up-search.result (λ same. grind (arith, nat_tests, same)) c.taken_up-search.ensures.as_it_was
     c.taken_up-search.ensures.anew in
-    went_held c.args.session (g.W.World.state l.world) l.writer l.has_made_table l.desks.items l.cuts l.undo l.room c.args.self.now c.self.invariant
+    went_held c.args.session (g.W.World.state l.world) l.writer l.desks.items l.cuts l.undo l.room c.args.self.now c.self.invariant
     c.self.view_is on is c.taken_up-search.result taken
     (g.W.World.state c.step.new.world) (g.met.W.EngineWorld.tells c.step.new.world).told c.give_doing.new.desks.items c.in-Went.search c.in-Went.ensures
     (desks_given c.args.session (Searching (record on { search = c.in-Went.search; cuts = l.cuts })) l.desks.items c.take_doing.new.desks.items
@@ -57,7 +57,7 @@ returns-in-Went-clause-searches g c = λ table plan reading task.
     =
     taken_by _ l.cuts on c.taken_up-search.result (λ same. grind (arith, nat_tests, same)) c.taken_up-search.ensures.as_it_was
     c.taken_up-search.ensures.anew in
-    went_seen c.args.session (g.W.World.state l.world) l.writer l.has_made_table l.desks.items l.cuts l.undo l.room c.args.self.now c.self.invariant
+    went_seen c.args.session (g.W.World.state l.world) l.writer l.desks.items l.cuts l.undo l.room c.args.self.now c.self.invariant
     c.self.view_is on is c.taken_up-search.result taken
     (g.W.World.state c.step.new.world) (g.met.W.EngineWorld.tells c.step.new.world).told c.give_doing.new.desks.items c.in-Went.search c.in-Went.ensures
     (desks_given c.args.session (Searching (record on { search = c.in-Went.search; cuts = l.cuts })) l.desks.items c.take_doing.new.desks.items
@@ -72,7 +72,7 @@ invariant_of-self-in-Done-1 g c =
     =
     taken_by _ l.cuts on c.taken_up-search.result (λ same. grind (arith, nat_tests, same)) c.taken_up-search.ensures.as_it_was
     c.taken_up-search.ensures.anew in
-    ended_held c.args.session (g.W.World.state l.world) l.writer l.has_made_table l.desks.items l.cuts l.undo l.room c.args.self.now c.self.invariant
+    ended_held c.args.session (g.W.World.state l.world) l.writer l.desks.items l.cuts l.undo l.room c.args.self.now c.self.invariant
     c.self.view_is on is c.taken_up-search.result taken
     (g.W.World.state c.step.new.world) (g.met.W.EngineWorld.tells c.step.new.world).told c.take_doing.new.desks.items c.in-Done.found.items c.in-Done.ensures
     c.take_doing.ensures.is
@@ -86,7 +86,7 @@ returns-in-Done-clause-searches g c =
     =
     taken_by _ l.cuts on c.taken_up-search.result (λ same. grind (arith, nat_tests, same)) c.taken_up-search.ensures.as_it_was
     c.taken_up-search.ensures.anew in
-    ended_seen c.args.session (g.W.World.state l.world) l.writer l.has_made_table l.desks.items l.cuts l.undo l.room c.args.self.now c.self.invariant
+    ended_seen c.args.session (g.W.World.state l.world) l.writer l.desks.items l.cuts l.undo l.room c.args.self.now c.self.invariant
     c.self.view_is on is c.taken_up-search.result taken
     (g.W.World.state c.step.new.world) (g.met.W.EngineWorld.tells c.step.new.world).told c.take_doing.new.desks.items c.in-Done.found.items c.in-Done.ensures
     c.take_doing.ensures.is
@@ -103,11 +103,11 @@ invariant_of-self-in-Hindered-1 g c =
     c.taken_up-search.ensures.anew in
     let moves : MovesPlaces c.args.session (g.W.World.state l.world) (g.W.World.state c.step.new.world)
     =
-    hindered_moves c.args.session (g.W.World.state l.world) l.writer l.has_made_table l.desks.items l.cuts l.undo l.room c.args.self.now c.self.invariant
+    hindered_moves c.args.session (g.W.World.state l.world) l.writer l.desks.items l.cuts l.undo l.room c.args.self.now c.self.invariant
     c.self.view_is on is c.taken_up-search.result taken
     (g.W.World.state c.step.new.world) (g.met.W.EngineWorld.tells c.step.new.world).told c.take_doing.new.desks.items c.in-Hindered.search c.in-Hindered._why
     c.in-Hindered.ensures in
-    given_up_held c.args.session (g.W.World.state l.world) l.writer l.has_made_table l.desks.items l.cuts l.undo l.room c.args.self.now c.self.invariant
+    given_up_held c.args.session (g.W.World.state l.world) l.writer l.desks.items l.cuts l.undo l.room c.args.self.now c.self.invariant
     c.self.view_is on is _ (g.W.World.state c.step.new.world) (g.W.World.state c.give_up.new.world)
     moves c.give_up.ensures (g.met.W.EngineWorld.tells c.give_up.new.world).told c.take_doing.new.desks.items c.take_doing.ensures.is
 
@@ -122,10 +122,10 @@ returns-in-Hindered-clause-searches g c = λ table plan reading task.
     c.taken_up-search.ensures.anew in
     let moves : MovesPlaces c.args.session (g.W.World.state l.world) (g.W.World.state c.step.new.world)
     =
-    hindered_moves c.args.session (g.W.World.state l.world) l.writer l.has_made_table l.desks.items l.cuts l.undo l.room c.args.self.now c.self.invariant
+    hindered_moves c.args.session (g.W.World.state l.world) l.writer l.desks.items l.cuts l.undo l.room c.args.self.now c.self.invariant
     c.self.view_is on is c.taken_up-search.result taken
     (g.W.World.state c.step.new.world) (g.met.W.EngineWorld.tells c.step.new.world).told c.take_doing.new.desks.items c.in-Hindered.search c.in-Hindered._why
     c.in-Hindered.ensures in
-    given_up_seen c.args.session (g.W.World.state l.world) l.writer l.has_made_table l.desks.items l.cuts l.undo l.room c.args.self.now c.self.invariant
+    given_up_seen c.args.session (g.W.World.state l.world) l.writer l.desks.items l.cuts l.undo l.room c.args.self.now c.self.invariant
     c.self.view_is on is _ (g.W.World.state c.step.new.world) (g.W.World.state c.give_up.new.world)
     moves c.give_up.ensures (g.met.W.EngineWorld.tells c.give_up.new.world).told c.take_doing.new.desks.items c.take_doing.ensures.is

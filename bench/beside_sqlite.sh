@@ -1,0 +1,57 @@
+#!/usr/bin/env bash
+# Times a load in one transaction and selects by key, by the built program and by sqlite3 in memory, and prints the ratio.
+# Use: bench/beside_sqlite.sh [ROWS [SELECTS]]      (INNOD names another program than crates/innod/out/innod)
+set -euo pipefail
+cd "$(dirname "$0")/.."
+innod="${INNOD:-crates/innod/out/innod}"
+rows="${1:-100000}"
+selects="${2:-1000}"
+command -v sqlite3 >/dev/null || { echo "no sqlite3 here" >&2; exit 1; }
+if [ ! -x "$innod" ]; then
+    echo "no program at $innod: build it first (README.md, \"Two commands\")" >&2
+    exit 1
+fi
+work="$(mktemp -d)"
+trap 'rm -rf "$work"' EXIT
+
+statements() {
+    awk -v n="$rows" -v m="$selects" 'BEGIN {
+        print "BEGIN;"
+        for (i = 0; i < n; i++) {
+            if (i % 50 == 0) printf "INSERT INTO t VALUES "
+            printf "(%d,%d)%s", i, i * 7919 % 100003, (i % 50 == 49 || i == n - 1) ? ";\n" : ","
+        }
+        print "COMMIT;"
+        for (i = 0; i < m; i++) printf "SELECT * FROM t WHERE id = %d;\n", i * 7919 % n
+    }'
+}
+
+{
+    echo 'CREATE TABLE t (id BIGINT, a BIGINT, PRIMARY KEY (id), KEY ka (a));'
+    echo '@session s'
+    statements
+} >"$work/innod.sql"
+{
+    echo 'CREATE TABLE t (id INTEGER PRIMARY KEY, a BIGINT);'
+    echo 'CREATE INDEX ka ON t (a);'
+    statements
+} >"$work/sqlite.sql"
+
+# Milliseconds of a command, the least of three.
+timed() {
+    local best='' start end took
+    for _ in 1 2 3; do
+        start="$(date +%s%N)"
+        "$@" >"$work/out"
+        end="$(date +%s%N)"
+        took=$(((end - start) / 1000000))
+        if [ -z "$best" ] || [ "$took" -lt "$best" ]; then best="$took"; fi
+    done
+    echo "$best"
+}
+
+sqlite() { sqlite3 :memory: <"$work/sqlite.sql"; }
+
+ours="$(timed "$innod" play "$work/file" "$work/innod.sql")"
+theirs="$(timed sqlite)"
+awk -v a="$ours" -v b="$theirs" 'BEGIN { printf "innod %d ms, sqlite3 %d ms, ratio %.1f\n", a, b, a / b }'

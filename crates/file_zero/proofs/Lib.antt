@@ -1,0 +1,9 @@
+pub mod Applied
+mod FirstPage
+mod Kept
+mod Looking
+mod NewFiles
+mod Places
+mod Refusals
+mod Results
+mod Stored

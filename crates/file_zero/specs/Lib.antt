@@ -1,0 +1,4 @@
+pub mod Looks
+pub mod Making
+pub mod Reading
+pub mod Refused

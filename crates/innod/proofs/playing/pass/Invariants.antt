@@ -1,5 +1,0 @@
-use Rattle.innod.specs.Sessions.{Plays}
-use Rattle.innod.proofs.playing.pass.Given as goal
-
-abbrev pub invariant-loop-s : goal.invariant-loop-s
-invariant-loop-s g l = Plays l.items l.places (g.E.Sessions.shown l.fn.engine) (g.E.Sessions.shown l.engine)

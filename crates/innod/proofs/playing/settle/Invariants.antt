@@ -1,5 +1,0 @@
-use Rattle.innod.specs.Sessions.{Plays}
-use Rattle.innod.proofs.playing.settle.Given as goal
-
-abbrev pub invariant-loop : goal.invariant-loop
-invariant-loop g l = Plays l.items l.places (g.E.Sessions.shown l.fn.engine) (g.E.Sessions.shown l.engine)

@@ -1,0 +1,3 @@
+mod Same
+mod Unchanged
+pub mod Broken

@@ -1,0 +1,4 @@
+pub mod Declared
+pub mod Fits
+pub mod Names
+mod Tokens

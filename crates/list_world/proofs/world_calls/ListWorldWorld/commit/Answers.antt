@@ -1,0 +1,58 @@
+use Rattle.std.proofs.Common.{◌≡◌, true, length, Some, None, refl, arith}
+use Rattle.std.specs.Prelude.{slice_get}
+use Rattle.sql_history.specs.Settings.{at_end}
+use Rattle.world.specs.State.{Session, Work, HasWork}
+use Rattle.world_parts.specs.Owed.{owed_of}
+use Rattle.world_parts.proofs.Owing.{owes_committed, owes_end}
+use Rattle.list_world.specs.Parts.{world_of}
+use Rattle.list_world.proofs.Sound.{there_of, read_of, part_le, sound_set, promised_same}
+use Rattle.list_world.proofs.Results.{is_there, is_number}
+use Rattle.list_world.proofs.world_calls.ListWorldWorld.commit.Goals as goal
+
+pub unreachable-requires : goal.unreachable-requires
+unreachable-requires c =
+    let session : Session = c.requires.0 in
+    let work : Work = c.requires.1 in
+    let has : HasWork c.args.s session work (world_of c.args.self.now) = c.requires.2 in
+    let here : c.index_mut.result.now ≡ session = read_of c.args.s session c.index_mut.result.now c.self.view_is has.session_is c.index_mut.ensures.value in
+    c.in_default.not-Some work.txn (is_there work c.index_mut.result.now session c.commit.result here has.work_is c.commit.ensures.number)
+
+pub add-requires : goal.add-requires
+add-requires c =
+    let l = c.self.inside in
+    let session : Session = c.requires.0 in
+    let work : Work = c.requires.1 in
+    let has : HasWork c.args.s session work (world_of c.args.self.now) = c.requires.2 in
+    let there : slice_get l.sessions.items c.args.s ≡ Some session = there_of c.args.s session c.self.view_is has.session_is in
+    omega (arith, part_le owed_of l.sessions.items c.args.s session there, owes_end session work has.work_is c.requires.3, c.self.invariant.enough)
+
+pub invariant_of-self : goal.invariant_of-self
+invariant_of-self c =
+    let l = c.self.inside in
+    let session : Session = c.requires.0 in
+    let work : Work = c.requires.1 in
+    let has : HasWork c.args.s session work (world_of c.args.self.now) = c.requires.2 in
+    let there : slice_get l.sessions.items c.args.s ≡ Some session = there_of c.args.s session c.self.view_is has.session_is in
+    let here : c.index_mut.result.now ≡ session = read_of c.args.s session c.index_mut.result.now c.self.view_is has.session_is c.index_mut.ensures.value in
+    let new : Session = record session { setting = at_end session.setting; work = None; can_ack = true } in
+    rw (c.commit.ensures.committed, here, c.end.ensures) (sound_set l.history.room l.rows (length l.schemas) (length l.indexes.items) l.slots l.txns.begun
+    l.sessions.items c.args.s session new c.add.new.self.room l.rows l.slots c.self.invariant there (λ txn is. absurd (cc))
+    (promised_same l.slots l.sessions.items c.args.s session new c.self.invariant.promised there refl refl)
+    (omega (arith, owes_committed session work has.work_is c.requires.3, c.add.ensures.room, c.self.invariant.enough))
+    (omega (arith, owes_committed session work has.work_is c.requires.3, c.self.invariant.small)) (omega (arith, c.self.invariant.counted)))
+
+pub returns : goal.returns
+returns c =
+    let session : Session = c.requires.0 in
+    let work : Work = c.requires.1 in
+    let has : HasWork c.args.s session work (world_of c.args.self.now) = c.requires.2 in
+    let here : c.index_mut.result.now ≡ session = read_of c.args.s session c.index_mut.result.now c.self.view_is has.session_is c.index_mut.ensures.value in
+    let there = is_there work c.index_mut.result.now session c.commit.result here has.work_is c.commit.ensures.number in
+    let txn : c.in-Some.txn ≡ work.txn = is_number work c.commit.result c.in-Some.txn there c.in-Some.is in
+    record {
+      session = session;
+      work = work;
+      has_work = has;
+      rest = rw (← c.self.view_is, c.commit.ensures.committed, here, c.end.ensures, txn, c.add.ensures.past, c.add.ensures.names) refl;
+      later = tt;
+    }

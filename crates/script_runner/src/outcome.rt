@@ -1,0 +1,184 @@
+//! What a run answers, and the parts of a run that meet no engine.
+
+ghost use Rattle.std.specs.Prelude.{◌≡◌, ◌⊎◌, [], IfOk, IfErr, IfSome, IsTrue, false};
+ghost use Rattle.std.specs.List.{list_any};
+ghost use Rattle.store_api.specs.Causes.{Rose};
+ghost use Rattle.inno_model.specs.Text.{text};
+ghost use Rattle.script.specs.Script.{Spells, IsPlayable};
+ghost use Rattle.script_runner.specs.Run.{allowed, status_of, IsInputFault, IsOutputFault, IsPrinted, Judges, answers_no_memory};
+
+use crate::input::{ReadBad, read_all};
+use crate::output::write_all;
+use inno_model::{Event, History};
+use inno_types::Reply;
+use script::{Directives, Script, ScriptBad, read_script, transcript};
+use std::alloc::Global;
+use store_api::{Failed, MountBad, NoMemory, Sink, Source};
+
+/// Why a run is no full success.
+#[derive(Clone, Copy, Debug, PartialEq, Eq)]
+pub enum Fault {
+    Nothing,
+    Usage,
+    ScriptBad { line: u32 },
+    ScriptRead,
+    OutputWrite,
+    DiskFault,
+    File(MountBad),
+    Limit { what: u8, found: u64, most: u64 },
+    NoMemory,
+}
+
+impl Fault {
+    /// The number with which the program ends.
+    fn status(self) -> u8
+        ensures { result ≡ status_of self }
+    {
+        match self {
+            Fault::Nothing => 0,
+            Fault::Usage => 1,
+            Fault::ScriptBad { .. } => 2,
+            Fault::ScriptRead => 3,
+            Fault::OutputWrite => 4,
+            Fault::DiskFault => 5,
+            Fault::File(_) => 6,
+            Fault::Limit { .. } => 7,
+            Fault::NoMemory => 8,
+        }
+    }
+}
+
+/// What a run leaves. Its history is empty where no engine was mounted.
+#[derive(Drop)]
+pub struct Outcome<D> {
+    pub status: u8,
+    pub fault: Fault,
+    pub history: History,
+    pub disk: D,
+    ghost told: { status ≡ status_of fault },
+}
+
+/// The outcome of a run that mounted no engine.
+pub fn refused<D>(alloc: Global, disk: D, fault: Fault) -> Outcome<D>
+    ensures fault { result.fault ≡ fault }
+    ensures disk { result.disk ≡ disk }
+    ensures names { result.history.names ≡ [] }
+    ensures past { result.history.past ≡ [] }
+{
+    Outcome {
+        status: fault.status(),
+        fault,
+        history: History::new(alloc),
+        disk,
+    }
+}
+
+/// Reads the script, all of the source.
+pub fn read_input<S: Source>(alloc: Global, source: &mut S) -> Result<Script, Fault>
+    ensures script { IfOk result (λ script. IfSome (S.left source.old) (λ bytes. Spells allowed bytes script)) }
+    ensures playable { IfOk result (IsPlayable allowed) }
+    ensures read { result ≡ Err Fault.ScriptRead → Rose (S.faults source.old) (S.faults source.new) }
+    ensures judged { IfErr result (λ fault. IfSome (S.left source.old) (Judges fault)) }
+    ensures causes { IfErr result IsInputFault }
+{
+    let bytes = match read_all(alloc, source) {
+        Ok(bytes) => bytes,
+        Err(ReadBad::Failed) => return Err(Fault::ScriptRead),
+        Err(ReadBad::NoMemory) => return Err(Fault::NoMemory),
+    };
+    let allowed = Directives {
+        signals: false,
+        ticks: false,
+    };
+    match read_script(alloc, bytes.as_slice(), allowed) {
+        Ok(script) => Ok(script),
+        Err(ScriptBad::Line { line }) => Err(Fault::ScriptBad { line }),
+        Err(ScriptBad::Limit { what, found, most }) => Err(Fault::Limit { what, found, most }),
+        Err(ScriptBad::NoMemory) => Err(Fault::NoMemory),
+    }
+}
+
+/// Prints what an engine leaves. Want of memory before is told where printing has no fault of its own.
+pub fn finish<D, K: Sink>(
+    alloc: Global,
+    disk: D,
+    history: History,
+    sufficed: bool,
+    out: &mut K,
+) -> Outcome<D>
+    ensures disk { result.disk ≡ disk }
+    ensures history { result.history ≡ history }
+    ensures printed { IsPrinted result.fault (K.taken out.old) (K.taken out.new) (text history) }
+    ensures sufficed { result.fault ≡ Fault.Nothing → IsTrue sufficed }
+    ensures replied { result.fault ≡ Fault.Nothing → list_any answers_no_memory history.past ≡ false }
+    ensures output_write { result.fault ≡ Fault.OutputWrite → Rose (K.faults out.old) (K.faults out.new) }
+    ensures causes { IsOutputFault result.fault }
+{
+    let printed = print(alloc, &history, out);
+    let replied = !has_lacked_memory(&history);
+    let fault = told_fault(sufficed && replied, printed);
+    Outcome {
+        status: fault.status(),
+        fault,
+        history,
+        disk,
+    }
+}
+
+/// Whether a reply of the history says that memory was lacking.
+fn has_lacked_memory(history: &History) -> bool
+    ensures { result ≡ list_any answers_no_memory history.now.past }
+{
+    let events = history.events();
+    any_lacks_memory(events)
+}
+
+fn any_lacks_memory(events: &[Event]) -> bool
+    ensures { result ≡ list_any answers_no_memory events.now }
+{
+    events.iter().any(|event| answers_no_memory(event))
+}
+
+fn answers_no_memory(event: &Event) -> bool
+    ensures { result ≡ answers_no_memory event.now }
+{
+    matches!(
+        event,
+        Event::Ended {
+            reply: Reply::NoMemory,
+            ..
+        }
+    )
+}
+
+/// The fault of printing, or else the want of memory that came before it.
+fn told_fault(sufficed: bool, printed: Fault) -> Fault
+    ensures sufficed { result ≡ Fault.Nothing → IsTrue sufficed × (printed ≡ Fault.Nothing) }
+    ensures output { result ≡ Fault.OutputWrite → printed ≡ Fault.OutputWrite }
+    ensures memory { result ≡ Fault.NoMemory → (printed ≡ Fault.Nothing) ⊎ (printed ≡ Fault.NoMemory) }
+    ensures causes { IsOutputFault printed → IsOutputFault result }
+{
+    if sufficed {
+        return printed;
+    }
+    match printed {
+        Fault::Nothing => Fault::NoMemory,
+        other => other,
+    }
+}
+
+/// Prints the text of a history.
+fn print<K: Sink>(alloc: Global, history: &History, out: &mut K) -> Fault
+    ensures printed { IsPrinted result (K.taken out.old) (K.taken out.new) (text history.now) }
+    ensures output_write { result ≡ Fault.OutputWrite → Rose (K.faults out.old) (K.faults out.new) }
+    ensures causes { IsOutputFault result }
+{
+    let bytes = match transcript(alloc, history) {
+        Ok(bytes) => bytes,
+        Err(NoMemory) => return Fault::NoMemory,
+    };
+    match write_all(out, bytes.as_slice()) {
+        Ok(()) => Fault::Nothing,
+        Err(Failed) => Fault::OutputWrite,
+    }
+}

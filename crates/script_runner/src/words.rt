@@ -1,0 +1,66 @@
+//! The words of a command.
+
+ghost use Rattle.std.specs.Prelude.{◌↔◌, IsTrue, All};
+ghost use Rattle.std.specs.Bool.{MatchBool};
+ghost use Rattle.script_runner.specs.Words.{IsCommand, IsScriptCommand, IsText, IsKnown, IsOperand};
+
+use inno_types::Bytes;
+use std::str;
+
+/// Whether the words are `innod run FILE SCRIPT` or `innod play FILE SCRIPT`.
+pub fn is_command(words: &[Bytes]) -> bool
+    ensures { IsTrue result ↔ IsCommand words.now }
+{
+    are_texts(words) && has_form(words)
+}
+
+fn are_texts(words: &[Bytes]) -> bool
+    ensures { MatchBool result (All IsText words.now) (All IsText words.now → ⊥) }
+{
+    for word in words {
+        if !is_text(word.as_slice()) {
+            return false;
+        }
+    }
+    true
+}
+
+fn is_text(word: &[u8]) -> bool
+    ensures { MatchBool result (IsText word.now) (IsText word.now → ⊥) }
+{
+    match str::from_utf8(word) {
+        Ok(_) => true,
+        Err(_) => false,
+    }
+}
+
+fn has_form(words: &[Bytes]) -> bool
+    ensures { IsTrue result ↔ IsScriptCommand words.now }
+{
+    match words {
+        [_, command, file, script] => {
+            plays_script(command.as_slice())
+                && is_operand(file.as_slice())
+                && is_operand(script.as_slice())
+        }
+        _ => false,
+    }
+}
+
+fn plays_script(word: &[u8]) -> bool
+    ensures { IsTrue result ↔ IsKnown word.now }
+{
+    if word == "run".as_bytes() {
+        return true;
+    }
+    word == "play".as_bytes()
+}
+
+fn is_operand(word: &[u8]) -> bool
+    ensures { IsTrue result ↔ IsOperand word.now }
+{
+    match word {
+        [] => false,
+        [first, ..] => *first != b'-',
+    }
+}

@@ -1,0 +1,5 @@
+//! Tests of the program's top call: scripts over a disk in memory, and what is printed.
+#![tactic(auto)]
+
+#[cfg(test)]
+mod runs;
