@@ -73,5 +73,5 @@ for kind in INSERT SELECT UPDATE DELETE LOOKUP; do
     a="$(cost "$kind" "$small" "$few")"
     b="$(cost "$kind" "$large" "$many")"
     awk -v kind="$kind" -v count="$count" -v a="$a" -v b="$b" \
-        'BEGIN { printf "%d of %-6s  small %d ms, large %d ms, ratio %s\n", count, kind, a, b, a > 0 ? sprintf("%.2f", b / a) : "-" }'
+        'BEGIN { printf "%d of %-6s  small %d ms, large %d ms, ratio %s\n", count, kind, a, b, (a > 0 ? sprintf("%.2f", b / a) : "-") }'
 done

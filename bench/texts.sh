@@ -23,7 +23,7 @@ texts() {
         while (length(text) < 4080) text = text " OR id = 10"
         while (length(text) < 4096) text = text "1"
         at = kind == "front" ? 40 : kind == "amid" ? 2048 : 4090
-        if (kind != "accepted") text = substr(text, 1, at) " =" substr(text, at + 3)
+        if (kind != "accepted") text = substr(text, 1, at) ")" substr(text, at + 2)
         for (i = 0; i < count; i++) print text ";"
     }'
 }
@@ -59,7 +59,7 @@ accepted="$(timed "$work/accepted.sql")"
 for kind in front amid end; do
     took="$(timed "$work/$kind.sql")"
     awk -v kind="$kind" -v count="$count" -v a="$accepted" -v b="$took" \
-        'BEGIN { printf "%d texts, fault at the %-5s  accepted %d ms, refused %d ms, ratio %s\n", count, kind, a, b, a > 0 ? sprintf("%.1f", b / a) : "-" }'
+        'BEGIN { printf "%d texts, fault at the %-5s  accepted %d ms, refused %d ms, ratio %s\n", count, kind, a, b, (a > 0 ? sprintf("%.1f", b / a) : "-") }'
 done
 
 scans "$rows" 0 >"$work/rows.sql"
@@ -69,4 +69,4 @@ scans "$((rows / 10))" 10 >"$work/scans.sql"
 large="$(($(timed "$work/scan.sql") - $(timed "$work/rows.sql")))"
 small="$(($(timed "$work/scans.sql") - $(timed "$work/tenth.sql")))"
 awk -v n="$rows" -v a="$small" -v b="$large" \
-    'BEGIN { printf "one scan of %d rows %d ms, ten of a tenth %d ms, ratio %s\n", n, b, a, a > 0 ? sprintf("%.2f", b / a) : "-" }'
+    'BEGIN { printf "one scan of %d rows %d ms, ten of a tenth %d ms, ratio %s\n", n, b, a, (a > 0 ? sprintf("%.2f", b / a) : "-") }'
