@@ -2,18 +2,10 @@
 # Times a load in one transaction and selects by key, by the built program and by sqlite3 in memory, and prints the ratio.
 # Use: bench/beside_sqlite.sh [ROWS [SELECTS]]      (INNOD names another program than crates/innod/out/innod)
 set -euo pipefail
-cd "$(dirname "$0")/.."
-innod="${INNOD:-crates/innod/out/innod}"
+source "$(dirname "$0")/common.sh"
 rows="${1:-100000}"
 selects="${2:-1000}"
 command -v sqlite3 >/dev/null || { echo "no sqlite3 here" >&2; exit 1; }
-if [ ! -x "$innod" ]; then
-    echo "no program at $innod: build it first (README.md, \"Two commands\")" >&2
-    exit 1
-fi
-work="$(mktemp -d)"
-trap 'rm -rf "$work"' EXIT
-
 statements() {
     awk -v n="$rows" -v m="$selects" 'BEGIN {
         print "BEGIN;"
@@ -37,21 +29,8 @@ statements() {
     statements
 } >"$work/sqlite.sql"
 
-# Milliseconds of a command, the least of three.
-timed() {
-    local best='' start end took
-    for _ in 1 2 3; do
-        start="$(date +%s%N)"
-        "$@" >"$work/out"
-        end="$(date +%s%N)"
-        took=$(((end - start) / 1000000))
-        if [ -z "$best" ] || [ "$took" -lt "$best" ]; then best="$took"; fi
-    done
-    echo "$best"
-}
-
 sqlite() { sqlite3 :memory: <"$work/sqlite.sql"; }
 
-ours="$(timed "$innod" play "$work/file" "$work/innod.sql")"
+ours="$(timed play "$work/innod.sql")"
 theirs="$(timed sqlite)"
 awk -v a="$ours" -v b="$theirs" 'BEGIN { printf "innod %d ms, sqlite3 %d ms, ratio %.1f\n", a, b, a / b }'

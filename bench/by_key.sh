@@ -2,18 +2,10 @@
 # Times single-row statements by key over a small table and over a large one, and prints ratios of times of this one run.
 # Use: bench/by_key.sh [SMALL [LARGE [STATEMENTS]]]      (INNOD names another program than crates/innod/out/innod)
 set -euo pipefail
-cd "$(dirname "$0")/.."
-innod="${INNOD:-crates/innod/out/innod}"
+source "$(dirname "$0")/common.sh"
 small="${1:-1000}"
 large="${2:-100000}"
 count="${3:-1000}"
-if [ ! -x "$innod" ]; then
-    echo "no program at $innod: build it first (README.md, \"Two commands\")" >&2
-    exit 1
-fi
-work="$(mktemp -d)"
-trap 'rm -rf "$work"' EXIT
-
 # A table of so many rows, put in INSERTs of 50; even keys, so that odd ones are free.
 load() {
     echo 'CREATE TABLE t (id BIGINT, a BIGINT, PRIMARY KEY (id), KEY ka (a));'
@@ -40,34 +32,17 @@ statements() {
     }'
 }
 
-# Milliseconds that the program takes for a script, the least of three.
-timed() {
-    local best='' start end took
-    for _ in 1 2 3; do
-        start="$(date +%s%N)"
-        "$innod" play "$work/file" "$1" >"$1.out"
-        end="$(date +%s%N)"
-        took=$(((end - start) / 1000000))
-        if [ -z "$best" ] || [ "$took" -lt "$best" ]; then best="$took"; fi
-    done
-    if grep -q '> ERROR\|> NO MEMORY\|> RUN LIMIT' "$1.out"; then
-        echo "$1: the program answered an error" >&2
-        exit 1
-    fi
-    echo "$best"
-}
-
 # Milliseconds that so many statements of a kind take after a load.
 cost() {
     load "$2" >"$work/$1.$2.sql"
     statements "$1" "$2" "$count" >>"$work/$1.$2.sql"
-    echo $(($(timed "$work/$1.$2.sql") - $3))
+    echo $(($(timed_script "$work/$1.$2.sql") - $3))
 }
 
 load "$small" >"$work/small.sql"
 load "$large" >"$work/large.sql"
-few="$(timed "$work/small.sql")"
-many="$(timed "$work/large.sql")"
+few="$(timed_script "$work/small.sql")"
+many="$(timed_script "$work/large.sql")"
 echo "load of $small rows $few ms, of $large rows $many ms"
 for kind in INSERT SELECT UPDATE DELETE LOOKUP; do
     a="$(cost "$kind" "$small" "$few")"

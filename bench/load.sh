@@ -2,22 +2,14 @@
 # Times a load of rows and a scan of them by the built program, and prints ratios of times of this one run.
 # Use: bench/load.sh [ROWS [SCANS]]      (INNOD names another program than crates/innod/out/innod)
 set -euo pipefail
-cd "$(dirname "$0")/.."
-innod="${INNOD:-crates/innod/out/innod}"
+source "$(dirname "$0")/common.sh"
 rows="${1:-2000}"
 scans="${2:-20}"
-if [ ! -x "$innod" ]; then
-    echo "no program at $innod: build it first (README.md, \"Two commands\")" >&2
-    exit 1
-fi
 # A history holds at most a million rows: those put and those answered.
 if [ $((rows * 4 + rows * scans)) -gt 1000000 ]; then
     echo "too many rows: 4 x ROWS + ROWS x SCANS is at most 1000000" >&2
     exit 1
 fi
-work="$(mktemp -d)"
-trap 'rm -rf "$work"' EXIT
-
 # A script that puts so many rows, scans the table so many times, and looks so many rows up by the key ka.
 script() {
     local n="$1" scans="$2" lookups="$3" i
@@ -34,31 +26,19 @@ script() {
     done
 }
 
-# Milliseconds that the program takes for a script, the least of three.
-timed() {
-    local name="$1" best='' start end took
-    script "$2" "$3" "$4" >"$work/$name.sql"
-    for _ in 1 2 3; do
-        start="$(date +%s%N)"
-        "$innod" play "$work/file" "$work/$name.sql" >"$work/$name.out"
-        end="$(date +%s%N)"
-        took=$(((end - start) / 1000000))
-        if [ -z "$best" ] || [ "$took" -lt "$best" ]; then best="$took"; fi
-    done
-    if grep -q '> ERROR\|> NO MEMORY\|> RUN LIMIT' "$work/$name.out"; then
-        echo "$name: the program answered an error" >&2
-        exit 1
-    fi
-    echo "$best"
+# Milliseconds of such a script.
+script_time() {
+    script "$2" "$3" "$4" >"$work/$1.sql"
+    timed_script "$work/$1.sql"
 }
 
 ratio() { awk -v a="$1" -v b="$2" 'BEGIN { if (b > 0) printf "%.2f", a / b; else printf "-" }'; }
 
-start="$(timed start 0 0 0)"
-load="$(timed load "$rows" 0 0)"
-twice="$(timed twice "$((rows * 2))" 0 0)"
-scan="$(timed scan "$rows" "$scans" 0)"
-look="$(timed look "$rows" 0 "$rows")"
+start="$(script_time start 0 0 0)"
+load="$(script_time load "$rows" 0 0)"
+twice="$(script_time twice "$((rows * 2))" 0 0)"
+scan="$(script_time scan "$rows" "$scans" 0)"
+look="$(script_time look "$rows" 0 "$rows")"
 
 echo "program start                      $start ms"
 echo "load of $rows rows                 $load ms"

@@ -3,17 +3,9 @@
 # one, and prints ratios of times of this one run.
 # Use: bench/texts.sh [STATEMENTS [ROWS]]      (INNOD names another program than crates/innod/out/innod)
 set -euo pipefail
-cd "$(dirname "$0")/.."
-innod="${INNOD:-crates/innod/out/innod}"
+source "$(dirname "$0")/common.sh"
 count="${1:-200}"
 rows="${2:-100000}"
-if [ ! -x "$innod" ]; then
-    echo "no program at $innod: build it first (README.md, \"Two commands\")" >&2
-    exit 1
-fi
-work="$(mktemp -d)"
-trap 'rm -rf "$work"' EXIT
-
 # So many texts of 4,096 bytes: "accepted" ones, or ones with a fault near their "front", amid them or at their "end".
 texts() {
     echo 'CREATE TABLE t (id BIGINT, PRIMARY KEY (id));'
@@ -41,23 +33,10 @@ scans() {
     }'
 }
 
-# Milliseconds that the program takes for a script, the least of three.
-timed() {
-    local best='' start end took
-    for _ in 1 2 3; do
-        start="$(date +%s%N)"
-        "$innod" play "$work/file" "$1" >"$work/out"
-        end="$(date +%s%N)"
-        took=$(((end - start) / 1000000))
-        if [ -z "$best" ] || [ "$took" -lt "$best" ]; then best="$took"; fi
-    done
-    echo "$best"
-}
-
 for kind in accepted front amid end; do texts "$kind" >"$work/$kind.sql"; done
-accepted="$(timed "$work/accepted.sql")"
+accepted="$(timed play "$work/accepted.sql")"
 for kind in front amid end; do
-    took="$(timed "$work/$kind.sql")"
+    took="$(timed play "$work/$kind.sql")"
     awk -v kind="$kind" -v count="$count" -v a="$accepted" -v b="$took" \
         'BEGIN { printf "%d texts, fault at the %-5s  accepted %d ms, refused %d ms, ratio %s\n", count, kind, a, b, (a > 0 ? sprintf("%.1f", b / a) : "-") }'
 done
@@ -66,7 +45,7 @@ scans "$rows" 0 >"$work/rows.sql"
 scans "$rows" 1 >"$work/scan.sql"
 scans "$((rows / 10))" 0 >"$work/tenth.sql"
 scans "$((rows / 10))" 10 >"$work/scans.sql"
-large="$(($(timed "$work/scan.sql") - $(timed "$work/rows.sql")))"
-small="$(($(timed "$work/scans.sql") - $(timed "$work/tenth.sql")))"
+large="$(($(timed play "$work/scan.sql") - $(timed play "$work/rows.sql")))"
+small="$(($(timed play "$work/scans.sql") - $(timed play "$work/tenth.sql")))"
 awk -v n="$rows" -v a="$small" -v b="$large" \
     'BEGIN { printf "one scan of %d rows %d ms, ten of a tenth %d ms, ratio %s\n", n, b, a, (a > 0 ? sprintf("%.2f", b / a) : "-") }'

@@ -1,10 +1,10 @@
 //! The log of an engine's commits.
 
-ghost use Rattle.std.specs.Prelude.{◌≡◌, ◌+◌, ◌<◌, ◌≤◌, ℕ, List, [], ◌∷◌, length, nat_le, slice_set, true, false, IfOk, OnOk};
+ghost use Rattle.std.specs.Prelude.{◌≡◌, ◌+◌, ◌<◌, ◌≤◌, ℕ, List, [], ◌∷◌, length, nat_le, slice_set, true, false, IfOk, OnOk, OnErr};
 ghost use Rattle.inno_db.specs.Database.{Database};
 ghost use Rattle.inno_model.specs.declared.event.Event.{Event as EventValue};
 ghost use Rattle.inno_model.specs.declared.event.Event.TheVariants.{Opened, Acked};
-ghost use Rattle.inno_model.specs.Past.{is_of};
+ghost use Rattle.inno_model.specs.Past.{is_of, begins_txn};
 ghost use Rattle.store_api.specs.Past.{Past};
 ghost use Rattle.store_api.specs.Causes.{HasCause};
 ghost use Rattle.drafts.specs.View.{draft_of};
@@ -58,6 +58,7 @@ impl CommitLog {
     /// One session more, which has changed nothing. An `Err` changes nothing that a contract sees.
     pub fn join(&mut self) -> Result<(), NoMemory>
         ensures joined { OnOk result (length self.new.drafts ≡ length self.old.drafts + 1) }
+        ensures err { OnErr result (self.new.drafts ≡ self.old.drafts) }
         ensures kept { (root now : Past) (past : List EventValue) → IsLogging root now past self.old → IsLogging root now past self.new }
     {
         self.dues.push(self.begun)?;
@@ -82,6 +83,8 @@ impl CommitLog {
         requires unacked { is_acknowledgement entry.now ≡ false }
         requires ready { IsReady session entry.now self.old.drafts }
         ensures joined { length self.new.drafts ≡ length self.old.drafts }
+        // The room that was taken for a change outlasts the opening of the transaction that makes it.
+        ensures room_stays { begins_txn entry.now ≡ true → (draft_of session self.new.drafts).ready ≡ (draft_of session self.old.drafts).ready }
         ensures kept { (root now : Past) (past : List EventValue) → IsLogging root now past self.old → IsLogging root now (entry.now ∷ past) self.new }
     {
         if let Event::Committed { .. } = entry {
@@ -90,6 +93,22 @@ impl CommitLog {
         } else {
             redraft(&mut self.drafts, session, entry);
         }
+    }
+
+    /// Sees to it that the session's last commit may be acknowledged: unless the log is flushed as far as that needs it, it is
+    /// flushed, for every commit that was logged.
+    pub fn flush_for<D: Disk>(&mut self, session: u32, disk: &mut D) -> Result<(), Failed>
+        requires { IsJoined session self.old }
+        ensures acknowledges { OnOk result ((root now : Past) (past : List EventValue) (moment : ℕ) → moment ≡ now.moment
+            → IsLogging root now past self.new → IsLogging root now (Acked session moment ∷ past) self.new) }
+        ensures kept { (root : Past) (past : List EventValue) → IsLogging root (D.past disk.old) past self.old → IsLogging root (D.past disk.new) past self.new }
+        ensures joined { self.new.drafts ≡ self.old.drafts }
+        ensures cause { HasCause (D.past disk.old).faults (D.past disk.new).faults result }
+    {
+        if self.is_flushed_for(session) {
+            return Ok(());
+        }
+        self.flush(disk)
     }
 
     /// Whether the session's last commit may be acknowledged: the log is flushed as far as that needs it.

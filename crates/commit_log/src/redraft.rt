@@ -2,7 +2,7 @@
 
 ghost use Rattle.std.specs.Prelude.{◌≡◌, ◌≢◌, ◌<◌, ◌≤◌, ◌∷◌, ℕ, List, length, true, false};
 ghost use Rattle.inno_model.specs.declared.event.Event.{Event as EventValue};
-ghost use Rattle.inno_model.specs.Past.{is_of, own};
+ghost use Rattle.inno_model.specs.Past.{is_of, begins_txn, own};
 ghost use Rattle.drafts.specs.View.{draft_of, promised_to_all};
 ghost use Rattle.commit_log.specs.View.{is_commit, IsReady};
 
@@ -20,11 +20,13 @@ pub(crate) fn redraft(drafts: &mut Drafts, session: u32, entry: &Event)
     ensures others { (u : ℕ) → u ≢ session → draft_of u drafts.new ≡ draft_of u drafts.old }
     ensures joined { length drafts.new ≡ length drafts.old }
     ensures promised { promised_to_all drafts.new ≤ promised_to_all drafts.old }
+    ensures room_stays { begins_txn entry.now ≡ true → (draft_of session drafts.new).ready ≡ (draft_of session drafts.old).ready }
 {
     match entry {
         Event::Changed { change, .. } => drafts.add(session, change),
         Event::Undone { keep, .. } => drafts.cut(session, *keep),
-        Event::Begin { .. } | Event::RolledBack { .. } => drafts.clear(session),
+        Event::Begin { .. } => drafts.cut(session, 0),
+        Event::RolledBack { .. } => drafts.clear(session),
         Event::Opened { .. }
         | Event::Started { .. }
         | Event::View { .. }

@@ -4,3 +4,4 @@ mod Staying
 mod Stepping
 pub mod Moving
 pub mod Others
+pub mod Rooms

@@ -16,14 +16,14 @@ use Rattle.inno_model.specs.declared.event.Event.TheVariants as events
 use Rattle.inno_model.specs.Past.{is_of, of_item, started, level, own, begins, txn, awaits_ack, IsOpen, IsClosed}
 use Rattle.sql_grammar.specs.Grammar.{Spells}
 use Rattle.sql_history.specs.Items.{base}
-use Rattle.sql_history.specs.Counts.{last_moment, rows_kept, most_rows}
+use Rattle.sql_history.specs.Counts.{rows_kept, most_rows}
 use Rattle.law_past_agreement.specs.Order.{created}
 use Rattle.shared_lists.specs.Tasks.{Idle}
 use Rattle.shared_lists.specs.State.{State, IsNow, Adds, Closes, Stays, task_of}
 use Rattle.sql_lists.specs.Kept.{AreStanding, OwesAck}
 use Rattle.sql_lists.specs.Tables.{MayMake, MakesNone, begun, created_by, table_made}
 use Rattle.sql_lists.specs.Going.{NearsAcked}
-use Rattle.sql_lists.specs.Steps.{Steps, GoesOnAcked, AsksToWrite, changes_rows, HasRowsAlone, plain_edge, open_txn}
+use Rattle.sql_lists.specs.Steps.{Steps, GoesOnAcked, AsksToWrite, changes_rows, HasRowsAlone, plain_edge, open_txn, acknowledges}
 use Rattle.sql_lists.specs.declared.advance.Advance.TheVariants as advance
 use Rattle.sql_lists.proofs.Moving.{stays_none, moves_none, moves_stays, moves_adds, moves_closes, moves_made, moves_none_made, below_phase}
 use Rattle.create_statement.specs.declared.machine.CreateStatement.{CreateStatement}
@@ -58,7 +58,7 @@ ends s old new m reply adds rows idle = (
 )
 
 -- an entry of its own that changes no rows
-adds_one : (s : ℕ) (e : Event) (old new : State) (m : CreateStatement) → is_of s e ≡ true → last_moment (e ∷ old.past) ≡ last_moment old.past
+adds_one : (s : ℕ) (e : Event) (old new : State) (m : CreateStatement) → is_of s e ≡ true → acknowledges e ≡ false
     → changes_rows e ≡ false
     → started s (e ∷ old.past) ≡ started s old.past → Adds e s old new → RunsBy new s m → task_of s old ≡ Idle → Steps IsRunning s old new m advance.Went
 adds_one s e old new m mine unacked spares same adds runs idle = (
@@ -68,7 +68,7 @@ adds_one s e old new m mine unacked spares same adds runs idle = (
       adds.past_is ∙ same,
 )
 
-closes_one : (s : ℕ) (e : Event) (old new : State) (m : CreateStatement) → is_of s e ≡ true → last_moment (e ∷ old.past) ≡ last_moment old.past
+closes_one : (s : ℕ) (e : Event) (old new : State) (m : CreateStatement) → is_of s e ≡ true → acknowledges e ≡ false
     → changes_rows e ≡ false
     → started s (e ∷ old.past) ≡ started s old.past → Closes e s old new → RunsBy new s m → task_of s old ≡ Idle → Steps IsRunning s old new m advance.Went
 closes_one s e old new m mine unacked spares same closes runs idle =
@@ -150,7 +150,7 @@ module _ (s : ℕ) (old new : State) (statement : Stmt) (l : Level) where
     pub makes_table : old.writer ≡ None → IsNow (table_made s l schema old.past) s Idle None old new
         → Steps IsRunning s old new (machine.Committed statement) advance.Went
     makes_table free now = (
-      moves_made s l old new free schema now,
+      moves_made s l old new free (statement, r.0.0.at.takes, r.0.0.at.kind) schema now,
       (
         subst (λ h. IsCommitted s statement h × (awaits_ack (of_item s h) ≡ true)) (sym now.past_is) (
           committed_made s statement (created_by s l schema old.past) schema at_create opened_create own_created makes_it,

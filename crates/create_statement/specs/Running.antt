@@ -16,6 +16,16 @@ RunsBy state s (machine.Committed stmt) = IsCommitted s stmt state.past × (awai
 RunsBy state s (machine.Ending stmt) = IsCommitted s stmt state.past × (awaits_ack (of_item s state.past) ≡ false)
 RunsBy state s machine.Failed = IsGivingUp s state.past
 
+-- it is about to tell its table to the history, for which an engine that logs its changes needs room in its log
+abbrev pub wants_room : CreateStatement → Bool
+wants_room (machine.Closed stmt level) = true
+wants_room other = false
+
+-- the statement where there is no room for its table
+abbrev pub without_room : CreateStatement → CreateStatement
+without_room (machine.Closed stmt level) = machine.Failed
+without_room other = other
+
 -- its commit is yet to be acknowledged
 abbrev pub owes_ack : CreateStatement → Bool
 owes_ack (machine.Unacked stmt level) = true

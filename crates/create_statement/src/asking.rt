@@ -1,14 +1,14 @@
 //! The steps by which a table is made: what is open is committed, the statement waits while another session may write, and
 //! then its table is made in a transaction of its own, in one step.
 
-ghost use Rattle.std.specs.Prelude.{◌≡◌, ◌<◌, ◌≤◌, [], length, None, Some};
+ghost use Rattle.std.specs.Prelude.{◌≡◌, ◌<◌, ◌≤◌, [], length, None, Some, count_by};
 ghost use Rattle.inno_db.specs.Outcome.{outcome};
 ghost use Rattle.inno_model.specs.Past.{IsOpen};
 ghost use Rattle.sql_history.specs.Counts.{rows_kept, most_rows};
 ghost use Rattle.sql_history.specs.Items.{base};
 ghost use Rattle.law_past_agreement.specs.Order.{created};
 ghost use Rattle.sql_lists.specs.Kept.{AreStanding};
-ghost use Rattle.sql_lists.specs.Steps.{Steps};
+ghost use Rattle.sql_lists.specs.Steps.{Steps, changes_rows};
 ghost use Rattle.sql_lists.specs.Going.{Nears};
 ghost use Rattle.create_statement.specs.Making.{Makes};
 ghost use Rattle.create_statement.specs.Running.{IsRunning};
@@ -32,6 +32,7 @@ pub fn step_asked<L: SharedLists>(
     requires running { IsRunning lists.old session (CreateStatement.Asked stmt level) }
     ensures steps { Steps IsRunning session lists.old lists.new result.0 result.1 }
     ensures nears { Nears to_go session lists.old (CreateStatement.Asked stmt level) lists.new result.0 result.1 }
+    ensures quiet { count_by changes_rows lists.new.past ≡ count_by changes_rows lists.old.past }
 {
     if is_there(lists.lists().schemas(), &stmt) {
         return skip(stmt, level, session, lists);
@@ -51,6 +52,7 @@ fn skip<L: SharedLists>(
     requires none { (outcome stmt (base session lists.old.past)).changes ≡ [] }
     ensures steps { Steps IsRunning session lists.old lists.new result.0 result.1 }
     ensures nears { Nears to_go session lists.old (CreateStatement.Asked stmt level) lists.new result.0 result.1 }
+    ensures quiet { count_by changes_rows lists.new.past ≡ count_by changes_rows lists.old.past }
 {
     if lists.lists().level(session).is_none() {
         return finish(stmt, session, lists);
@@ -70,6 +72,7 @@ fn close<L: SharedLists>(
     requires running { IsRunning lists.old session (CreateStatement.Asked stmt level) }
     ensures steps { Steps IsRunning session lists.old lists.new result.0 result.1 }
     ensures nears { Nears to_go session lists.old (CreateStatement.Asked stmt level) lists.new result.0 result.1 }
+    ensures quiet { count_by changes_rows lists.new.past ≡ count_by changes_rows lists.old.past }
 {
     if lists.lists().level(session).is_none() {
         return (CreateStatement::Closed { stmt, level }, Advance::Went);

@@ -1,10 +1,10 @@
 //! How a CREATE TABLE ends: done, or for want of memory.
 
-ghost use Rattle.std.specs.Prelude.{◌≡◌, ◌<◌, length};
+ghost use Rattle.std.specs.Prelude.{◌≡◌, ◌<◌, length, count_by};
 ghost use Rattle.inno_types.specs.declared.reply.Reply.TheVariants.{Done as DoneReply};
 ghost use Rattle.shared_lists.specs.Tasks.{Idle};
 ghost use Rattle.shared_lists.specs.State.{task_of};
-ghost use Rattle.sql_lists.specs.Steps.{Steps};
+ghost use Rattle.sql_lists.specs.Steps.{Steps, changes_rows};
 ghost use Rattle.sql_lists.specs.Going.{Nears};
 ghost use Rattle.create_statement.specs.Knowing.{IsFinished};
 ghost use Rattle.create_statement.specs.Running.{IsRunning};
@@ -26,6 +26,7 @@ pub fn finish<L: SharedLists>(
     requires idle { task_of session lists.old ≡ Idle }
     ensures steps { Steps IsRunning session lists.old lists.new result.0 result.1 }
     ensures over { result.1 ≡ Advance.Done DoneReply }
+    ensures quiet { count_by changes_rows lists.new.past ≡ count_by changes_rows lists.old.past }
 {
     lists.end_done(session, &stmt);
     drop(stmt);
@@ -41,6 +42,7 @@ pub fn step_ending<L: SharedLists>(
     requires running { IsRunning lists.old session (CreateStatement.Ending stmt) }
     ensures steps { Steps IsRunning session lists.old lists.new result.0 result.1 }
     ensures nears { Nears to_go session lists.old (CreateStatement.Ending stmt) lists.new result.0 result.1 }
+    ensures quiet { count_by changes_rows lists.new.past ≡ count_by changes_rows lists.old.past }
 {
     finish(stmt, session, lists)
 }
@@ -53,6 +55,7 @@ pub fn step_failed<L: SharedLists>(
     requires running { IsRunning lists.old session CreateStatement.Failed }
     ensures steps { Steps IsRunning session lists.old lists.new result.0 result.1 }
     ensures nears { Nears to_go session lists.old CreateStatement.Failed lists.new result.0 result.1 }
+    ensures quiet { count_by changes_rows lists.new.past ≡ count_by changes_rows lists.old.past }
 {
     lists.end(session, Reply::NoMemory);
     (CreateStatement::Failed, Advance::Done(Reply::NoMemory))

@@ -1,13 +1,13 @@
 //! A CREATE TABLE under way, its beginning and its steps.
 
-ghost use Rattle.std.specs.Prelude.{◌≡◌, ◌<◌, ℕ, true, false, length};
+ghost use Rattle.std.specs.Prelude.{◌≡◌, ◌<◌, ℕ, true, false, length, count_by};
 ghost use Rattle.sql_history.specs.Legal.{IsCreation};
 ghost use Rattle.shared_lists.specs.Tasks.{Idle};
 ghost use Rattle.shared_lists.specs.State.{State, task_of};
 ghost use Rattle.sql_lists.specs.Kept.{OwesAck};
-ghost use Rattle.sql_lists.specs.Steps.{IsTaken, Steps, StaysRunning, GoesOnAcked};
+ghost use Rattle.sql_lists.specs.Steps.{IsTaken, Steps, StaysRunning, GoesOnAcked, changes_rows};
 ghost use Rattle.sql_lists.specs.Going.{Nears, NearsAcked};
-ghost use Rattle.create_statement.specs.Running.{IsRunning, owes_ack, acked};
+ghost use Rattle.create_statement.specs.Running.{IsRunning, owes_ack, acked, wants_room, without_room};
 ghost use Rattle.create_statement.specs.Going.{to_go};
 
 use crate::asking::{step_asked, step_closed};
@@ -73,7 +73,33 @@ impl CreateStatement {
         ensures nears { (m : CreateStatement) → owes_ack m ≡ true → NearsAcked to_go m (acked m) }
     {}
 
-    /// One step of the session's statement.
+    /// Whether the statement is about to tell its table to the history. An engine that logs its changes takes room in
+    /// its log first.
+    pub fn wants_room(&self) -> bool
+        ensures { result ≡ wants_room self.now }
+    {
+        matches!(self, CreateStatement::Closed { .. })
+    }
+
+    /// The statement where there is no room for its table: it fails, and none is made.
+    pub fn without_room(self) -> Self
+        ensures { result ≡ without_room self }
+    {
+        match self {
+            CreateStatement::Closed { stmt, level: _ } => {
+                drop(stmt);
+                CreateStatement::Failed
+            }
+            other => other,
+        }
+    }
+
+    /// A statement for whose table there is no room runs on.
+    pub fn a_lack_of_room_turns_it_back()
+        ensures { (state : State) (s : ℕ) (m : CreateStatement) → IsRunning state s m → IsRunning state s (without_room m) }
+    {}
+
+    /// One step of the session's statement. One that wants no room tells the history no change.
     pub fn step<L: SharedLists>(
         self,
         alloc: Global,
@@ -85,6 +111,7 @@ impl CreateStatement {
         requires acked { owes_ack self ≡ false }
         ensures steps { Steps IsRunning session lists.old lists.new result.0 result.1 }
         ensures nears { Nears to_go session lists.old self lists.new result.0 result.1 }
+        ensures quiet { wants_room self ≡ false → count_by changes_rows lists.new.past ≡ count_by changes_rows lists.old.past }
     {
         match self {
             CreateStatement::Asked { stmt, level } => step_asked(stmt, level, session, lists),

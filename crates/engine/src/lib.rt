@@ -1,7 +1,7 @@
-//! The engine: sessions over one history, which a world in memory keeps, opened on a database.
+//! The engine: sessions over one history, which a world in memory keeps, opened on the database that its files stand for.
 #![tactic(auto)]
 
 mod opening;
 
-pub use opening::{Engine, mount, open};
-pub use session_engine::Seat;
+pub use durable_engine::Root;
+pub use opening::{Engine, Sessions, mount, sessions_over};

@@ -1,12 +1,26 @@
-//! How an engine is opened: over a world in memory, with the database that it is given.
+//! How an engine is opened: on the database that the files of its disk stand for, over a world in memory.
+//! Tests and tools open sessions in memory alone here, without a disk and a log.
 
-ghost use Rattle.std.specs.Prelude.{◌≡◌, ℕ, IfOk, IfErr};
+ghost use Rattle.std.specs.Prelude.{◌≡◌, ◌<◌, ◌∷◌, [], ℕ, All, IfOk, IfErr};
+ghost use Rattle.inno_db.proofs.Keys.{IsKeyed};
+ghost use Rattle.inno_model.specs.declared.event.Event.TheVariants.{Opened};
+ghost use Rattle.store_api.specs.Past.{Past};
 ghost use Rattle.shared_lists.specs.Tasks.{Idle as TaskIdle};
 ghost use Rattle.shared_lists.specs.State.{task_of};
-ghost use Rattle.opened_world.specs.Laid.{no_db, IsTooLarge};
+ghost use Rattle.law_crashes.specs.Files.{LeavesFiles};
+ghost use Rattle.law_crashes.specs.Since.{IsMounted};
+ghost use Rattle.file_zero.specs.Refused.{IsRefused, HasFewRows};
+ghost use Rattle.commit_records.specs.Room.{IsLoggable};
+ghost use Rattle.commit_log.specs.View.{IsLogging};
+ghost use Rattle.opened_world.specs.Laid.{IsTooLarge};
 ghost use Rattle.session_engine.specs.Calls.{AreFirst};
-ghost use Rattle.engine.specs.Opened.{IsOpened, IsRefused};
+ghost use Rattle.engine.specs.Opened.{IsOpened};
 
+use commit_log::CommitLog;
+use durable_engine::{DurableEngine, Root};
+use file_zero::Mounted;
+use inno_db::Db;
+use laid_database::{LayBad, lay};
 use list_world::ListWorld;
 use opened_world::{OpenBad, Opening};
 use session_engine::SessionEngine;
@@ -15,44 +29,97 @@ use std::alloc::Global;
 use store_api::{Disk, MountBad, NoMemory};
 use world_lists::WorldLists;
 
-/// An engine whose lists are kept in a world in memory.
-pub type Engine<D> = SessionEngine<D, WorldLists<ListWorld>>;
+/// An engine over a disk, whose lists are kept in a world in memory.
+pub type Engine<D, R> = DurableEngine<D, R, WorldLists<ListWorld>>;
 
-/// Opens an engine over a disk, with a database without tables. A refusal hands the disk back.
-pub fn mount<D: Disk>(alloc: Global, disk: D) -> Result<Engine<D>, (D, MountBad)>
-    ensures ok { IfOk result (IsOpened disk no_db) }
-    ensures err { IfErr result (λ e. (e.0 ≡ disk) × (e.1 ≡ MountBad.NoMemory)) }
+/// Sessions in memory, without a disk and a log.
+pub type Sessions = SessionEngine<WorldLists<ListWorld>>;
+
+/// Opens an engine on the database that the files of a disk stand for. A refusal hands the disk back; whatever a crash leaves
+/// then stands for the same database as before. Files that no engine of this version has written may be answered as out of
+/// memory.
+pub fn mount<D: Disk, R: Root>(alloc: Global, disk: D) -> Result<Engine<D, R>, (D, MountBad)>
+    requires root { D.past disk ≡ R.root }
+    ensures ok { IfOk result IsOpened }
+    ensures refused { IfErr result (λ e. IsRefused (D.past disk) (D.past e.0) e.1) }
+    ensures crash { IfErr result (λ e. LeavesFiles (D.past disk) (D.past e.0)) }
 {
-    match new_lists(alloc) {
-        Ok(lists) => Ok(SessionEngine::new(alloc, disk, lists)),
-        Err(_) => Err((disk, MountBad::NoMemory)),
+    let mut disk = disk;
+    let mounted = match file_zero::mount(alloc, &mut disk) {
+        Ok(mounted) => mounted,
+        Err(why) => return Err((disk, why)),
+    };
+    match parts_over(alloc, mounted) {
+        Ok((lists, log)) => Ok(DurableEngine::new(alloc, disk, lists, log)),
+        Err(NoMemory) => Err((disk, MountBad::NoMemory)),
     }
 }
 
-/// Opens an engine over a disk, with a database that was laid down. A refusal hands the disk back.
-pub fn open<D: Disk>(alloc: Global, disk: D, opening: Opening) -> Result<Engine<D>, (D, MountBad)>
-    ensures ok { IfOk result (IsOpened disk opening) }
-    ensures err { IfErr result (λ e. (e.0 ≡ disk) × IsRefused opening e.1) }
+/// Opens sessions on a database that was laid down.
+pub fn sessions_over(alloc: Global, opening: Opening) -> Result<Sessions, OpenBad>
+    ensures first { IfOk result (λ sessions. AreFirst opening sessions.lists) }
+    ensures nobody { IfOk result (λ sessions. sessions.seats ≡ []) }
+    ensures large { IfErr result (IsTooLarge opening) }
 {
-    match lists_over(alloc, opening) {
-        Ok(lists) => Ok(SessionEngine::new(alloc, disk, lists)),
-        Err(OpenBad::TooManyRows { rows }) => Err((disk, MountBad::TooLarge { rows })),
-        Err(OpenBad::NoMemory) => Err((disk, MountBad::NoMemory)),
+    Ok(SessionEngine::new(alloc, lists_over(alloc, opening)?))
+}
+
+/// The lists and the log of an engine that goes on from a mount.
+fn parts_over(
+    alloc: Global,
+    mounted: Mounted,
+) -> Result<(SqlLists<WorldLists<ListWorld>>, CommitLog), NoMemory>
+    requires keyed { IsKeyed mounted.db }
+    requires few { HasFewRows mounted.db }
+    requires some { 0 < mounted.next }
+    ensures first { IfOk result (λ parts. AreFirst mounted.db parts.0) }
+    ensures idle { IfOk result (λ parts. (s : ℕ) → task_of s parts.0 ≡ TaskIdle) }
+    ensures loggable { IfOk result (λ parts. All IsLoggable mounted.db.schemas) }
+    ensures logging { IfOk result (λ parts. (root now : Past) → IsMounted root now mounted.run mounted.block mounted.next mounted.db
+        → IsLogging root now (Opened mounted.db ∷ []) parts.1) }
+{
+    let Mounted {
+        db,
+        run,
+        block,
+        next,
+    } = mounted;
+    let lists = lists_on(alloc, &db)?;
+    let log = CommitLog::new(alloc, run, block, next)?;
+    Ok((lists, log))
+}
+
+/// The lists of a database that was read from files.
+fn lists_on(alloc: Global, db: &Db) -> Result<SqlLists<WorldLists<ListWorld>>, NoMemory>
+    requires keyed { IsKeyed db.now }
+    requires few { HasFewRows db.now }
+    ensures first { IfOk result (AreFirst db.now) }
+    ensures idle { IfOk result (λ lists. (s : ℕ) → task_of s lists ≡ TaskIdle) }
+    ensures loggable { IfOk result (λ lists. All IsLoggable db.now.schemas) }
+{
+    match lay(alloc, db) {
+        Ok(opening) => lists_of_few(alloc, opening),
+        Err(LayBad::Unfit | LayBad::NoMemory) => Err(NoMemory),
     }
 }
 
-/// The lists of a database without tables.
-fn new_lists(alloc: Global) -> Result<SqlLists<WorldLists<ListWorld>>, NoMemory>
-    ensures first { IfOk result (AreFirst no_db) }
+/// The lists of a database whose rows are not too many.
+fn lists_of_few(
+    alloc: Global,
+    opening: Opening,
+) -> Result<SqlLists<WorldLists<ListWorld>>, NoMemory>
+    requires few { HasFewRows opening }
+    ensures first { IfOk result (AreFirst opening) }
     ensures idle { IfOk result (λ lists. (s : ℕ) → task_of s lists ≡ TaskIdle) }
 {
-    match lists_over(alloc, Opening::new(alloc)?) {
+    match lists_over(alloc, opening) {
         Ok(lists) => Ok(lists),
-        Err(_) => Err(NoMemory),
+        Err(OpenBad::TooManyRows { .. }) => unreachable!(),
+        Err(OpenBad::NoMemory) => Err(NoMemory),
     }
 }
 
-/// The lists of a database, over a world in memory.
+/// The lists of a database that was laid down, over a world in memory.
 fn lists_over(alloc: Global, opening: Opening) -> Result<SqlLists<WorldLists<ListWorld>>, OpenBad>
     ensures first { IfOk result (AreFirst opening) }
     ensures idle { IfOk result (λ lists. (s : ℕ) → task_of s lists ≡ TaskIdle) }

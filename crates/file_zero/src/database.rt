@@ -3,6 +3,7 @@
 
 ghost use Rattle.std.specs.Prelude.{◌≡◌, OnOk, IfOk};
 ghost use Rattle.inno_db.specs.Changes.{apply_one};
+ghost use Rattle.inno_db.proofs.Keys.{IsKeyed};
 ghost use Rattle.inno_model.specs.Past.{changed};
 ghost use Rattle.sql_history.specs.Counts.{rows_in, capped};
 ghost use Rattle.law_crashes.specs.Records.{change_of, changes_of, changes_in, no_db};
@@ -15,7 +16,8 @@ use store_api::NoMemory;
 
 /// Makes a change of a table that is there, or another table where there is room for one.
 fn apply_change(alloc: Global, db: &mut Db, change: Change) -> Result<(), NoMemory>
-    ensures { OnOk result (db.new ≡ apply_one db.old change) }
+    ensures made { OnOk result (db.new ≡ apply_one db.old change) }
+    ensures keyed { OnOk result (IsKeyed db.old → IsKeyed db.new) }
 {
     if !db.can_apply(&change) {
         return Err(NoMemory);
@@ -26,7 +28,8 @@ fn apply_change(alloc: Global, db: &mut Db, change: Change) -> Result<(), NoMemo
 
 /// Makes the change that a record tells. One of a page tells none.
 fn apply_record(alloc: Global, db: &mut Db, told: &Record) -> Result<(), NoMemory>
-    ensures { OnOk result (db.new ≡ changed db.old (change_of told.now)) }
+    ensures made { OnOk result (db.new ≡ changed db.old (change_of told.now)) }
+    ensures keyed { OnOk result (IsKeyed db.old → IsKeyed db.new) }
 {
     match told {
         Record::Put { .. } | Record::Fresh { .. } => Ok(()),
@@ -49,7 +52,8 @@ fn apply_record(alloc: Global, db: &mut Db, told: &Record) -> Result<(), NoMemor
 
 /// Makes the changes of a group.
 fn apply_records(alloc: Global, db: &mut Db, records: &[Record]) -> Result<(), NoMemory>
-    ensures { OnOk result (db.new ≡ changed db.old (changes_of records.now)) }
+    ensures made { OnOk result (db.new ≡ changed db.old (changes_of records.now)) }
+    ensures keyed { OnOk result (IsKeyed db.old → IsKeyed db.new) }
 {
     for told in records {
         apply_record(alloc, db, told)?;
@@ -59,7 +63,8 @@ fn apply_records(alloc: Global, db: &mut Db, records: &[Record]) -> Result<(), N
 
 /// The database that these groups make.
 pub fn database_of(alloc: Global, groups: &[Group]) -> Result<Db, NoMemory>
-    ensures { IfOk result (λ db. db ≡ changed no_db (changes_in groups.now)) }
+    ensures made { IfOk result (λ db. db ≡ changed no_db (changes_in groups.now)) }
+    ensures keyed { IfOk result IsKeyed }
 {
     let mut db = Db::new(Listed::new(alloc), Listed::new(alloc));
     for group in groups {

@@ -4,6 +4,7 @@
 ghost use Rattle.std.specs.Prelude.{◌≡◌, ◌+◌, ◌≤◌, ◌<◌, ◌^◌, ℕ, List, length, IfOk, IfErr, OnOk};
 ghost use Rattle.store_api.specs.Areas.{Contents};
 ghost use Rattle.store_api.specs.Past.{Now, Meanwhile};
+ghost use Rattle.inno_db.proofs.Keys.{IsKeyed};
 ghost use Rattle.inno_model.specs.Past.{changed};
 ghost use Rattle.law_crashes.specs.Files.{LeavesFiles};
 ghost use Rattle.law_crashes.specs.Records.{no_db, changes_in};
@@ -55,6 +56,7 @@ fn found_in(
     ensures db { IfOk result (λ m. m.db ≡ changed no_db (changes_in groups.now)) }
     ensures next { IfOk result (λ m. m.next ≡ header.first + length groups.now) }
     ensures some { IfOk result (λ m. 0 < m.next) }
+    ensures keyed { IfOk result (λ m. IsKeyed m.db) }
     ensures few { IfOk result (λ m. HasFewRows m.db) }
     ensures large { IfErr result (IsTooMany (changed no_db (changes_in groups.now))) }
 {
@@ -86,6 +88,7 @@ fn read_files<D: Disk>(alloc: Global, disk: &mut D) -> Result<(Mounted, usize), 
     ensures same { OnOk result (LeavesState (D.past disk.old) (D.past disk.new)) }
     ensures found { IfOk result (λ f. IsFound f.0.run f.0.block f.0.next f.0.db f.1 (D.past disk.new)) }
     ensures fits { IfOk result (λ f. f.0.block ≤ 2 ^ 53) }
+    ensures keyed { IfOk result (λ f. IsKeyed f.0.db) }
     ensures few { IfOk result (λ f. HasFewRows f.0.db) }
     ensures refused { IfErr result (IsRefused (D.past disk.old) (D.past disk.new)) }
     ensures later { (D.past disk.old).faults ≤ (D.past disk.new).faults }
@@ -127,6 +130,9 @@ fn clear_rest<D: Disk>(alloc: Global, disk: &mut D, block: u64, rest: usize) -> 
 /// of this version has written may be answered as out of memory.
 pub fn mount<D: Disk>(alloc: Global, disk: &mut D) -> Result<Mounted, MountBad>
     ensures mounted { IfOk result (λ m. IsMounted (D.past disk.old) (D.past disk.new) m.run m.block m.next m.db) }
+
+    // Each row stands at its key in a table that is there.
+    ensures keyed { IfOk result (λ m. IsKeyed m.db) }
 
     // Page 0 is a header of version 0, and the rows are not too many; else a refusal says why.
     ensures header { IfOk result (λ m. Now (IsOfRun m.run) (D.past disk.new)) }

@@ -1,5 +1,5 @@
-//! Runs scripts of SQL on the storage engine, over real files, and prints what each session was answered. All that it does
-//! there is `script_runner::run`.
+//! Makes the files of a database, or runs scripts of SQL on the storage engine over them, and prints what each session was
+//! answered. All that it does there is `script_runner::run`.
 #![tactic(auto)]
 
 use disk_file::{FileDisk, FileSource, StdSink, SystemClock};
@@ -35,7 +35,8 @@ fn words_of(rt: &HostRuntime) -> io::Result<Vec<String>> {
     Ok(words)
 }
 
-/// Runs the program's words over real objects, and says why they end without success.
+/// Runs the program's words over real objects, and says why they end without success. Where no script is named, as for
+/// `init`, the source has an empty name, and is never opened.
 fn run_words(rt: &HostRuntime, words: &[String]) -> io::Result<u8> {
     let file = word_at(words, 2);
     let script = word_at(words, 3);

@@ -9,7 +9,7 @@ use Rattle.sql_lists.specs.declared.advance.Advance.{Advance}
 use Rattle.sql_lists.specs.declared.advance.Advance.TheVariants as advance
 use Rattle.sql_lists.specs.Going.{Nears, left}
 use Rattle.sql_lists.specs.Steps.{Steps, WaitsFor, AsksToWrite, HasRowsAlone, open_txn, plain_edge}
-use Rattle.sql_lists.proofs.Moving.{moves_then, moves_stays}
+use Rattle.sql_lists.proofs.Moving.{moves_then}
 use Rattle.read_statement.specs.declared.machine.Found.{Found}
 use Rattle.read_statement.specs.declared.machine.ReadStatement.{ReadStatement}
 use Rattle.read_statement.specs.declared.machine.ReadStatement.TheVariants as machine
@@ -42,13 +42,13 @@ waits_before s by blockers old mid stays waits =
 pub steps_then : (s : ℕ) (old mid new : State) (statement : ReadStatement) (answer : Advance) → Stays s old mid
     → Steps IsRunning s mid new statement answer → Steps IsRunning s old new statement answer
 steps_then s old mid new statement advance.Went stays steps =
-    (moves_then s old mid new stays.past_is (moves_stays s old mid stays) steps.0, steps.1, steps.2 ∙ ap (started s) stays.past_is)
+    (moves_then s old mid new stays steps.0, steps.1, steps.2 ∙ ap (started s) stays.past_is)
 steps_then s old mid new statement (advance.Waiting by blockers) stays steps =
     (stays_then s old mid new stays steps.0, steps.1, waits_before s by blockers old mid stays steps.2)
 steps_then s old mid new statement advance.NoMemory stays steps =
-    (moves_then s old mid new stays.past_is (moves_stays s old mid stays) steps.0, steps.1, steps.2 ∙ stays.past_is)
+    (moves_then s old mid new stays steps.0, steps.1, steps.2 ∙ stays.past_is)
 steps_then s old mid new statement (advance.Done reply) stays steps = (
-  moves_then s old mid new stays.past_is (moves_stays s old mid stays) steps.0,
+  moves_then s old mid new stays steps.0,
   steps.1 ∙ ap (λ (h : List Event). Ended s (started s h) reply ∷ h) stays.past_is,
   subst (HasRowsAlone s) stays.past_is steps.2,
   steps.3,

@@ -1,11 +1,24 @@
--- Where nothing was started, every script is followed so far.
+-- What was played is what the bytes say. Where nothing was started, every script is followed so far.
 use Rattle.std.proofs.Common.{◌≡◌, ℕ, List, []}
 use Rattle.std.specs.Prelude.{Option, None, Some, IfSome}
 use Rattle.inno_model.specs.declared.event.Event.{Event}
 use Rattle.inno_model.specs.Text.{items}
-use Rattle.script_runner.specs.Run.{Follows}
+use Rattle.script.specs.declared.script.Script.{Script}
+use Rattle.script.specs.Script.{Spells}
+use Rattle.script_runner.specs.Run.{allowed, Follows, Plays}
+use Rattle.script_runner.specs.Sessions.{FollowsScript, HasPlayed, HasAnswered}
 use Rattle.script_runner.proofs.Places.{follows_nothing}
 
 pub nothing_follows : (left : Option (List ℕ)) (past : List Event) → ((s : ℕ) → items s past ≡ []) → IfSome left (λ bytes. Follows bytes past)
 nothing_follows None past nothing = tt
 nothing_follows (Some bytes) past nothing = λ is. (is.0, is.1, follows_nothing is.0.items past nothing)
+
+pub spelled_follows : (left : Option (List ℕ)) (script : Script) (past : List Event) → IfSome left (λ bytes. Spells allowed bytes script)
+    → FollowsScript script.items past → IfSome left (λ bytes. Follows bytes past)
+spelled_follows None script past spells follows = tt
+spelled_follows (Some bytes) script past spells follows = λ is. (script, spells, follows)
+
+pub spelled_plays : (left : Option (List ℕ)) (script : Script) (names : List (List ℕ)) (past : List Event) → IfSome left (λ bytes. Spells allowed bytes script)
+    → HasPlayed script names past → HasAnswered script past → IfSome left (λ bytes. Plays bytes names past)
+spelled_plays None script names past spells played answered = tt
+spelled_plays (Some bytes) script names past spells played answered = (script, spells, played, answered)

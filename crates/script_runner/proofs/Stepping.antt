@@ -1,14 +1,21 @@
 -- A step of the engine starts no item.
-use Rattle.std.proofs.Common.{◌≡◌, ℕ, true, List, [], ◌∷◌, ◌++◌, refl, ap, ◌∙◌, inl, inr}
+use Rattle.std.proofs.Common.{◌≡◌, ℕ, Bool, true, false, cond, List, [], ◌∷◌, ◌++◌, refl, ap, ◌∙◌, inl, inr}
 use Rattle.std.specs.List.{AllByRecursion}
 use Rattle.store_api.specs.declared.answers.Progress.{Progress}
 use Rattle.store_api.specs.declared.answers.Progress.TheVariants as progress
+use Rattle.inno_types.specs.declared.reply.Cause.{Cause}
 use Rattle.inno_model.specs.declared.event.Event.{Event}
 use Rattle.inno_model.specs.declared.event.Event.TheVariants as events
 use Rattle.inno_model.specs.Past.{is_of}
 use Rattle.inno_model.specs.Text.{items}
-use Rattle.session_engine.specs.Seats.{State}
-use Rattle.session_engine.specs.Calls.{KeepsItems, GoesOn, EndsBy, StepsBy}
+use Rattle.sql_history.specs.Counts.{has_stopped}
+use Rattle.turn_board.specs.declared.Phase.{Phase}
+use Rattle.turn_board.specs.declared.Phase.TheVariants as phases
+use Rattle.session_engine.specs.Calls.{KeepsItems}
+use Rattle.stopped_sessions.specs.Seats.{halted, ended, phase_at}
+use Rattle.stopped_sessions.specs.Calls.{is_at_work, has_left}
+use Rattle.durable_engine.specs.State.{State}
+use Rattle.durable_engine.specs.Calls.{GoesOn, StepsBy}
 use Rattle.script_runner.specs.Sessions.{StartsNothing}
 use Rattle.script_runner.specs.Engines.{shown_of}
 
@@ -23,13 +30,37 @@ items_kept (e ∷ es) h s t each = item_kept e (es ++ h) s each.0.1 ∙ items_ke
 goes_on : (t : ℕ) (old new : List Event) → GoesOn t old new → (s : ℕ) → items s new ≡ items s old
 goes_on t old new goes s = ap (items s) goes.past_is ∙ items_kept goes.entries old s t goes.each
 
+-- the entries of a stop start nothing
+told_once : (b : Bool) (cause : Cause) (past : List Event) (s : ℕ) → items s (cond b past (events.Stopped cause ∷ past)) ≡ items s past
+told_once true cause past s = refl
+told_once false cause past s = refl
+
+ended_kept : (phase : Phase) (t j s : ℕ) (past : List Event) → items s (ended t j phase past) ≡ items s past
+ended_kept phases.Busy t j s past = refl
+ended_kept other t j s past = refl
+
+stopped_kept : (cause : Cause) (phase : Phase) (t j s : ℕ) (past : List Event) → items s (ended t j phase (halted cause past)) ≡ items s past
+stopped_kept cause phase t j s past = ended_kept phase t j s (halted cause past) ∙ told_once (has_stopped past) cause past s
+
 pub starts_nothing : {D : Type 0} (t : ℕ) (answer : Progress) (old new : State D) → StepsBy t answer old new → StartsNothing (shown_of old) (shown_of new)
-starts_nothing t progress.Went old new steps = record { names = steps.0.names_stay; items = goes_on t old.lists.past new.lists.past steps.1 }
-starts_nothing t (progress.Waiting blockers) old new steps = record { names = steps.0.names_stay; items = λ s. ap (items s) steps.1.past_stays }
+starts_nothing t progress.Went old new steps = record { names = steps.0.names_stay; items = goes_on t old.past new.past steps.1 }
+starts_nothing t (progress.Waiting blockers) old new steps = record { names = steps.0.names_stay; items = λ s. ap (items s) steps.1 }
 starts_nothing t progress.NoMemory old new steps = record { names = steps.0.names_stay; items = λ s. ap (items s) steps.1 }
 starts_nothing t (progress.Done reply) old new steps =
     record {
       names = steps.0.names_stay;
-      items = λ s. elim steps.1 [ inl ends ↦ ap (items s) ends.0 | inr goes ↦ ap (λ l. items s l.past) goes.2 ];
+      items = λ s. elim steps.1 [ inl ends ↦ ap (items s) ends.0 | inr goes ↦ ap (items s) goes.2 ];
+    }
+starts_nothing t (progress.Stopped cause) old new steps =
+    record {
+      names = steps.0.names_stay;
+      items = λ s. ap (items s) steps.2.past_is ∙ stopped_kept _ (phase_at old.seats t) t _ s old.past;
     }
 starts_nothing t other old new steps = elim steps [ ]
+
+-- who has nothing to do and hasn't left is idle
+pub idle : (phase : Phase) → is_at_work phase ≡ false → has_left phase ≡ false → phase ≡ phases.Idle
+idle phases.Idle rests there = refl
+idle phases.Busy rests there = cc
+idle phases.Leaving rests there = cc
+idle phases.Left rests there = cc

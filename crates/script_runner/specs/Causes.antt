@@ -8,7 +8,7 @@ use Rattle.store_api.specs.declared.answers.MountBad.TheVariants as mount
 use Rattle.script_runner.specs.declared.outcome.Fault.{Fault}
 use Rattle.script_runner.specs.declared.outcome.Fault.TheVariants.{Nothing, Usage, ScriptBad, ScriptRead, OutputWrite, DiskFault, File, Limit, NoMemory}
 
--- ---- the script
+-- ---- the script, and limits
 
 abbrev pub script_bad_text : List ℕ → ℕ → List ℕ
 script_bad_text script line =
@@ -22,10 +22,14 @@ limited what =
     else (if what == 4 then codes " bytes"
     else codes " rows")))
 
+-- what passes a limit: the files have too many rows, and all else is of the script
+abbrev pub whose : ℕ → List ℕ → List ℕ → List ℕ
+whose what file script = if what == 5 then file else script
+
 -- what was found, and the most
 abbrev pub limit_text : List ℕ → ℕ → ℕ → ℕ → List ℕ
-limit_text script what found most =
-    script ++ (codes ": " ++ (decimal found ++ (limited what ++ (codes ", at most " ++ decimal most))))
+limit_text name what found most =
+    name ++ (codes ": " ++ (decimal found ++ (limited what ++ (codes ", at most " ++ decimal most))))
 
 -- ---- the files
 
@@ -56,11 +60,11 @@ file_text file (mount.TooLarge rows) = file ++ (codes ": too many rows: " ++ dec
 
 abbrev pub cause_text : List ℕ → List ℕ → Fault → List ℕ
 cause_text file script Nothing = []
-cause_text file script Usage = codes "usage: innod run FILE SCRIPT, or innod play FILE SCRIPT"
+cause_text file script Usage = codes "usage: innod init FILE, innod run FILE SCRIPT, or innod play FILE SCRIPT"
 cause_text file script (ScriptBad line) = script_bad_text script line
 cause_text file script ScriptRead = script ++ codes ": cannot be read"
 cause_text file script OutputWrite = codes "standard output: cannot be written"
 cause_text file script DiskFault = disk_fault_text file
 cause_text file script (File bad) = file_text file bad
-cause_text file script (Limit what found most) = limit_text script what found most
+cause_text file script (Limit what found most) = limit_text (whose what file script) what found most
 cause_text file script NoMemory = codes "not enough memory"

@@ -24,6 +24,18 @@ pub record IsScriptCommand (all : List (List ℕ)) : Type 0 where
   pub file_fits : IsOperand file
   pub script_fits : IsOperand script
 
+pub record IsInit (word : List ℕ) : Type 0 where
+  pub is : word ≡ codes "init"
+
+-- `init FILE`, after whatever name the program has
+pub record IsInitCommand (all : List (List ℕ)) : Type 0 where
+  pub name : List ℕ
+  pub command : List ℕ
+  pub file : List ℕ
+  pub words : all ≡ name ∷ command ∷ file ∷ []
+  pub known : IsInit command
+  pub file_fits : IsOperand file
+
 -- a command in texts
 abbrev pub IsCommand : List (List ℕ) → Type 0
-IsCommand words = All IsText words × IsScriptCommand words
+IsCommand words = All IsText words × (IsScriptCommand words ⊎ IsInitCommand words)

@@ -26,12 +26,14 @@ pub fn cause_line(
         Fault::OutputWrite => String::from_str(alloc, "standard output: cannot be written"),
         Fault::DiskFault => disk_fault_line(alloc, file),
         Fault::File(bad) => file_line(alloc, file, bad),
-        Fault::Limit { what, found, most } => limit_line(alloc, script, what, found, most),
+        Fault::Limit { what, found, most } => {
+            limit_line(alloc, whose(what, file, script), what, found, most)
+        }
         Fault::NoMemory => String::from_str(alloc, "not enough memory"),
     }
 }
 
-const USAGE: &str = "usage: innod run FILE SCRIPT, or innod play FILE SCRIPT";
+const USAGE: &str = "usage: innod init FILE, innod run FILE SCRIPT, or innod play FILE SCRIPT";
 
 fn script_bad_line(alloc: Global, script: &str, line: u32) -> Result<String, AllocError>
     ensures { IfOk result (λ text. string_bytes text ≡ spelled.script_bad_text script.now line) }
@@ -49,18 +51,25 @@ fn disk_fault_line(alloc: Global, file: &str) -> Result<String, AllocError>
     )
 }
 
+/// What passes the limit of this number: the files, which have too many rows, or the script.
+fn whose<'a>(what: u8, file: &'a str, script: &'a str) -> &'a str
+    ensures { result.now ≡ spelled.whose what file.now script.now }
+{
+    if what == 5 { file } else { script }
+}
+
 /// What is limited, what was found, and the most.
 fn limit_line(
     alloc: Global,
-    script: &str,
+    name: &str,
     what: u8,
     found: u64,
     most: u64,
 ) -> Result<String, AllocError>
-    ensures { IfOk result (λ text. string_bytes text ≡ spelled.limit_text script.now what found most) }
+    ensures { IfOk result (λ text. string_bytes text ≡ spelled.limit_text name.now what found most) }
 {
     let unit = limited(what);
-    format!(in alloc; "{script}: {found}{unit}, at most {most}")
+    format!(in alloc; "{name}: {found}{unit}, at most {most}")
 }
 
 /// What the limit of this number limits.

@@ -1,11 +1,13 @@
 //! What a run answers, and the parts of a run that meet no engine.
 
-ghost use Rattle.std.specs.Prelude.{◌≡◌, ◌⊎◌, [], IfOk, IfErr, IfSome, IsTrue, false};
+ghost use Rattle.std.specs.Prelude.{◌≡◌, [], IfOk, IfErr, IfSome, IsTrue, false};
 ghost use Rattle.std.specs.List.{list_any};
 ghost use Rattle.store_api.specs.Causes.{Rose};
+ghost use Rattle.std.specs.Io.KnownBytes.{Appends};
 ghost use Rattle.inno_model.specs.Text.{text};
+ghost use Rattle.sql_history.specs.Counts as counts;
 ghost use Rattle.script.specs.Script.{Spells, IsPlayable};
-ghost use Rattle.script_runner.specs.Run.{allowed, status_of, IsInputFault, IsOutputFault, IsPrinted, Judges, answers_no_memory};
+ghost use Rattle.script_runner.specs.Run.{allowed, status_of, fault_of, told, IsInputFault, IsOutputFault, IsPlayedFault, IsPrinted, Refuses, answers_no_memory, stops};
 
 use crate::input::{ReadBad, read_all};
 use crate::output::write_all;
@@ -59,7 +61,7 @@ pub struct Outcome<D> {
 }
 
 /// The outcome of a run that mounted no engine.
-pub fn refused<D>(alloc: Global, disk: D, fault: Fault) -> Outcome<D>
+pub fn without_engine<D>(alloc: Global, disk: D, fault: Fault) -> Outcome<D>
     ensures fault { result.fault ≡ fault }
     ensures disk { result.disk ≡ disk }
     ensures names { result.history.names ≡ [] }
@@ -78,7 +80,7 @@ pub fn read_input<S: Source>(alloc: Global, source: &mut S) -> Result<Script, Fa
     ensures script { IfOk result (λ script. IfSome (S.left source.old) (λ bytes. Spells allowed bytes script)) }
     ensures playable { IfOk result (IsPlayable allowed) }
     ensures read { result ≡ Err Fault.ScriptRead → Rose (S.faults source.old) (S.faults source.new) }
-    ensures judged { IfErr result (λ fault. IfSome (S.left source.old) (Judges fault)) }
+    ensures judged { IfErr result (λ fault. IfSome (S.left source.old) (Refuses fault)) }
     ensures causes { IfErr result IsInputFault }
 {
     let bytes = match read_all(alloc, source) {
@@ -98,31 +100,72 @@ pub fn read_input<S: Source>(alloc: Global, source: &mut S) -> Result<Script, Fa
     }
 }
 
-/// Prints what an engine leaves. Want of memory before is told where printing has no fault of its own.
+/// The fault of files that are refused.
+pub fn fault_of(bad: MountBad) -> Fault
+    ensures { result ≡ fault_of bad }
+{
+    match bad {
+        MountBad::Disk => Fault::DiskFault,
+        MountBad::NoMemory => Fault::NoMemory,
+        MountBad::TooLarge { rows } => Fault::Limit {
+            what: 5,
+            found: rows,
+            most: 1_000_000,
+        },
+        other => Fault::File(other),
+    }
+}
+
+/// Prints what an engine leaves. A fault of the disk is told before one of the sink; want of memory before is told where
+/// nothing else is.
 pub fn finish<D, K: Sink>(
     alloc: Global,
     disk: D,
     history: History,
+    failed: bool,
     sufficed: bool,
     out: &mut K,
 ) -> Outcome<D>
     ensures disk { result.disk ≡ disk }
     ensures history { result.history ≡ history }
     ensures printed { IsPrinted result.fault (K.taken out.old) (K.taken out.new) (text history) }
+    ensures whole { result.fault ≡ Fault.DiskFault → (Rose (K.faults out.old) (K.faults out.new) → ⊥) → Appends (K.taken out.old) (K.taken out.new) (text history) }
+    ensures failed { result.fault ≡ Fault.DiskFault → IsTrue failed }
     ensures sufficed { result.fault ≡ Fault.Nothing → IsTrue sufficed }
+    ensures served { result.fault ≡ Fault.Nothing → failed ≡ false }
     ensures replied { result.fault ≡ Fault.Nothing → list_any answers_no_memory history.past ≡ false }
     ensures output_write { result.fault ≡ Fault.OutputWrite → Rose (K.faults out.old) (K.faults out.new) }
-    ensures causes { IsOutputFault result.fault }
+    ensures causes { IsPlayedFault result.fault }
 {
     let printed = print(alloc, &history, out);
     let replied = !has_lacked_memory(&history);
-    let fault = told_fault(sufficed && replied, printed);
+    let fault = told_fault(failed, sufficed && replied, printed);
     Outcome {
         status: fault.status(),
         fault,
         history,
         disk,
     }
+}
+
+/// Whether the history says that the engine stopped.
+pub fn has_stopped(history: &History) -> bool
+    ensures { result ≡ counts.has_stopped history.now.past }
+{
+    let events = history.events();
+    any_stops(events)
+}
+
+fn any_stops(events: &[Event]) -> bool
+    ensures { result ≡ list_any stops events.now }
+{
+    events.iter().any(|event| stops(event))
+}
+
+fn stops(event: &Event) -> bool
+    ensures { result ≡ stops event.now }
+{
+    matches!(event, Event::Stopped { .. })
 }
 
 /// Whether a reply of the history says that memory was lacking.
@@ -151,18 +194,13 @@ fn answers_no_memory(event: &Event) -> bool
     )
 }
 
-/// The fault of printing, or else the want of memory that came before it.
-fn told_fault(sufficed: bool, printed: Fault) -> Fault
-    ensures sufficed { result ≡ Fault.Nothing → IsTrue sufficed × (printed ≡ Fault.Nothing) }
-    ensures output { result ≡ Fault.OutputWrite → printed ≡ Fault.OutputWrite }
-    ensures memory { result ≡ Fault.NoMemory → (printed ≡ Fault.Nothing) ⊎ (printed ≡ Fault.NoMemory) }
-    ensures causes { IsOutputFault printed → IsOutputFault result }
+fn told_fault(failed: bool, sufficed: bool, printed: Fault) -> Fault
+    ensures { result ≡ told failed sufficed printed }
 {
-    if sufficed {
-        return printed;
-    }
     match printed {
-        Fault::Nothing => Fault::NoMemory,
+        Fault::NoMemory => Fault::NoMemory,
+        _ if failed => Fault::DiskFault,
+        Fault::Nothing if !sufficed => Fault::NoMemory,
         other => other,
     }
 }

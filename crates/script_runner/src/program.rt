@@ -1,31 +1,41 @@
-//! The program's top call: from its words, a source and a disk to the text that it prints.
+//! The program's top call: from its words, a source and a disk to the text that it prints. Here the moment is picked from which
+//! the clauses about crashes count: when the call began.
 
-ghost use Rattle.std.specs.Prelude.{◌≡◌, ◌⊎◌, ◌↔◌, Some, IfSome, List, ℕ, false};
+ghost use Rattle.std.specs.Prelude.{◌≡◌, ◌⊎◌, ◌↔◌, [], Some, IfSome, List, ℕ, true, false};
 ghost use Rattle.std.specs.List.{list_any};
+ghost use Rattle.std.specs.Io.KnownBytes.{Appends};
+ghost use Rattle.store_api.specs.declared.answers.MountBad.{MountBad as MountBadValue};
 ghost use Rattle.store_api.specs.Causes.{Rose};
+ghost use Rattle.store_api.specs.Past.{Now, Meanwhile};
 ghost use Rattle.sql_grammar.specs.Grammar.{Spells};
 ghost use Rattle.sql_history.specs.Legal.{IsLegal};
-ghost use Rattle.sql_history.specs.Counts.{has_stopped};
+ghost use Rattle.sql_history.specs.Counts as counts;
 ghost use Rattle.inno_model.specs.Text.{text};
 ghost use Rattle.law_page_errors.specs.Space.{ends_for_pages};
+ghost use Rattle.law_crashes.specs.Files.{IsAtRest};
+ghost use Rattle.file_zero.specs.Making.{AreEmpty, AreNew, AreBeingMade, IsPageAlone};
+ghost use Rattle.file_zero.specs.Refused.{IsRefused, HasTooMany};
 ghost use Rattle.script.specs.Script.{IsScript, IsPlayable};
-ghost use Rattle.script_runner.specs.Words.{IsCommand};
+ghost use Rattle.script_runner.specs.Words.{IsCommand, IsInitCommand};
 ghost use Rattle.script_runner.specs.Sessions.{FollowsScript, HasPlayed, HasAnswered, IsNew};
 ghost use Rattle.script_runner.specs.Engines.{shown_of};
-ghost use Rattle.script_runner.specs.Run.{allowed, IsOutputFault, IsRunFault, IsPrinted, Judges, Follows, Plays, answers_no_memory};
+ghost use Rattle.script_runner.specs.Run.{allowed, fault_of, IsBeforeDisk, SparesFiles, IsPlayedFault, IsPrinted, Judges, Follows, Plays, KeepsFiles, IsMountFault, IsMakeFault, answers_no_memory};
 
-use crate::outcome::{Fault, Outcome, finish, read_input, refused};
+use crate::outcome::{Fault, Outcome, fault_of, finish, has_stopped, read_input, without_engine};
 use crate::playing::play;
-use crate::words::is_command;
+use crate::words::{is_command, makes};
+use durable_engine::{DurableEngine, Root};
 use engine::mount;
+use file_zero::init;
 use inno_types::Bytes;
 use script::Script;
-use session_engine::SessionEngine;
 use shared_lists::SharedLists;
 use std::alloc::Global;
+use std::marker::Brand;
 use store_api::{Clock, Disk, Gate, Sink, Source};
 
-/// Reads the script, plays it on an engine over the disk, and prints what the sessions were answered.
+/// Makes the files of a database; or reads the script, plays it on an engine over the files, and prints what the sessions were
+/// answered.
 pub fn run<D: Disk, S: Source, K: Sink, C: Clock, G: Gate>(
     alloc: Global,
     words: &[Bytes],
@@ -35,78 +45,131 @@ pub fn run<D: Disk, S: Source, K: Sink, C: Clock, G: Gate>(
     _clock: &C,
     _gate: &G,
 ) -> Outcome<D>
-    // What was printed is the text of a legal history.
+    // What was printed is the text of a legal history, all of it where the disk failed, unless the sink did.
     ensures legal { IsLegal Spells result.history.past }
     ensures printed { IsPrinted result.fault (K.taken out.old) (K.taken out.new) (text result.history) }
-    // No device has stopped the engine; and no store keeps pages so far, so none was wanting.
-    ensures runs { has_stopped result.history.past ≡ false }
+    ensures whole { result.fault ≡ Fault.DiskFault → (Rose (K.faults out.old) (K.faults out.new) → ⊥) → Appends (K.taken out.old) (K.taken out.new) (text result.history) }
+
+    // Only a disk that has failed stops the engine, which is told; and no store keeps pages so far, so none was wanting.
+    ensures stopped { counts.has_stopped result.history.past ≡ true → Rose (D.past disk).faults (D.past result.disk).faults }
+    ensures served { result.fault ≡ Fault.Nothing → counts.has_stopped result.history.past ≡ false }
     ensures for_pages { list_any ends_for_pages result.history.past ≡ false }
+
+    // Whatever a crash left at a moment since the call began holds the first so many commits of the history, with all that
+    // were acknowledged by then.
+    ensures crash { (IsInitCommand words.now → ⊥) → KeepsFiles (D.past disk) (D.past result.disk) result.history.past }
+
+    // Files that are made stand for a database without tables. While they are, a crash leaves no page 0, or such files.
+    ensures init { IsInitCommand words.now → result.history.past ≡ [] }
+    ensures init_fault { IsCommand words.now → IsInitCommand words.now → IsMakeFault (D.past disk) (D.past result.disk) result.fault }
+    ensures init_crash { IsInitCommand words.now → Now AreEmpty (D.past disk) → Meanwhile AreBeingMade (D.past disk) (D.past result.disk) }
+    ensures made { IsInitCommand words.now → result.fault ≡ Fault.Nothing → Now IsPageAlone (D.past result.disk) }
+    ensures new { IsInitCommand words.now → result.fault ≡ Fault.Nothing → Now IsAtRest (D.past disk) → Now AreNew (D.past result.disk) }
 
     // The sessions of the history do what the script says.
     ensures follows { IfSome (S.left script.old) (λ bytes. Follows bytes result.history.past) }
-    ensures played { result.fault ≡ Fault.Nothing → IfSome (S.left script.old) (λ bytes. Plays bytes result.history.names result.history.past) }
+    ensures played { (IsInitCommand words.now → ⊥) → result.fault ≡ Fault.Nothing → IfSome (S.left script.old) (λ bytes. Plays bytes result.history.names result.history.past) }
 
     // Where none came, no session was answered that memory was lacking.
     ensures replied { result.fault ≡ Fault.Nothing → list_any answers_no_memory result.history.past ≡ false }
 
     // Each fault has its cause.
     ensures usage { (result.fault ≡ Fault.Usage) ↔ (IsCommand words.now → ⊥) }
-    ensures judged { IfSome (S.left script.old) (Judges result.fault) }
+    ensures judged { (IsInitCommand words.now → ⊥) → IfSome (S.left script.old) (Judges result.fault) }
     ensures script_read { result.fault ≡ Fault.ScriptRead → Rose (S.faults script.old) (S.faults script.new) }
     ensures output_write { result.fault ≡ Fault.OutputWrite → Rose (K.faults out.old) (K.faults out.new) }
-    ensures others { IsRunFault result.fault }
+    ensures disk_fault { result.fault ≡ Fault.DiskFault → Rose (D.past disk).faults (D.past result.disk).faults }
+    ensures refused { (bad : MountBadValue) → (IsInitCommand words.now → ⊥) → result.fault ≡ Fault.File bad → IsRefused (D.past disk) (D.past result.disk) bad }
+    ensures too_large { (bytes : List ℕ) (rows most : ℕ) → S.left script.old ≡ Some bytes → IsScript allowed bytes → result.fault ≡ Fault.Limit 5 rows most → (most ≡ 1000000) × Now (HasTooMany rows) (D.past result.disk) }
+    ensures before_disk { IsBeforeDisk result.fault → result.disk ≡ disk }
     ensures complete { (bytes : List ℕ) → IsCommand words.now → S.left script.old ≡ Some bytes → IsScript allowed bytes
-        → (Rose (S.faults script.old) (S.faults script.new) → ⊥) → (Rose (K.faults out.old) (K.faults out.new) → ⊥) → (result.status ≡ 0) ⊎ (result.status ≡ 8) }
+        → (Rose (S.faults script.old) (S.faults script.new) → ⊥) → (Rose (K.faults out.old) (K.faults out.new) → ⊥)
+        → (Rose (D.past disk).faults (D.past result.disk).faults → ⊥) → SparesFiles result.fault → (result.status ≡ 0) ⊎ (result.status ≡ 8) }
 {
     if !is_command(words) {
-        return refused(alloc, disk, Fault::Usage);
+        return without_engine(alloc, disk, Fault::Usage);
+    }
+    if makes(words) {
+        return make(alloc, disk);
     }
     match read_input(alloc, script) {
-        Ok(script) => serve(alloc, &script, disk, out),
-        Err(fault) => refused(alloc, disk, fault),
+        Ok(script) => serve::<D, Brand, K>(alloc, &script, disk, out),
+        Err(fault) => without_engine(alloc, disk, fault),
     }
 }
 
-/// Plays a script on an engine over the disk, and prints the history.
-fn serve<D: Disk, K: Sink>(alloc: Global, script: &Script, disk: D, out: &mut K) -> Outcome<D>
-    requires { IsPlayable allowed script.now }
+/// Makes the files of a database. Nothing is printed of it.
+#[tactic(auto, using(crate::proofs::Causing::fault_told))]
+fn make<D: Disk>(alloc: Global, disk: D) -> Outcome<D>
+    ensures names { result.history.names ≡ [] }
+    ensures empty { result.history.past ≡ [] }
+    ensures crash { Now AreEmpty (D.past disk) → Meanwhile AreBeingMade (D.past disk) (D.past result.disk) }
+    ensures made { result.fault ≡ Fault.Nothing → Now IsPageAlone (D.past result.disk) }
+    ensures new { result.fault ≡ Fault.Nothing → Now IsAtRest (D.past disk) → Now AreNew (D.past result.disk) }
+    ensures causes { IsMakeFault (D.past disk) (D.past result.disk) result.fault }
+{
+    let mut disk = disk;
+    match init(&mut disk) {
+        Ok(()) => without_engine(alloc, disk, Fault::Nothing),
+        Err(bad) => without_engine(alloc, disk, fault_of(bad)),
+    }
+}
+
+/// Plays a script on an engine over the files of the disk, and prints the history.
+fn serve<D: Disk, R: Root, K: Sink>(
+    alloc: Global,
+    script: &Script,
+    disk: D,
+    out: &mut K,
+) -> Outcome<D>
+    requires root { D.past disk ≡ R.root }
+    requires playable { IsPlayable allowed script.now }
     ensures legal { IsLegal Spells result.history.past }
-    ensures runs { has_stopped result.history.past ≡ false }
     ensures printed { IsPrinted result.fault (K.taken out.old) (K.taken out.new) (text result.history) }
+    ensures whole { result.fault ≡ Fault.DiskFault → (Rose (K.faults out.old) (K.faults out.new) → ⊥) → Appends (K.taken out.old) (K.taken out.new) (text result.history) }
+    ensures stopped { counts.has_stopped result.history.past ≡ true → Rose (D.past disk).faults (D.past result.disk).faults }
+    ensures served { result.fault ≡ Fault.Nothing → counts.has_stopped result.history.past ≡ false }
+    ensures crash { KeepsFiles (D.past disk) (D.past result.disk) result.history.past }
     ensures follows { FollowsScript script.now.items result.history.past }
     ensures played { result.fault ≡ Fault.Nothing → HasPlayed script.now result.history.names result.history.past }
     ensures answered { result.fault ≡ Fault.Nothing → HasAnswered script.now result.history.past }
     ensures replied { result.fault ≡ Fault.Nothing → list_any answers_no_memory result.history.past ≡ false }
     ensures output_write { result.fault ≡ Fault.OutputWrite → Rose (K.faults out.old) (K.faults out.new) }
-    ensures causes { IsOutputFault result.fault }
+    ensures causes { IsMountFault (D.past disk) (D.past result.disk) result.fault }
 {
-    match mount(alloc, disk) {
+    match mount::<D, R>(alloc, disk) {
         Ok(engine) => play_on(alloc, engine, script, out),
-        Err((disk, _)) => refused(alloc, disk, Fault::NoMemory),
+        Err((disk, bad)) => without_engine(alloc, disk, fault_of(bad)),
     }
 }
 
 /// Plays a script on an engine that nobody has joined, closes it, and prints the history.
-fn play_on<D: Disk, L: SharedLists, K: Sink>(
+fn play_on<D: Disk, R: Root, L: SharedLists, K: Sink>(
     alloc: Global,
-    engine: SessionEngine<D, L>,
+    engine: DurableEngine<D, R, L>,
     script: &Script,
     out: &mut K,
 ) -> Outcome<D>
     requires playable { IsPlayable allowed script.now }
     requires new { IsNew (shown_of engine) }
     ensures legal { IsLegal Spells result.history.past }
-    ensures runs { has_stopped result.history.past ≡ false }
     ensures printed { IsPrinted result.fault (K.taken out.old) (K.taken out.new) (text result.history) }
+    ensures whole { result.fault ≡ Fault.DiskFault → (Rose (K.faults out.old) (K.faults out.new) → ⊥) → Appends (K.taken out.old) (K.taken out.new) (text result.history) }
+    ensures stopped { counts.has_stopped result.history.past ≡ true → Rose R.root.faults (D.past result.disk).faults }
+    ensures served { result.fault ≡ Fault.Nothing → counts.has_stopped result.history.past ≡ false }
+    ensures crash { KeepsFiles R.root (D.past result.disk) result.history.past }
     ensures follows { FollowsScript script.now.items result.history.past }
     ensures played { result.fault ≡ Fault.Nothing → HasPlayed script.now result.history.names result.history.past }
     ensures answered { result.fault ≡ Fault.Nothing → HasAnswered script.now result.history.past }
     ensures replied { result.fault ≡ Fault.Nothing → list_any answers_no_memory result.history.past ≡ false }
     ensures output_write { result.fault ≡ Fault.OutputWrite → Rose (K.faults out.old) (K.faults out.new) }
-    ensures causes { IsOutputFault result.fault }
+    ensures disk_fault { result.fault ≡ Fault.DiskFault → Rose R.root.faults (D.past result.disk).faults }
+    ensures causes { IsPlayedFault result.fault }
 {
     let mut engine = engine;
     let sufficed = play(alloc, &mut engine, script).is_ok();
-    let (disk, history, _) = engine.close();
-    finish(alloc, disk, history, sufficed, out)
+    let (disk, history, ended) = engine.close();
+    let stopped = has_stopped(&history);
+    let failed = stopped || ended.is_err();
+    finish(alloc, disk, history, failed, sufficed, out)
 }

@@ -1,15 +1,14 @@
 //! The engine as play drives it.
 
-ghost use Rattle.session_engine.specs.Seats.{seat_at};
 ghost use Rattle.script_runner.specs.Engines.{shown_of};
 
 use crate::sessions::Sessions;
+use durable_engine::{DurableEngine, Root};
 use inno_types::{Bytes, Item};
-use session_engine::SessionEngine;
 use shared_lists::SharedLists;
 use store_api::{Disk, NoMemory, Progress};
 
-impl<D: Disk, L: SharedLists> Sessions for SessionEngine<D, L> {
+impl<D: Disk, R: Root, L: SharedLists> Sessions for DurableEngine<D, R, L> {
     ghost shown = { λ e. shown_of e };
 
     fn join(&mut self, name: &Bytes) -> Result<u32, NoMemory> {

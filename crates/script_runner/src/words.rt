@@ -2,16 +2,16 @@
 
 ghost use Rattle.std.specs.Prelude.{◌↔◌, IsTrue, All};
 ghost use Rattle.std.specs.Bool.{MatchBool};
-ghost use Rattle.script_runner.specs.Words.{IsCommand, IsScriptCommand, IsText, IsKnown, IsOperand};
+ghost use Rattle.script_runner.specs.Words.{IsCommand, IsScriptCommand, IsInitCommand, IsText, IsKnown, IsInit, IsOperand};
 
 use inno_types::Bytes;
 use std::str;
 
-/// Whether the words are `innod run FILE SCRIPT` or `innod play FILE SCRIPT`.
+/// Whether the words are `innod init FILE`, `innod run FILE SCRIPT` or `innod play FILE SCRIPT`.
 pub fn is_command(words: &[Bytes]) -> bool
     ensures { IsTrue result ↔ IsCommand words.now }
 {
-    are_texts(words) && has_form(words)
+    are_texts(words) && (plays(words) || makes(words))
 }
 
 fn are_texts(words: &[Bytes]) -> bool
@@ -34,7 +34,7 @@ fn is_text(word: &[u8]) -> bool
     }
 }
 
-fn has_form(words: &[Bytes]) -> bool
+fn plays(words: &[Bytes]) -> bool
     ensures { IsTrue result ↔ IsScriptCommand words.now }
 {
     match words {
@@ -47,6 +47,16 @@ fn has_form(words: &[Bytes]) -> bool
     }
 }
 
+/// Whether the words ask for the files of a database to be made.
+pub fn makes(words: &[Bytes]) -> bool
+    ensures { IsTrue result ↔ IsInitCommand words.now }
+{
+    match words {
+        [_, command, file] => makes_files(command.as_slice()) && is_operand(file.as_slice()),
+        _ => false,
+    }
+}
+
 fn plays_script(word: &[u8]) -> bool
     ensures { IsTrue result ↔ IsKnown word.now }
 {
@@ -54,6 +64,12 @@ fn plays_script(word: &[u8]) -> bool
         return true;
     }
     word == "play".as_bytes()
+}
+
+fn makes_files(word: &[u8]) -> bool
+    ensures { IsTrue result ↔ IsInit word.now }
+{
+    word == "init".as_bytes()
 }
 
 fn is_operand(word: &[u8]) -> bool

@@ -1,6 +1,7 @@
 -- What the steps of a session's ending do.
-use Rattle.std.proofs.Common.{◌≡◌, ◌≢◌, ◌<◌, ◌-◌, ℕ, [], ◌∷◌, length, refl, sym, ap, subst, ◌∙◌, true, inl, inr, arith}
+use Rattle.std.proofs.Common.{◌≡◌, ◌≢◌, ◌<◌, ◌-◌, ℕ, [], ◌∷◌, length, refl, sym, ap, subst, ◌∙◌, true, false, inl, inr, arith}
 use Rattle.std.proofs.lemmas.Bool.Decides.{nat_tests, eqb_tells}
+use Rattle.std.specs.Prelude.{count_by}
 use Rattle.std.specs.List.{AllByRecursion}
 use Rattle.inno_model.specs.declared.event.Event.{Event}
 use Rattle.inno_model.specs.declared.event.Event.TheVariants as events
@@ -9,22 +10,23 @@ use Rattle.store_api.specs.declared.answers.Progress.TheVariants as progress
 use Rattle.law_past_agreement.specs.Order.{IsOfRow}
 use Rattle.shared_lists.specs.declared.answers.Undone.{Undone}
 use Rattle.shared_lists.specs.declared.answers.Undone.TheVariants as undone
-use Rattle.shared_lists.specs.State.{State as Lists, Closes, task_of}
+use Rattle.shared_lists.specs.State.{State as Lists, Closes, Stays, task_of}
 use Rattle.shared_lists.specs.Steps.{TakesBack}
-use Rattle.sql_lists.specs.Steps.{HasRowsAlone}
-use Rattle.sql_lists.proofs.Moving.{moves_closes, moves_takes_back}
+use Rattle.sql_lists.specs.Steps.{HasRowsAlone, acknowledges, changes_rows}
+use Rattle.sql_lists.proofs.Moving.{moves_closes, moves_stays, moves_takes_back}
 use Rattle.transaction_statements.specs.Running.{TakesBackTo}
 use Rattle.transaction_statements.proofs.Stepping.{rows_of_none, rows_left}
 use Rattle.session_engine.specs.declared.seats.Seat.TheVariants.{Leaving}
 use Rattle.session_engine.specs.Seats.{MayGoOut, IsGoingOut}
-use Rattle.session_engine.specs.Calls.{KeepsItems, GoesOn, GoesOut}
+use Rattle.session_engine.specs.Calls.{KeepsItems, TellsOne, TellsNone, GoesOn, GoesOut}
 
 module _ (s : ℕ) (old new : Lists) (out : IsGoingOut s old) where
   goes_none : new.past ≡ old.past → GoesOn s old.past new.past
-  goes_none is = record { entries = []; past_is = is; each = tt }
+  goes_none is = record { entries = []; past_is = is; each = tt; tells = tt; unacked = tt }
 
-  goes_one : (e : Event) → is_of s e ≡ true → KeepsItems e → new.past ≡ e ∷ old.past → GoesOn s old.past new.past
-  goes_one e mine keeps is = record { entries = e ∷ []; past_is = is; each = ((mine, keeps), tt) }
+  goes_one : (e : Event) → is_of s e ≡ true → KeepsItems e → TellsOne (e ∷ []) → acknowledges e ≡ false → new.past ≡ e ∷ old.past → GoesOn s old.past new.past
+  goes_one e mine keeps tells unacked is =
+      record { entries = e ∷ []; past_is = is; each = ((mine, keeps), tt); tells = tells; unacked = (unacked, tt) }
 
   own_undone : (keep : ℕ) → keep ≡ length (own s old.past) - 1 → HasRowsAlone s (events.Undone s keep ∷ old.past)
   own_undone keep is =
@@ -50,7 +52,7 @@ module _ (s : ℕ) (old new : Lists) (out : IsGoingOut s old) where
   )
   takes_back_goes undone.Undone went some takes = (
     moves_takes_back s (length (own s old.past) - 1) old new undone.Undone takes,
-    goes_one (events.Undone s (length (own s old.past) - 1)) (grind (arith, nat_tests)) tt takes.past_is,
+    goes_one (events.Undone s (length (own s old.past) - 1)) (grind (arith, nat_tests)) tt tt refl takes.past_is,
     record {
       may = subst (MayGoOut s) (sym takes.past_is) (undone_out (length (own s old.past) - 1) refl);
       task = subst (TakesBackTo 0 (length (own s new.past))) (sym takes.task_is) tt;
@@ -58,6 +60,25 @@ module _ (s : ℕ) (old new : Lists) (out : IsGoingOut s old) where
     refl,
   )
   takes_back_goes undone.NoMemory went some takes = absurd (went refl)
+
+  -- no memory was found for that
+  pub lacks_goes : Stays s old new → GoesOut s old new Leaving progress.NoMemory
+  lacks_goes stays = (
+    moves_stays s old new stays,
+    stays.past_is,
+    record {
+      may = subst (MayGoOut s) (sym stays.past_is) out.may;
+      task = subst (λ h. TakesBackTo 0 (length (own s h)) (task_of s new)) (sym stays.past_is)
+          (subst (TakesBackTo 0 (length (own s old.past))) (sym stays.task_is) out.task);
+    },
+    refl,
+  )
+
+  -- no change is told
+  pub takes_back_quietly : (answer : Undone) → TakesBack s (length (own s old.past) - 1) old new answer → TellsNone old.past new.past
+  takes_back_quietly undone.Went takes = ap (count_by changes_rows) takes.0.past_is
+  takes_back_quietly undone.Undone takes = ap (count_by changes_rows) takes.past_is
+  takes_back_quietly undone.NoMemory takes = ap (count_by changes_rows) takes.past_is
 
   own_rolled_back : own s (events.RolledBack s ∷ old.past) ≡ []
   own_rolled_back = grind (arith, nat_tests)
@@ -67,7 +88,7 @@ module _ (s : ℕ) (old new : Lists) (out : IsGoingOut s old) where
   rolls_back_goes none closes =
       let now : length (own s new.past) ≡ length (own s old.past) = ap (λ h. length (own s h)) closes.past_is ∙ (ap length own_rolled_back ∙ sym none) in (
         moves_closes s (events.RolledBack s) old new (grind (arith, nat_tests)) refl refl closes,
-        goes_one (events.RolledBack s) (grind (arith, nat_tests)) tt closes.past_is,
+        goes_one (events.RolledBack s) (grind (arith, nat_tests)) tt tt refl closes.past_is,
         record {
           may =
               subst (MayGoOut s) (sym closes.past_is) (record {

@@ -1,3 +1,3 @@
-mod Others
+pub mod Others
 pub mod Seating
 mod Leaving

@@ -21,17 +21,17 @@ use Rattle.law_past_agreement.specs.Order.{IsOfRow}
 use Rattle.shared_lists.specs.State.{State as Lists, Lists as AllLists, IsFirst, Adds, Stays, task_of}
 use Rattle.sql_lists.specs.declared.advance.Advance.{Advance}
 use Rattle.sql_lists.specs.declared.advance.Advance.TheVariants as advance
-use Rattle.sql_history.specs.Counts.{last_moment}
-use Rattle.sql_lists.specs.Steps.{Moves, Adding, AsksToWrite, IsEntryOf, Steps, HasRowsAlone}
+use Rattle.sql_lists.specs.Steps.{Moves, Adding, AsksToWrite, IsEntryOf, Steps, HasRowsAlone, TellsOne as StepTellsOne}
 use Rattle.sql_lists.proofs.Moving.{adding_none, adding_one, moves_none, moves_stays, moves_adds}
 use Rattle.sql_lists.specs.Going.{Nears as StatementNears}
 use Rattle.statement.specs.declared.under_way.Statement.{Statement}
 use Rattle.session_engine.specs.declared.seats.Seat.{Seat}
 use Rattle.session_engine.specs.declared.seats.Seat.TheVariants.{Idle, Busy, Leaving, Left}
 use Rattle.statement.specs.Running.{IsRunning, IsReadFrom, owes_ack, acked}
-use Rattle.statement.proofs.Acked.{goes_on_acked}
-use Rattle.session_engine.specs.Seats.{seat_at, is_working, MayGoOut, IsGoingOut, SeatAgrees, AreSeats, IsSeated}
-use Rattle.session_engine.specs.Calls.{AreFirst, SameLists, Joins, Starts, SameState, OthersStay, KeepsItems, GoesOn, StepsOn, Settled, GoesBy, GoesOut, StepsBy}
+use Rattle.statement.proofs.Acked.{goes_on_acked, acked_nears}
+use Rattle.statement.proofs.Rooms.{runs_without_room}
+use Rattle.session_engine.specs.Seats.{seat_at, is_working, MayGoOut, IsGoingOut, SeatAgrees, AreSeats, owes, phase_of, without_room}
+use Rattle.session_engine.specs.Calls.{AreFirst, SameLists, Joins, Starts, SameState, OthersStay, KeepsItems, TellsOne, GoesOn, StepsOn, Settled, GoesOut, StepsBy, Acknowledges, GivesUp}
 use Rattle.statement.specs.Going.{statement_to_go}
 use Rattle.session_engine.specs.Going.{Nears, NearsEnding}
 use Rattle.session_engine.proofs.Others.{seat_stays, has_item, read_runs}
@@ -51,6 +51,13 @@ set_again (z ∷ seats) (suc n) x y = ap (λ ys. z ∷ ys) (set_again seats n x 
 
 others_set : (seats : List Seat) (s : ℕ) (seat : Seat) → OthersStay s seats (set seats s seat)
 others_set seats s seat u apart = get_or-set_other seats s u seat Idle apart
+
+-- a seat that owes an acknowledgement is that of a statement
+pub owing_is : (seat : Seat) → owes seat ≡ true → ((statement : Statement) → seat ≡ Busy statement → ⊥) → ⊥
+owing_is Idle owed other = false≢true owed
+owing_is (Busy statement) owed other = other statement refl
+owing_is Leaving owed other = false≢true owed
+owing_is Left owed other = false≢true owed
 
 pub leaving_is : (seat : Seat) → is_working seat ≡ true → ((statement : Statement) → seat ≡ Busy statement → ⊥) → seat ≡ Leaving
 leaving_is Idle works other = absurd (false≢true works)
@@ -242,13 +249,22 @@ all_keep (e ∷ es) h s writer each count item =
     let keeps : KeepsItems e = keeps_items e (es ++ h) s each.0.0 same item in
     ((each.0.0, keeps), all_keep es h s writer each.1 (sym same ∙ count) (λ none. item (item_before e (es ++ h) s keeps ∙ none)))
 
-goes_on : (old new : Lists) (s : ℕ) → Adding s old new → started s new.past ≡ started s old.past → under_way s new.past ≢ None → GoesOn s old.past new.past
-goes_on old new s adding count item =
+-- what a statement's step says of the change that it tells
+told_one : (s : ℕ) (old : Lists) (entries : List Event) → StepTellsOne s old entries → TellsOne entries
+told_one s old [] tells = tt
+told_one s old (events.Changed t change ∷ earlier) tells = tells.1
+told_one s old (e ∷ earlier) tells = told_one s old earlier tells
+
+goes_on : (old new : Lists) (s : ℕ) → Moves s old new → started s new.past ≡ started s old.past → under_way s new.past ≢ None → GoesOn s old.past new.past
+goes_on old new s moves count item =
+    let adding = moves.adding in
     record {
       entries = adding.entries;
       past_is = adding.past_is;
       each = all_keep adding.entries old.past s new.writer adding.each (subst (λ g. started s g ≡ started s old.past) adding.past_is count)
           (subst (λ g. under_way s g ≢ None) adding.past_is item);
+      tells = told_one s old adding.entries moves.tells;
+      unacked = moves.unacked;
     }
 
 module _ (old new : Lists) (seats : List Seat) (s : ℕ) (are : AreSeats old seats) (joined : s < length old.names) where
@@ -265,11 +281,10 @@ module _ (old new : Lists) (seats : List Seat) (s : ℕ) (are : AreSeats old sea
   is_at : (seat : Seat) → seat_at (set (set seats s Idle) s seat) s ≡ seat
   is_at seat = ap (λ xs. get_or xs s Idle) (twice seat) ∙ get_or-set_same seats s seat Idle within
 
-  steps_on : {D : Type 0} (disk : D) (seat : Seat) → SessionMoves s old new
-      → StepsOn s (record { disk = disk; lists = old; seats = seats }) (record { disk = disk; lists = new; seats = set (set seats s Idle) s seat })
-  steps_on disk seat moves =
+  steps_on : (seat : Seat) → SessionMoves s old new
+      → StepsOn s (record { lists = old; seats = seats }) (record { lists = new; seats = set (set seats s Idle) s seat })
+  steps_on seat moves =
       record {
-        disk_stays = refl;
         names_stay = moves.names_stay;
         others_write = moves.writer_stays;
         may_write = moves.may_write;
@@ -289,80 +304,66 @@ module _ (old new : Lists) (seats : List Seat) (s : ℕ) (are : AreSeats old sea
       kept seat (of_statement s old new steps.0)
       (subst (SeatAgrees new s) (sym settled.0) (ended_item new s (started s old.past) reply old.past steps.1 steps.2 steps.3))
 
-  -- a step of a statement acknowledges nothing
-  statement_timed : (statement : Statement) (adv : Advance) → Steps IsRunning s old new statement adv → last_moment new.past ≡ last_moment old.past
-  statement_timed statement advance.Went steps = steps.0.acks_none
-  statement_timed statement (advance.Waiting by blockers) steps = ap last_moment steps.0.past_is
-  statement_timed statement advance.NoMemory steps = steps.0.acks_none
-  statement_timed statement (advance.Done reply) steps = steps.0.acks_none
-
-  pub step_does : {D : Type 0} (disk : D) (statement : Statement) (adv : Advance) (seat : Seat) (answer : Progress)
+  pub step_does : (statement : Statement) (adv : Advance) (seat : Seat) (answer : Progress)
       → Steps IsRunning s old new statement adv → Settled statement adv seat answer
-      → StepsBy s answer (record { disk = disk; lists = old; seats = seats }) (record { disk = disk; lists = new; seats = set (set seats s Idle) s seat })
-  step_does disk statement advance.Went seat answer steps settled =
+      → StepsBy s answer (record { lists = old; seats = seats }) (record { lists = new; seats = set (set seats s Idle) s seat })
+  step_does statement advance.Went seat answer steps settled =
       rw settled.1 (
-        steps_on disk seat (of_statement s old new steps.0),
-        goes_on old new s steps.0.adding steps.2 (has_item new s statement steps.1),
+        steps_on seat (of_statement s old new steps.0),
+        goes_on old new s steps.0 steps.2 (has_item new s statement steps.1),
         ap
             is_working (is_at seat ∙ settled.0),
       )
-  step_does disk statement (advance.Waiting by blockers) seat answer steps settled =
+  step_does statement (advance.Waiting by blockers) seat answer steps settled =
       rw settled.1 (
-        steps_on disk seat (of_statement s old new (moves_stays s old new steps.0)),
+        steps_on seat (of_statement s old new (moves_stays s old new steps.0)),
         all_same old new s steps.0,
         ap is_working
             (is_at seat ∙ settled.0),
         (by, steps.2),
       )
-  step_does disk statement advance.NoMemory seat answer steps settled =
-      rw settled.1 (steps_on disk seat (of_statement s old new steps.0), steps.2, ap is_working (is_at seat ∙ settled.0))
-  step_does disk statement (advance.Done reply) seat answer steps settled =
-      rw settled.1 (steps_on disk seat (of_statement s old new steps.0), inl (steps.1, is_at seat ∙ settled.0))
+  step_does statement advance.NoMemory seat answer steps settled =
+      rw settled.1 (steps_on seat (of_statement s old new steps.0), steps.2, ap is_working (is_at seat ∙ settled.0))
+  step_does statement (advance.Done reply) seat answer steps settled =
+      rw settled.1 (steps_on seat (of_statement s old new steps.0), inl (steps.1, is_at seat ∙ settled.0))
 
-  step_nears_by : {D : Type 0} (disk : D) (before after : Statement) (seat : Seat) → seat_at seats s ≡ Busy before → seat ≡ Busy after
+  step_nears_by : (before after : Statement) (seat : Seat) → seat_at seats s ≡ Busy before → seat ≡ Busy after
       → IsBelow (statement_to_go s new after) (statement_to_go s old before)
-      → Nears s progress.Went (record { disk = disk; lists = old; seats = seats }) (record { disk = disk; lists = new; seats = set (set seats s Idle) s seat })
-  step_nears_by disk before after seat was now below = rw (is_at seat, now, was) below
+      → Nears s progress.Went (record { lists = old; seats = seats }) (record { lists = new; seats = set (set seats s Idle) s seat })
+  step_nears_by before after seat was now below = rw (is_at seat, now, was) below
 
-  pub step_nears : {D : Type 0} (disk : D) (before after : Statement) (adv : Advance) (seat : Seat) (answer : Progress) → seat_at seats s ≡ Busy before
+  pub step_nears : (before after : Statement) (adv : Advance) (seat : Seat) (answer : Progress) → seat_at seats s ≡ Busy before
       → StatementNears statement_to_go s old before new after adv → Settled after adv seat answer
-      → Nears s answer (record { disk = disk; lists = old; seats = seats }) (record { disk = disk; lists = new; seats = set (set seats s Idle) s seat })
-  step_nears disk before after advance.Went seat answer was nears settled = rw settled.1 (step_nears_by disk before after seat was settled.0 nears)
-  step_nears disk before after (advance.Waiting by blockers) seat answer was nears settled = rw settled.1 tt
-  step_nears disk before after advance.NoMemory seat answer was nears settled = rw settled.1 tt
-  step_nears disk before after (advance.Done reply) seat answer was nears settled = rw settled.1 tt
+      → Nears s answer (record { lists = old; seats = seats }) (record { lists = new; seats = set (set seats s Idle) s seat })
+  step_nears before after advance.Went seat answer was nears settled = rw settled.1 (step_nears_by before after seat was settled.0 nears)
+  step_nears before after (advance.Waiting by blockers) seat answer was nears settled = rw settled.1 tt
+  step_nears before after advance.NoMemory seat answer was nears settled = rw settled.1 tt
+  step_nears before after (advance.Done reply) seat answer was nears settled = rw settled.1 tt
 
-  -- ---- a step of the statement, or the acknowledgement of its commit
+  -- ---- the acknowledgement of the statement's commit
 
-  module _ (moment : ℕ) (before after : Statement) (adv : Advance) (seat : Seat) (answer : Progress) (settled : Settled after adv seat answer) where
-    acked_runs : owes_ack before ≡ true → IsRunning old s before → Adds (events.Acked s moment) s old new → after ≡ acked before → IsRunning new s after
-    acked_runs owes runs adds after-is = subst (IsRunning new s) (sym after-is) (goes_on_acked before owes old new s moment runs adds)
+  module _ (moment : ℕ) (statement : Statement) (owed : owes_ack statement ≡ true) (was : seat_at seats s ≡ Busy statement)
+      (adds : Adds (events.Acked s moment) s old new) where
+    runs : IsRunning old s statement
+    runs = subst (SeatAgrees old s) was (are.each s)
 
-    seat_is : adv ≡ advance.Went → (seat ≡ Busy after) × (answer ≡ progress.Went)
-    seat_is went = subst (λ a. Settled after a seat answer) went settled
+    pub acked_keeps : AreSeats new (set (set seats s Idle) s (Busy (acked statement)))
+    acked_keeps = kept (Busy (acked statement)) (of_acknowledgement s moment old new adds) (goes_on_acked statement owed old new s moment runs adds)
 
-    acked_goes : Adds (events.Acked s moment) s old new → GoesOn s old.past new.past
-    acked_goes adds = record { entries = events.Acked s moment ∷ []; past_is = adds.past_is; each = ((grind (arith, nat_tests), tt), tt) }
+    pub acked_does : Acknowledges s moment (record { lists = old; seats = seats })
+        (record { lists = new; seats = set (set seats s Idle) s (Busy (acked statement)) })
+    acked_does =
+        record {
+          steps = steps_on (Busy (acked statement)) (of_acknowledgement s moment old new adds);
+          past_is = adds.past_is;
+          phase_was = ap phase_of was;
+          phase_is = ap phase_of (is_at (Busy (acked statement)));
+        }
 
-    pub goes_keeps : GoesBy s moment old new before after adv → AreSeats new (set (set seats s Idle) s seat)
-    goes_keeps (inl steps) = step_keeps after adv seat answer steps.1 settled
-    goes_keeps (inr acks) =
-        kept seat (of_acknowledgement s moment old new acks.2) (subst (SeatAgrees new s) (sym (seat_is acks.4).0) (acked_runs acks.0 acks.1 acks.2 acks.3))
-
-    pub goes_does : {D : Type 0} (disk : D) → GoesBy s moment old new before after adv
-        → StepsBy s answer (record { disk = disk; lists = old; seats = seats }) (record { disk = disk; lists = new; seats = set (set seats s Idle) s seat })
-    goes_does disk (inl steps) = step_does disk after adv seat answer steps.1 settled
-    goes_does disk (inr acks) =
-        rw (seat_is acks.4).1 (
-          steps_on disk seat (of_acknowledgement s moment old new acks.2),
-          acked_goes acks.2,
-          ap is_working
-              (is_at seat ∙ (seat_is acks.4).0),
-        )
-
-    pub goes_timed : GoesBy s moment old new before after adv → last_moment old.past ≤ moment → last_moment new.past ≤ moment
-    goes_timed (inl steps) timed = subst (λ n. n ≤ moment) (sym (statement_timed after adv steps.1)) timed
-    goes_timed (inr acks) timed = subst (λ h. last_moment h ≤ moment) (sym acks.2.past_is) (omega arith)
+    pub acked_nears_it : Nears s progress.Went (record { lists = old; seats = seats })
+        (record { lists = new; seats = set (set seats s Idle) s (Busy (acked statement)) })
+    acked_nears_it =
+        step_nears statement (acked statement) advance.Went (Busy (acked statement)) progress.Went was (acked_nears statement owed old new s) (refl, refl)
 
   -- ---- a step of the ending
 
@@ -379,26 +380,20 @@ module _ (old new : Lists) (seats : List Seat) (s : ℕ) (are : AreSeats old sea
         (may_go.may.rests, goes.2, goes.3)))
     out_keeps seat other goes = elim goes [ ]
 
-    pub out_timed : (seat : Seat) (answer : Progress) → GoesOut s old new seat answer → last_moment new.past ≡ last_moment old.past
-    out_timed seat progress.Went goes = goes.0.acks_none
-    out_timed seat progress.NoMemory goes = goes.0.acks_none
-    out_timed seat (progress.Done reply) goes = ap (λ l. last_moment l.past) goes.1
-    out_timed seat other goes = elim goes [ ]
+    pub out_does : (seat : Seat) (answer : Progress) → GoesOut s old new seat answer
+        → StepsBy s answer (record { lists = old; seats = seats }) (record { lists = new; seats = set (set seats s Idle) s seat })
+    out_does seat progress.Went goes = (steps_on seat (of_statement s old new goes.0), goes.1, ap is_working (is_at seat ∙ goes.3))
+    out_does seat progress.NoMemory goes = (steps_on seat (of_statement s old new goes.0), goes.1, ap is_working (is_at seat ∙ goes.3))
+    out_does seat (progress.Done reply) goes =
+        (steps_on seat (of_statement s old new (moves_is old new s goes.1)), inr (leaving, goes.0, goes.1, is_at seat ∙ goes.4))
+    out_does seat other goes = elim goes [ ]
 
-    pub out_does : {D : Type 0} (disk : D) (seat : Seat) (answer : Progress) → GoesOut s old new seat answer
-        → StepsBy s answer (record { disk = disk; lists = old; seats = seats }) (record { disk = disk; lists = new; seats = set (set seats s Idle) s seat })
-    out_does disk seat progress.Went goes = (steps_on disk seat (of_statement s old new goes.0), goes.1, ap is_working (is_at seat ∙ goes.3))
-    out_does disk seat progress.NoMemory goes = (steps_on disk seat (of_statement s old new goes.0), goes.1, ap is_working (is_at seat ∙ goes.3))
-    out_does disk seat (progress.Done reply) goes =
-        (steps_on disk seat (of_statement s old new (moves_is old new s goes.1)), inr (leaving, goes.0, goes.1, is_at seat ∙ goes.4))
-    out_does disk seat other goes = elim goes [ ]
-
-    pub out_nears : {D : Type 0} (disk : D) (seat : Seat) (answer : Progress) → GoesOut s old new seat answer → NearsEnding s old new answer
-        → Nears s answer (record { disk = disk; lists = old; seats = seats }) (record { disk = disk; lists = new; seats = set (set seats s Idle) s seat })
-    out_nears disk seat progress.Went goes nears = rw (is_at seat, goes.3, leaving) (inr (refl, nears))
-    out_nears disk seat progress.NoMemory goes nears = tt
-    out_nears disk seat (progress.Done reply) goes nears = tt
-    out_nears disk seat other goes nears = elim goes [ ]
+    pub out_nears : (seat : Seat) (answer : Progress) → GoesOut s old new seat answer → NearsEnding s old new answer
+        → Nears s answer (record { lists = old; seats = seats }) (record { lists = new; seats = set (set seats s Idle) s seat })
+    out_nears seat progress.Went goes nears = rw (is_at seat, goes.3, leaving) (inr (refl, nears))
+    out_nears seat progress.NoMemory goes nears = tt
+    out_nears seat (progress.Done reply) goes nears = tt
+    out_nears seat other goes nears = elim goes [ ]
 
 -- ---- what the calls do
 
@@ -408,18 +403,42 @@ module _ (old new : Lists) (past-is : new.past ≡ old.past) (writer-is : new.wr
   joined_either (Ok x) name seats are ok err = seats_joined old new past-is writer-is tasks-are name seats ok are
   joined_either (Err e) name seats are ok err = seats_wait old new past-is writer-is tasks-are seats err are
 
-  pub joins : {D X Y : Type 0} (result : Result X Y) (disk : D) (name : List ℕ) (seats : List Seat) → OnOk result (new.names ≡ old.names ++ name ∷ [])
-      → OnOk result (Joins name (record { disk = disk; lists = old; seats = seats }) (record { disk = disk; lists = new; seats = seats ++ Idle ∷ [] }))
-  joins (Ok x) disk name seats ok =
-      record { disk_stays = refl; names_are = ok; past_stays = past-is; writer_stays = writer-is; tasks_stay = tasks-are; seats_stay = joined_seats seats }
-  joins (Err e) disk name seats ok = tt
+  pub joins : {X Y : Type 0} (result : Result X Y) (name : List ℕ) (seats : List Seat) → OnOk result (new.names ≡ old.names ++ name ∷ [])
+      → OnOk result (Joins name (record { lists = old; seats = seats }) (record { lists = new; seats = seats ++ Idle ∷ [] }))
+  joins (Ok x) name seats ok =
+      record { names_are = ok; past_stays = past-is; writer_stays = writer-is; tasks_stay = tasks-are; seats_stay = joined_seats seats }
+  joins (Err e) name seats ok = tt
 
-  pub refused_join : {D X Y : Type 0} (result : Result X Y) (disk : D) (seats : List Seat) → OnErr result (new.names ≡ old.names)
-      → OnErr result (SameState (record { disk = disk; lists = old; seats = seats }) (record { disk = disk; lists = new; seats = seats ++ Idle ∷ [] }))
-  refused_join (Ok x) disk seats err = tt
-  refused_join (Err e) disk seats err =
+  pub refused_join : {X Y : Type 0} (result : Result X Y) (seats : List Seat) → OnErr result (new.names ≡ old.names)
+      → OnErr result (SameState (record { lists = old; seats = seats }) (record { lists = new; seats = seats ++ Idle ∷ [] }))
+  refused_join (Ok x) seats err = tt
+  refused_join (Err e) seats err =
       record {
-        disk_stays = refl;
         lists_stay = record { names_stay = err; past_stays = past-is; writer_stays = writer-is; tasks_stay = tasks-are };
         seats_stay = joined_seats seats;
+      }
+
+-- ---- a statement that gives up
+
+without_room_agrees : (lists : Lists) (s : ℕ) (seat : Seat) → SeatAgrees lists s seat → SeatAgrees lists s (without_room seat)
+without_room_agrees lists s Idle agrees = agrees
+without_room_agrees lists s (Busy statement) agrees = runs_without_room lists s statement agrees
+without_room_agrees lists s Leaving agrees = agrees
+without_room_agrees lists s Left agrees = agrees
+
+module _ (lists : Lists) (seats : List Seat) (s : ℕ) (are : AreSeats lists seats) (joined : s < length lists.names) where
+  pub given_up_keeps : AreSeats lists (set (set seats s Idle) s (without_room (seat_at seats s)))
+  given_up_keeps =
+      kept lists lists seats s are joined (without_room (seat_at seats s)) (of_statement s lists lists (moves_none s lists))
+      (without_room_agrees lists s (seat_at seats s) (are.each s))
+
+  pub gives_up : GivesUp s (record { lists = lists; seats = seats })
+      (record { lists = lists; seats = set (set seats s Idle) s (without_room (seat_at seats s)) })
+  gives_up =
+      record {
+        lists_stay = refl;
+        seat_is = is_at lists lists seats s are joined (without_room (seat_at seats s));
+        others_stay = λ u apart.
+            ap (λ xs. get_or xs u Idle) (twice lists lists seats s are joined (without_room (seat_at seats s)))
+            ∙ others_set seats s (without_room (seat_at seats s)) u apart;
       }

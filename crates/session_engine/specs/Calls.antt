@@ -1,25 +1,26 @@
 -- What each call of the engine does, between two states.
-use Rattle.std.specs.Prelude.{◌≡◌, ◌≢◌, ◌⊎◌, ℕ, ◌+◌, true, false, None, Some, List, [], ◌∷◌, ◌++◌}
+use Rattle.std.specs.Prelude.{◌≡◌, ◌≢◌, ◌⊎◌, ℕ, ◌+◌, true, false, None, Some, List, [], ◌∷◌, ◌++◌, count_by}
 use Rattle.std.specs.List.{AllByRecursion}
 use Rattle.inno_types.specs.declared.reply.Item.{Item}
 use Rattle.inno_types.specs.declared.reply.Reply.{Reply}
 use Rattle.inno_types.specs.declared.reply.Reply.TheVariants.{Done}
 use Rattle.inno_db.specs.Database.{Database}
 use Rattle.inno_model.specs.declared.event.Event.{Event}
-use Rattle.inno_model.specs.declared.event.Event.TheVariants.{Opened, Started, Ended, Acked}
-use Rattle.inno_model.specs.Past.{is_of, started, IsClosed}
+use Rattle.inno_model.specs.declared.event.Event.TheVariants.{Opened, Started, Changed, Ended, Acked}
+use Rattle.inno_model.specs.Past.{is_of, begins_txn, started, IsClosed}
 use Rattle.store_api.specs.declared.answers.Progress.{Progress}
 use Rattle.store_api.specs.declared.answers.Progress.TheVariants as progress
+use Rattle.turn_board.specs.declared.Phase.TheVariants.{Busy}
 use Rattle.shared_lists.specs.Tasks as tasks
 use Rattle.shared_lists.specs.State.{State as Lists, Adds, task_of}
 use Rattle.sql_lists.specs.declared.advance.Advance.{Advance}
 use Rattle.sql_lists.specs.declared.advance.Advance.TheVariants as advance
-use Rattle.sql_lists.specs.Steps.{Moves, AsksToWrite, Steps, WaitsFor}
+use Rattle.sql_lists.specs.Steps.{Moves, AsksToWrite, Steps, WaitsFor, acknowledges, changes_rows}
 use Rattle.statement.specs.declared.under_way.Statement.{Statement}
-use Rattle.statement.specs.Running.{IsRunning, owes_ack, acked}
+use Rattle.statement.specs.Running.{IsRunning}
 use Rattle.session_engine.specs.declared.seats.Seat.{Seat}
 use Rattle.session_engine.specs.declared.seats.Seat.TheVariants as seats
-use Rattle.session_engine.specs.Seats.{State, seat_at, is_working, IsGoingOut}
+use Rattle.session_engine.specs.Seats.{State, seat_at, is_working, phase_of, without_room, IsGoingOut}
 
 -- the lists of this database, where nobody has joined
 pub record AreFirst (db : Database) (lists : Lists) : Type 0 where
@@ -35,8 +36,7 @@ pub record SameLists (old new : Lists) : Type 0 where
   pub tasks_stay : (s : ℕ) → task_of s new ≡ task_of s old
 
 -- the state is the same to all sessions
-pub record SameState {D : Type 0} (old new : State D) : Type 0 where
-  pub disk_stays : new.disk ≡ old.disk
+pub record SameState (old new : State) : Type 0 where
   pub lists_stay : SameLists old.lists new.lists
   pub seats_stay : (s : ℕ) → seat_at new.seats s ≡ seat_at old.seats s
 
@@ -44,22 +44,19 @@ pub record SameState {D : Type 0} (old new : State D) : Type 0 where
 abbrev pub OthersStay : ℕ → List Seat → List Seat → Type 0
 OthersStay s old new = (u : ℕ) → u ≢ s → seat_at new u ≡ seat_at old u
 
-pub record Joins {D : Type 0} (name : List ℕ) (old new : State D) : Type 0 where
-  pub disk_stays : new.disk ≡ old.disk
+pub record Joins (name : List ℕ) (old new : State) : Type 0 where
   pub names_are : new.lists.names ≡ old.lists.names ++ name ∷ []
   pub past_stays : new.lists.past ≡ old.lists.past
   pub writer_stays : new.lists.writer ≡ old.lists.writer
   pub tasks_stay : (s : ℕ) → task_of s new.lists ≡ task_of s old.lists
   pub seats_stay : (s : ℕ) → seat_at new.seats s ≡ seat_at old.seats s
 
-pub record Starts {D : Type 0} (s : ℕ) (item : Item) (old new : State D) : Type 0 where
-  pub disk_stays : new.disk ≡ old.disk
+pub record Starts (s : ℕ) (item : Item) (old new : State) : Type 0 where
   pub lists_are : Adds (Started s (started s old.lists.past + 1) item) s old.lists new.lists
   pub works : is_working (seat_at new.seats s) ≡ true
   pub others_stay : OthersStay s old.seats new.seats
 
-pub record Leaves {D : Type 0} (s : ℕ) (old new : State D) : Type 0 where
-  pub disk_stays : new.disk ≡ old.disk
+pub record Leaves (s : ℕ) (old new : State) : Type 0 where
   pub lists_stay : new.lists ≡ old.lists
   pub leaving : seat_at new.seats s ≡ seats.Leaving
   pub others_stay : OthersStay s old.seats new.seats
@@ -70,15 +67,23 @@ KeepsItems (Started s j item) = ⊥
 KeepsItems (Ended s j reply) = ⊥
 KeepsItems other = Unit {0}
 
--- entries of the session's are added, within its item or its ending
+-- One entry tells a change at most, and before it nothing comes but the opening of its transaction. The newest stands first.
+abbrev pub TellsOne : List Event → Type 0
+TellsOne [] = Unit {0}
+TellsOne (Changed s change ∷ earlier) = AllByRecursion (λ e. begins_txn e ≡ true) earlier
+TellsOne (other ∷ earlier) = TellsOne earlier
+
+-- Entries of the session's are added, within its item or its ending. One of them at most tells a change, and none
+-- acknowledges a commit.
 pub record GoesOn (s : ℕ) (old new : List Event) : Type 0 where
   pub entries : List Event
   pub past_is : new ≡ entries ++ old
   pub each : AllByRecursion (λ e. (is_of s e ≡ true) × KeepsItems e) entries
+  pub tells : TellsOne entries
+  pub unacked : AllByRecursion (λ e. acknowledges e ≡ false) entries
 
 -- a step of a session: what it leaves as it was
-pub record StepsOn {D : Type 0} (s : ℕ) (old new : State D) : Type 0 where
-  pub disk_stays : new.disk ≡ old.disk
+pub record StepsOn (s : ℕ) (old new : State) : Type 0 where
   pub names_stay : new.lists.names ≡ old.lists.names
   pub others_write : (u : ℕ) → u ≢ s → old.lists.writer ≡ Some u → new.lists.writer ≡ Some u
   pub may_write : new.lists.writer ≡ Some s → (old.lists.writer ≡ Some s) ⊎ AsksToWrite s old.lists.past
@@ -86,7 +91,7 @@ pub record StepsOn {D : Type 0} (s : ℕ) (old new : State D) : Type 0 where
   pub others_stay : OthersStay s old.seats new.seats
 
 -- the step ends the session's item with the reply, or its ending
-abbrev pub EndsBy : {D : Type 0} → ℕ → Reply → State D → State D → Type 0
+abbrev pub EndsBy : ℕ → Reply → State → State → Type 0
 EndsBy s reply old new =
     ((new.lists.past ≡ Ended s (started s old.lists.past) reply ∷ old.lists.past) × (seat_at new.seats s ≡ seats.Idle))
     ⊎ ((seat_at old.seats s ≡ seats.Leaving) × (reply ≡ Done) × (new.lists ≡ old.lists) × (seat_at new.seats s ≡ seats.Left))
@@ -98,12 +103,6 @@ Settled statement (advance.Waiting by blockers) seat answer = (seat ≡ seats.Bu
 Settled statement advance.NoMemory seat answer = (seat ≡ seats.Busy statement) × (answer ≡ progress.NoMemory)
 Settled statement (advance.Done reply) seat answer = (seat ≡ seats.Idle) × (answer ≡ progress.Done reply)
 
--- A statement makes its step, or its commit is acknowledged at this moment.
-abbrev pub GoesBy : ℕ → ℕ → Lists → Lists → Statement → Statement → Advance → Type 0
-GoesBy s moment old new before after adv =
-    ((owes_ack before ≡ false) × Steps IsRunning s old new after adv)
-    ⊎ ((owes_ack before ≡ true) × IsRunning old s before × Adds (Acked s moment) s old new × (after ≡ acked before) × (adv ≡ advance.Went))
-
 -- what a step of a session's ending does
 abbrev pub GoesOut : ℕ → Lists → Lists → Seat → Progress → Type 0
 GoesOut s old new seat progress.Went = Moves s old new × GoesOn s old.past new.past × IsGoingOut s new × (seat ≡ seats.Leaving)
@@ -112,10 +111,28 @@ GoesOut s old new seat (progress.Done reply) = (reply ≡ Done) × (new ≡ old)
 GoesOut s old new seat other = ⊥
 
 -- what a step does, by its answer
-abbrev pub StepsBy : {D : Type 0} → ℕ → Progress → State D → State D → Type 0
+abbrev pub StepsBy : ℕ → Progress → State → State → Type 0
 StepsBy s progress.Went old new = StepsOn s old new × GoesOn s old.lists.past new.lists.past × (is_working (seat_at new.seats s) ≡ true)
 StepsBy s (progress.Waiting blockers) old new =
     StepsOn s old new × SameLists old.lists new.lists × (is_working (seat_at new.seats s) ≡ true) × ((by : ℕ) × WaitsFor s by blockers old.lists)
 StepsBy s progress.NoMemory old new = StepsOn s old new × (new.lists.past ≡ old.lists.past) × (is_working (seat_at new.seats s) ≡ true)
 StepsBy s (progress.Done reply) old new = StepsOn s old new × EndsBy s reply old new
 StepsBy s other old new = ⊥
+
+-- the session's commit is acknowledged at this moment
+pub record Acknowledges (s moment : ℕ) (old new : State) : Type 0 where
+  pub steps : StepsOn s old new
+  pub past_is : new.lists.past ≡ Acked s moment ∷ old.lists.past
+  -- its item goes on
+  pub phase_was : phase_of (seat_at old.seats s) ≡ Busy
+  pub phase_is : phase_of (seat_at new.seats s) ≡ Busy
+
+-- the session's statement gives up, for want of room for its change
+pub record GivesUp (s : ℕ) (old new : State) : Type 0 where
+  pub lists_stay : new.lists ≡ old.lists
+  pub seat_is : seat_at new.seats s ≡ without_room (seat_at old.seats s)
+  pub others_stay : OthersStay s old.seats new.seats
+
+-- no entry that was added tells a change
+abbrev pub TellsNone : List Event → List Event → Type 0
+TellsNone old new = count_by changes_rows new ≡ count_by changes_rows old

@@ -3,8 +3,7 @@ use Rattle.std.specs.Prelude.{ℕ, List, ◌∷◌}
 use Rattle.store_api.specs.declared.answers.Progress.{Progress}
 use Rattle.store_api.specs.declared.answers.Progress.TheVariants as progress
 use Rattle.shared_lists.specs.State.{State as Lists}
-use Rattle.sql_lists.specs.Going.{left, to_roll_back, Nears as StatementNears}
-use Rattle.sql_lists.specs.declared.advance.Advance.{Advance}
+use Rattle.sql_lists.specs.Going.{left, to_roll_back}
 use Rattle.inno_types.specs.Order.{IsBelow}
 use Rattle.statement.specs.declared.under_way.Statement.{Statement}
 use Rattle.statement.specs.Going.{statement_to_go}
@@ -20,11 +19,11 @@ seat_to_go s lists seats.Leaving = 0 ∷ to_roll_back s lists
 seat_to_go s lists seats.Left = 0 ∷ left 0 0 0 0
 
 -- what the session has before it at most
-abbrev pub to_go : {D : Type 0} → ℕ → State D → List ℕ
+abbrev pub to_go : ℕ → State → List ℕ
 to_go s state = seat_to_go s state.lists (seat_at state.seats s)
 
 -- a step that went makes it smaller
-abbrev pub Nears : {D : Type 0} → ℕ → Progress → State D → State D → Type 0
+abbrev pub Nears : ℕ → Progress → State → State → Type 0
 Nears s progress.Went old new = IsBelow (to_go s new) (to_go s old)
 Nears s other old new = Unit {0}
 
@@ -32,7 +31,3 @@ Nears s other old new = Unit {0}
 abbrev pub NearsEnding : ℕ → Lists → Lists → Progress → Type 0
 NearsEnding s old new progress.Went = IsBelow (to_roll_back s new) (to_roll_back s old)
 NearsEnding s old new other = Unit {0}
-
--- so does the acknowledgement of a statement's commit
-abbrev pub NearsBy : ℕ → Lists → Lists → Statement → Statement → Advance → Type 0
-NearsBy s old new before after adv = StatementNears statement_to_go s old before new after adv

@@ -4,26 +4,26 @@ use Rattle.std.specs.Coded.{Coded, code_by, coded×, coded_list}
 use Rattle.inno_model.specs.declared.event.Event.{Event}
 use Rattle.inno_model.specs.Past.{under_way, own, IsClosed}
 use Rattle.sql_history.specs.Legal.{is_leaving}
-use Rattle.sql_history.specs.Counts.{last_moment}
 use Rattle.shared_lists.specs.Tasks as tasks
 use Rattle.shared_lists.specs.State.{State as Lists, state_code as lists_code, task_of}
 use Rattle.sql_lists.specs.Steps.{HasRowsAlone}
 use Rattle.transaction_statements.specs.Running.{TakesBackTo}
-use Rattle.statement.specs.Running.{IsRunning}
+use Rattle.statement.specs.Running.{IsRunning, owes_ack, wants_room as statement_wants_room, without_room as statement_without_room}
+use Rattle.turn_board.specs.declared.Phase.{Phase}
+use Rattle.turn_board.specs.declared.Phase.TheVariants as phases
 use Rattle.session_engine.specs.declared.seats.Seat.{Seat}
 use Rattle.session_engine.specs.declared.seats.Seat.TheVariants.{Idle, Busy, Leaving, Left}
 use Rattle.session_engine.specs.contracts.seats.Seat as of_seat
 
--- the disk, what all sessions share, and where each session stands
-pub record State (D : Type 0) : Type 0 where
-  pub disk : D
+-- what all sessions share, and where each session stands
+pub record State : Type 0 where
   pub lists : Lists
   pub seats : List Seat
 
-abbrev pub state_code : {D : Type 0} → Coded D → Coded (State D)
-state_code {D} disk =
-    code_by (D × (Lists × List Seat)) (coded× disk (coded× lists_code (coded_list of_seat.the_row.coded)))
-    (λ s. (s.disk, (s.lists, s.seats))) (λ p. record { disk = p.0; lists = p.1.0; seats = p.1.1 }) (λ _. refl)
+abbrev pub state_code : Coded State
+state_code =
+    code_by (Lists × List Seat) (coded× lists_code (coded_list of_seat.the_row.coded)) (λ s. (s.lists, s.seats)) (λ p. record { lists = p.0; seats = p.1 })
+    (λ _. refl)
 
 -- the seat of a session; one that hasn't joined is idle
 abbrev pub seat_at : List Seat → ℕ → Seat
@@ -40,17 +40,38 @@ abbrev pub has_left : Seat → Bool
 has_left Left = true
 has_left other = false
 
-abbrev pub IsJoined : {D : Type 0} → ℕ → State D → Type 0
+abbrev pub phase_of : Seat → Phase
+phase_of Idle = phases.Idle
+phase_of (Busy statement) = phases.Busy
+phase_of Leaving = phases.Leaving
+phase_of Left = phases.Left
+
+-- its statement's commit is yet to be acknowledged
+abbrev pub owes : Seat → Bool
+owes (Busy statement) = owes_ack statement
+owes other = false
+
+-- its statement is about to tell a change to the history
+abbrev pub wants_room : Seat → Bool
+wants_room (Busy statement) = statement_wants_room statement
+wants_room other = false
+
+-- its statement gives up
+abbrev pub without_room : Seat → Seat
+without_room (Busy statement) = Busy (statement_without_room statement)
+without_room other = other
+
+abbrev pub IsJoined : ℕ → State → Type 0
 IsJoined s state = s < length state.lists.names
 
-abbrev pub IsIdle : {D : Type 0} → ℕ → State D → Type 0
+abbrev pub IsIdle : ℕ → State → Type 0
 IsIdle s state = seat_at state.seats s ≡ Idle
 
-abbrev pub IsWorking : {D : Type 0} → ℕ → State D → Type 0
+abbrev pub IsWorking : ℕ → State → Type 0
 IsWorking s state = is_working (seat_at state.seats s) ≡ true
 
 -- the session has no item under way, and no open transaction
-pub record HasEnded {D : Type 0} (s : ℕ) (state : State D) : Type 0 where
+pub record HasEnded (s : ℕ) (state : State) : Type 0 where
   pub rests : under_way s state.lists.past ≡ None
   pub closed : IsClosed s state.lists.past
 
@@ -75,8 +96,3 @@ pub record AreSeats (lists : Lists) (seats : List Seat) : Type 0 where
   -- a seat for each session, and maybe some that wait for their sessions
   pub enough : length lists.names ≤ length seats
   pub each : (s : ℕ) → SeatAgrees lists s (seat_at seats s)
-
--- That, and no commit was acknowledged at a moment to come.
-pub record IsSeated (lists : Lists) (seats : List Seat) (moment : ℕ) : Type 0 where
-  pub agree : AreSeats lists seats
-  pub timed : last_moment lists.past ≤ moment

@@ -1,7 +1,7 @@
-//! The calls of an engine. Each step of a session is a step of its statement, or acknowledges that statement's commit; the
-//! seats say which sessions are at work.
+//! The calls of sessions. Each step of a session is a step of its statement or of its ending; a commit is acknowledged by a
+//! call of its own, which whoever keeps a log makes. The seats say which sessions are at work.
 
-ghost use Rattle.std.specs.Prelude.{◌≡◌, ℕ, ◌<◌, ◌^◌, [], length, false, Ok, IsTrue, IfOk, OnOk, OnErr};
+ghost use Rattle.std.specs.Prelude.{◌≡◌, ◌≢◌, ℕ, ◌<◌, ◌≤◌, ◌^◌, [], length, true, false, None, IsTrue, IfOk, OnOk, OnErr};
 ghost use Rattle.std.specs.List.{list_any};
 ghost use Rattle.inno_types.specs.declared.reply.Item.TheVariants.{Sql};
 ghost use Rattle.inno_db.specs.Database.{Database};
@@ -9,59 +9,60 @@ ghost use Rattle.shared_lists.specs.Tasks.{Idle as TaskIdle};
 ghost use Rattle.shared_lists.specs.State.{task_of};
 ghost use Rattle.statement.specs.Running.{ReadsItem};
 ghost use Rattle.law_page_errors.specs.Space.{ends_for_pages};
+ghost use Rattle.law_past_agreement.specs.Order.{IsOrdered};
+ghost use Rattle.shared_lists.specs.Fitting.{FitsThen};
+ghost use Rattle.sql_lists.specs.Kept.{AreStanding};
 ghost use Rattle.session_engine.specs.Calls.{AreFirst};
 
 use crate::seats::{Seat, Seats};
-use crate::steps::{go_on, go_out, read_item, settled};
+use crate::steps::{go_out, read_item, settled, without_room};
 use inno_model::History;
-use inno_types::{Bytes, Cause, Item};
+use inno_types::{Bytes, Item};
 use shared_lists::SharedLists;
 use sql_lists::SqlLists;
 use statement::Statement;
 use std::alloc::Global;
 use std::marker::Model;
-use store_api::{Disk, NoMemory, Progress};
+use store_api::{NoMemory, Progress};
+use turn_board::Phase;
 
-/// An engine over a disk, on which the files of a database will lie, whatever keeps the lists that its sessions share.
-/// So far it leaves the disk untouched, and asks it for its moments alone.
+/// Sessions, whatever keeps the lists that they share.
 #[derive(Drop)]
-pub struct SessionEngine<D: Disk, L: SharedLists> {
+pub struct SessionEngine<L: SharedLists> {
     alloc: Global,
-    disk: D,
     lists: SqlLists<L>,
     seats: Seats,
 }
 
-impl<D: Disk, L: SharedLists> Model for SessionEngine<D, L> {
-    ghost use Rattle.session_engine.specs.Seats.{State, state_code, IsSeated};
+impl<L: SharedLists> Model for SessionEngine<L> {
+    ghost use Rattle.session_engine.specs.Seats.{State, state_code, AreSeats};
 
-    ghost Value = { State D };
+    ghost Value = { State };
 
-    ghost coded = { state_code D.code };
+    ghost coded = { state_code };
 
-    ghost view = { λ e. record { disk = e.disk; lists = e.lists; seats = e.seats } };
+    ghost view = { λ e. record { lists = e.lists; seats = e.seats } };
 
-    ghost invariant = { λ e. IsSeated e.lists e.seats (D.past e.disk).moment };
+    ghost invariant = { λ e. AreSeats e.lists e.seats };
 }
 
-impl<D: Disk, L: SharedLists> SessionEngine<D, L> {
+impl<L: SharedLists> SessionEngine<L> {
     ghost use Rattle.session_engine.specs.Seats.{IsJoined, IsIdle, IsWorking, HasEnded};
-    ghost use Rattle.session_engine.specs.Calls.{Joins, Starts, StepsBy, Leaves, SameState};
+    ghost use Rattle.session_engine.specs.Calls.{Joins, Starts, StepsBy, TellsNone, Acknowledges, GivesUp, Leaves, SameState};
     ghost use Rattle.session_engine.specs.Going.{Nears};
-    ghost use Rattle.session_engine.specs.Seats.{has_left, is_working, seat_at};
+    ghost use Rattle.session_engine.specs.Seats.{has_left, is_working, owes, phase_of, wants_room, seat_at, AreSeats};
     ghost use Rattle.sql_grammar.specs.Grammar.{Spells};
-    ghost use Rattle.sql_history.specs.Legal.{IsLegal};
-    ghost use Rattle.sql_history.specs.Counts.{has_stopped};
+    ghost use Rattle.sql_history.specs.Legal.{IsLegal, owes_commit};
+    ghost use Rattle.sql_history.specs.Counts.{has_stopped, last_moment};
 
-    /// An engine that nobody has joined.
-    pub fn new(alloc: Global, disk: D, lists: SqlLists<L>) -> Self
+    /// Lists that nobody has joined.
+    pub fn new(alloc: Global, lists: SqlLists<L>) -> Self
         requires first { (db : Database) × AreFirst db lists }
         requires idle { (s : ℕ) → task_of s lists ≡ TaskIdle }
-        ensures { result ≡ record { disk = disk; lists = lists; seats = [] } }
+        ensures { result ≡ record { lists = lists; seats = [] } }
     {
         SessionEngine {
             alloc,
-            disk,
             lists,
             seats: Seats::new(alloc),
         }
@@ -75,6 +76,10 @@ impl<D: Disk, L: SharedLists> SessionEngine<D, L> {
         ensures legal { IsLegal Spells self.now.lists.past }
         ensures runs { has_stopped self.now.lists.past ≡ false }
         ensures for_pages { list_any ends_for_pages self.now.lists.past ≡ false }
+        ensures sound { IsOrdered self.now.lists.past }
+        ensures fits { FitsThen self.now.lists.past }
+        ensures tables { AreStanding self.now.lists.past }
+        ensures agree { AreSeats self.now.lists self.now.seats }
     {
         self.lists.history()
     }
@@ -97,6 +102,14 @@ impl<D: Disk, L: SharedLists> SessionEngine<D, L> {
         ensures { result ≡ is_working (seat_at self.now.seats s) }
     {
         self.seats.is_working(s)
+    }
+
+    /// How far the session is.
+    pub fn phase(&self, s: u32) -> Phase
+        requires { IsJoined s self.now }
+        ensures { result ≡ phase_of (seat_at self.now.seats s) }
+    {
+        self.seats.phase(s)
     }
 
     /// Whether the session's ending has come to its end.
@@ -133,17 +146,60 @@ impl<D: Disk, L: SharedLists> SessionEngine<D, L> {
         Ok(())
     }
 
-    /// Makes a step of the session's item under way, or of its ending. A commit is acknowledged at the disk's moment.
-    pub fn step(&mut self, s: u32, _now: u64) -> Progress
+    /// Whether the commit of the session's item is yet to be acknowledged. Until then the item makes no step.
+    pub fn owes_ack(&self, s: u32) -> bool
+        requires { IsJoined s self.now }
+        ensures { result ≡ owes (seat_at self.now.seats s) }
+    {
+        self.seats.owes(s)
+    }
+
+    /// Acknowledges the commit of the session's item, at a moment that no earlier acknowledgement lies behind.
+    pub fn acknowledge(&mut self, s: u32, moment: u64)
+        requires joined { IsJoined s self.old }
+        requires owed { owes (seat_at self.old.seats s) ≡ true }
+        requires later { last_moment self.old.lists.past ≤ moment }
+        ensures acknowledges { Acknowledges s moment self.old self.new }
+        ensures nears { Nears s Progress.Went self.old self.new }
+    {
+        match self.seats.replace(s, Seat::Idle) {
+            Seat::Busy(statement) => {
+                self.lists.ack(s, moment);
+                let _ = self.seats.replace(s, Seat::Busy(statement.acked()));
+            }
+            _ => unreachable!(),
+        }
+    }
+
+    /// Whether the session's item is about to tell a change to the history. Whoever logs changes takes room in the log first.
+    pub fn wants_room(&self, s: u32) -> bool
+        requires { IsJoined s self.now }
+        ensures { result ≡ wants_room (seat_at self.now.seats s) }
+    {
+        self.seats.wants_room(s)
+    }
+
+    /// The session's item gives up where there is no room for its change: it takes back what it has changed.
+    pub fn give_up(&mut self, s: u32)
+        requires { IsJoined s self.old }
+        ensures { GivesUp s self.old self.new }
+    {
+        let seat = self.seats.replace(s, Seat::Idle);
+        let _ = self.seats.replace(s, without_room(seat));
+    }
+
+    /// Makes a step of the session's item under way, or of its ending. It tells no change unless room was wanted for one.
+    pub fn step(&mut self, s: u32) -> Progress
         requires joined { IsJoined s self.old }
         requires working { IsWorking s self.old }
+        requires acked { owes (seat_at self.old.seats s) ≡ false }
         ensures steps { StepsBy s result self.old self.new }
+        ensures quiet { wants_room (seat_at self.old.seats s) ≡ false → TellsNone self.old.lists.past self.new.lists.past }
         ensures nears { Nears s result self.old self.new }
     {
         match self.seats.replace(s, Seat::Idle) {
             Seat::Busy(statement) => {
-                let moment = self.disk.moment();
-                let (statement, advance) = go_on(self.alloc, statement, s, moment, &mut self.lists);
+                let (statement, advance) = statement.step(self.alloc, s, &mut self.lists);
                 let (seat, progress) = settled(statement, advance);
                 let _ = self.seats.replace(s, seat);
                 progress
@@ -165,21 +221,21 @@ impl<D: Disk, L: SharedLists> SessionEngine<D, L> {
         let _ = self.seats.replace(s, Seat::Leaving);
     }
 
-    /// Gives the disk and the history back.
-    pub fn close(self) -> (D, History, Result<(), Cause>)
-        ensures disk { result.0 ≡ self.disk }
-        ensures names { result.1.names ≡ self.lists.names }
-        ensures past { result.1.past ≡ self.lists.past }
+    /// The history, and nothing else.
+    pub fn into_history(self) -> History
+        ensures names { result.names ≡ self.lists.names }
+        ensures past { result.past ≡ self.lists.past }
         ensures legal { IsLegal Spells self.lists.past }
         ensures runs { has_stopped self.lists.past ≡ false }
-        ensures ok { result.2 ≡ Ok tt }
+        ensures opened { self.lists.past ≢ [] }
+        ensures paid { owes_commit self.lists.past ≡ None }
+        ensures agree { AreSeats self.lists self.seats }
     {
         let SessionEngine {
             alloc: _,
-            disk,
             lists,
             seats: _,
         } = self;
-        (disk, lists.into_history(), Ok(()))
+        lists.into_history()
     }
 }

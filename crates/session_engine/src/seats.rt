@@ -1,11 +1,12 @@
 //! Where each session stands: idle, at work on a statement, on its way out, or gone.
 
 ghost use Rattle.std.specs.Prelude.{◌≡◌, ◌<◌, [], ◌∷◌, ◌++◌, length, OnOk, OnErr, slice_set};
-ghost use Rattle.session_engine.specs.Seats.{seat_at, is_working, has_left};
+ghost use Rattle.session_engine.specs.Seats.{seat_at, is_working, owes, phase_of, wants_room, has_left};
 
 use statement::Statement;
 use std::alloc::{AllocError, Global};
 use std::marker::Model;
+use turn_board::Phase;
 
 /// Where a session stands.
 #[derive(Drop)]
@@ -61,6 +62,40 @@ impl Seats {
         match &self.seats[session as usize] {
             Seat::Idle | Seat::Left => false,
             Seat::Busy(_) | Seat::Leaving => true,
+        }
+    }
+
+    /// Whether the commit of the session's statement is yet to be acknowledged.
+    pub fn owes(&self, session: u32) -> bool
+        requires { session < length self.now }
+        ensures { result ≡ owes (seat_at self.now session) }
+    {
+        match &self.seats[session as usize] {
+            Seat::Busy(statement) => statement.owes_ack(),
+            Seat::Idle | Seat::Leaving | Seat::Left => false,
+        }
+    }
+
+    /// Whether the session's statement is about to tell a change to the history.
+    pub fn wants_room(&self, session: u32) -> bool
+        requires { session < length self.now }
+        ensures { result ≡ wants_room (seat_at self.now session) }
+    {
+        match &self.seats[session as usize] {
+            Seat::Busy(statement) => statement.wants_room(),
+            Seat::Idle | Seat::Leaving | Seat::Left => false,
+        }
+    }
+
+    pub fn phase(&self, session: u32) -> Phase
+        requires { session < length self.now }
+        ensures { result ≡ phase_of (seat_at self.now session) }
+    {
+        match &self.seats[session as usize] {
+            Seat::Idle => Phase::Idle,
+            Seat::Busy(_) => Phase::Busy,
+            Seat::Leaving => Phase::Leaving,
+            Seat::Left => Phase::Left,
         }
     }
 

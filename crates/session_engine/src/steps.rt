@@ -1,13 +1,12 @@
-//! The steps of a session: of its statement, of the acknowledgement that this owes, and of the session's ending.
+//! The parts of a session's steps: its item is read, a step of its statement is settled, and its ending makes steps.
 
-ghost use Rattle.std.specs.Prelude.{◌≡◌, ◌<◌, ◌≤◌, length, IfOk};
+ghost use Rattle.std.specs.Prelude.{◌≡◌, ◌<◌, length, IfOk};
 ghost use Rattle.inno_types.specs.declared.reply.Item.TheVariants.{Sql};
 ghost use Rattle.inno_model.specs.Past.{own, IsOpen};
-ghost use Rattle.sql_history.specs.Counts.{last_moment};
-ghost use Rattle.statement.specs.Running.{IsReadFrom, IsRunning, ReadsItem};
-ghost use Rattle.session_engine.specs.Calls.{GoesBy, Settled, GoesOut};
-ghost use Rattle.session_engine.specs.Seats.{IsGoingOut};
-ghost use Rattle.session_engine.specs.Going.{NearsBy, NearsEnding};
+ghost use Rattle.statement.specs.Running.{IsReadFrom, ReadsItem};
+ghost use Rattle.session_engine.specs.Calls.{Settled, GoesOut, TellsNone};
+ghost use Rattle.session_engine.specs.Seats.{IsGoingOut, without_room};
+ghost use Rattle.session_engine.specs.Going.{NearsEnding};
 
 use crate::seats::Seat;
 use inno_types::{Item, Reply};
@@ -40,27 +39,6 @@ fn read(alloc: Global, text: &[u8]) -> Result<Statement, NoMemory>
     }
 }
 
-/// A step of the session's statement, or the acknowledgement of its commit at this moment.
-pub fn go_on<L: SharedLists>(
-    alloc: Global,
-    statement: Statement,
-    s: u32,
-    moment: u64,
-    lists: &mut SqlLists<L>,
-) -> (Statement, Advance)
-    requires joined { s < length lists.old.names }
-    requires running { IsRunning lists.old s statement }
-    requires later { last_moment lists.old.past ≤ moment }
-    ensures goes { GoesBy s moment lists.old lists.new statement result.0 result.1 }
-    ensures nears { NearsBy s lists.old lists.new statement result.0 result.1 }
-{
-    if statement.owes_ack() {
-        lists.ack(s, moment);
-        return (statement.acked(), Advance::Went);
-    }
-    statement.step(alloc, s, lists)
-}
-
 /// The seat and the answer that a statement's step comes to.
 pub fn settled(statement: Statement, advance: Advance) -> (Seat, Progress)
     ensures { Settled statement advance result.0 result.1 }
@@ -76,11 +54,22 @@ pub fn settled(statement: Statement, advance: Advance) -> (Seat, Progress)
     }
 }
 
+/// The seat of a statement that gives up, since there is no room for its change.
+pub fn without_room(seat: Seat) -> Seat
+    ensures { result ≡ without_room seat }
+{
+    match seat {
+        Seat::Busy(statement) => Seat::Busy(statement.without_room()),
+        other => other,
+    }
+}
+
 /// A step of a session's ending: its changes are taken back, the newest first, and then its transaction is rolled back.
 pub fn go_out<L: SharedLists>(s: u32, lists: &mut SqlLists<L>) -> (Seat, Progress)
     requires joined { s < length lists.old.names }
     requires goes_out { IsGoingOut s lists.old }
     ensures goes { GoesOut s lists.old lists.new result.0 result.1 }
+    ensures quiet { TellsNone lists.old.past lists.new.past }
     ensures nears { NearsEnding s lists.old lists.new result.1 }
 {
     if lists.lists().level(s).is_none() {
@@ -100,6 +89,7 @@ fn take_back<L: SharedLists>(s: u32, lists: &mut SqlLists<L>) -> (Seat, Progress
     requires is_open { IsOpen s lists.old.past }
     requires stands { 0 < length (own s lists.old.past) }
     ensures goes { GoesOut s lists.old lists.new result.0 result.1 }
+    ensures quiet { TellsNone lists.old.past lists.new.past }
     ensures nears { NearsEnding s lists.old lists.new result.1 }
 {
     match lists.undo(s) {

@@ -8,6 +8,7 @@ use Rattle.inno_model.specs.declared.event.Event.{Event}
 use Rattle.inno_model.specs.declared.event.Event.TheVariants as events
 use Rattle.inno_model.specs.Past.{is_of, own, begins}
 use Rattle.inno_types.specs.declared.lock.Level.{Level}
+use Rattle.inno_types.specs.declared.stmt.Stmt.{Stmt}
 use Rattle.inno_types.specs.declared.value.Schema.{Schema}
 use Rattle.inno_db.specs.declared.change.Change.TheVariants.{Create}
 use Rattle.sql_plan.specs.declared.choice.Plan.{Plan}
@@ -21,8 +22,10 @@ use Rattle.shared_lists.specs.declared.answers.Undone.TheVariants as undone
 use Rattle.shared_lists.specs.Tasks.{Task, Idle, asked, left_by}
 use Rattle.shared_lists.specs.State.{State, IsNow, Adds, Closes, Turns, Stays, task_of, writer_without}
 use Rattle.shared_lists.specs.Steps.{Searches, GoesOn, Enters, Changes, TakesBack}
+use Rattle.sql_grammar.specs.Grammar.{Spells}
+use Rattle.sql_history.specs.Legal.{Takes, IsCreation}
 use Rattle.sql_history.specs.Counts.{last_moment}
-use Rattle.sql_lists.specs.Steps.{Adding, IsEntryOf, MayWriteAlone, AsksToWrite, Moves, StaysRunning, changes_rows}
+use Rattle.sql_lists.specs.Steps.{Adding, IsEntryOf, MayWriteAlone, AsksToWrite, Moves, StaysRunning, Intends, acknowledges, changes_rows, TellsOne}
 use Rattle.sql_lists.specs.Tables.{table_made, none_made}
 use Rattle.sql_lists.specs.Going.{left, to_close, to_roll_back}
 use Rattle.inno_types.specs.Order.{IsBelow}
@@ -51,10 +54,13 @@ adding_at_most_one t old new adding = elim adding [ inl stays ↦ adding_none t 
 -- ---- steps that add nothing
 
 pub moves_turns : (t : ℕ) (task : Task) (old new : State) → Turns t task old new → Moves t old new
+unfolding adding_none
 moves_turns t task old new turns =
     record {
       names_stay = turns.names_are;
       adding = adding_none t old new turns.past_is;
+      tells = tt;
+      unacked = tt;
       acks_none = ap last_moment turns.past_is;
       writer_stays = λ s differ held. turns.writer_is ∙ held;
       may_write = λ mine. inl (sym turns.writer_is ∙ mine);
@@ -81,10 +87,13 @@ carried P t old new stays before =
 -- the session takes the right to write
 pub moves_locked : (t : ℕ) (old new : State) → AsksToWrite t old.past → writer_without old.writer t ≡ None
     → IsNow old.past t (task_of t old) (Some t) old new → Moves t old new
+unfolding adding_none
 moves_locked t old new asks free now =
     record {
       names_stay = now.names_are;
       adding = adding_none t old new now.past_is;
+      tells = tt;
+      unacked = tt;
       acks_none = ap last_moment now.past_is;
       writer_stays = λ s differ held. absurd (still_held s differ (ap (λ w. writer_without w t) (sym held) ∙ free));
       may_write = λ mine. inr asks;
@@ -93,13 +102,28 @@ moves_locked t old new asks free now =
       still_held : (s : ℕ) → s ≢ t → writer_without (Some s) t ≡ None → ⊥
       still_held s differ none = elim (eqb_tells s t) [ inl same ↦ differ same.1 | inr other ↦ (let e : Some s ≡ None = sym (rw other.0 refl) ∙ none in cc) ]
 
--- a step that adds nothing, and another one behind it
-pub moves_then : (t : ℕ) (old mid new : State) → mid.past ≡ old.past → Moves t old mid → Moves t mid new → Moves t old new
-moves_then t old mid new same first second =
+tells_same : (t : ℕ) (old mid : State) (entries : List Event) → Stays t old mid → TellsOne t mid entries → TellsOne t old entries
+tells_same t old mid [] stays tells = tt
+tells_same t old mid (events.Changed s change ∷ earlier) stays tells = (
+  elim tells.0 [
+    | inl asks ↦ inl (ap asked (sym stays.task_is) ∙ asks)
+    | inr makes ↦ inr (subst (λ h. (statement : Stmt) × Takes Spells t statement h × IsCreation statement) stays.past_is makes)
+  ],
+  tells.1,
+)
+tells_same t old mid (e ∷ earlier) stays tells = tells_same t old mid earlier stays tells
+
+-- what the session sees stays, and then a step is made
+pub moves_then : (t : ℕ) (old mid new : State) → Stays t old mid → Moves t mid new → Moves t old new
+moves_then t old mid new stays second =
+    let same = stays.past_is in
+    let first : Moves t old mid = moves_stays t old mid stays in
     record {
       names_stay = second.names_stay ∙ first.names_stay;
       adding =
           record { entries = second.adding.entries; past_is = second.adding.past_is ∙ ap (λ h. second.adding.entries ++ h) same; each = second.adding.each };
+      tells = tells_same t old mid second.adding.entries stays second.tells;
+      unacked = second.unacked;
       acks_none = second.acks_none ∙ ap last_moment same;
       writer_stays = λ s differ held. second.writer_stays s differ (first.writer_stays s differ held);
       may_write = λ mine. elim (second.may_write mine) [
@@ -111,22 +135,43 @@ moves_then t old mid new same first second =
 
 -- ---- steps that add an entry
 
+-- where the entry tells a change, the session may write, and was about to make it
+abbrev pub Foretold : ℕ → State → Event → Type 0
+Foretold t old (events.Changed s change) = (old.writer ≡ Some t) × Intends t old change
+Foretold t old other = Unit {0}
+
+one_told : (t : ℕ) (old : State) (e : Event) → (changes_rows e ≡ true → Foretold t old e) → TellsOne t old (e ∷ [])
+one_told t old (events.Changed s change) foretold = ((foretold refl).1, tt)
+one_told t old e foretold = tt
+
+may_tell : (t : ℕ) (old : State) (e : Event) → (changes_rows e ≡ true → Foretold t old e) → changes_rows e ≡ true → old.writer ≡ Some t
+may_tell t old (events.Changed s change) foretold changes = (foretold refl).0
+may_tell t old e foretold changes = absurd (false≢true changes)
+
+-- only an acknowledgement has a moment
+spares_moment : (e : Event) (past : List Event) → acknowledges e ≡ false → last_moment (e ∷ past) ≡ last_moment past
+spares_moment (events.Acked s moment) past unacked = absurd (false≢true (sym unacked))
+spares_moment e past unacked = refl
+
 -- whatever becomes of the session's task
-pub moves_entry : (t : ℕ) (e : Event) (task : Task) (old new : State) → is_of t e ≡ true → last_moment (e ∷ old.past) ≡ last_moment old.past
-    → (changes_rows e ≡ true → old.writer ≡ Some t) → IsNow (e ∷ old.past) t task old.writer old new → Moves t old new
-moves_entry t e task old new mine unacked locked now =
+pub moves_entry : (t : ℕ) (e : Event) (task : Task) (old new : State) → is_of t e ≡ true → acknowledges e ≡ false
+    → (changes_rows e ≡ true → Foretold t old e) → IsNow (e ∷ old.past) t task old.writer old new → Moves t old new
+unfolding adding_one
+moves_entry t e task old new mine unacked foretold now =
     record {
       names_stay = now.names_are;
-      adding = adding_one t e old new mine now.past_is (λ changes. writes_alone t new.writer (now.writer_is ∙ locked changes));
-      acks_none = ap last_moment now.past_is ∙ unacked;
+      adding = adding_one t e old new mine now.past_is (λ changes. writes_alone t new.writer (now.writer_is ∙ may_tell t old e foretold changes));
+      tells = one_told t old e foretold;
+      unacked = (unacked, tt);
+      acks_none = ap last_moment now.past_is ∙ spares_moment e old.past unacked;
       writer_stays = λ s differ held. now.writer_is ∙ held;
       may_write = λ mine. inl (sym now.writer_is ∙ mine);
       tasks_stay = now.others;
     }
 
-pub moves_adds : (t : ℕ) (e : Event) (old new : State) → is_of t e ≡ true → last_moment (e ∷ old.past) ≡ last_moment old.past
-    → (changes_rows e ≡ true → old.writer ≡ Some t) → Adds e t old new → Moves t old new
-moves_adds t e old new mine unacked locked adds = moves_entry t e (task_of t old) old new mine unacked locked adds
+pub moves_adds : (t : ℕ) (e : Event) (old new : State) → is_of t e ≡ true → acknowledges e ≡ false
+    → (changes_rows e ≡ true → Foretold t old e) → Adds e t old new → Moves t old new
+moves_adds t e old new mine unacked foretold adds = moves_entry t e (task_of t old) old new mine unacked foretold adds
 
 still_another : (w : Option ℕ) (t s : ℕ) → s ≢ t → w ≡ Some s → writer_without w t ≡ Some s
 still_another w t s differ held = ap (λ x. writer_without x t) held ∙ elim (eqb_tells s t) [ inl same ↦ absurd (differ same.1) | inr other ↦ rw other.0 refl ]
@@ -139,13 +184,16 @@ none_left (Some w) t is = elim (eqb_tells w t) [
   | inr differ ↦ (let x : Some w ≡ Some t = sym (rw differ.0 refl) ∙ is in let y : w ≡ t = cc in differ.1 y)
 ]
 
-pub moves_closes : (t : ℕ) (e : Event) (old new : State) → is_of t e ≡ true → last_moment (e ∷ old.past) ≡ last_moment old.past → changes_rows e ≡ false
+pub moves_closes : (t : ℕ) (e : Event) (old new : State) → is_of t e ≡ true → acknowledges e ≡ false → changes_rows e ≡ false
     → Closes e t old new → Moves t old new
+unfolding adding_one
 moves_closes t e old new mine unacked spares closes =
     record {
       names_stay = closes.names_are;
       adding = adding_one t e old new mine closes.past_is (λ changes. absurd (false≢true (sym spares ∙ changes)));
-      acks_none = ap last_moment closes.past_is ∙ unacked;
+      tells = one_told t old e (λ changes. absurd (false≢true (sym spares ∙ changes)));
+      unacked = (unacked, tt);
+      acks_none = ap last_moment closes.past_is ∙ spares_moment e old.past unacked;
       writer_stays = λ s differ held. closes.writer_is ∙ still_another old.writer t s differ held;
       may_write = λ mine. absurd (none_left old.writer t (sym closes.writer_is ∙ mine));
       tasks_stay = closes.others;
@@ -195,8 +243,9 @@ no_writer s writer none theirs = (let x : None ≡ Some s = sym none ∙ theirs 
 
 module _ (t : ℕ) (l : Level) (old new : State) (free : old.writer ≡ None) where
   -- a table is made
-  pub moves_made : (schema : Schema) → IsNow (table_made t l schema old.past) t Idle None old new → Moves t old new
-  moves_made schema now =
+  pub moves_made : ((statement : Stmt) × Takes Spells t statement old.past × IsCreation statement) → (schema : Schema)
+      → IsNow (table_made t l schema old.past) t Idle None old new → Moves t old new
+  moves_made asks schema now =
       let mine : (is_of t (events.Committed t) ≡ true) × (is_of t (events.Changed t (Create schema)) ≡ true)
       × (is_of t (events.Begin t (begins old.past + 1) l) ≡ true) = (grind (arith, nat_tests), grind (arith, nat_tests), grind (arith, nat_tests)) in
       record {
@@ -209,6 +258,8 @@ module _ (t : ℕ) (l : Level) (old new : State) (free : old.writer ≡ None) wh
             ((mine.1, λ changes. nobody_else t new.writer now.writer_is), ((mine.2, λ changes. absurd (false≢true changes)), tt)),
           );
         };
+        tells = (inr asks, (refl, tt));
+        unacked = (refl, (refl, (refl, tt)));
         acks_none = ap last_moment now.past_is;
         writer_stays = λ s differ held. absurd (no_writer s old.writer free held);
         may_write = λ mine. absurd (no_writer t new.writer now.writer_is mine);
@@ -227,6 +278,8 @@ module _ (t : ℕ) (l : Level) (old new : State) (free : old.writer ≡ None) wh
           past_is = now.past_is;
           each = ((mine.0, λ changes. absurd (false≢true changes)), ((mine.1, λ changes. absurd (false≢true changes)), tt));
         };
+        tells = tt;
+        unacked = (refl, (refl, tt));
         acks_none = ap last_moment now.past_is;
         writer_stays = λ s differ held. absurd (no_writer s old.writer free held);
         may_write = λ mine. absurd (no_writer t new.writer now.writer_is mine);
@@ -246,7 +299,7 @@ moves_goes_on t old new goes = moves_turns t (task_of t new) old new goes.turns
 
 pub moves_enters : (t : ℕ) (old new : State) → old.writer ≡ Some t → Enters t old new → Moves t old new
 moves_enters t old new locked enters =
-    moves_entry t (events.Changed t enters.change) (task_of t new) old new (grind (arith, nat_tests)) refl (λ changes. locked) enters.now
+    moves_entry t (events.Changed t enters.change) (task_of t new) old new (grind (arith, nat_tests)) refl (λ changes. (locked, inl enters.asked_was)) enters.now
 
 pub moves_changes : (t : ℕ) (old new : State) (answer : Changed) → old.writer ≡ Some t → Changes t old new answer → Moves t old new
 moves_changes t old new made.Went locked changes = moves_goes_on t old new changes

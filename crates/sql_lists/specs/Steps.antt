@@ -6,14 +6,15 @@ use Rattle.inno_types.specs.declared.lock.Edge.{Edge}
 use Rattle.inno_types.specs.declared.lock.LockKind.TheVariants.{Rec}
 use Rattle.inno_types.specs.declared.lock.Mode.TheVariants.{X}
 use Rattle.inno_types.specs.declared.stmt.Stmt.{Stmt}
+use Rattle.inno_db.specs.declared.change.Change.{Change}
 use Rattle.inno_model.specs.declared.event.Event.{Event}
 use Rattle.inno_model.specs.declared.event.Event.TheVariants.{Changed, Ended, Acked}
-use Rattle.inno_model.specs.Past.{is_of, started, of_item, own, level, txn, IsOpen}
+use Rattle.inno_model.specs.Past.{is_of, begins_txn, started, of_item, own, level, txn, IsOpen}
 use Rattle.sql_grammar.specs.Grammar.{Spells}
 use Rattle.sql_history.specs.Legal.{Takes, IsWriting, IsCreation}
 use Rattle.sql_history.specs.Counts.{last_moment}
 use Rattle.law_past_agreement.specs.Order.{IsOfRow}
-use Rattle.shared_lists.specs.Tasks.{Idle}
+use Rattle.shared_lists.specs.Tasks.{Idle, asked}
 use Rattle.shared_lists.specs.State.{State, task_of, Adds, Stays}
 use Rattle.sql_lists.specs.declared.advance.Advance.{Advance}
 use Rattle.sql_lists.specs.declared.advance.Advance.TheVariants as advance
@@ -42,6 +43,22 @@ MayWriteAlone t writer = (s : ℕ) → s ≢ t → writer ≢ Some s
 abbrev pub IsEntryOf : ℕ → Option ℕ → Event → Type 0
 IsEntryOf t writer e = (is_of t e ≡ true) × (changes_rows e ≡ true → MayWriteAlone t writer)
 
+abbrev pub acknowledges : Event → Bool
+acknowledges (Acked s moment) = true
+acknowledges other = false
+
+-- the session's task asks for the change, or its item makes a table
+abbrev pub Intends : ℕ → State → Change → Type 0
+Intends t state change =
+    (asked (task_of t state) ≡ Some change) ⊎ ((statement : Stmt) × Takes Spells t statement state.past × IsCreation statement)
+
+-- At most one of the entries tells a change, which the session was about to make; before it nothing comes but the opening
+-- of its transaction.
+abbrev pub TellsOne : ℕ → State → List Event → Type 0
+TellsOne t old [] = Unit {0}
+TellsOne t old (Changed s change ∷ earlier) = Intends t old change × AllByRecursion (λ e. begins_txn e ≡ true) earlier
+TellsOne t old (other ∷ earlier) = TellsOne t old earlier
+
 -- entries of the session's are added, the newest first
 pub record Adding (t : ℕ) (old new : State) : Type 0 where
   pub entries : List Event
@@ -56,6 +73,8 @@ AsksToWrite s past = (statement : Stmt) × Takes Spells s statement past × (IsW
 pub record Moves (t : ℕ) (old new : State) : Type 0 where
   pub names_stay : new.names ≡ old.names
   pub adding : Adding t old new
+  pub tells : TellsOne t old adding.entries
+  pub unacked : AllByRecursion (λ e. acknowledges e ≡ false) adding.entries
   pub acks_none : last_moment new.past ≡ last_moment old.past
   pub writer_stays : (s : ℕ) → s ≢ t → old.writer ≡ Some s → new.writer ≡ Some s
   -- none but an item that asks to write takes the right to

@@ -12,7 +12,7 @@ ghost use Rattle.sql_grammar.specs.Grammar.{Spells};
 ghost use Rattle.sql_history.specs.Items.{Asks};
 ghost use Rattle.sql_history.specs.Settings.{HasSet};
 ghost use Rattle.sql_history.specs.Counts.{has_stopped, last_moment, rows_kept, rows_of_reply, most_rows};
-ghost use Rattle.sql_history.specs.Legal.{IsLegal, MayBegin, MayView, MayChange, MayUndo, MayCommit, MayRollBack, is_leaving};
+ghost use Rattle.sql_history.specs.Legal.{IsLegal, MayBegin, MayView, MayChange, MayUndo, MayCommit, MayRollBack, is_leaving, owes_commit};
 ghost use Rattle.law_fitting_rows.specs.Storable.{IsStorable};
 ghost use Rattle.law_past_agreement.specs.Order.{created, IsOfRow, IsTabled, IsUndoable, IsOrdered};
 ghost use Rattle.shared_lists.specs.Fitting.{FitsWell, FitsThen};
@@ -84,8 +84,11 @@ impl<L: SharedLists> SqlLists<L> {
         ensures past { result.now.past ≡ self.now.past }
         ensures legal { IsLegal Spells self.now.past }
         ensures runs { has_stopped self.now.past ≡ false }
+        ensures opened { self.now.past ≢ [] }
+        ensures paid { owes_commit self.now.past ≡ None }
         ensures sound { IsOrdered self.now.past }
         ensures fits { FitsThen self.now.past }
+        ensures tables { AreStanding self.now.past }
     {
         self.lists.history()
     }
@@ -96,6 +99,8 @@ impl<L: SharedLists> SqlLists<L> {
         ensures past { result.past ≡ self.past }
         ensures legal { IsLegal Spells self.past }
         ensures runs { has_stopped self.past ≡ false }
+        ensures opened { self.past ≢ [] }
+        ensures paid { owes_commit self.past ≡ None }
     {
         let SqlLists { lists, .. } = self;
         lists.into_history()

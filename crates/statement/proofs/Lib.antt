@@ -1,2 +1,6 @@
 pub mod Looking
 pub mod Acked
+pub mod Rooms
+mod Creating
+pub mod Telling
+mod Quiet

@@ -70,6 +70,18 @@ acked (statements.Read statement) = statements.Read (of_read.acked statement)
 acked (statements.Write statement) = statements.Write (of_write.acked statement)
 acked other = other
 
+-- it is about to tell a change to the history, for which an engine that logs its changes needs room in its log
+abbrev pub wants_room : Statement → Bool
+wants_room (statements.Create statement) = of_create.wants_room statement
+wants_room (statements.Write statement) = of_write.wants_room statement
+wants_room other = false
+
+-- the statement where there is no room for its change
+abbrev pub without_room : Statement → Statement
+without_room (statements.Create statement) = statements.Create (of_create.without_room statement)
+without_room (statements.Write statement) = statements.Write (of_write.without_room statement)
+without_room other = other
+
 -- ---- before it begins
 
 abbrev pub IsOfKind : Kind → Stmt → Type 0

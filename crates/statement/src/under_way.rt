@@ -1,16 +1,16 @@
 //! A statement under way, whichever it is. Before its first step it is looked at whether something refuses it at once;
 //! then the machine of its kind makes the steps.
 
-ghost use Rattle.std.specs.Prelude.{◌≡◌, ◌≢◌, ◌<◌, ℕ, None, true, false, IfOk, length};
+ghost use Rattle.std.specs.Prelude.{◌≡◌, ◌≢◌, ◌<◌, ℕ, None, true, false, IfOk, length, count_by};
 ghost use Rattle.shared_lists.specs.State.{State};
 ghost use Rattle.inno_db.specs.Refusals.{refused_if};
 ghost use Rattle.inno_model.specs.Past.{level_or, IsOpen};
 ghost use Rattle.sql_history.specs.Settings.{next_level};
 ghost use Rattle.sql_history.specs.Statements.{session_refusal, is_serializable};
 ghost use Rattle.sql_lists.specs.Kept.{OwesAck};
-ghost use Rattle.sql_lists.specs.Steps.{Steps, GoesOnAcked};
+ghost use Rattle.sql_lists.specs.Steps.{Steps, GoesOnAcked, changes_rows};
 ghost use Rattle.sql_lists.specs.Going.{Nears, NearsAcked};
-ghost use Rattle.statement.specs.Running.{IsRunning, IsOfKind, LooksAs, IsBegun, is_went, is_done, owes_ack, acked};
+ghost use Rattle.statement.specs.Running.{IsRunning, IsOfKind, LooksAs, IsBegun, is_went, is_done, owes_ack, acked, wants_room, without_room};
 ghost use Rattle.statement.specs.Going.{statement_to_go};
 
 use create_statement::CreateStatement;
@@ -73,7 +73,39 @@ impl Statement {
         ensures nears { (m : Statement) → owes_ack m ≡ true → NearsAcked statement_to_go m (acked m) }
     {}
 
-    /// One step of the session's statement.
+    /// Whether the statement is about to tell a change to the history. An engine that logs its changes takes room in its
+    /// log first.
+    pub fn wants_room(&self) -> bool
+        ensures { result ≡ wants_room self.now }
+    {
+        match self {
+            Statement::Create(statement) => statement.wants_room(),
+            Statement::Write(statement) => statement.wants_room(),
+            Statement::Unread { .. }
+            | Statement::Asked(_)
+            | Statement::Transaction(_)
+            | Statement::Read(_)
+            | Statement::Failed => false,
+        }
+    }
+
+    /// The statement where there is no room for its change: it gives up.
+    pub fn without_room(self) -> Self
+        ensures { result ≡ without_room self }
+    {
+        match self {
+            Statement::Create(statement) => Statement::Create(statement.without_room()),
+            Statement::Write(statement) => Statement::Write(statement.without_room()),
+            other => other,
+        }
+    }
+
+    /// A statement for whose change there is no room runs on.
+    pub fn a_lack_of_room_turns_it_back()
+        ensures { (state : State) (s : ℕ) (m : Statement) → IsRunning state s m → IsRunning state s (without_room m) }
+    {}
+
+    /// One step of the session's statement. One that wants no room tells the history no change.
     pub fn step<L: SharedLists>(
         self,
         alloc: Global,
@@ -85,6 +117,7 @@ impl Statement {
         requires acked { owes_ack self ≡ false }
         ensures steps { Steps IsRunning session lists.old lists.new result.0 result.1 }
         ensures nears { Nears statement_to_go session lists.old self lists.new result.0 result.1 }
+        ensures quiet { wants_room self ≡ false → count_by changes_rows lists.new.past ≡ count_by changes_rows lists.old.past }
     {
         match self {
             Statement::Unread { at } => refuse_text(at, session, lists),
@@ -120,6 +153,7 @@ fn refuse_text<L: SharedLists>(
     requires running { IsRunning lists.old session (Statement.Unread at) }
     ensures steps { Steps IsRunning session lists.old lists.new result.0 result.1 }
     ensures over { is_done result.1 ≡ true }
+    ensures quiet { count_by changes_rows lists.new.past ≡ count_by changes_rows lists.old.past }
 {
     lists.end(session, Reply::Fail(SqlError::Syntax { at }));
     (
@@ -134,6 +168,7 @@ fn give_up<L: SharedLists>(session: u32, lists: &mut SqlLists<L>) -> (Statement,
     requires running { IsRunning lists.old session Statement.Failed }
     ensures steps { Steps IsRunning session lists.old lists.new result.0 result.1 }
     ensures over { is_done result.1 ≡ true }
+    ensures quiet { count_by changes_rows lists.new.past ≡ count_by changes_rows lists.old.past }
 {
     lists.end(session, Reply::NoMemory);
     (Statement::Failed, Advance::Done(Reply::NoMemory))
@@ -150,6 +185,7 @@ fn first_step<L: SharedLists>(
     requires running { IsRunning lists.old session (Statement.Asked stmt) }
     ensures steps { Steps IsRunning session lists.old lists.new result.0 result.1 }
     ensures nears { Nears statement_to_go session lists.old (Statement.Asked stmt) lists.new result.0 result.1 }
+    ensures quiet { count_by changes_rows lists.new.past ≡ count_by changes_rows lists.old.past }
 {
     match examine(alloc, &stmt, session, lists) {
         Ok(Look::Refused(error)) => refuse_at_once(error, stmt, session, lists),
@@ -268,6 +304,7 @@ fn refuse_at_once<L: SharedLists>(
     requires refused { LooksAs session stmt lists.old.past (Look.Refused error) }
     ensures steps { Steps IsRunning session lists.old lists.new result.0 result.1 }
     ensures stays { is_went result.1 ≡ false }
+    ensures quiet { count_by changes_rows lists.new.past ≡ count_by changes_rows lists.old.past }
 {
     drop(stmt);
     match error.copied() {

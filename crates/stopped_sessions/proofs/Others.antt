@@ -1,16 +1,17 @@
--- What a session's item has made stays what it may have made, while items of others start and end.
+-- What a session's item has made stays what it may have made, while the engine stops and items of others start and end.
 use Rattle.std.proofs.Common.{◌≡◌, ◌≢◌, ◌∙◌, ap, sym, subst, refl, ℕ, Bool, true, false, List, ◌∷◌, ◌++◌, reverse, take}
 use Rattle.std.proofs.Common.{inl, inr}
 use Rattle.std.proofs.Common.{⊎_elim, arith}
 use Rattle.std.proofs.lemmas.Bool.Decides.{nat_tests}
 use Rattle.inno_types.specs.declared.lock.Level.{Level}
+use Rattle.inno_types.specs.declared.reply.Cause.{Cause}
 use Rattle.inno_types.specs.declared.reply.Item.{Item}
 use Rattle.inno_types.specs.declared.reply.Reply.{Reply}
 use Rattle.inno_types.specs.declared.stmt.Stmt.{Stmt}
 use Rattle.inno_db.specs.Database.{Database, Place}
 use Rattle.inno_db.specs.declared.change.Change.{Change}
 use Rattle.inno_model.specs.declared.event.Event.{Event}
-use Rattle.inno_model.specs.declared.event.Event.TheVariants.{Started, Ended}
+use Rattle.inno_model.specs.declared.event.Event.TheVariants.{Started, Ended, Stopped}
 use Rattle.inno_model.specs.Moments.{starts}
 use Rattle.inno_model.specs.Past.{started, under_way, before_item, level, own, view_of}
 use Rattle.sql_history.specs.Items.{Language, is_over, point, own_before, base, HasMade}
@@ -38,38 +39,13 @@ pub record LeavesAlone (s : ℕ) (e : Event) (past : List Event) : Type 0 where
   pub over_is : is_over s (e ∷ past) ≡ is_over s past
 
 pub others_start : (s t j : ℕ) (item : Item) (past : List Event) → t ≢ s → LeavesAlone s (Started t j item) past
-others_start s t j item past apart = record {
-  quiet = grind (arith, nat_tests, apart);
-  count = grind (arith, nat_tests, apart);
-  item = grind (arith, nat_tests, apart);
-  before = grind (arith, nat_tests, apart);
-  leaving = grind (arith, nat_tests, apart);
-  level_is = refl;
-  own_is = refl;
-  own_before_is = grind (arith, nat_tests, apart);
-  view_is = refl;
-  seen_is = λ n. refl;
-  base_is = grind (arith, nat_tests, apart);
-  newest_is = refl;
-  over_is = grind (arith, nat_tests, apart);
-}
+others_start s t j item past apart = grind (arith, nat_tests, apart)
 
 pub others_end : (s t j : ℕ) (reply : Reply) (past : List Event) → t ≢ s → LeavesAlone s (Ended t j reply) past
-others_end s t j reply past apart = record {
-  quiet = refl;
-  count = refl;
-  item = grind (arith, nat_tests, apart);
-  before = refl;
-  leaving = grind (arith, nat_tests, apart);
-  level_is = refl;
-  own_is = refl;
-  own_before_is = refl;
-  view_is = refl;
-  seen_is = λ n. refl;
-  base_is = refl;
-  newest_is = refl;
-  over_is = grind (arith, nat_tests, apart);
-}
+others_end s t j reply past apart = grind (arith, nat_tests, apart)
+
+pub all_stop : (s : ℕ) (cause : Cause) (past : List Event) → LeavesAlone s (Stopped cause) past
+all_stop s cause past = grind arith
 
 module _ (s : ℕ) (e : Event) (past : List Event) (alone : LeavesAlone s e past) where
   -- what holds at the point still does

@@ -1,15 +1,14 @@
 -- What each call of a stopped engine does, between two states.
 use Rattle.std.specs.Prelude.{◌≡◌, ◌≢◌, ℕ, ◌+◌, Bool, true, false, List, [], ◌∷◌, ◌++◌}
 use Rattle.inno_types.specs.declared.reply.Item.{Item}
-use Rattle.inno_types.specs.declared.reply.Reply.TheVariants as replies
-use Rattle.inno_model.specs.declared.event.Event.TheVariants.{Started, Ended}
+use Rattle.inno_model.specs.declared.event.Event.TheVariants.{Started}
 use Rattle.inno_model.specs.Past.{started}
 use Rattle.store_api.specs.declared.answers.Progress.{Progress}
 use Rattle.store_api.specs.declared.answers.Progress.TheVariants as progress
 use Rattle.turn_board.specs.declared.Phase.{Phase}
 use Rattle.turn_board.specs.declared.Phase.TheVariants.{Idle, Busy, Leaving, Left}
 use Rattle.stopped_sessions.specs.declared.seats.Seat.{Seat}
-use Rattle.stopped_sessions.specs.Seats.{State, phase_at}
+use Rattle.stopped_sessions.specs.Seats.{State, phase_at, halted, ended, phase_after}
 
 -- a session that has an item under way, or is on its way out
 abbrev pub is_at_work : Phase → Bool
@@ -56,18 +55,16 @@ pub record Leaves (s : ℕ) (old new : State) : Type 0 where
   pub leaving : phase_at new.seats s ≡ Leaving
   pub others_stay : OthersStay s old.seats new.seats
 
--- the session's item ends with the reply that says of the stop, or its ending is over
-abbrev pub EndsBy : ℕ → Phase → State → State → Type 0
-EndsBy s Busy old new = (new.past ≡ Ended s (started s old.past) replies.Stopped ∷ old.past) × (phase_at new.seats s ≡ Idle)
-EndsBy s other old new = (new.past ≡ old.past) × (phase_at new.seats s ≡ Left)
-
+-- The engine has stopped, and then the session's item ends with the reply that says so, or its ending is over.
 pub record StepsOn (s : ℕ) (old new : State) : Type 0 where
   pub names_stay : new.names ≡ old.names
+  pub past_is : new.past ≡ ended s (started s old.past) (phase_at old.seats s) (halted old.cause old.past)
   pub cause_stays : new.cause ≡ old.cause
+  pub phase_is : phase_at new.seats s ≡ phase_after (phase_at old.seats s)
   pub others_stay : OthersStay s old.seats new.seats
-  pub ends : EndsBy s (phase_at old.seats s) old new
 
--- each step answers why the engine stopped, and nothing else
+-- a step answers why the engine stopped, or it finds no memory and does nothing
 abbrev pub StepsBy : ℕ → Progress → State → State → Type 0
 StepsBy s (progress.Stopped cause) old new = (cause ≡ old.cause) × StepsOn s old new
+StepsBy s progress.NoMemory old new = SameState old new
 StepsBy s other old new = ⊥

@@ -2,6 +2,7 @@
 //! Of the engine nothing is left here but its history and where each session stands. No device is met.
 #![tactic(auto)]
 
+mod entries;
 mod seats;
 mod sessions;
 

@@ -1,15 +1,18 @@
-//! The calls of a stopped engine. They are those of one that runs; each step answers why it stopped.
+//! The calls of a stopped engine. They are those of one that runs; each step answers why it stopped, or finds no memory.
 
-ghost use Rattle.std.specs.Prelude.{◌≡◌, ◌≤◌, ◌<◌, ◌^◌, length, Some, IfOk, OnOk, OnErr};
+ghost use Rattle.std.specs.Prelude.{◌≡◌, ◌≢◌, ◌<◌, ◌^◌, [], true, false, None, Some, length, IsTrue, IfOk, OnOk, OnErr};
+ghost use Rattle.inno_model.specs.Past.{under_way};
 ghost use Rattle.sql_grammar.specs.Grammar.{Spells};
-ghost use Rattle.sql_history.specs.Legal.{IsLegal};
-ghost use Rattle.turn_board.specs.declared.Phase.TheVariants.{Idle, Busy, Leaving};
-ghost use Rattle.stopped_sessions.specs.Seats.{phase_at, AreSeats, busy_in, stopped_by};
-ghost use Rattle.stopped_sessions.specs.Calls.{IsAtWork, is_at_work, has_left, Joins, Starts, StepsOn, StepsBy, Leaves, SameState};
+ghost use Rattle.sql_history.specs.Counts.{has_stopped};
+ghost use Rattle.sql_history.specs.Legal.{IsLegal, owes_commit};
+ghost use Rattle.turn_board.specs.declared.Phase.TheVariants.{Idle};
+ghost use Rattle.stopped_sessions.specs.Seats.{phase_at, AreSeats, stopped_by};
+ghost use Rattle.stopped_sessions.specs.Calls.{IsAtWork, is_at_work, has_left, Joins, Starts, StepsBy, Leaves, SameState};
 
-use crate::seats::{Seat, count_busy};
+use crate::entries::{end_turn, enter_stop};
+use crate::seats::Seat;
 use inno_model::{Event, History};
-use inno_types::{Bytes, Cause, Item, Reply};
+use inno_types::{Bytes, Cause, Item};
 use std::marker::Model;
 use store_api::{NoMemory, Progress};
 use turn_board::Phase;
@@ -20,6 +23,8 @@ pub struct StoppedSessions {
     history: History,
     seats: Vec<Seat>,
     cause: Cause,
+    /// Whether the history says why the engine stopped.
+    entered: bool,
 }
 
 impl Model for StoppedSessions {
@@ -31,22 +36,25 @@ impl Model for StoppedSessions {
 
     ghost view = { λ s. state_of s.history s.seats.items s.cause };
 
-    ghost invariant = { λ s. IsStopped (state_of s.history s.seats.items s.cause) };
+    ghost invariant = { λ s. IsStopped s.entered (state_of s.history s.seats.items s.cause) };
 }
 
 impl StoppedSessions {
-    /// The sessions of a history that says why its engine stopped. It takes no memory: the seats are handed in.
+    /// The sessions of an engine that stops now. It takes no memory: the seats are handed in, and why the engine stopped
+    /// is entered by the first step.
     pub fn new(history: History, seats: Vec<Seat>, cause: Cause) -> Self
         requires legal { IsLegal Spells history.past }
-        requires stopped { stopped_by history.past ≡ Some cause }
+        requires opened { history.past ≢ [] }
+        requires paid { owes_commit history.past ≡ None }
+        requires runs { has_stopped history.past ≡ false }
         requires seated { AreSeats history.names history.past seats.items }
-        requires room { busy_in seats.items ≤ history.room }
-        ensures { result ≡ record { names = history.names; past = history.past; room = history.room; seats = seats.items; cause = cause } }
+        ensures { result ≡ record { names = history.names; past = history.past; seats = seats.items; cause = cause } }
     {
         StoppedSessions {
             history,
             seats,
             cause,
+            entered: false,
         }
     }
 
@@ -55,7 +63,7 @@ impl StoppedSessions {
         ensures names { result.now.names ≡ self.now.names }
         ensures past { result.now.past ≡ self.now.past }
         ensures legal { IsLegal Spells self.now.past }
-        ensures stopped { stopped_by self.now.past ≡ Some self.now.cause }
+        ensures stopped { has_stopped self.now.past ≡ true → stopped_by self.now.past ≡ Some self.now.cause }
     {
         &self.history
     }
@@ -68,6 +76,7 @@ impl StoppedSessions {
     }
 
     /// Adds a session, whose number is that of the sessions before it.
+    #[tactic(auto, using(crate::proofs::Keeping::seat_more))]
     pub fn join(&mut self, name: &Bytes) -> Result<u32, NoMemory>
         requires { length self.old.names < 2 ^ 32 }
         ensures number { IfOk result (λ s. s ≡ length self.old.names) }
@@ -95,15 +104,16 @@ impl StoppedSessions {
         }
     }
 
-    /// Whether the session's ending has come to its end.
+    /// Whether the session's ending has come to its end. Then no item of it is under way.
     pub fn left(&self, s: u32) -> bool
         requires { s < length self.now.names }
-        ensures { result ≡ has_left (phase_at self.now.seats s) }
+        ensures told { result ≡ has_left (phase_at self.now.seats s) }
+        ensures over { IsTrue result → under_way s self.now.past ≡ None }
     {
-        self.seats[s as usize].phase == Phase::Left
+        is_gone(&self.seats, s)
     }
 
-    /// Starts an item of the session. It takes the room for its end too.
+    /// Starts an item of the session.
     pub fn start(&mut self, s: u32, item: &Item) -> Result<(), NoMemory>
         requires joined { s < length self.old.names }
         requires idle { phase_at self.old.seats s ≡ Idle }
@@ -115,8 +125,7 @@ impl StoppedSessions {
             return Err(NoMemory);
         }
         let item = item.copied()?;
-        let busy = count_busy(&self.seats);
-        self.history.reserve(busy + 2)?;
+        self.history.reserve(1)?;
         let j = before + 1;
         self.history.add(Event::Started { s, j, item });
         self.seats[s as usize] = Seat {
@@ -126,48 +135,25 @@ impl StoppedSessions {
         Ok(())
     }
 
-    /// Makes a step of the session's item under way, which ends by it, or of its ending, which is over then.
+    /// Makes a step of the session's item under way, which ends by it, or of its ending, which is over then. The first step
+    /// enters why the engine stopped, before its own entry. Without memory for the two entries nothing is done.
     pub fn step(&mut self, s: u32) -> Progress
         requires joined { s < length self.old.names }
         requires working { IsAtWork (phase_at self.old.seats s) }
         ensures { StepsBy s result self.old self.new }
     {
-        match self.seats[s as usize].phase {
-            Phase::Busy => self.end_item(s),
-            Phase::Idle | Phase::Leaving | Phase::Left => self.go_out(s),
+        if self.history.reserve(2).is_err() {
+            return Progress::NoMemory;
         }
+        let seat = self.seats[s as usize];
+        enter_stop(&mut self.history, self.entered, self.cause);
+        let phase = end_turn(&mut self.history, s, seat);
+        self.entered = true;
+        self.seats[s as usize] = Seat {
+            phase,
+            started: seat.started,
+        };
         Progress::Stopped(self.cause)
-    }
-
-    /// Ends the session's item with the reply that says of the stop.
-    fn end_item(&mut self, s: u32)
-        requires joined { s < length self.old.names }
-        requires busy { phase_at self.old.seats s ≡ Busy }
-        ensures { StepsOn s self.old self.new }
-    {
-        let Seat { phase: _, started } = self.seats[s as usize];
-        self.history.add(Event::Ended {
-            s,
-            j: started,
-            reply: Reply::Stopped,
-        });
-        self.seats[s as usize] = Seat {
-            phase: Phase::Idle,
-            started,
-        };
-    }
-
-    /// Ends the session's ending.
-    fn go_out(&mut self, s: u32)
-        requires joined { s < length self.old.names }
-        requires leaving { phase_at self.old.seats s ≡ Leaving }
-        ensures { StepsOn s self.old self.new }
-    {
-        let Seat { phase: _, started } = self.seats[s as usize];
-        self.seats[s as usize] = Seat {
-            phase: Phase::Left,
-            started,
-        };
     }
 
     /// Begins the session's ending, whose one step `step` makes. Its transaction is rolled back no more.
@@ -188,13 +174,21 @@ impl StoppedSessions {
         ensures names { result.names ≡ self.names }
         ensures past { result.past ≡ self.past }
         ensures legal { IsLegal Spells self.past }
-        ensures stopped { stopped_by self.past ≡ Some self.cause }
+        ensures stopped { has_stopped self.past ≡ true → stopped_by self.past ≡ Some self.cause }
     {
         let StoppedSessions {
             history,
             seats: _,
             cause: _,
+            entered: _,
         } = self;
         history
     }
+}
+
+fn is_gone(seats: &[Seat], s: u32) -> bool
+    requires { s < length seats.now }
+    ensures { result ≡ has_left (phase_at seats.now s) }
+{
+    seats[s as usize].phase == Phase::Left
 }

@@ -1,2 +1,2 @@
+mod Alone
 mod Fitting
-mod Joined

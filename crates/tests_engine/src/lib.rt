@@ -1,4 +1,4 @@
-//! Engines that open on databases that are there: calls and their answers, with ample memory.
+//! Sessions that open on databases that are there: calls and their answers, with ample memory.
 //! There is nothing here but tests.
 #![tactic(auto)]
 

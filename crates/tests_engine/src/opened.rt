@@ -1,20 +1,21 @@
-//! An engine that opens on two tables and 300 rows answers as if their rows had been committed before.
+//! Sessions that open on two tables and 300 rows are answered as if those rows had been committed before.
+//! There is neither a disk nor a log here.
 
-ghost use Rattle.std.specs.Prelude.{◌≡◌, []};
+ghost use Rattle.inno_db.specs.Database.{Database};
+ghost use Rattle.session_engine.specs.Calls.{AreFirst};
 
 use crate::database::{laid_down, refuses_a_row_that_is_there};
 use crate::sessions::{Answer, asked};
-use disk_mem::MemDisk;
-use engine::open;
-use inno_types::{Bytes, Listed};
+use engine::sessions_over;
+use inno_types::Bytes;
 use session_engine::SessionEngine;
 use shared_lists::SharedLists;
 use std::alloc::Global;
 use std::test::Fail;
-use store_api::{Disk, NoMemory};
+use store_api::NoMemory;
 
-/// What the only session asks, and what it is answered: it reads by a view, and takes its changes back.
-const ASKED: [(&str, Answer); 11] = [
+/// What the only session asks, and what it is answered: it reads by a view, takes its changes back, and commits one in the end.
+const ASKED: [(&str, Answer); 13] = [
     (
         "SELECT * FROM t",
         Answer::Rows {
@@ -56,14 +57,23 @@ const ASKED: [(&str, Answer); 11] = [
             sum: 900,
         },
     ),
+    ("UPDATE u SET a = 8 WHERE i = 7", Answer::Count(1)),
+    (
+        "SELECT * FROM u",
+        Answer::Rows {
+            count: 100,
+            sum: 701,
+        },
+    ),
 ];
 
 /// The first statement that is answered otherwise, if there is one.
-fn first_otherwise<D: Disk + Drop, L: SharedLists>(
+#[tactic(auto, using(crate::proofs::Alone::alone_joined))]
+fn first_otherwise<L: SharedLists>(
     alloc: Global,
-    engine: SessionEngine<D, L>,
+    engine: SessionEngine<L>,
 ) -> Result<Option<(&'static str, Answer)>, NoMemory>
-    requires { engine.lists.names ≡ [] }
+    requires { (db : Database) × AreFirst db engine.lists }
 {
     let mut engine = engine;
     let _ = engine.join(&Bytes::new(alloc))?;
@@ -76,21 +86,18 @@ fn first_otherwise<D: Disk + Drop, L: SharedLists>(
     Ok(None)
 }
 
-/// The same of an engine that was opened on the database.
+/// The same of sessions that were opened on the database.
 fn otherwise_when_opened(alloc: Global) -> Result<Option<(&'static str, Answer)>, NoMemory> {
-    let opening = laid_down(alloc)?;
-    let disk = MemDisk::new(alloc, Listed::new(alloc))?;
-    match open(alloc, disk, opening) {
+    match sessions_over(alloc, laid_down(alloc)?) {
         Ok(engine) => first_otherwise(alloc, engine),
-        Err(refused) => {
-            drop(refused);
-            Err(NoMemory)
-        }
+        Err(_) => Err(NoMemory),
     }
 }
 
 #[test]
-fn an_engine_answers_on_the_rows_that_it_was_opened_with(rt: HostRuntime) -> Result<(), Fail> {
+fn sessions_are_answered_on_the_rows_that_they_were_opened_with(
+    rt: HostRuntime,
+) -> Result<(), Fail> {
     assert_eq!(rt; otherwise_when_opened(rt.alloc())?, None);
     Ok(())
 }

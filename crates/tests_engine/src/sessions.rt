@@ -1,13 +1,15 @@
-//! One session's statements on an engine, each until it is answered.
+//! One session's statements, each until it is answered.
+//! Nothing here knows the database that the sessions were opened on.
 
-ghost use Rattle.std.specs.Prelude.{◌≡◌, IfOk};
-ghost use Rattle.session_engine.specs.Seats.{IsJoined};
+ghost use Rattle.std.specs.Prelude.{◌≡◌};
+ghost use Rattle.session_engine.specs.Seats.{IsWorking};
+ghost use Rattle.tests_engine.specs.Alone.{IsAlone};
 
 use inno_types::{Bytes, Item, Reply, Value};
 use session_engine::SessionEngine;
 use shared_lists::SharedLists;
 use std::alloc::Global;
-use store_api::{Disk, NoMemory, Progress};
+use store_api::{NoMemory, Progress};
 
 /// The most steps that a statement of the tests makes.
 const MOST_STEPS: u32 = 100_000;
@@ -22,26 +24,38 @@ pub enum Answer {
     Nothing,
 }
 
+/// A step of the only session's statement. A commit is acknowledged by a step of its own; here each is at moment 0.
+#[tactic(auto, using(crate::proofs::Alone::alone_step, crate::proofs::Alone::alone_acknowledged))]
+fn step<L: SharedLists>(engine: &mut SessionEngine<L>) -> Progress
+    requires alone { IsAlone engine.old }
+    requires working { IsWorking 0 engine.old }
+    ensures alone { IsAlone engine.new }
+    ensures works { result ≡ Progress.Went → IsWorking 0 engine.new }
+{
+    if engine.owes_ack(0) {
+        engine.acknowledge(0, 0);
+        return Progress::Went;
+    }
+    engine.step(0)
+}
+
 /// The answer of the only session to a statement.
-#[tactic(auto, using(crate::proofs::Joined::is_idle, crate::proofs::Joined::joined_step))]
-pub fn asked<D: Disk, L: SharedLists>(
+#[tactic(auto, using(crate::proofs::Alone::is_idle, crate::proofs::Alone::alone_started, crate::proofs::Alone::alone_same))]
+pub fn asked<L: SharedLists>(
     alloc: Global,
-    engine: &mut SessionEngine<D, L>,
+    engine: &mut SessionEngine<L>,
     text: &str,
 ) -> Result<Answer, NoMemory>
-    requires { IsJoined 0 engine.old }
-    ensures { IsJoined 0 engine.new }
+    requires { IsAlone engine.old }
+    ensures { IsAlone engine.new }
 {
-    if engine.is_working(0) {
-        return Ok(Answer::Nothing);
-    }
-    if engine.left(0) {
+    if engine.is_working(0) || engine.left(0) {
         return Ok(Answer::Nothing);
     }
     let text = Bytes::from_vec(Vec::from_slice(alloc, text.as_bytes())?);
     engine.start(0, &Item::Sql(text))?;
     for _ in 0..MOST_STEPS {
-        match engine.step(0, 0) {
+        match step(engine) {
             Progress::Went => (),
             Progress::Done(reply) => return Ok(answer_of(&reply)),
             Progress::Latch { .. }

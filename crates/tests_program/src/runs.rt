@@ -73,10 +73,31 @@ fn failed(
     }
 }
 
-/// What a run answers and prints.
-fn result_of(alloc: Global, case: &Case) -> Result<(Fault, u8, MemSink), NoMemory> {
-    let none = Listed::new(alloc);
-    let disk = MemDisk::new(alloc, none)?;
+/// A new disk on which the files of a database were made, or the fault of that.
+fn new_files(alloc: Global) -> Result<(Fault, MemDisk), NoMemory> {
+    let disk = MemDisk::new(alloc, Listed::new(alloc))?;
+    let mut source = MemSource::new(alloc, Listed::new(alloc), Listed::new(alloc))?;
+    let mut sink = MemSink::new(alloc, Listed::new(alloc))?;
+    let words = words(alloc, &["innod", "init", "f"])?;
+    let clock = FixedClock { now: 0 };
+    let outcome = run(
+        alloc,
+        &words,
+        &mut source,
+        disk,
+        &mut sink,
+        &clock,
+        &OpenGate,
+    );
+    Ok((outcome.fault, outcome.disk))
+}
+
+/// What a run over a disk answers and prints, and the disk that it leaves.
+fn result_on(
+    alloc: Global,
+    disk: MemDisk,
+    case: &Case,
+) -> Result<(Fault, u8, MemSink, MemDisk), NoMemory> {
     let source_fails = numbers(alloc, case.source_fails)?;
     let mut source = MemSource::new(alloc, bytes(alloc, case.script)?, source_fails)?;
     let mut sink = MemSink::new(alloc, numbers(alloc, case.sink_fails)?)?;
@@ -91,7 +112,7 @@ fn result_of(alloc: Global, case: &Case) -> Result<(Fault, u8, MemSink), NoMemor
         &clock,
         &OpenGate,
     );
-    Ok((outcome.fault, outcome.status, sink))
+    Ok((outcome.fault, outcome.status, sink, outcome.disk))
 }
 
 const ONE_SESSION: &str =
@@ -223,7 +244,10 @@ fn prints_what_sessions_were_answered(rt: HostRuntime) -> Result<(), Fail> {
         failed(ONE_SESSION, 0, 1, Fault::OutputWrite, 4),
     ];
     for case in &cases {
-        let (fault, status, sink) = result_of(rt.alloc(), case)?;
+        let (made, disk) = new_files(rt.alloc())?;
+        assert_eq!(rt; made, Fault::Nothing);
+        let (fault, status, sink, disk) = result_on(rt.alloc(), disk, case)?;
+        drop(disk);
         let script = case.script;
         assert_eq!(rt; fault, case.fault, "after {script}");
         assert_eq!(rt; status, case.status, "after {script}");
@@ -237,6 +261,32 @@ fn prints_what_sessions_were_answered(rt: HostRuntime) -> Result<(), Fail> {
 }
 
 #[test]
+fn what_was_committed_outlives_the_run(rt: HostRuntime) -> Result<(), Fail> {
+    let first = ran(
+        "run",
+        "CREATE TABLE t (id BIGINT, a BIGINT, PRIMARY KEY (id), KEY ka (a));\n@session a\nBEGIN;\nINSERT INTO t VALUES (1,10),(2,20);\nCOMMIT;\nBEGIN;\nINSERT INTO t VALUES (3,30);\n",
+        "@session setup\n1> OK\n@session a\n1> OK\n2> OK 2\n3> OK\n4> OK\n5> OK 1\n",
+    );
+    let second = ran(
+        "run",
+        "@session a\nSELECT * FROM t;\nSELECT id FROM t WHERE a = 20;\n",
+        "@session a\n1> ROWS 2\n1\t10\n2\t20\n2> ROWS 1\n2\n",
+    );
+    let (made, disk) = new_files(rt.alloc())?;
+    assert_eq!(rt; made, Fault::Nothing);
+    let (fault, status, sink, disk) = result_on(rt.alloc(), disk, &first)?;
+    assert_eq!(rt; fault, Fault::Nothing);
+    assert_eq!(rt; status, 0);
+    assert_eq!(rt; sink.taken().as_slice(), first.printed.as_bytes());
+    let (fault, status, sink, disk) = result_on(rt.alloc(), disk, &second)?;
+    drop(disk);
+    assert_eq!(rt; fault, Fault::Nothing);
+    assert_eq!(rt; status, 0);
+    assert_eq!(rt; sink.taken().as_slice(), second.printed.as_bytes());
+    Ok(())
+}
+
+#[test]
 fn other_words_are_no_command(rt: HostRuntime) -> Result<(), Fail> {
     let alloc = rt.alloc();
     let all = [
@@ -245,6 +295,8 @@ fn other_words_are_no_command(rt: HostRuntime) -> Result<(), Fail> {
         words(alloc, &["innod", "run", "-f", "s"])?,
         words(alloc, &["innod", "play", "f", ""])?,
         words(alloc, &["innod", "play", "f", "s", "t"])?,
+        words(alloc, &["innod", "init", "f", "s"])?,
+        words(alloc, &["innod", "init", ""])?,
         words(alloc, &["innod", "--help"])?,
         words(alloc, &[])?,
         with_last_byte(words(alloc, &["innod", "play", "f", "s"])?, 0xFF)?,

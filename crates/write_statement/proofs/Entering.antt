@@ -1,6 +1,7 @@
 -- The steps of one change, before the history tells it and behind that.
-use Rattle.std.proofs.Common.{◌≡◌, ℕ, ◌+◌, ◌≤◌, ◌<◌, Option, Some, List, [], ◌∷◌, ◌++◌, length, sym, ap, subst, ◌∙◌, inl, inr}
+use Rattle.std.proofs.Common.{◌≡◌, ℕ, ◌+◌, ◌≤◌, ◌<◌, ◌⊎◌, Option, Some, None, List, [], ◌∷◌, ◌++◌, Vec, length, sym, ap, subst, ◌∙◌, inl, inr}
 use Rattle.std.proofs.lemmas.Option.{same_Some}
+use Rattle.std.specs.declared.alloc.Global.{Global}
 use Rattle.inno_db.specs.declared.change.Change.{Change}
 use Rattle.inno_model.specs.declared.event.Event.{Event}
 use Rattle.inno_model.specs.declared.event.Event.TheVariants as events
@@ -9,13 +10,15 @@ use Rattle.sql_grammar.specs.Grammar.{Spells}
 use Rattle.sql_history.specs.Counts.{rows_kept, most_rows}
 use Rattle.sql_history.specs.Legal.{MayChange}
 use Rattle.law_past_agreement.specs.Order.{created, IsTabled, IsOfRow}
-use Rattle.shared_lists.specs.Tasks.{Task, MayTakeBack, asked, left_by}
+use Rattle.shared_lists.specs.declared.answers.Changed.{Changed}
+use Rattle.shared_lists.specs.declared.answers.Changed.TheVariants as made
+use Rattle.shared_lists.specs.Tasks.{Task, Idle, MayTakeBack, asked, left_by}
 use Rattle.shared_lists.specs.State.{State, Turns, task_of}
-use Rattle.shared_lists.specs.Steps.{Enters}
+use Rattle.shared_lists.specs.Steps.{GoesOn, Enters, Changes}
 use Rattle.sql_lists.specs.Steps.{Moves, Steps}
 use Rattle.sql_lists.specs.declared.advance.Advance.{Advance}
 use Rattle.sql_lists.specs.declared.advance.Advance.TheVariants as advance
-use Rattle.sql_lists.proofs.Moving.{moves_enters}
+use Rattle.sql_lists.proofs.Moving.{moves_turns, moves_goes_on, moves_enters}
 use Rattle.write_statement.specs.declared.machine.Work.{Work}
 use Rattle.write_statement.specs.declared.machine.WriteStatement.{WriteStatement}
 use Rattle.write_statement.specs.declared.machine.WriteStatement.TheVariants as machine
@@ -54,6 +57,59 @@ entered s old new work todo rows r enters =
           { changing = changing; under_way = enters.still; told = enters.asked_is; stands = stands },
       ap (started s) past-is,
     )
+
+-- it comes a step nearer, before the history tells it
+pub making_went : (s : ℕ) (old new : State) (work : Work) (todo : Vec Change Global) (rows : ℕ)
+    → IsMaking old.past old.writer (task_of s old) s work todo.items rows → GoesOn s old new
+    → Steps IsRunning s old new (machine.Making work todo rows) advance.Went
+making_went s old new work todo rows r goes =
+    let there : IsChanging new.past new.writer s work (todo.items ++ r.change ∷ []) =
+    subst (λ h. IsChanging h new.writer s work (todo.items ++ r.change ∷ [])) (sym goes.turns.past_is)
+    (subst (λ w. IsChanging old.past w s work (todo.items ++ r.change ∷ [])) (sym goes.turns.writer_is) r.changing) in (
+      moves_goes_on s old new goes,
+      record {
+        change = r.change;
+        of_row = r.of_row;
+        rows_are = r.rows_are;
+        changing = there;
+        under_way = goes.still;
+        asked_is = goes.asked_is ∙ r.asked_is;
+      },
+      ap (started s) goes.turns.past_is,
+    )
+
+module _ (s : ℕ) (old new : State) (work : Work) (todo : Vec Change Global) (r : IsFinishing old.past old.writer (task_of s old) s work todo.items) where
+  changing_on : new.past ≡ old.past → new.writer ≡ old.writer → IsChanging new.past new.writer s work todo.items
+  changing_on same-past same-writer =
+      subst (λ h. IsChanging h new.writer s work todo.items) (sym same-past)
+      (subst (λ w. IsChanging old.past w s work todo.items) (sym same-writer) r.changing)
+
+  -- and behind that
+  finishing_on : GoesOn s old new → Steps IsRunning s old new (machine.Finishing work todo) advance.Went
+  finishing_on goes = (
+    moves_goes_on s old new goes,
+    record {
+      changing = changing_on goes.turns.past_is goes.turns.writer_is;
+      under_way = goes.still;
+      told = goes.asked_is ∙ r.told;
+      stands = subst (λ (h : List Event). work.before < length (own s h)) (sym goes.turns.past_is) r.stands;
+    },
+    ap (started s) goes.turns.past_is,
+  )
+
+  -- the history tells it once
+  told_once : Enters s old new → ⊥
+  told_once enters = (let x : None ≡ Some enters.change = sym r.told ∙ enters.asked_was in cc)
+
+  pub finishing_went : (answer : Changed) → (answer ≡ made.Went) ⊎ (answer ≡ made.Entered) → Changes s old new answer
+      → Steps IsRunning s old new (machine.Finishing work todo) advance.Went
+  finishing_went answer (inl went) changes = finishing_on (subst (Changes s old new) went changes)
+  finishing_went answer (inr entered) changes = absurd (told_once (subst (Changes s old new) entered changes))
+
+  -- the change is made
+  pub finishing_done : Turns s Idle old new → Steps IsRunning s old new (machine.Changing work todo) advance.Went
+  finishing_done turns =
+      (moves_turns s Idle old new turns, (changing_on turns.past_is turns.writer_is, turns.task_is), ap (started s) turns.past_is)
 
 -- ---- for want of memory
 

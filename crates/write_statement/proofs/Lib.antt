@@ -1,4 +1,5 @@
 pub mod Moving
+mod Resting
 pub mod Writing
 pub mod Replies
 pub mod Ends
@@ -14,3 +15,4 @@ pub mod GivingUp
 pub mod Turning
 pub mod Entering
 pub mod Committing
+pub mod Rooms

@@ -1,6 +1,7 @@
 -- Steps that add no entry: of a search, and those that give a statement up.
-use Rattle.std.proofs.Common.{◌≡◌, ℕ, ◌+◌, ◌<◌, Bool, Option, Some, List, [], ◌∷◌, ◌++◌, length, refl, sym, ap, subst, ◌∙◌, inl}
+use Rattle.std.proofs.Common.{◌≡◌, ℕ, ◌+◌, ◌<◌, Bool, true, Option, Some, List, [], ◌∷◌, ◌++◌, Vec, length, refl, sym, ap, subst, ◌∙◌, inl}
 use Rattle.std.specs.Prelude.{slice_get}
+use Rattle.std.specs.declared.alloc.Global.{Global}
 use Rattle.inno_types.specs.declared.value.Value.{Value}
 use Rattle.inno_types.specs.declared.value.Schema.{Schema}
 use Rattle.inno_types.specs.declared.stmt.Stmt.{Stmt}
@@ -8,15 +9,16 @@ use Rattle.inno_db.proofs.Outcomes.{table_read}
 use Rattle.inno_db.specs.declared.change.Change.{Change}
 use Rattle.inno_db.specs.declared.change.Change.TheVariants.{Put}
 use Rattle.inno_model.specs.declared.event.Event.{Event}
+use Rattle.inno_model.specs.declared.event.Event.TheVariants.{Changed}
 use Rattle.inno_model.specs.Past.{own, started, commits}
 use Rattle.shared_lists.specs.declared.answers.Reading.TheVariants.{Newest}
 use Rattle.shared_lists.specs.declared.answers.Searched.{Searched}
 use Rattle.shared_lists.specs.declared.answers.Searched.TheVariants as searched
-use Rattle.shared_lists.specs.Tasks.{Task, Idle, Searching}
+use Rattle.shared_lists.specs.Tasks.{Task, Idle, Searching, is_changing, asked}
 use Rattle.shared_lists.specs.State.{State, Turns, Stays, task_of}
 use Rattle.shared_lists.specs.Steps.{AreRowsSeen, Searches}
-use Rattle.sql_history.specs.Counts.{rows_kept, most_rows}
-use Rattle.law_past_agreement.specs.Order.{created}
+use Rattle.sql_history.specs.Counts.{rows_of_entry, rows_kept, most_rows}
+use Rattle.law_past_agreement.specs.Order.{created, IsOfRow}
 use Rattle.sql_plan.specs.declared.choice.Plan.{Plan}
 use Rattle.sql_lists.specs.Steps.{Steps}
 use Rattle.sql_lists.specs.declared.advance.Advance.{Advance}
@@ -73,6 +75,21 @@ broke_off s state work todo change table row rows m a r idle puts many count ans
     let here = subst (λ (x : Change). IsChanging state.past state.writer s work (todo ++ x ∷ [])) puts r in
     steps_as IsRunning s state state m (machine.BackingOut (broken_off work rows)) a advance.Went answer-state answer
     (moves_none s state, (overfull state.past state.writer s work todo table row rows here many count, inl idle), refl)
+
+-- ---- a change is begun
+
+pub begun : (s : ℕ) (old new : State) (work : Work) (todo : Vec Change Global) (change : Change) (rows : ℕ)
+    → IsChanging old.past old.writer s work (todo.items ++ change ∷ []) → IsOfRow change → rows ≡ rows_of_entry (Changed s change)
+    → Turns s (task_of s new) old new → is_changing (task_of s new) ≡ true → asked (task_of s new) ≡ Some change
+    → Steps IsRunning s old new (machine.Making work todo rows) advance.Went
+begun s old new work todo change rows r of-row rows-are turns under-way asked-is =
+    let there : IsChanging new.past new.writer s work (todo.items ++ change ∷ []) =
+    subst (λ h. IsChanging h new.writer s work (todo.items ++ change ∷ [])) (sym turns.past_is)
+    (subst (λ w. IsChanging old.past w s work (todo.items ++ change ∷ [])) (sym turns.writer_is) r) in (
+      moves_turns s (task_of s new) old new turns,
+      record { change = change; of_row = of-row; rows_are = rows-are; changing = there; under_way = under-way; asked_is = asked-is },
+      ap (started s) turns.past_is,
+    )
 
 -- ---- the search
 

@@ -1,14 +1,14 @@
 //! The states of the machine, and its step.
 
-ghost use Rattle.std.specs.Prelude.{◌≡◌, ◌<◌, ℕ, length, true, false};
-ghost use Rattle.shared_lists.specs.Tasks.{Idle};
+ghost use Rattle.std.specs.Prelude.{◌≡◌, ◌<◌, ℕ, length, true, false, None};
+ghost use Rattle.shared_lists.specs.Tasks.{Idle, asked};
 ghost use Rattle.shared_lists.specs.State.{State, task_of};
 ghost use Rattle.sql_history.specs.Legal.{IsWriting};
 ghost use Rattle.sql_lists.specs.Kept.{OwesAck};
 ghost use Rattle.sql_lists.specs.Steps.{Steps, IsTaken, StaysRunning, GoesOnAcked};
 ghost use Rattle.sql_lists.specs.Going.{Nears, NearsAcked};
 ghost use Rattle.write_statement.specs.Going.{to_go};
-ghost use Rattle.write_statement.specs.Running.{IsRunning, owes_ack, acked};
+ghost use Rattle.write_statement.specs.Running.{IsRunning, owes_ack, acked, wants_room, without_room};
 
 use crate::backing::step_backing;
 use crate::changing::step_changing;
@@ -126,6 +126,31 @@ impl WriteStatement {
         }
     }
 
+    /// Whether the statement is about to tell a change to the history. An engine that logs its changes takes room in its
+    /// log first.
+    pub fn wants_room(&self) -> bool
+        ensures { result ≡ wants_room self.now }
+    {
+        matches!(
+            self,
+            WriteStatement::Changing { .. } | WriteStatement::Making { .. }
+        )
+    }
+
+    /// The statement where there is no room for its next change: it takes back what it has made. Once a change is begun,
+    /// the statement stays.
+    pub fn without_room(self) -> Self
+        ensures { result ≡ without_room self }
+    {
+        match self {
+            WriteStatement::Changing { work, todo } => {
+                drop(todo);
+                WriteStatement::BackingOut(Work::given_up(work.alone, work.before))
+            }
+            other => other,
+        }
+    }
+
     /// One step of the session's statement.
     pub fn step<L: SharedLists>(
         self,
@@ -163,6 +188,12 @@ pub fn an_acknowledgement_moves_it_on()
     ensures owed { (state : State) (s : ℕ) (m : WriteStatement) → owes_ack m ≡ true → IsRunning state s m → OwesAck s state.past }
     ensures runs { (m : WriteStatement) → owes_ack m ≡ true → GoesOnAcked IsRunning m (acked m) }
     ensures nears { (m : WriteStatement) → owes_ack m ≡ true → NearsAcked to_go m (acked m) }
+{}
+
+/// A statement for whose next change there is no room runs on, and one that wants no room has no change to tell.
+pub fn a_lack_of_room_turns_it_back()
+    ensures runs { (state : State) (s : ℕ) (m : WriteStatement) → IsRunning state s m → IsRunning state s (without_room m) }
+    ensures quiet { (state : State) (s : ℕ) (m : WriteStatement) → wants_room m ≡ false → IsRunning state s m → asked (task_of s state) ≡ None }
 {}
 
 /// An entry of another session leaves what the machine knows.

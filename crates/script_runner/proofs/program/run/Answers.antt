@@ -1,27 +1,66 @@
-use Rattle.std.proofs.Common.{◌≡◌, List, false, refl, sym, ap, subst}
-use Rattle.std.specs.List.{list_any}
-use Rattle.inno_model.specs.declared.event.Event.{Event}
-use Rattle.inno_model.specs.Text.{items}
-use Rattle.law_page_errors.specs.Space.{ends_for_pages}
+use Rattle.std.proofs.Common.{sym, ap, ◌∙◌}
+use Rattle.inno_model.specs.Text.{items, text}
 use Rattle.law_page_errors.proofs.Ended.{none_for_pages}
-use Rattle.script_runner.proofs.Following.{nothing_follows}
+use Rattle.script_runner.proofs.Following.{nothing_follows, spelled_follows, spelled_plays}
+use Rattle.script_runner.proofs.Untouched.{leaves_untouched}
+use Rattle.script_runner.proofs.Causing.{judged, judged_refused, no_limit, no_text, appends_none, make_printed}
 use Rattle.script_runner.proofs.program.run.Goals as goal
 
 pub returns-then-not-is_command-clause-follows : goal.returns-then-not-is_command-clause-follows
 returns-then-not-is_command-clause-follows g c =
-    nothing_follows (g.S.Source.left c.args.script.now) c.refused.result.history.past (λ s. ap (items s) c.refused.ensures.past)
+    nothing_follows (g.S.Source.left c.args.script.now) c.without_engine.result.history.past (λ s. ap (items s) c.without_engine.ensures.past)
+
+pub returns-then-makes-clause-follows : goal.returns-then-makes-clause-follows
+returns-then-makes-clause-follows g c =
+    nothing_follows (g.S.Source.left c.args.script.now) c.make.result.history.past (λ s. ap (items s) c.make.ensures.empty)
 
 pub returns-in-Err-clause-follows : goal.returns-in-Err-clause-follows
 returns-in-Err-clause-follows g c =
-    nothing_follows (g.S.Source.left c.args.script.now) c.refused-in-Err.result.history.past (λ s. ap (items s) c.refused-in-Err.ensures.past)
+    nothing_follows (g.S.Source.left c.args.script.now) c.without_engine-in-Err.result.history.past (λ s. ap (items s) c.without_engine-in-Err.ensures.past)
 
-pub returns-then-not-is_command-clause-for_pages : goal.returns-then-not-is_command-clause-for_pages
-returns-then-not-is_command-clause-for_pages g c =
-    subst (λ (past : List Event). list_any ends_for_pages past ≡ false) (sym c.refused.ensures.past) refl
+pub returns-then-not-is_command-clause-crash : goal.returns-then-not-is_command-clause-crash
+returns-then-not-is_command-clause-crash g c = λ plays.
+    rw c.without_engine.ensures.past
+    (rw c.without_engine.ensures.disk (leaves_untouched (g.D.Disk.past c.args.disk) (g.met.D.Disk.seen_may_be_left c.args.disk)))
+
+pub returns-in-Err-clause-crash : goal.returns-in-Err-clause-crash
+returns-in-Err-clause-crash g c = λ plays.
+    rw c.without_engine-in-Err.ensures.past
+    (rw c.without_engine-in-Err.ensures.disk (leaves_untouched (g.D.Disk.past c.args.disk) (g.met.D.Disk.seen_may_be_left c.args.disk)))
 
 pub returns-in-Ok-clause-for_pages : goal.returns-in-Ok-clause-for_pages
 returns-in-Ok-clause-for_pages g c = none_for_pages c.serve.result.history.past c.serve.ensures.legal
 
-pub returns-in-Err-clause-for_pages : goal.returns-in-Err-clause-for_pages
-returns-in-Err-clause-for_pages g c =
-    subst (λ (past : List Event). list_any ends_for_pages past ≡ false) (sym c.refused-in-Err.ensures.past) refl
+pub returns-in-Ok-clause-follows : goal.returns-in-Ok-clause-follows
+returns-in-Ok-clause-follows g c =
+    spelled_follows (g.S.Source.left c.args.script.now) c.in-Ok.script c.serve.result.history.past c.in-Ok.ensures.script c.serve.ensures.follows
+
+pub returns-in-Ok-clause-played : goal.returns-in-Ok-clause-played
+returns-in-Ok-clause-played g c = λ plays none.
+    let history = c.serve.result.history in
+    spelled_plays (g.S.Source.left c.args.script.now) c.in-Ok.script history.names history.past c.in-Ok.ensures.script (c.serve.ensures.played none)
+    (c.serve.ensures.answered none)
+
+pub returns-in-Ok-clause-judged : goal.returns-in-Ok-clause-judged
+returns-in-Ok-clause-judged g c = λ plays.
+    judged (g.D.Disk.past c.args.disk) (g.D.Disk.past c.serve.result.disk) c.serve.result.fault (g.S.Source.left c.args.script.now) c.in-Ok.script
+    c.serve.ensures.causes c.in-Ok.ensures.script
+
+pub returns-in-Err-clause-judged : goal.returns-in-Err-clause-judged
+returns-in-Err-clause-judged g c = λ plays.
+    rw c.without_engine-in-Err.ensures.fault
+    (judged_refused c.in-Err.fault (g.S.Source.left c.args.script.now) c.in-Err.ensures.causes c.in-Err.ensures.judged)
+
+pub returns-in-Err-clause-too_large : goal.returns-in-Err-clause-too_large
+returns-in-Err-clause-too_large g c = λ bytes rows most at script is.
+    absurd (no_limit c.in-Err.fault (g.S.Source.left c.args.script.now) bytes 5 rows most c.in-Err.ensures.judged at script
+    (sym c.without_engine-in-Err.ensures.fault ∙ is))
+
+pub returns-then-makes-clause-printed : goal.returns-then-makes-clause-printed
+returns-then-makes-clause-printed g c =
+    make_printed (g.D.Disk.past c.args.disk) (g.D.Disk.past c.make.result.disk) c.make.result.fault (g.K.Sink.taken c.args.out.now) (text c.make.result.history)
+    c.make.ensures.causes (no_text c.make.result.history c.make.ensures.names)
+
+pub returns-then-makes-clause-whole : goal.returns-then-makes-clause-whole
+returns-then-makes-clause-whole g c = λ fault fails.
+    appends_none (g.K.Sink.taken c.args.out.now) (text c.make.result.history) (no_text c.make.result.history c.make.ensures.names)

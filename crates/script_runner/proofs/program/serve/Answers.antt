@@ -1,7 +1,14 @@
 use Rattle.std.proofs.Common.{ap}
 use Rattle.inno_model.specs.Text.{items}
 use Rattle.script_runner.proofs.Places.{follows_nothing}
+use Rattle.script_runner.proofs.Causing.{mount_fault}
 use Rattle.script_runner.proofs.program.serve.Goals as goal
 
 pub returns-in-Err-clause-follows : goal.returns-in-Err-clause-follows
-returns-in-Err-clause-follows g c = follows_nothing c.args.script.now.items c.refused.result.history.past (λ s. ap (items s) c.refused.ensures.past)
+returns-in-Err-clause-follows g c =
+    follows_nothing c.args.script.now.items c.without_engine.result.history.past (λ s. ap (items s) c.without_engine.ensures.past)
+
+pub returns-in-Err-clause-causes : goal.returns-in-Err-clause-causes
+returns-in-Err-clause-causes g c =
+    rw c.without_engine.ensures.fault
+    (rw c.without_engine.ensures.disk (rw c.fault_of.ensures (mount_fault (g.D.Disk.past c.args.disk) (g.D.Disk.past c.in-Err.disk) c.in-Err.bad c.in-Err.ensures.refused)))

@@ -1,9 +1,13 @@
-use Rattle.write_statement.proofs.Entering.{may_make, entered, making_given_up}
+use Rattle.write_statement.proofs.Entering.{may_make, making_went, entered, making_given_up}
 use Rattle.write_statement.proofs.making.go_on.Goals as goal
 
 pub change-requires-clause-may : goal.change-requires-clause-may
 change-requires-clause-may g c =
     may_make c.args.lists.now.past c.args.lists.now.writer _ c.args.session c.args.work c.args.todo.items c.args.rows c.requires.running c.requires.within
+
+pub returns-in-Went-clause-steps : goal.returns-in-Went-clause-steps
+returns-in-Went-clause-steps g c =
+    making_went c.args.session c.args.lists.now c.change.new.self c.args.work c.args.todo c.args.rows c.requires.running c.in-Went.ensures.changes
 
 pub returns-in-Entered-clause-steps : goal.returns-in-Entered-clause-steps
 returns-in-Entered-clause-steps g c =

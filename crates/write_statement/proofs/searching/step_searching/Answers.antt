@@ -1,3 +1,8 @@
+use Rattle.std.proofs.Common.{ap, ◌∙◌}
+use Rattle.shared_lists.specs.Tasks.{Idle, asked}
+use Rattle.sql_lists.proofs.Moving.{moves_turns}
+use Rattle.write_statement.specs.Running.{IsRunning}
+use Rattle.write_statement.proofs.Resting.{steps_on, idle_asks_no_more}
 use Rattle.shared_lists.specs.declared.answers.Reading.TheVariants.{Newest}
 use Rattle.shared_lists.specs.declared.answers.Searched.TheVariants.{Went, Found, NoMemory}
 use Rattle.write_statement.proofs.Turning.{early_given_up, search_went, search_found, searches_as}
@@ -25,6 +30,17 @@ returns-in-Went-clause-steps g c =
     search_went c.args.session c.args.lists.now c.search.new.self c.args.search _ c.went_on.result.0 c.went_on.result.1 r
     (searches_as c.args.session c.args.lists.now c.search.new.self c.args.search c.search.result Went r c.in-Went.is
     (c.search.ensures.searches r.reading.table r.reading.plan Newest r.task_is)) c.went_on.ensures.state c.went_on.ensures.answer
+
+pub returns-in-Found-clause-steps : goal.returns-in-Found-clause-steps
+returns-in-Found-clause-steps g c =
+    let r = c.requires.running in
+    let turns =
+    (searches_as c.args.session c.args.lists.now c.search.new.self c.args.search c.search.result (Found c.in-Found.rows) r c.in-Found.is
+    (c.search.ensures.searches r.reading.table r.reading.plan Newest r.task_is)).0 in
+    steps_on IsRunning c.args.session c.args.lists.now c.search.new.self c.answer_found.new.lists c.answer_found.result.0 c.answer_found.result.1
+    (moves_turns c.args.session Idle c.args.lists.now c.search.new.self turns) turns.past_is
+    (idle_asks_no_more c.args.session c.args.lists.now c.search.new.self (ap asked turns.task_is)) (turns.writer_is ∙ r.reading.right.locked)
+    c.answer_found.ensures.steps
 
 pub returns-in-NoMemory-clause-steps : goal.returns-in-NoMemory-clause-steps
 returns-in-NoMemory-clause-steps g c =

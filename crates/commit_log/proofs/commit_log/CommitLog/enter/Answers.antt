@@ -2,6 +2,7 @@ use Rattle.std.proofs.Common.{◌≡◌, ◌<◌, ◌∷◌, true, false, length
 use Rattle.inno_model.specs.declared.event.Event.TheVariants as events
 use Rattle.inno_model.specs.declared.event.Event.{Event}
 use Rattle.inno_model.specs.Past.{is_of}
+use Rattle.drafts.specs.View.{draft_of}
 use Rattle.commit_log.specs.View.{CommitView, IsJoined, IsLogging, is_commit}
 use Rattle.commit_log.proofs.Logging.{committed, entered}
 use Rattle.commit_log.proofs.commit_log.CommitLog.enter.Goals as goal
@@ -29,6 +30,8 @@ returns-in_default c =
     let uncommitted : is_commit c.args.entry.now ≡ false = search rules in
     record {
       joined = c.redraft.ensures.joined ∙ ap (λ (v : CommitView). length v.drafts) c.self.view_is;
+      room_stays = λ begins.
+          c.redraft.ensures.room_stays begins ∙ ap (λ (v : CommitView). (draft_of s v.drafts).ready) c.self.view_is;
       kept = λ root now past is.
           entered c.args.entry.now s old new c.requires.mine c.requires.unacked uncommitted refl refl refl
           c.redraft.ensures.mine c.redraft.ensures.others root now past (subst (λ (v : CommitView). IsLogging root now past v) (sym c.self.view_is) is);

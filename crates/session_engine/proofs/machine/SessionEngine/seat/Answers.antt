@@ -1,5 +1,4 @@
-use Rattle.std.proofs.Common.{length, ◌<◌, ◌≤◌, ◌≡◌, subst, sym}
-use Rattle.sql_history.specs.Counts.{last_moment}
+use Rattle.std.proofs.Common.{length, ◌<◌, ◌≡◌, subst, sym}
 use Rattle.session_engine.specs.declared.seats.Seat.TheVariants.{Idle}
 use Rattle.session_engine.specs.Seats.{seat_at}
 use Rattle.session_engine.proofs.Seating.{seats_started, seats_same}
@@ -10,16 +9,10 @@ invariant_of-self-2 g c =
     let engine = c.self.inside in
     let joined : c.args.s < length engine.lists.names = subst (λ st. c.args.s < length st.lists.names) (sym c.self.view_is) c.requires.joined in
     let idle : seat_at engine.seats c.args.s ≡ Idle = subst (λ st. seat_at st.seats c.args.s ≡ Idle) (sym c.self.view_is) c.requires.idle in
-    record {
-      agree = rw c.replace.ensures.is
-          (seats_started engine.lists c.start.new.self engine.seats c.args.s c.requires.reads.0 c.args.item c.args.statement c.self.invariant.agree joined idle
-          c.requires.reads.1 c.in_ok-start.ensures.ok c.requires.reads.2);
-      timed = subst (λ h. last_moment h ≤ (g.D.Disk.past c.self.inside.disk).moment) (sym c.in_ok-start.ensures.ok.past_is) c.self.invariant.timed;
-    }
+    rw c.replace.ensures.is
+    (seats_started engine.lists c.start.new.self engine.seats c.args.s c.requires.reads.0 c.args.item c.args.statement c.self.invariant joined idle
+    c.requires.reads.1 c.in_ok-start.ensures.ok c.requires.reads.2)
 
 pub invariant_of-self : goal.invariant_of-self
 invariant_of-self g c =
-    record {
-      agree = seats_same c.self.inside.lists c.start.new.self c.self.inside.seats c.args.s c.in_err-start.ensures.err c.self.invariant.agree;
-      timed = subst (λ h. last_moment h ≤ (g.D.Disk.past c.self.inside.disk).moment) (sym c.in_err-start.ensures.err.past_is) c.self.invariant.timed;
-    }
+    seats_same c.self.inside.lists c.start.new.self c.self.inside.seats c.args.s c.in_err-start.ensures.err c.self.invariant

@@ -1,0 +1,38 @@
+# What the scripts beside it share: the program, a folder for their files, and the timing of commands. To be sourced.
+cd "$(dirname "${BASH_SOURCE[0]}")/.."
+innod="${INNOD:-crates/innod/out/innod}"
+if [ ! -x "$innod" ]; then
+    echo "no program at $innod: build it first (README.md, \"Two commands\")" >&2
+    exit 1
+fi
+work="$(mktemp -d)"
+trap 'rm -rf "$work"' EXIT
+
+# Plays a script over the files of a new database.
+play() {
+    rm -f "$work"/file.*
+    "$innod" init "$work/file"
+    "$innod" play "$work/file" "$1"
+}
+
+# Milliseconds of a command, the least of three; what it printed last stands in $work/out.
+timed() {
+    local best='' start end took
+    for _ in 1 2 3; do
+        start="$(date +%s%N)"
+        "$@" >"$work/out"
+        end="$(date +%s%N)"
+        took=$(((end - start) / 1000000))
+        if [ -z "$best" ] || [ "$took" -lt "$best" ]; then best="$took"; fi
+    done
+    echo "$best"
+}
+
+# The same of a script that is played, in which no statement may fail.
+timed_script() {
+    timed play "$1"
+    if grep -q '> ERROR\|> NO MEMORY\|> RUN LIMIT' "$work/out"; then
+        echo "$1: the program answered an error" >&2
+        exit 1
+    fi
+}

@@ -1,0 +1,12 @@
+//! An engine whose commits outlive the run, whatever keeps the lists that its sessions share. While its disk serves it, its
+//! sessions run with their log; once the disk has failed it has stopped for good, and each item ends with the reply that says
+//! so.
+#![tactic(auto)]
+
+mod engine;
+mod parts;
+mod root;
+mod stepping;
+
+pub use engine::DurableEngine;
+pub use root::Root;

@@ -1,0 +1,15 @@
+//! What an engine consists of beside its disk: sessions that run, or those of an engine that has stopped.
+//! Only the engine's own calls see it.
+
+use logged_sessions::LoggedSessions;
+use shared_lists::SharedLists;
+use stopped_sessions::StoppedSessions;
+
+#[derive(Drop)]
+pub enum Core<L: SharedLists> {
+    Running(LoggedSessions<L>),
+    /// The disk has failed.
+    Stopped(StoppedSessions),
+    /// It goes from one to the other, within a call.
+    Changing,
+}

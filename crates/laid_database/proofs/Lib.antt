@@ -1,0 +1,5 @@
+mod Below
+mod Each
+mod Fitting
+mod Grown
+mod Last

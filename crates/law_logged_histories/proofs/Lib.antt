@@ -1,0 +1,6 @@
+pub mod Outcomes
+pub mod Turns
+pub mod Ends
+pub mod Kept
+pub mod Tables
+pub mod Records

@@ -1,0 +1,65 @@
+use Rattle.std.proofs.Common.{◌≡◌, ◌⊎◌, ◌∙◌, ◌<◌, true, false, length, refl, sym, ap, subst, inl, inr}
+use Rattle.std.specs.Prelude.{All}
+use Rattle.std.proofs.lemmas.List.{length-reverse}
+use Rattle.inno_model.specs.Past.{opening}
+use Rattle.commit_records.specs.Room.{IsLoggable}
+use Rattle.commit_log.specs.View.{IsLogging}
+use Rattle.drafts.specs.View.{draft_of}
+use Rattle.law_logged_histories.proofs.Records.{tables_loggable, have_records}
+use Rattle.session_engine.specs.Calls.{TellsNone}
+use Rattle.logged_sessions.proofs.Adding.{steps_added, opening_stays, enters_added}
+use Rattle.logged_sessions.proofs.Seating.{stepped_seats, steps_on}
+use Rattle.logged_sessions.proofs.logged.LoggedSessions.step.Goals as goal
+
+pub returns-then-not-has_room-clause-kept : goal.returns-then-not-has_room-clause-kept
+returns-then-not-has_room-clause-kept g c =
+    λ root now is.
+    subst (λ l. IsLogging root now l.past c.has_room.new.log) (sym c.give_up.ensures.lists_stay)
+    (c.has_room.ensures.kept root now c.self.inside.sessions.lists.past
+    (subst (λ st. IsLogging root now st.sessions.lists.past st.log) (sym c.self.view_is) is))
+
+pub take_over-requires-clause-may : goal.take_over-requires-clause-may
+take_over-requires-clause-may g c =
+    let s = c.args.s in
+    let i = c.self.inside in
+    let new = c.step-progress.new.self in
+    let old = i.sessions.lists.past in
+    let added = steps_added s c.step-progress.result i.sessions new c.step-progress.ensures.steps in
+    let events = c.events-told.result.now in
+    let told : length events ≡ length old = sym (length-reverse events) ∙ (ap length c.events-told.ensures ∙ ap length c.history.ensures.past) in
+    let h = c.history-2.ensures in
+    let opens : All IsLoggable (opening new.lists.past).schemas =
+    subst (λ db. All IsLoggable db.schemas) (sym (opening_stays s old new.lists.past added)) c.self.invariant.tables in
+    let tables = tables_loggable new.lists.past h.legal h.sound h.tables.none opens in
+    let records = have_records new.lists.past h.sound h.fits h.tables.few tables in
+    let room : ((draft_of s c.has_room.new.log.drafts).ready ≡ true) ⊎ TellsNone old new.lists.past =
+    elim (c.has_room.ensures.room c.if-not-has_room.false) [
+      | inl none ↦ inr (c.step-progress.ensures.quiet (sym c.wants_room-wanted.ensures ∙ none))
+      | inr ready ↦ inl ready
+    ] in
+    λ more past is long.
+    enters_added s (draft_of s c.has_room.new.log.drafts).ready old new.lists.past more past added (sym h.past ∙ is) (long ∙ told) records room
+
+pub invariant_of-self-2 : goal.invariant_of-self-2
+invariant_of-self-2 g c =
+    let s = c.args.s in
+    let i = c.self.inside in
+    let new = c.step-progress.new.self in
+    let joined : s < length i.sessions.lists.names = subst (λ st. s < length st.sessions.lists.names) (sym c.self.view_is) c.requires.joined in
+    let on = steps_on s c.step-progress.result i.sessions new c.step-progress.ensures.steps in
+    stepped_seats i.sessions new i.seats.items i.log c.take_over.new.log s c.self.invariant joined
+    (c.take_over.ensures.joined ∙ c.has_room.ensures.joined) c.index_mut.result.now c.index_mut.ensures.value c.phase.result c.phase.ensures
+    on.names_stay on.others_stay (steps_added s c.step-progress.result i.sessions new c.step-progress.ensures.steps)
+
+pub returns-clause-kept : goal.returns-clause-kept
+returns-clause-kept g c =
+    let s = c.args.s in
+    let i = c.self.inside in
+    let old = i.sessions.lists.past in
+    let added = steps_added s c.step-progress.result i.sessions c.step-progress.new.self c.step-progress.ensures.steps in
+    let events = c.events-told.result.now in
+    let told : length events ≡ length old = sym (length-reverse events) ∙ (ap length c.events-told.ensures ∙ ap length c.history.ensures.past) in
+    λ root now is.
+    subst (λ h. IsLogging root now h c.take_over.new.log) c.history-2.ensures.past
+    (c.take_over.ensures.kept root now added.entries old (c.history-2.ensures.past ∙ added.past_is) (sym told)
+    (c.has_room.ensures.kept root now old (subst (λ st. IsLogging root now st.sessions.lists.past st.log) (sym c.self.view_is) is)))

@@ -1,0 +1,137 @@
+-- A statement that wants no room has no change to tell, by each of its states.
+use Rattle.std.specs.Prelude.{count_by}
+use Rattle.std.proofs.Common.{◌≡◌, ℕ, Bool, true, false, None, List, [], ◌∷◌, length, refl, ap, subst, inl, inr, arith}
+use Rattle.inno_types.specs.declared.stmt.Stmt.{Stmt}
+use Rattle.inno_types.specs.declared.stmt.Stmt.TheVariants as stmt
+use Rattle.inno_types.specs.Order.{IsBelow}
+use Rattle.inno_model.specs.Past.{own}
+use Rattle.shared_lists.specs.Tasks.{Task, Idle, Undoing, asked}
+use Rattle.shared_lists.specs.State.{State, task_of}
+use Rattle.sql_lists.specs.Going.{left, Nears}
+use Rattle.sql_lists.specs.Steps.{Steps, changes_rows}
+use Rattle.sql_lists.specs.declared.advance.Advance.{Advance}
+use Rattle.transaction_statements.specs.declared.statement.TransactionStatement.{TransactionStatement}
+use Rattle.transaction_statements.specs.declared.statement.TransactionStatement.TheVariants as transactions
+use Rattle.transaction_statements.specs.Committing.{stmt_of}
+use Rattle.transaction_statements.specs.Running as of_transaction
+use Rattle.transaction_statements.specs.Going as to_transaction
+use Rattle.read_statement.specs.declared.machine.ReadStatement.{ReadStatement}
+use Rattle.read_statement.specs.declared.machine.ReadStatement.TheVariants as readings
+use Rattle.read_statement.specs.Running as of_read
+use Rattle.write_statement.specs.declared.machine.WriteStatement.{WriteStatement}
+use Rattle.write_statement.specs.declared.machine.WriteStatement.TheVariants as writings
+use Rattle.write_statement.specs.Running as of_write
+use Rattle.write_statement.specs.Going as to_write
+use Rattle.write_statement.proofs.Rooms.{asks_for_none}
+use Rattle.statement.proofs.Creating.{reading_makes_none, writing_makes_none, committer_makes_none}
+use Rattle.statement.proofs.Telling.{IntendsNone, step_tells_none, intends_none}
+
+-- ---- nothing is nearer than the end
+
+abbrev AreZeros : List ℕ → Type 0
+AreZeros [] = Unit {0}
+AreZeros (n ∷ later) = (n ≡ 0) × AreZeros later
+
+below_zeros : (list others : List ℕ) → AreZeros others → IsBelow list others → ⊥
+below_zeros [] others zeros below = absurd below
+below_zeros (a ∷ later) [] zeros below = absurd below
+below_zeros (a ∷ later) (b ∷ others) zeros below = elim below [
+  | inl lt ↦ absurd (omega (arith, lt, zeros.0))
+  | inr same ↦ below_zeros later others zeros.1 same.1
+]
+
+below_none : (list : List ℕ) → IsBelow list (left 0 0 0 0) → ⊥
+below_none list below =
+    below_zeros list (left 0 0 0 0)
+    (refl, (refl, (refl, (refl, (refl, (refl, (refl, (refl, (refl, (refl, (refl, (refl, (refl, (refl, (refl, tt))))))))))))))) below
+
+-- ---- statements on transactions
+
+rolls_back_asking_none : (keep stand : ℕ) (task : Task) → of_transaction.TakesBackTo keep stand task → asked task ≡ None
+rolls_back_asking_none keep stand Idle back = refl
+rolls_back_asking_none keep stand (Undoing left) back = refl
+rolls_back_asking_none keep stand other back = absurd back
+
+pub transaction_intends_none : (s : ℕ) (old new : State) (m after : TransactionStatement) → of_transaction.IsRunning old s m
+    → IsBelow (to_transaction.to_go s new after) (to_transaction.to_go s old m) → IntendsNone s old
+transaction_intends_none s old new (transactions.Quiet statement) after r nears = absurd (below_none (to_transaction.to_go s new after) nears)
+transaction_intends_none s old new (transactions.Missing name) after r nears = absurd (below_none (to_transaction.to_go s new after) nears)
+transaction_intends_none s old new (transactions.Committing committer) after r nears =
+    intends_none s old (stmt_of committer) r.0.0.takes.asks (committer_makes_none committer) (ap asked r.1)
+transaction_intends_none s old new (transactions.Unacked committer) after r nears =
+    intends_none s old (stmt_of committer) r.0.0.takes.asks (committer_makes_none committer) (ap asked r.1)
+transaction_intends_none s old new (transactions.Closed committer) after r nears =
+    intends_none s old (stmt_of committer) r.0.0.takes.asks (committer_makes_none committer) (ap asked r.1)
+transaction_intends_none s old new transactions.Viewing after r nears = intends_none s old (stmt.Begin true) r.0.0.takes.asks (λ kind. kind) (ap asked r.1)
+transaction_intends_none s old new (transactions.Begun snapshot) after r nears =
+    intends_none s old (stmt.Begin snapshot) r.0.0.takes.asks (λ kind. kind) (ap asked r.1)
+transaction_intends_none s old new transactions.Rollback after r nears =
+    intends_none s old stmt.Rollback r.0.0.takes.asks (λ kind. kind) (rolls_back_asking_none 0 (length (own s old.past)) (task_of s old) r.1)
+transaction_intends_none s old new (transactions.RollbackTo name made) after r nears =
+    intends_none s old (stmt.RollbackTo name) r.0.0.takes.asks (λ kind. kind) (rolls_back_asking_none made (length (own s old.past)) (task_of s old) r.1)
+transaction_intends_none s old new (transactions.Opening name l) after r nears =
+    intends_none s old (stmt.Savepoint name) r.0.0.takes.asks (λ kind. kind) (ap asked r.1)
+transaction_intends_none s old new (transactions.Saving name opened) after r nears =
+    intends_none s old (stmt.Savepoint name) r.0.0.takes.asks (λ kind. kind) (ap asked r.1)
+transaction_intends_none s old new transactions.Failed after r nears = absurd (below_none (to_transaction.to_go s new after) nears)
+
+pub transaction_tells_none : (s : ℕ) (old new : State) (m after : TransactionStatement) (a : Advance) → of_transaction.IsRunning old s m
+    → Steps of_transaction.IsRunning s old new after a → Nears to_transaction.to_go s old m new after a
+    → count_by changes_rows new.past ≡ count_by changes_rows old.past
+transaction_tells_none s old new m after a r steps nears =
+    step_tells_none of_transaction.IsRunning s old new after a steps
+    (λ went. transaction_intends_none s old new m after r (subst (Nears to_transaction.to_go s old m new after) went nears))
+
+-- ---- SELECT
+
+reads_none : (s : ℕ) (old : State) (statement : Stmt) (alone : Bool) → of_read.IsEarly old.past s statement alone → asked (task_of s old) ≡ None
+    → IntendsNone s old
+reads_none s old statement alone early none = intends_none s old statement early.takes.asks (reading_makes_none statement early.plain) none
+
+reading_intends_none : (s : ℕ) (old : State) (m : ReadStatement) → of_read.IsRunning old s m → IntendsNone s old
+reading_intends_none s old (readings.Opening asks) r = intends_none s old asks.stmt r.0.takes.asks (reading_makes_none asks.stmt r.0.plain) (ap asked r.1)
+reading_intends_none s old (readings.Open statement alone) r = reads_none s old statement alone r.0 (ap asked r.3)
+reading_intends_none s old (readings.Viewed statement alone) r = reads_none s old statement alone r.0 (ap asked r.3)
+reading_intends_none s old (readings.Searching read) r = reads_none s old read.stmt read.alone r.early (ap asked r.task_is)
+reading_intends_none s old (readings.Found found) r = reads_none s old found.stmt found.alone r.0.early (ap asked r.1)
+reading_intends_none s old (readings.Unacked kept given) r =
+    intends_none s old r.0.stmt r.0.takes.asks (reading_makes_none r.0.stmt r.0.plain) (ap asked r.3)
+reading_intends_none s old (readings.Ending kept given) r =
+    intends_none s old r.0.stmt r.0.takes.asks (reading_makes_none r.0.stmt r.0.plain) (ap asked r.2)
+reading_intends_none s old (readings.Failed alone) r = reads_none s old r.0.stmt alone r.0.early (ap asked r.1)
+
+pub reading_tells_none : (s : ℕ) (old new : State) (m after : ReadStatement) (a : Advance) → of_read.IsRunning old s m
+    → Steps of_read.IsRunning s old new after a → count_by changes_rows new.past ≡ count_by changes_rows old.past
+reading_tells_none s old new m after a r steps =
+    step_tells_none of_read.IsRunning s old new after a steps (λ went. reading_intends_none s old m r)
+
+-- ---- INSERT, UPDATE and DELETE
+
+abbrev AsksForNone : ℕ → State → Type 0
+AsksForNone s old = asked (task_of s old) ≡ None
+
+works_none : (s : ℕ) (old : State) (statement : Stmt) (alone : Bool) → of_write.IsWorking s statement alone old.past → AsksForNone s old → IntendsNone s old
+works_none s old statement alone working none = intends_none s old statement working.takes.asks (writing_makes_none statement working.writes) none
+
+writing_intends_none : (s : ℕ) (old new : State) (m after : WriteStatement) → of_write.IsRunning old s m
+    → IsBelow (to_write.to_go s new after) (to_write.to_go s old m) → AsksForNone s old → IntendsNone s old
+writing_intends_none s old new (writings.Fresh statement) after r nears none =
+    intends_none s old statement r.0.takes.asks (writing_makes_none statement r.1) none
+writing_intends_none s old new writings.Unopened after r nears none = absurd (below_none (to_write.to_go s new after) nears)
+writing_intends_none s old new (writings.Locking statement alone) after r nears none = works_none s old statement alone r.0.working none
+writing_intends_none s old new (writings.Searching search) after r nears none = works_none s old search.stmt search.alone r.reading.early.working none
+writing_intends_none s old new (writings.Changing work todo) after r nears none = works_none s old r.0.statement work.alone r.0.working none
+writing_intends_none s old new (writings.Making work todo rows) after r nears none = works_none s old r.changing.statement work.alone r.changing.working none
+writing_intends_none s old new (writings.Finishing work todo) after r nears none = works_none s old r.changing.statement work.alone r.changing.working none
+writing_intends_none s old new (writings.BackingOut work) after r nears none = works_none s old r.0.statement work.alone r.0.working none
+writing_intends_none s old new (writings.Unacked kept given) after r nears none =
+    intends_none s old r.0.statement r.0.takes.asks (writing_makes_none r.0.statement r.0.writes) none
+writing_intends_none s old new (writings.Ending kept given) after r nears none =
+    intends_none s old r.0.statement r.0.takes.asks (writing_makes_none r.0.statement r.0.writes) none
+
+pub writing_tells_none : (s : ℕ) (old new : State) (m after : WriteStatement) (a : Advance) → of_write.wants_room m ≡ false → of_write.IsRunning old s m
+    → Steps of_write.IsRunning s old new after a → Nears to_write.to_go s old m new after a
+    → count_by changes_rows new.past ≡ count_by changes_rows old.past
+writing_tells_none s old new m after a wants-none r steps nears =
+    step_tells_none of_write.IsRunning s old new after a steps
+    (λ went. writing_intends_none s old new m after r (subst (Nears to_write.to_go s old m new after) went nears) (asks_for_none old s m wants-none r))

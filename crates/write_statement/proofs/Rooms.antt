@@ -1,0 +1,34 @@
+-- A statement for whose next change there is no room, and one that wants none.
+use Rattle.std.proofs.Common.{◌≡◌, ℕ, false, None, refl, sym, ap, inl}
+use Rattle.std.proofs.lemmas.Bool.{false≢true}
+use Rattle.shared_lists.specs.Tasks.{Task, Idle, Lagging, Undoing, MayTakeBack, asked}
+use Rattle.shared_lists.specs.State.{State, task_of}
+use Rattle.write_statement.specs.declared.machine.WriteStatement.{WriteStatement}
+use Rattle.write_statement.specs.declared.machine.WriteStatement.TheVariants as machine
+use Rattle.write_statement.specs.Running.{IsRunning, wants_room, without_room}
+use Rattle.write_statement.proofs.GivingUp.{changing_no_memory, may_take_back}
+
+-- what is given up before a change is begun has nothing under way
+pub runs_without_room : (state : State) (s : ℕ) (m : WriteStatement) → IsRunning state s m → IsRunning state s (without_room m)
+runs_without_room state s (machine.Changing work todo) r = (changing_no_memory state.past state.writer s work todo.items r.0, inl r.1)
+runs_without_room state s other r = r
+
+-- what is being taken back is told already
+taken_back_asks_none : (task : Task) → MayTakeBack task → asked task ≡ None
+taken_back_asks_none Idle back = refl
+taken_back_asks_none Lagging back = refl
+taken_back_asks_none (Undoing left) back = refl
+taken_back_asks_none other back = absurd back
+
+pub asks_for_none : (state : State) (s : ℕ) (m : WriteStatement) → wants_room m ≡ false → IsRunning state s m → asked (task_of s state) ≡ None
+asks_for_none state s (machine.Fresh statement) wants-none r = ap asked r.2
+asks_for_none state s machine.Unopened wants-none r = ap asked r.1
+asks_for_none state s (machine.Locking statement alone) wants-none r = ap asked r.1
+asks_for_none state s (machine.Searching search) wants-none r = ap asked r.task_is
+asks_for_none state s (machine.Changing work todo) wants-none r = absurd (false≢true (sym wants-none))
+asks_for_none state s (machine.Making work todo rows) wants-none r = absurd (false≢true (sym wants-none))
+asks_for_none state s (machine.Finishing work todo) wants-none r = r.told
+asks_for_none state s (machine.BackingOut work) wants-none r =
+    taken_back_asks_none (task_of s state) (may_take_back work.before s state.past (task_of s state) r.1)
+asks_for_none state s (machine.Unacked kept given) wants-none r = ap asked r.3
+asks_for_none state s (machine.Ending kept given) wants-none r = ap asked r.2
