@@ -56,6 +56,7 @@ impl<D: Disk, R: Root, L: SharedLists> DurableEngine<D, R, L> {
     ghost use Rattle.durable_engine.specs.State.{IsJoined, IsIdle, IsWorking};
     ghost use Rattle.durable_engine.specs.Calls.{Joins, Starts, StepsBy, Leaves, SameState};
     ghost use Rattle.durable_engine.specs.Going.{Nears};
+    ghost use Rattle.durable_engine.specs.Whole.{HoldsAll};
 
     /// An engine that nobody has joined, over the lists of a database that the disk's files and the log stand for.
     pub fn new(alloc: Global, disk: D, lists: SqlLists<L>, log: CommitLog) -> Self
@@ -172,8 +173,8 @@ impl<D: Disk, R: Root, L: SharedLists> DurableEngine<D, R, L> {
         }
     }
 
-    /// Brings what is left of the log onto the disk, and gives the disk and the history back. An engine that has stopped meets
-    /// its disk no more.
+    /// Brings what is left of the log onto the disk, and gives the disk and the history back: every commit is on the disk then.
+    /// An engine that has stopped meets its disk no more.
     pub fn close(self) -> (D, History, Result<(), Cause>)
         ensures names { result.1.names ≡ self.names }
         ensures past { result.1.past ≡ self.past }
@@ -181,6 +182,7 @@ impl<D: Disk, R: Root, L: SharedLists> DurableEngine<D, R, L> {
         ensures stopped { has_stopped self.past ≡ true → Rose R.root.faults (D.past result.0).faults }
         ensures failed { IfErr result.2 (λ cause. (cause ≡ Cause.Disk) × Rose R.root.faults (D.past result.0).faults) }
         ensures crash { KeepsSince R.root (D.past result.0) self.past }
+        ensures whole { IfOk result.2 (λ _. HoldsAll R.root (D.past result.0) self.past) }
     {
         let DurableEngine {
             mut disk,

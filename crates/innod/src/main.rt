@@ -1,19 +1,28 @@
-//! Makes the files of a database, or runs scripts of SQL on the storage engine over them, and prints what each session was
-//! answered. All that it does there is `script_runner::run`.
+//! Makes the files of a database; or runs scripts of SQL on the storage engine over them, and prints what each session was
+//! answered; or prints the database as SQL. All that it does there is `script_runner::run`.
 #![tactic(auto)]
 
-use disk_file::{FileDisk, FileSource, StdSink, SystemClock};
+use disk_file::{FileDisk, FileSource, LockFiles, StdSink, SystemClock};
 use disk_mem::OpenGate;
 use inno_types::{Bytes, Listed};
 use script_runner::{Fault, cause_line, run};
 use std::alloc::{AllocError, Global};
+use std::io::Print;
 use std::process::ExitCode;
+use std::sync::Wait;
+use std::thread::Threads;
+use std::time::Clock as Timer;
 use std::{env, io};
 use store_api::NoMemory;
 
 fn main(rt: HostRuntime) -> io::Result<ExitCode> {
     let status = match words_of(&rt) {
-        Ok(words) => run_words(&rt, &words)?,
+        Ok(words) => {
+            let file = word_at(&words, 2);
+            let script = word_at(&words, 3);
+            let ran = run_over_files(&rt, rt.alloc(), &words, file, script);
+            status_of(&rt, ran, file, script)?
+        }
         Err(error) if error.kind() == io::ErrorKind::InvalidData => {
             tell(&rt, Fault::Usage, "", "")?;
             1
@@ -35,12 +44,14 @@ fn words_of(rt: &HostRuntime) -> io::Result<Vec<String>> {
     Ok(words)
 }
 
-/// Runs the program's words over real objects, and says why they end without success. Where no script is named, as for
-/// `init`, the source has an empty name, and is never opened.
-fn run_words(rt: &HostRuntime, words: &[String]) -> io::Result<u8> {
-    let file = word_at(words, 2);
-    let script = word_at(words, 3);
-    match run_over_files(rt, words, file, script) {
+/// Says why a run ended without success, and with which status.
+fn status_of(
+    rt: &HostRuntime,
+    ran: Result<(u8, Fault), NoMemory>,
+    file: &str,
+    script: &str,
+) -> io::Result<u8> {
+    match ran {
         Ok((status, fault)) => {
             tell(rt, fault, file, script)?;
             Ok(status)
@@ -59,13 +70,19 @@ fn word_at(words: &[String], place: usize) -> &str {
     }
 }
 
-fn run_over_files(
-    rt: &HostRuntime,
+/// Runs the program's words over real objects. Where no script is named, as for `init` or `dump`, the source has an empty
+/// name, and is never opened.
+fn run_over_files<R>(
+    rt: &R,
+    alloc: Global,
     words: &[String],
     file: &str,
     script: &str,
-) -> Result<(u8, Fault), NoMemory> {
-    let alloc = rt.alloc();
+) -> Result<(u8, Fault), NoMemory>
+where
+    R: LockFiles + Print + Timer + Threads + Wait + Sync,
+    R::File: Send,
+{
     let bytes = all_bytes(alloc, words)?;
     let (file, script) = (bytes_of(alloc, file)?, bytes_of(alloc, script)?);
     let disk = FileDisk::new(rt, alloc, &file)?;
@@ -76,6 +93,7 @@ fn run_over_files(
     let mut sink = StdSink::new(rt);
     let clock = SystemClock::new(rt);
     let outcome = run(
+        rt,
         alloc,
         &bytes,
         &mut source,

@@ -1,12 +1,13 @@
 //! The calls of logged sessions. Each step of a session is one of its statement, of its commit's acknowledgement or of its
 //! ending; the entries that it adds are taken over into the log at once.
 
-ghost use Rattle.std.specs.Prelude.{◌≡◌, ◌≢◌, ◌⊎◌, ◌≤◌, ◌<◌, ◌^◌, ◌++◌, ℕ, List, [], length, reverse, true, false, None, All, IsTrue, IfOk, OnOk, OnErr};
+ghost use Rattle.std.specs.Prelude.{◌≡◌, ◌≢◌, ◌⊎◌, ◌≤◌, ◌<◌, ◌^◌, ◌++◌, ℕ, List, [], ◌∷◌, length, reverse, true, false, None, All, IsTrue, IfOk, OnOk, OnErr};
 ghost use Rattle.store_api.specs.Past.{Past};
 ghost use Rattle.store_api.specs.Causes.{HasCause};
 ghost use Rattle.inno_types.specs.declared.reply.Item.TheVariants.{Sql};
 ghost use Rattle.inno_db.specs.Database.{Database};
 ghost use Rattle.inno_model.specs.declared.event.Event.{Event as EventValue};
+ghost use Rattle.inno_model.specs.declared.event.Event.TheVariants.{Acked};
 ghost use Rattle.sql_grammar.specs.Grammar.{Spells};
 ghost use Rattle.sql_history.specs.Legal.{IsLegal, owes_commit};
 ghost use Rattle.sql_history.specs.Counts.{has_stopped};
@@ -217,9 +218,11 @@ impl<L: SharedLists> LoggedSessions<L> {
         self.seats[s as usize].phase = self.sessions.phase(s);
     }
 
-    /// Brings every commit onto the disk.
+    /// Brings every commit onto the disk: the last one of any session could be acknowledged then.
     pub fn flush<D: Disk>(&mut self, disk: &mut D) -> Result<(), Failed>
         ensures same { self.new.sessions ≡ self.old.sessions }
+        ensures whole { OnOk result ((root : Past) (s : ℕ) → IsLogging root (D.past disk.old) self.old.sessions.lists.past self.old.log
+            → IsLogging root (D.past disk.new) (Acked s (D.past disk.new).moment ∷ self.old.sessions.lists.past) self.new.log) }
         ensures phases { self.new.seats ≡ self.old.seats }
         ensures kept { (root : Past) → IsLogging root (D.past disk.old) self.old.sessions.lists.past self.old.log
             → IsLogging root (D.past disk.new) self.new.sessions.lists.past self.new.log }

@@ -1,6 +1,6 @@
 -- What each fault says of the disk and of the source, by where it came.
-use Rattle.std.proofs.Common.{◌≡◌, ◌⊎◌, ℕ, Bool, true, false, Option, None, Some, List, [], ◌++◌, refl, sym, ap, subst, ◌∙◌, inl, inr}
-use Rattle.std.specs.Prelude.{IfSome}
+use Rattle.std.proofs.Common.{◌≡◌, ◌⊎◌, ℕ, Bool, true, false, Option, None, Some, List, [], ◌++◌, take, refl, sym, ap, subst, ◌∙◌, inl, inr}
+use Rattle.std.specs.Prelude.{IfSome, IfOk, Result, Ok, Err, is_err}
 use Rattle.std.specs.List.{list_any}
 use Rattle.store_api.specs.declared.answers.MountBad.{MountBad}
 use Rattle.store_api.specs.declared.answers.MountBad.TheVariants as refusals
@@ -17,10 +17,11 @@ use Rattle.file_zero.specs.Making.{IsNotMade}
 use Rattle.file_zero.specs.Refused.{IsRefused, HasTooMany}
 use Rattle.script.specs.Script.{Spells, IsScript}
 use Rattle.script.specs.declared.script.Script.{Script}
-use Rattle.script_runner.specs.declared.outcome.Fault.{Fault}
-use Rattle.script_runner.specs.declared.outcome.Fault.TheVariants.{Nothing, Usage, ScriptBad, ScriptRead, OutputWrite, DiskFault, File, Limit, NoMemory}
-use Rattle.script_runner.specs.Run.{allowed, status_of, fault_of, IsInputFault, IsPlayedFault, IsMountFault, IsMakeFault, IsBeforeDisk, SparesFiles, IsPrinted, Judges, Refuses, answers_no_memory}
-use Rattle.script_runner.proofs.Telling.{all_is_front}
+use Rattle.run_outcome.specs.declared.outcome.Fault.{Fault}
+use Rattle.run_outcome.specs.declared.outcome.Fault.TheVariants.{Nothing, Usage, ScriptBad, ScriptRead, OutputWrite, DiskFault, File, Limit, NoMemory}
+use Rattle.run_outcome.specs.Faults.{allowed, status_of, fault_of, IsInputFault, IsPlayedFault, IsPrinted, Refuses, answers_no_memory}
+use Rattle.script_runner.specs.Run.{IsMountFault, IsMakeFault, IsBeforeDisk, SparesFiles, Judges}
+use Rattle.run_outcome.proofs.Telling.{all_is_front}
 
 -- ---- a history without entries
 
@@ -58,6 +59,26 @@ played_fault old new OutputWrite is rose = tt
 played_fault old new NoMemory is rose = tt
 played_fault old new DiskFault is rose = rose refl
 played_fault old new other is rose = absurd is
+
+pub appends_none : (known : Option (List ℕ)) (bytes : List ℕ) → bytes ≡ [] → Appends known known bytes
+appends_none None bytes none = tt
+appends_none (Some old) bytes none = sym (ap (λ (more : List ℕ). old ++ more) none ∙ append-nil old)
+
+-- nothing was printed of files that were refused
+pub refused_printed : (bad : MountBad) (known : Option (List ℕ)) (bytes : List ℕ) → IsPrinted (fault_of bad) known known bytes
+refused_printed refusals.Disk known bytes = record { count = 0; front = appends_none known (take 0 bytes) refl }
+refused_printed refusals.NoMemory known bytes = inl refl
+refused_printed (refusals.TooLarge rows) known bytes = refl
+refused_printed other known bytes = refl
+
+-- a fault of a script that was read tells no wrong words
+pub input_not_usage : (f : Fault) → IsInputFault f → f ≡ Usage → ⊥
+input_not_usage f is u = subst IsInputFault u is
+
+-- where there was no error
+pub where_no_err : {T E P : Type 0} (result : Result T E) → is_err result ≡ false → IfOk result (λ value. P) → P
+where_no_err (Ok value) none p = p
+where_no_err (Err error) none p = cc
 
 -- ---- a script that was read
 
@@ -133,10 +154,6 @@ make_met old new other is before = before
 -- nothing is printed of it, which is the text of a history that nobody has joined
 pub no_text : (history : Recorded) → history.names ≡ [] → text history ≡ []
 no_text history names = ap (λ (all : List (List ℕ)). sections 0 all history.past) names
-
-pub appends_none : (known : Option (List ℕ)) (bytes : List ℕ) → bytes ≡ [] → Appends known known bytes
-appends_none None bytes none = tt
-appends_none (Some old) bytes none = sym (ap (λ (more : List ℕ). old ++ more) none ∙ append-nil old)
 
 pub make_printed : (old new : Past) (f : Fault) (known : Option (List ℕ)) (bytes : List ℕ) → IsMakeFault old new f → bytes ≡ [] → IsPrinted f known known bytes
 make_printed old new Nothing known bytes is none = appends_none known bytes none

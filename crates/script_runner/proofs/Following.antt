@@ -5,18 +5,21 @@ use Rattle.inno_model.specs.declared.event.Event.{Event}
 use Rattle.inno_model.specs.Text.{items}
 use Rattle.script.specs.declared.script.Script.{Script}
 use Rattle.script.specs.Script.{Spells}
-use Rattle.script_runner.specs.Run.{allowed, Follows, Plays}
-use Rattle.script_runner.specs.Sessions.{FollowsScript, HasPlayed, HasAnswered}
-use Rattle.script_runner.proofs.Places.{follows_nothing}
+use Rattle.run_outcome.specs.Faults.{allowed}
+use Rattle.script_runner.specs.Run.{Follows, Plays}
+use Rattle.script_play.specs.Sessions.{AreNamed, FollowsScript, HasPlayed, HasAnswered}
+use Rattle.script_play.proofs.Places.{follows_nothing, nobody_named}
 
-pub nothing_follows : (left : Option (List ℕ)) (past : List Event) → ((s : ℕ) → items s past ≡ []) → IfSome left (λ bytes. Follows bytes past)
-nothing_follows None past nothing = tt
-nothing_follows (Some bytes) past nothing = λ is. (is.0, is.1, follows_nothing is.0.items past nothing)
+pub nothing_follows : (left : Option (List ℕ)) (names : List (List ℕ)) (past : List Event) → names ≡ [] → ((s : ℕ) → items s past ≡ [])
+    → IfSome left (λ bytes. Follows bytes names past)
+nothing_follows None names past none nothing = tt
+nothing_follows (Some bytes) names past none nothing = λ is. (is.0, is.1, nobody_named is.0 names none, follows_nothing is.0.items past nothing)
 
-pub spelled_follows : (left : Option (List ℕ)) (script : Script) (past : List Event) → IfSome left (λ bytes. Spells allowed bytes script)
-    → FollowsScript script.items past → IfSome left (λ bytes. Follows bytes past)
-spelled_follows None script past spells follows = tt
-spelled_follows (Some bytes) script past spells follows = λ is. (script, spells, follows)
+pub spelled_follows : (left : Option (List ℕ)) (script : Script) (names : List (List ℕ)) (past : List Event)
+    → IfSome left (λ bytes. Spells allowed bytes script) → AreNamed script names → FollowsScript script.items past
+    → IfSome left (λ bytes. Follows bytes names past)
+spelled_follows None script names past spells named follows = tt
+spelled_follows (Some bytes) script names past spells named follows = λ is. (script, spells, named, follows)
 
 pub spelled_plays : (left : Option (List ℕ)) (script : Script) (names : List (List ℕ)) (past : List Event) → IfSome left (λ bytes. Spells allowed bytes script)
     → HasPlayed script names past → HasAnswered script past → IfSome left (λ bytes. Plays bytes names past)

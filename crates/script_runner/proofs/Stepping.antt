@@ -16,7 +16,7 @@ use Rattle.stopped_sessions.specs.Seats.{halted, ended, phase_at}
 use Rattle.stopped_sessions.specs.Calls.{is_at_work, has_left}
 use Rattle.durable_engine.specs.State.{State}
 use Rattle.durable_engine.specs.Calls.{GoesOn, StepsBy}
-use Rattle.script_runner.specs.Sessions.{StartsNothing}
+use Rattle.script_play.specs.Sessions.{StartsNothing}
 use Rattle.script_runner.specs.Engines.{shown_of}
 
 item_kept : (e : Event) (h : List Event) (s : ℕ) → KeepsItems e → items s (e ∷ h) ≡ items s h

@@ -3,7 +3,7 @@ use Rattle.stopped_sessions.specs.Seats.{phase_at}
 use Rattle.stopped_sessions.specs.Calls.{is_at_work, has_left}
 use Rattle.durable_engine.specs.State.{State}
 use Rattle.durable_engine.specs.Going.{to_go}
-use Rattle.script_runner.specs.Sessions.{Shown}
+use Rattle.script_play.specs.Sessions.{Shown}
 
 abbrev pub shown_of : {D : Type 0} → State D → Shown
 shown_of state = record {

@@ -4,7 +4,10 @@ use disk_mem::{FixedClock, MemDisk, MemSink, MemSource, OpenGate};
 use inno_types::{Bytes, Ids, Listed};
 use script_runner::{Fault, run};
 use std::alloc::{AllocError, Global};
+use std::sync::Wait;
 use std::test::Fail;
+use std::thread::Threads;
+use std::time::Clock as Timer;
 use store_api::NoMemory;
 
 fn bytes(alloc: Global, text: &str) -> Result<Bytes, AllocError> {
@@ -74,13 +77,17 @@ fn failed(
 }
 
 /// A new disk on which the files of a database were made, or the fault of that.
-fn new_files(alloc: Global) -> Result<(Fault, MemDisk), NoMemory> {
+fn new_files<R: Threads + Wait + Timer + Sync>(
+    rt: &R,
+    alloc: Global,
+) -> Result<(Fault, MemDisk), NoMemory> {
     let disk = MemDisk::new(alloc, Listed::new(alloc))?;
     let mut source = MemSource::new(alloc, Listed::new(alloc), Listed::new(alloc))?;
     let mut sink = MemSink::new(alloc, Listed::new(alloc))?;
     let words = words(alloc, &["innod", "init", "f"])?;
     let clock = FixedClock { now: 0 };
     let outcome = run(
+        rt,
         alloc,
         &words,
         &mut source,
@@ -93,7 +100,8 @@ fn new_files(alloc: Global) -> Result<(Fault, MemDisk), NoMemory> {
 }
 
 /// What a run over a disk answers and prints, and the disk that it leaves.
-fn result_on(
+fn result_on<R: Threads + Wait + Timer + Sync>(
+    rt: &R,
     alloc: Global,
     disk: MemDisk,
     case: &Case,
@@ -104,6 +112,7 @@ fn result_on(
     let words = words(alloc, &["innod", case.command, "f", "s"])?;
     let clock = FixedClock { now: 0 };
     let outcome = run(
+        rt,
         alloc,
         &words,
         &mut source,
@@ -244,9 +253,9 @@ fn prints_what_sessions_were_answered(rt: HostRuntime) -> Result<(), Fail> {
         failed(ONE_SESSION, 0, 1, Fault::OutputWrite, 4),
     ];
     for case in &cases {
-        let (made, disk) = new_files(rt.alloc())?;
+        let (made, disk) = new_files(&rt, rt.alloc())?;
         assert_eq!(rt; made, Fault::Nothing);
-        let (fault, status, sink, disk) = result_on(rt.alloc(), disk, case)?;
+        let (fault, status, sink, disk) = result_on(&rt, rt.alloc(), disk, case)?;
         drop(disk);
         let script = case.script;
         assert_eq!(rt; fault, case.fault, "after {script}");
@@ -272,17 +281,66 @@ fn what_was_committed_outlives_the_run(rt: HostRuntime) -> Result<(), Fail> {
         "@session a\nSELECT * FROM t;\nSELECT id FROM t WHERE a = 20;\n",
         "@session a\n1> ROWS 2\n1\t10\n2\t20\n2> ROWS 1\n2\n",
     );
-    let (made, disk) = new_files(rt.alloc())?;
+    let (made, disk) = new_files(&rt, rt.alloc())?;
     assert_eq!(rt; made, Fault::Nothing);
-    let (fault, status, sink, disk) = result_on(rt.alloc(), disk, &first)?;
+    let (fault, status, sink, disk) = result_on(&rt, rt.alloc(), disk, &first)?;
     assert_eq!(rt; fault, Fault::Nothing);
     assert_eq!(rt; status, 0);
     assert_eq!(rt; sink.taken().as_slice(), first.printed.as_bytes());
-    let (fault, status, sink, disk) = result_on(rt.alloc(), disk, &second)?;
+    let (fault, status, sink, disk) = result_on(&rt, rt.alloc(), disk, &second)?;
     drop(disk);
     assert_eq!(rt; fault, Fault::Nothing);
     assert_eq!(rt; status, 0);
     assert_eq!(rt; sink.taken().as_slice(), second.printed.as_bytes());
+    Ok(())
+}
+
+/// What the program prints of the database that a disk holds, and the disk.
+fn dumped<R: Threads + Wait + Timer + Sync>(
+    rt: &R,
+    alloc: Global,
+    disk: MemDisk,
+) -> Result<(Fault, MemSink, MemDisk), NoMemory> {
+    let mut source = MemSource::new(alloc, Listed::new(alloc), Listed::new(alloc))?;
+    let mut sink = MemSink::new(alloc, Listed::new(alloc))?;
+    let words = words(alloc, &["innod", "dump", "f"])?;
+    let clock = FixedClock { now: 0 };
+    let outcome = run(
+        rt,
+        alloc,
+        &words,
+        &mut source,
+        disk,
+        &mut sink,
+        &clock,
+        &OpenGate,
+    );
+    Ok((outcome.fault, sink, outcome.disk))
+}
+
+const DUMP: &str =
+    "CREATE TABLE `t` (`id` BIGINT NOT NULL, `a` BIGINT, PRIMARY KEY (`id`), KEY `ka` (`a`));\nINSERT INTO `t` VALUES (1,10);\nINSERT INTO `t` VALUES (2,NULL);\n";
+
+#[test]
+fn a_dump_makes_the_database_anew(rt: HostRuntime) -> Result<(), Fail> {
+    let first = ran(
+        "run",
+        "CREATE TABLE t (id BIGINT, a BIGINT, PRIMARY KEY (id), KEY ka (a));\n@session a\nINSERT INTO t VALUES (1,10),(2,NULL);\nBEGIN;\nINSERT INTO t VALUES (3,30);\n",
+        "@session setup\n1> OK\n@session a\n1> OK 2\n2> OK\n3> OK 1\n",
+    );
+    let again = ran("run", DUMP, "@session setup\n1> OK\n2> OK 1\n3> OK 1\n");
+    for case in &[first, again] {
+        let (made, disk) = new_files(&rt, rt.alloc())?;
+        assert_eq!(rt; made, Fault::Nothing);
+        let (fault, status, sink, disk) = result_on(&rt, rt.alloc(), disk, case)?;
+        let (dump_fault, dump, disk) = dumped(&rt, rt.alloc(), disk)?;
+        drop(disk);
+        assert_eq!(rt; fault, Fault::Nothing);
+        assert_eq!(rt; status, 0);
+        assert_eq!(rt; sink.taken().as_slice(), case.printed.as_bytes());
+        assert_eq!(rt; dump_fault, Fault::Nothing);
+        assert_eq!(rt; dump.taken().as_slice(), DUMP.as_bytes());
+    }
     Ok(())
 }
 
@@ -297,6 +355,7 @@ fn other_words_are_no_command(rt: HostRuntime) -> Result<(), Fail> {
         words(alloc, &["innod", "play", "f", "s", "t"])?,
         words(alloc, &["innod", "init", "f", "s"])?,
         words(alloc, &["innod", "init", ""])?,
+        words(alloc, &["innod", "dump", "-f"])?,
         words(alloc, &["innod", "--help"])?,
         words(alloc, &[])?,
         with_last_byte(words(alloc, &["innod", "play", "f", "s"])?, 0xFF)?,
@@ -307,6 +366,7 @@ fn other_words_are_no_command(rt: HostRuntime) -> Result<(), Fail> {
         let mut sink = MemSink::new(alloc, Listed::new(alloc))?;
         let clock = FixedClock { now: 0 };
         let outcome = run(
+            &rt,
             alloc,
             words,
             &mut source,

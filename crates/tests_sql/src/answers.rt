@@ -10,7 +10,7 @@ use std::alloc::Global;
 use std::test::Fail;
 use store_api::NoMemory;
 
-pub fn make(alloc: Global, db: &mut Db, change: Change) -> Result<(), NoMemory> {
+fn make(alloc: Global, db: &mut Db, change: Change) -> Result<(), NoMemory> {
     if !db.can_apply(&change) {
         return Err(NoMemory);
     }

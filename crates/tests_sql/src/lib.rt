@@ -1,4 +1,4 @@
-//! The parser on texts with the trees that it makes of them, plans, the plain interpreter's answers, and scripts.
+//! The parser on texts with the trees that it makes of them, plans, and the plain interpreter's answers.
 //! There is nothing here but tests.
 #![tactic(auto)]
 
@@ -14,10 +14,6 @@ mod plans;
 mod refusals;
 #[cfg(test)]
 mod rendering;
-#[cfg(test)]
-mod script_texts;
-#[cfg(test)]
-mod scripts;
 #[cfg(test)]
 mod statement;
 #[cfg(test)]

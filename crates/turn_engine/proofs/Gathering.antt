@@ -1,10 +1,12 @@
 -- The last seat takes in the others.
-use Rattle.std.proofs.Common.{◌≡◌, ℕ, zero, suc, ◌<◌, true, false, List, [], ◌∷◌, ◌++◌, length, map, sym, ap, ◌∙◌, subst, arith, append_assoc, inl, inr}
+use Rattle.std.proofs.Common.{◌≡◌, ℕ, zero, suc, ◌<◌, ◌≤◌, true, false, List, [], ◌∷◌, ◌++◌, length, map, sym, ap, ◌∙◌, subst, arith, append_assoc, inl, inr}
 use Rattle.std.specs.Prelude.{slice_index_or, remove, Any, All}
 use Rattle.std.specs.List.{AllByRecursion}
 use Rattle.std.proofs.lemmas.List.{append-nil}
 use Rattle.std.proofs.lemmas.List.Elements.{All-from_recursion}
 use Rattle.turn_board.specs.declared.Board.{Board}
+use Rattle.turn_board.specs.declared.Phase.TheVariants.{Idle}
+use Rattle.turn_board.specs.Boards.{calls_of, phase_of}
 use Rattle.turn_board.proofs.Places.{kept_calls}
 use Rattle.turn_rule.specs.declared.rule.Claim.{Claim}
 use Rattle.turn_rule.specs.declared.rule.View.{View}
@@ -73,3 +75,12 @@ gathers v u s rs b alone mine first is h =
       All-from_recursion (HasCalls b) rs (all_have_calls b rs others),
       own.keeps.names ∙ (ap (λ l. s.seen.names ++ l) (own.keeps.alone first) ∙ append-nil s.seen.names),
     )
+
+-- the first session has nothing under way
+pub first_idle : (b : Board) (s : Sitting) → HasCalls b s → s.number ≡ 0 → phase_of s.seen s.number ≡ Idle → phase_of b 0 ≡ Idle
+first_idle b s has first idle = subst (λ (x : ℕ). phase_of b x ≡ Idle) first (has.phase ∙ idle)
+
+-- who never joined has no calls
+pub others_quiet : (b : Board) (s : Sitting) → b.names ≡ s.seen.names → ((x : ℕ) → length b.names ≤ x → calls_of x b.past ≡ []) → (x : ℕ)
+    → length s.seen.names ≤ x → calls_of x b.past ≡ []
+others_quiet b s same unseated x beyond = unseated x (subst (λ (l : List (List ℕ)). length l ≤ x) (sym same) beyond)

@@ -1,5 +1,5 @@
 -- What contracts see of a session and of its receipt, and what a call does.
-use Rattle.std.specs.Prelude.{◌≡◌, ℕ, ◌<◌, Bool, true, false, List, [], ◌∷◌, ◌++◌, length, map, slice_index_or, MatchBool, refl}
+use Rattle.std.specs.Prelude.{◌≡◌, ◌⊎◌, ℕ, ◌<◌, Bool, true, false, List, [], ◌∷◌, ◌++◌, length, map, slice_index_or, codes, MatchBool, refl}
 use Rattle.std.specs.Coded.{Coded, code_by, coded×, coded_ℕ, coded_bool}
 use Rattle.inno_types.specs.declared.reply.Item.{Item}
 use Rattle.inno_types.specs.declared.reply.Reply.{Reply}
@@ -64,6 +64,15 @@ Executed s item reply t = MatchBool s.lost
     (MatchBool t.lost
     ((reply ≡ replies.NoMemory) × (own t ≡ own s))
     (own t ≡ Ended s.number (item_number s.number s.seen) reply ∷ Started s.number (item_number s.number s.seen) item ∷ own s))
+
+-- the name of the first session
+abbrev pub setup : List ℕ
+setup = codes "setup"
+
+-- Nobody has called, and no session but the first has joined.
+pub record IsUncalled (b : Board) : Type 0 where
+  pub quiet : (x : ℕ) → calls_of x b.past ≡ []
+  pub names : (b.names ≡ []) ⊎ (b.names ≡ setup ∷ [])
 
 abbrev pub claim_of : Sitting → Claim
 claim_of s = claim s.number s.seen (own_places s)

@@ -1,5 +1,5 @@
 -- What a seat knows between two turns, and what a turn does.
-use Rattle.std.specs.Prelude.{◌≡◌, ℕ, ◌+◌, ◌<◌, List, [], ◌∷◌, ◌++◌, length, Option, Some, None}
+use Rattle.std.specs.Prelude.{◌≡◌, ℕ, ◌<◌, List, [], ◌∷◌, ◌++◌, length, Option, Some, None}
 use Rattle.inno_types.specs.declared.reply.Reply.{Reply}
 use Rattle.inno_model.specs.declared.event.Event.{Event}
 use Rattle.inno_model.specs.declared.event.Event.TheVariants.{Ended}
@@ -45,12 +45,13 @@ abbrev pub reply_in : Stepped → Option Reply
 reply_in (Over reply) = Some reply
 reply_in (GoesOn pause) = None
 
--- From a to b, as session 0 has seen it, session n has joined, which is idle and has not called, and nor has session 0.
-pub record HasJoined (a b : Board) (n : ℕ) : Type 0 where
+-- From a to b, as session 0 has seen it, session n has joined under this name. It is idle and has not called, and nor has
+-- session 0.
+pub record HasJoined (name : List ℕ) (a b : Board) (n : ℕ) : Type 0 where
   pub extends : Extends a.past b.past
   pub own : calls_of 0 b.past ≡ calls_of 0 a.past
   pub phase_stays : phase_of b 0 ≡ phase_of a 0
-  pub names : length b.names ≡ length a.names + 1
+  pub names : b.names ≡ a.names ++ name ∷ []
   pub number : n ≡ length a.names
   pub idle : phase_of b n ≡ Idle
   pub no_calls : calls_of n b.past ≡ []

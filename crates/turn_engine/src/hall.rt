@@ -1,12 +1,12 @@
 //! The hall that threads share: the gate with the engine. It is opened by `share` over an engine that nobody has joined,
 //! and closed by `gather` once every session has left.
 
-ghost use Rattle.std.specs.Prelude.{◌≡◌, ℕ, ◌<◌, [], false, length, All, Any, IfOk, OnOk};
+ghost use Rattle.std.specs.Prelude.{◌≡◌, ℕ, ◌<◌, ◌≤◌, [], ◌∷◌, false, length, All, Any, IfOk, IfErr, OnOk, OnErr};
 ghost use Rattle.std.specs.List.{AllByRecursion};
 ghost use Rattle.turn_board.specs.Boards.{calls_of, phase_of};
 ghost use Rattle.turn_board.specs.declared.Phase.TheVariants.{Idle};
 ghost use Rattle.turn_rule.specs.Steps.{IsAtRest};
-ghost use Rattle.turn_engine.specs.Sessions.{own, HasCalls, gathered};
+ghost use Rattle.turn_engine.specs.Sessions.{own, setup, IsUncalled, HasCalls, gathered};
 
 use crate::session::{Receipt, Session};
 use crate::turns::Turns;
@@ -37,7 +37,8 @@ impl<E: Turns> Model for Hall<E> {
 pub fn share<E: Turns>(alloc: Global, mut engine: E) -> Result<(Hall<E>, Session), (E, NoMemory)>
     requires nobody { (E.board engine).names ≡ [] }
     requires no_calls { (x : ℕ) → calls_of x (E.board engine).past ≡ [] }
-    ensures { IfOk result (λ r. (r.1.hall ≡ r.0) × (r.1.number ≡ 0) × (own r.1 ≡ []) × (length r.1.seen.names ≡ 1) × (r.1.lost ≡ false)) }
+    ensures ok { IfOk result (λ r. (r.1.hall ≡ r.0) × (r.1.number ≡ 0) × (own r.1 ≡ []) × (r.1.seen.names ≡ setup ∷ []) × (r.1.lost ≡ false)) }
+    ensures err { IfErr result (λ r. IsUncalled (E.board r.0)) }
 {
     if join_first(alloc, &mut engine).is_err() {
         return Err((engine, NoMemory));
@@ -53,9 +54,10 @@ pub fn share<E: Turns>(alloc: Global, mut engine: E) -> Result<(Hall<E>, Session
 fn join_first<E: Turns>(alloc: Global, engine: &mut E) -> Result<u32, NoMemory>
     requires nobody { (E.board engine.old).names ≡ [] }
     requires no_calls { (x : ℕ) → calls_of x (E.board engine.old).past ≡ [] }
-    ensures names { OnOk result (length (E.board engine.new).names ≡ 1) }
+    ensures ok { OnOk result ((E.board engine.new).names ≡ setup ∷ []) }
+    ensures err { OnErr result ((E.board engine.new).names ≡ []) }
     ensures idle { OnOk result (phase_of (E.board engine.new) 0 ≡ Idle) }
-    ensures no_calls { (x : ℕ) → OnOk result (calls_of x (E.board engine.new).past ≡ []) }
+    ensures no_calls { (x : ℕ) → calls_of x (E.board engine.new).past ≡ [] }
 {
     let name = Listed::from_vec(Vec::from_slice(alloc, "setup".as_bytes())?);
     engine.join(&name)
@@ -68,7 +70,7 @@ impl<E: Turns> Hall<E> {
         &self.gate
     }
 
-    /// The engine, once every session has left: it has the calls of each, and no others.
+    /// The engine, once every session has left: it has the calls of each, and no others. Who never joined has none.
     pub fn gather(self, first: Session, receipts: Vec<Receipt>) -> E
         requires hall { (first.hall ≡ self) × All (λ r. r.hall ≡ self) receipts.items }
         requires first { first.number ≡ 0 }
@@ -76,6 +78,8 @@ impl<E: Turns> Hall<E> {
         ensures first { HasCalls (E.board result) first }
         ensures receipts { All (HasCalls (E.board result)) receipts.items }
         ensures names { (E.board result).names ≡ first.seen.names }
+        ensures others { (x : ℕ) → length first.seen.names ≤ x → calls_of x (E.board result).past ≡ [] }
+        ensures idle { phase_of (E.board result) 0 ≡ Idle }
     {
         let Hall { gate } = self;
         let mut pass = first.into_pass();

@@ -1,7 +1,7 @@
 //! A session of a hall, in the thread that has it, and the receipt of one that has left. A call is an item from its start
 //! to its reply, each step of it in a turn of its own.
 
-ghost use Rattle.std.specs.Prelude.{◌≡◌, ℕ, ◌+◌, ◌<◌, [], ◌∷◌, true, false, length, IfOk, IfSome, IfNone, MatchResult};
+ghost use Rattle.std.specs.Prelude.{◌≡◌, ℕ, ◌+◌, ◌<◌, [], ◌∷◌, ◌++◌, true, false, length, IfOk, IfSome, IfNone, MatchResult};
 ghost use Rattle.inno_model.specs.declared.event.Event.TheVariants.{Started, Ended};
 ghost use Rattle.inno_model.specs.Recorded.{Extends};
 ghost use Rattle.turn_board.specs.declared.Phase.TheVariants.{Idle, Busy, Leaving, Left};
@@ -67,6 +67,7 @@ impl Session {
         ensures gate { result.table_id ≡ self.hall }
         ensures rests { Rests result.me self.number }
         ensures claim { result.me.0.mine ≡ claim_of self }
+        ensures idle { phase_of self.seen self.number ≡ Idle }
     {
         let Session {
             badge,
@@ -110,7 +111,7 @@ impl Session {
         requires few { length self.old.seen.names < 68 }
         ensures same { (self.new.hall ≡ self.old.hall) × (self.new.number ≡ 0) × (own self.new ≡ own self.old) × (self.new.lost ≡ self.old.lost) }
         ensures ok { IfOk result (λ t. (t.hall ≡ self.old.hall) × (t.number ≡ length self.old.seen.names) × (own t ≡ []) × (t.lost ≡ false)) }
-        ensures names { MatchResult result (λ t. length self.new.seen.names ≡ length self.old.seen.names + 1) (λ e. length self.new.seen.names ≡ length self.old.seen.names) }
+        ensures names { MatchResult result (λ t. self.new.seen.names ≡ self.old.seen.names ++ name.now ∷ []) (λ e. self.new.seen.names ≡ self.old.seen.names) }
         ensures seen { Extends self.old.seen.past self.new.seen.past }
     {
         let badge = mem::replace(&mut self.badge, Badge::blank());

@@ -161,7 +161,7 @@ pub fn split_turn<E: Turns, R: Wait>(
     ensures rests { Rests pass.new.me 0 }
     ensures len { len.new ≡ length pass.new.me.0.mine.seen.past }
     ensures given { IfOk result (λ r. (r.1.table_id ≡ pass.old.table_id) × Rests r.1.me r.0 × (r.1.me.0.mine.seen ≡ pass.new.me.0.mine.seen)) }
-    ensures ok { IfOk result (λ r. HasJoined pass.old.me.0.mine.seen pass.new.me.0.mine.seen r.0) }
+    ensures ok { IfOk result (λ r. HasJoined name.now pass.old.me.0.mine.seen pass.new.me.0.mine.seen r.0) }
     ensures err { OnErr result (Went 0 pass.old.me.0.mine.seen pass.new.me.0.mine.seen [] (phase_of pass.old.me.0.mine.seen 0)) }
 {
     let mut engine = take_turn(rt, gate, pass, 0);

@@ -385,7 +385,10 @@ module _ {E : Type 0} (board : E → Board) where
       let f = r.seats id v at in (
         home.engine,
         end.4 0 (Some home.engine) (ap (λ (h : List (Maybe (Option E))). get_elem? h 0) home.slot),
-        subst (λ (b : Board). AllHeld b (v.mine ∷ v.joined)) (sym home.shows) (all_held r.history r.seated r.seat_of id (v.mine ∷ v.joined) (f.mine last.live, f.joined)),
+        record {
+          held = subst (λ (b : Board). AllHeld b (v.mine ∷ v.joined)) (sym home.shows) (all_held r.history r.seated r.seat_of id (v.mine ∷ v.joined) (f.mine last.live, f.joined));
+          unseated = subst (λ (b : Board). (x : ℕ) → length b.names ≤ x → calls_of x b.past ≡ []) (sym home.shows) (λ x none'. let all = home.all in r.unseated x (omega arith));
+        },
       )
 
   pub closes_as : (id : ℕ) (v : View) (ws : List ℕ) (xs : List (Option E)) → IsLast v → Final (Seen Rule id v) ws xs → (o : Option E) (e : E) → get_elem? xs 0 ≡ some o → o ≡ Some e → Closes board v e

@@ -127,6 +127,7 @@ pub record IsLast (v : View) : Type 0 where
   pub first : v.mine.number ≡ 0
   pub all : (x : ℕ) → x < length v.mine.seen.names → Among (v.mine ∷ v.joined) x
 
--- what the last seat knows of the engine
-abbrev pub Closes : {E : Type 0} → (E → Board) → View → E → Type 0
-Closes board v e = AllHeld (board e) (v.mine ∷ v.joined)
+-- what the last seat knows of the engine: it has the sessions' entries, and none of a session that never joined
+pub record Closes {E : Type 0} (board : E → Board) (v : View) (e : E) : Type 0 where
+  pub held : AllHeld (board e) (v.mine ∷ v.joined)
+  pub unseated : (x : ℕ) → length (board e).names ≤ x → calls_of x (board e).past ≡ []

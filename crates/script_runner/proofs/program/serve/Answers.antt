@@ -1,6 +1,7 @@
 use Rattle.std.proofs.Common.{ap}
 use Rattle.inno_model.specs.Text.{items}
-use Rattle.script_runner.proofs.Places.{follows_nothing}
+use Rattle.script_play.proofs.Places.{follows_nothing}
+use Rattle.script_play.proofs.Places.{nobody_named}
 use Rattle.script_runner.proofs.Causing.{mount_fault}
 use Rattle.script_runner.proofs.program.serve.Goals as goal
 
@@ -12,3 +13,6 @@ pub returns-in-Err-clause-causes : goal.returns-in-Err-clause-causes
 returns-in-Err-clause-causes g c =
     rw c.without_engine.ensures.fault
     (rw c.without_engine.ensures.disk (rw c.fault_of.ensures (mount_fault (g.D.Disk.past c.args.disk) (g.D.Disk.past c.in-Err.disk) c.in-Err.bad c.in-Err.ensures.refused)))
+
+pub returns-in-Err-clause-named : goal.returns-in-Err-clause-named
+returns-in-Err-clause-named g c = nobody_named c.args.script.now c.without_engine.result.history.names c.without_engine.ensures.names

@@ -1,0 +1,4 @@
+pub mod Words
+pub mod Streams
+pub mod Faults
+pub mod Causes

@@ -1,0 +1,244 @@
+//! What a run answers, and the parts of a run that meet no engine.
+
+ghost use Rattle.std.specs.Prelude.{◌≡◌, [], IfOk, IfErr, IfSome, IsTrue, false};
+ghost use Rattle.std.specs.List.{list_any};
+ghost use Rattle.store_api.specs.Causes.{Rose};
+ghost use Rattle.std.specs.Io.KnownBytes.{Appends};
+ghost use Rattle.inno_model.specs.Text.{text};
+ghost use Rattle.sql_history.specs.Counts as counts;
+ghost use Rattle.script.specs.Script.{Spells, IsPlayable};
+ghost use Rattle.sql_dump.specs.Dump as dump;
+ghost use Rattle.run_outcome.specs.Faults.{allowed, status_of, fault_of, told, IsInputFault, IsOutputFault, IsPlayedFault, IsPrinted, Refuses, answers_no_memory, stops};
+
+use crate::input::{ReadBad, read_all};
+use crate::output::write_all;
+use inno_db::Db;
+use inno_model::{Event, History};
+use inno_types::Reply;
+use script::{Directives, Script, ScriptBad, read_script, transcript};
+use sql_dump::dump_text;
+use std::alloc::Global;
+use store_api::{Failed, MountBad, NoMemory, Sink, Source};
+
+/// Why a run is no full success.
+#[derive(Clone, Copy, Debug, PartialEq, Eq)]
+pub enum Fault {
+    Nothing,
+    Usage,
+    ScriptBad { line: u32 },
+    ScriptRead,
+    OutputWrite,
+    DiskFault,
+    File(MountBad),
+    Limit { what: u8, found: u64, most: u64 },
+    NoMemory,
+}
+
+impl Fault {
+    /// The number with which the program ends.
+    fn status(self) -> u8
+        ensures { result ≡ status_of self }
+    {
+        match self {
+            Fault::Nothing => 0,
+            Fault::Usage => 1,
+            Fault::ScriptBad { .. } => 2,
+            Fault::ScriptRead => 3,
+            Fault::OutputWrite => 4,
+            Fault::DiskFault => 5,
+            Fault::File(_) => 6,
+            Fault::Limit { .. } => 7,
+            Fault::NoMemory => 8,
+        }
+    }
+}
+
+/// What a run leaves. Its history is empty where no engine was mounted.
+#[derive(Drop)]
+pub struct Outcome<D> {
+    pub status: u8,
+    pub fault: Fault,
+    pub history: History,
+    pub disk: D,
+    ghost told: { status ≡ status_of fault },
+}
+
+/// The outcome of a run that mounted no engine.
+pub fn without_engine<D>(alloc: Global, disk: D, fault: Fault) -> Outcome<D>
+    ensures fault { result.fault ≡ fault }
+    ensures disk { result.disk ≡ disk }
+    ensures names { result.history.names ≡ [] }
+    ensures past { result.history.past ≡ [] }
+{
+    Outcome {
+        status: fault.status(),
+        fault,
+        history: History::new(alloc),
+        disk,
+    }
+}
+
+/// Reads the script, all of the source.
+pub fn read_input<S: Source>(alloc: Global, source: &mut S) -> Result<Script, Fault>
+    ensures script { IfOk result (λ script. IfSome (S.left source.old) (λ bytes. Spells allowed bytes script)) }
+    ensures playable { IfOk result (IsPlayable allowed) }
+    ensures read { result ≡ Err Fault.ScriptRead → Rose (S.faults source.old) (S.faults source.new) }
+    ensures judged { IfErr result (λ fault. IfSome (S.left source.old) (Refuses fault)) }
+    ensures causes { IfErr result IsInputFault }
+{
+    let bytes = match read_all(alloc, source) {
+        Ok(bytes) => bytes,
+        Err(ReadBad::Failed) => return Err(Fault::ScriptRead),
+        Err(ReadBad::NoMemory) => return Err(Fault::NoMemory),
+    };
+    let allowed = Directives {
+        signals: false,
+        ticks: false,
+    };
+    match read_script(alloc, bytes.as_slice(), allowed) {
+        Ok(script) => Ok(script),
+        Err(ScriptBad::Line { line }) => Err(Fault::ScriptBad { line }),
+        Err(ScriptBad::Limit { what, found, most }) => Err(Fault::Limit { what, found, most }),
+        Err(ScriptBad::NoMemory) => Err(Fault::NoMemory),
+    }
+}
+
+/// The fault of files that are refused.
+pub fn fault_of(bad: MountBad) -> Fault
+    ensures { result ≡ fault_of bad }
+{
+    match bad {
+        MountBad::Disk => Fault::DiskFault,
+        MountBad::NoMemory => Fault::NoMemory,
+        MountBad::TooLarge { rows } => Fault::Limit {
+            what: 5,
+            found: rows,
+            most: 1_000_000,
+        },
+        other => Fault::File(other),
+    }
+}
+
+/// Prints what an engine leaves. A fault of the disk is told before one of the sink; want of memory before is told where
+/// nothing else is.
+pub fn finish<D, K: Sink>(
+    alloc: Global,
+    disk: D,
+    history: History,
+    failed: bool,
+    sufficed: bool,
+    out: &mut K,
+) -> Outcome<D>
+    ensures disk { result.disk ≡ disk }
+    ensures history { result.history ≡ history }
+    ensures printed { IsPrinted result.fault (K.taken out.old) (K.taken out.new) (text history) }
+    ensures whole { result.fault ≡ Fault.DiskFault → (Rose (K.faults out.old) (K.faults out.new) → ⊥) → Appends (K.taken out.old) (K.taken out.new) (text history) }
+    ensures failed { result.fault ≡ Fault.DiskFault → IsTrue failed }
+    ensures sufficed { result.fault ≡ Fault.Nothing → IsTrue sufficed }
+    ensures served { result.fault ≡ Fault.Nothing → failed ≡ false }
+    ensures replied { result.fault ≡ Fault.Nothing → list_any answers_no_memory history.past ≡ false }
+    ensures output_write { result.fault ≡ Fault.OutputWrite → Rose (K.faults out.old) (K.faults out.new) }
+    ensures causes { IsPlayedFault result.fault }
+{
+    let printed = print(alloc, &history, out);
+    let replied = !has_lacked_memory(&history);
+    let fault = told_fault(failed, sufficed && replied, printed);
+    Outcome {
+        status: fault.status(),
+        fault,
+        history,
+        disk,
+    }
+}
+
+/// Whether the history says that the engine stopped.
+pub fn has_stopped(history: &History) -> bool
+    ensures { result ≡ counts.has_stopped history.now.past }
+{
+    let events = history.events();
+    any_stops(events)
+}
+
+fn any_stops(events: &[Event]) -> bool
+    ensures { result ≡ list_any stops events.now }
+{
+    events.iter().any(|event| stops(event))
+}
+
+fn stops(event: &Event) -> bool
+    ensures { result ≡ stops event.now }
+{
+    matches!(event, Event::Stopped { .. })
+}
+
+/// Whether a reply of the history says that memory was lacking.
+fn has_lacked_memory(history: &History) -> bool
+    ensures { result ≡ list_any answers_no_memory history.now.past }
+{
+    let events = history.events();
+    any_lacks_memory(events)
+}
+
+fn any_lacks_memory(events: &[Event]) -> bool
+    ensures { result ≡ list_any answers_no_memory events.now }
+{
+    events.iter().any(|event| answers_no_memory(event))
+}
+
+fn answers_no_memory(event: &Event) -> bool
+    ensures { result ≡ answers_no_memory event.now }
+{
+    matches!(
+        event,
+        Event::Ended {
+            reply: Reply::NoMemory,
+            ..
+        }
+    )
+}
+
+fn told_fault(failed: bool, sufficed: bool, printed: Fault) -> Fault
+    ensures { result ≡ told failed sufficed printed }
+{
+    match printed {
+        Fault::NoMemory => Fault::NoMemory,
+        _ if failed => Fault::DiskFault,
+        Fault::Nothing if !sufficed => Fault::NoMemory,
+        other => other,
+    }
+}
+
+/// Prints the text of a history.
+fn print<K: Sink>(alloc: Global, history: &History, out: &mut K) -> Fault
+    ensures printed { IsPrinted result (K.taken out.old) (K.taken out.new) (text history.now) }
+    ensures output_write { result ≡ Fault.OutputWrite → Rose (K.faults out.old) (K.faults out.new) }
+    ensures causes { IsOutputFault result }
+{
+    match transcript(alloc, history) {
+        Ok(bytes) => print_bytes(bytes.as_slice(), out),
+        Err(NoMemory) => Fault::NoMemory,
+    }
+}
+
+/// Prints a database as SQL, whose statements make it anew.
+pub fn print_dump<K: Sink>(alloc: Global, db: &Db, out: &mut K) -> Fault
+    ensures printed { IsPrinted result (K.taken out.old) (K.taken out.new) (dump.text_of db.now) }
+    ensures output_write { result ≡ Fault.OutputWrite → Rose (K.faults out.old) (K.faults out.new) }
+    ensures causes { IsOutputFault result }
+{
+    match dump_text(alloc, db) {
+        Ok(bytes) => print_bytes(bytes.as_slice(), out),
+        Err(NoMemory) => Fault::NoMemory,
+    }
+}
+
+fn print_bytes<K: Sink>(bytes: &[u8], out: &mut K) -> Fault
+    ensures printed { IsPrinted result (K.taken out.old) (K.taken out.new) bytes.now }
+    ensures output_write { result ≡ Fault.OutputWrite → Rose (K.faults out.old) (K.faults out.new) }
+    ensures causes { IsOutputFault result }
+{
+    match write_all(out, bytes) {
+        Ok(()) => Fault::Nothing,
+        Err(Failed) => Fault::OutputWrite,
+    }
+}

@@ -1,0 +1,21 @@
+use Rattle.std.proofs.Common.{◌∙◌, sym, ap, ◌+◌, length, arith}
+use Rattle.std.proofs.lemmas.List.{length-set}
+use Rattle.script_play.proofs.Places.{starts_item}
+use Rattle.script_play.proofs.playing.advance.Goals as goal
+
+pub returns : goal.returns
+returns g c =
+    let starts = c.in_ok-start.ensures.ok in
+    let old = g.E.Sessions.shown c.args.engine.now in
+    let next = c.skip_others-next.result in
+    record {
+      names = starts.names;
+      count = length-set c.args.places.now c.args.s (next + 1) ∙ c.requires.starts.count ∙ ap length (sym starts.names);
+      started =
+          starts_item c.args.items.now c.args.places.now old.past (g.E.Sessions.shown c.start.new.self).past c.args.s next starts.number
+          c.index-items-next.result
+          (omega (arith, c.requires.joined, c.requires.starts.count))
+          (omega (arith, c.if-next-known.false, c.requires.known))
+          c.skip_others-next.ensures.others (c.skip_others-next.ensures.found c.if-next-known.false c.index-items-next.result) starts.past
+          c.requires.starts.started;
+    }

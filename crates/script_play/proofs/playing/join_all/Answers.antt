@@ -1,0 +1,12 @@
+use Rattle.std.proofs.Common.{◌∙◌, sym, ap, [], ◌++◌, take, drop, List, ℕ}
+use Rattle.std.proofs.lemmas.List.{take-append-drop, append-nil}
+use Rattle.script_play.proofs.playing.join_all.Goals as goal
+
+pub returns-in_err-join-clause-named : goal.returns-in_err-join-clause-named
+returns-in_err-join-clause-named g c =
+    let i = c.loop-name.name-index in
+    let names = c.args.names.now in (
+      drop i names,
+      sym (ap (λ (list : List (List ℕ)). list ++ drop i names) (c.in_err-join.ensures.err.names ∙ c.loop-name.invariant.names)
+          ∙ take-append-drop i names),
+    )

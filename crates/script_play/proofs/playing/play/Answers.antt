@@ -1,0 +1,68 @@
+use Rattle.std.proofs.Common.{◌≡◌, ◌∙◌, refl, sym, ap, subst, length, List, ◌++◌, ℕ, arith}
+use Rattle.std.specs.Prelude.{All}
+use Rattle.script.specs.declared.script.ScriptItem.{ScriptItem}
+use Rattle.script_play.specs.Sessions.{HasStarted, IsStatement}
+use Rattle.script_play.proofs.Places.{nobody_named}
+use Rattle.script_play.proofs.Places.{follows, follows_nothing, on_ok, to_the_end, to_rest}
+use Rattle.script_play.proofs.playing.play.Goals as goal
+
+pub returns-then-len-clause-follows : goal.returns-then-len-clause-follows
+returns-then-len-clause-follows g c = follows_nothing c.args.script.now.items (g.E.Sessions.shown c.args.engine.now).past c.requires.new.items
+
+pub returns-in_err-join_all-clause-follows : goal.returns-in_err-join_all-clause-follows
+returns-in_err-join_all-clause-follows g c = follows_nothing c.args.script.now.items (g.E.Sessions.shown c.join_all.new.engine).past c.join_all.ensures.nothing
+
+pub returns-in_err-resize-clause-follows : goal.returns-in_err-resize-clause-follows
+returns-in_err-resize-clause-follows g c = follows_nothing c.args.script.now.items (g.E.Sessions.shown c.join_all.new.engine).past c.join_all.ensures.nothing
+
+pub play_items-requires-clause-statements : goal.play_items-requires-clause-statements
+play_items-requires-clause-statements g c =
+    subst (λ (list : List ScriptItem). All IsStatement list) (sym c.as_slice-2.ensures) (c.requires.playable.statements refl)
+
+pub returns-clause-follows : goal.returns-clause-follows
+returns-clause-follows g c =
+    let past = (g.E.Sessions.shown c.play_items.new.engine).past in
+    follows c.args.script.now.items c.play_items.new.places past
+    (subst (λ (list : List ScriptItem). HasStarted list c.play_items.new.places past) c.as_slice-2.ensures c.play_items.ensures.plays.started)
+
+pub returns-clause-played : goal.returns-clause-played
+returns-clause-played g c =
+    let shown = g.E.Sessions.shown c.play_items.new.engine in
+    let places = c.play_items.new.places in
+    let plays = c.play_items.ensures.plays in
+    on_ok c.play_items.result
+    (λ ends. to_the_end c.args.script.now places shown.names shown.past c.requires.playable
+    (plays.names ∙ c.in_ok-join_all.ensures.names ∙ c.as_slice.ensures) plays.count
+    (subst (λ (list : List ScriptItem). All (λ place. place ≡ length list) places) c.as_slice-2.ensures ends)
+    (subst (λ (list : List ScriptItem). HasStarted list places shown.past) c.as_slice-2.ensures plays.started))
+    c.play_items.ensures.ends
+
+pub returns-clause-rests : goal.returns-clause-rests
+returns-clause-rests g c =
+    let shown = g.E.Sessions.shown c.play_items.new.engine in
+    let places = c.play_items.new.places in
+    let plays = c.play_items.ensures.plays in
+    on_ok c.play_items.result
+    (λ rest. to_rest c.args.script.now.items places shown.past
+    (subst (λ (list : List ScriptItem). HasStarted list places shown.past) c.as_slice-2.ensures plays.started)
+    (λ s lt. rest s (omega (arith, lt, plays.count))))
+    c.play_items.ensures.rest
+
+pub returns-then-len-clause-named : goal.returns-then-len-clause-named
+returns-then-len-clause-named g c = nobody_named c.args.script.now (g.E.Sessions.shown c.args.engine.now).names c.requires.new.names
+
+pub returns-in_err-join_all-clause-named : goal.returns-in_err-join_all-clause-named
+returns-in_err-join_all-clause-named g c =
+    let named = c.join_all.ensures.named in (named.0, sym c.as_slice.ensures ∙ named.1)
+
+pub returns-in_err-resize-clause-named : goal.returns-in_err-resize-clause-named
+returns-in_err-resize-clause-named g c =
+    let named = c.join_all.ensures.named in (named.0, sym c.as_slice.ensures ∙ named.1)
+
+pub returns-clause-named : goal.returns-clause-named
+returns-clause-named g c =
+    let named = c.join_all.ensures.named in (
+      named.0,
+      sym c.as_slice.ensures ∙ named.1
+          ∙ ap (λ (list : List (List ℕ)). list ++ named.0) (sym c.play_items.ensures.plays.names),
+    )

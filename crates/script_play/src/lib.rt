@@ -1,0 +1,9 @@
+//! How a script drives sessions on the calling thread: its items in order, and between them the steps of all sessions. What
+//! the sessions are is a trait; the words of scripts and of what they have started are in specs/Sessions.antt.
+#![tactic(auto)]
+
+mod playing;
+mod sessions;
+
+pub use playing::play;
+pub use sessions::Sessions;

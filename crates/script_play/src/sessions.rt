@@ -1,0 +1,54 @@
+//! Sessions as play drives them: each makes its steps alone, and between the steps anybody's may come.
+
+ghost use Rattle.std.specs.Prelude.{◌≡◌, ◌<◌, ◌^◌, List, ℕ, length, true, None, IsTrue, OnOk, OnErr};
+ghost use Rattle.inno_types.specs.declared.reply.Item.TheVariants.{Sql};
+ghost use Rattle.inno_model.specs.Past.{under_way};
+ghost use Rattle.inno_types.specs.Order.{IsBelow};
+ghost use Rattle.script_play.specs.Sessions.{Shown, IsJoined, IsIdle, StartsNothing, Joins, Starts};
+
+use inno_types::{Bytes, Item};
+use store_api::{NoMemory, Progress};
+
+/// Sessions that make their steps one at a time.
+pub trait Sessions {
+    /// The names, the past, and who is at work.
+    ghost shown: { Self → Shown };
+
+    /// Adds a session, whose number is that of the sessions before it.
+    fn join(&mut self, name: &Bytes) -> Result<u32, NoMemory>
+        requires { length (shown self.old).names < 2 ^ 32 }
+        ensures ok { OnOk result (Joins name.now (shown self.old) (shown self.new)) }
+        ensures err { OnErr result (StartsNothing (shown self.old) (shown self.new)) };
+
+    /// Whether the session has an item under way, or is on its way out.
+    fn is_working(&self, s: u32) -> bool
+        requires { IsJoined s (shown self.now) }
+        ensures { result ≡ (shown self.now).is_working s };
+
+    /// Whether the session is gone. Then nothing of it is under way.
+    fn has_left(&self, s: u32) -> bool
+        requires { IsJoined s (shown self.now) }
+        ensures told { result ≡ (shown self.now).has_left s }
+        ensures over { IsTrue result → under_way s (shown self.now).past ≡ None };
+
+    fn start(&mut self, s: u32, item: &Item) -> Result<(), NoMemory>
+        requires joined { IsJoined s (shown self.old) }
+        requires idle { IsIdle s (shown self.old) }
+        requires statement { (text : List ℕ) × (item.now ≡ Sql text) }
+        ensures ok { OnOk result (Starts s item.now (shown self.old) (shown self.new)) }
+        ensures err { OnErr result (StartsNothing (shown self.old) (shown self.new)) };
+
+    /// Makes a step of the session's item, or of its way out.
+    fn step(&mut self, s: u32, now: u64) -> Progress
+        requires joined { IsJoined s (shown self.old) }
+        requires working { (shown self.old).is_working s ≡ true }
+        ensures starts { StartsNothing (shown self.old) (shown self.new) }
+        ensures nears { result ≡ Progress.Went → IsBelow ((shown self.new).to_go s) ((shown self.old).to_go s) };
+
+    /// Sends the session on its way out.
+    fn leave(&mut self, s: u32)
+        requires joined { IsJoined s (shown self.old) }
+        requires idle { IsIdle s (shown self.old) }
+        ensures starts { StartsNothing (shown self.old) (shown self.new) }
+        ensures leaving { (shown self.new).is_working s ≡ true };
+}

@@ -1,6 +1,0 @@
-use Rattle.std.proofs.Common.{◌≡◌, ◌<◌, ℕ, None}
-use Rattle.inno_model.specs.Past.{under_way}
-use Rattle.script_runner.proofs.playing.all_left.Given as goal
-
-abbrev pub invariant-loop-s : goal.invariant-loop-s
-invariant-loop-s g l = (s : ℕ) → s < l.s → under_way s (g.E.Sessions.shown l.engine).past ≡ None

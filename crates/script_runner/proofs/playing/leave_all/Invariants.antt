@@ -1,5 +1,0 @@
-use Rattle.script_runner.specs.Sessions.{Plays}
-use Rattle.script_runner.proofs.playing.leave_all.Given as goal
-
-abbrev pub invariant-loop : goal.invariant-loop
-invariant-loop g l = Plays l.items l.places (g.E.Sessions.shown l.fn.engine) (g.E.Sessions.shown l.engine)

@@ -1,0 +1,6 @@
+mod Calls
+pub mod Making
+mod Splitting
+mod Leaving
+mod Openings
+mod Concluding

@@ -1,0 +1,40 @@
+use Rattle.std.proofs.Common.{◌+◌, ◌++◌, ◌∷◌, [], ℕ, List, length, map, take, sym, ap, subst, ◌∙◌, append_assoc, arith}
+use Rattle.std.specs.List.{AllByRecursion}
+use Rattle.std.proofs.lemmas.List.{length-append, length-take-le}
+use Rattle.run_outcome.proofs.Fronts.{one_more}
+use Rattle.turn_engine.specs.Sessions.{Sitting}
+use Rattle.script_threads.specs.Playing.{IsNew, AreNumbered}
+use Rattle.script_threads.proofs.Splitting.{numbered_more, all_more, map_more, map_length}
+use Rattle.script_threads.proofs.beginning.split_all.Goals as goal
+
+pub loop-name-preserved : goal.loop-name-preserved
+loop-name-preserved g c =
+    let i = c.loop-name.invariant in
+    let s = c.in-Ok.ensures in
+    let n = c.loop-name.name-index in
+    let names = c.args.names.now in
+    let before = c.args.first.now.seen.names in
+    let old = c.loop-name.sessions.items in
+    let session = c.in-Ok.session in
+    let items = c.push_reserved.ensures.items in
+    let name = c.name-item.result in
+    let numbers = map_more (λ (x : Sitting). x.number) old session in
+    let long = length-append before (take n names) in
+    let few = length-take-le n names i.within in
+    let many = map_length (λ (x : Sitting). x.number) old in
+    record {
+      hall = s.same.0 ∙ i.hall;
+      number = s.same.1;
+      own_stays = s.same.2 ∙ i.own_stays;
+      lost = s.same.3 ∙ i.lost;
+      names = s.names ∙ (ap (λ (list : List (List ℕ)). list ++ name ∷ []) i.names ∙ (append_assoc before (take n names) (name ∷ [])
+          ∙ ap (λ (list : List (List ℕ)). before ++ list) (ap (λ (x : List ℕ). take n names ++ x ∷ []) c.name-item.is ∙ sym (one_more n names name c.loop-name-test.true))));
+      count = ap length items ∙ (length-append old (session ∷ []) ∙ omega (arith, i.count));
+      within = omega (arith, c.loop-name-test.true);
+      new = subst (AllByRecursion (IsNew c.args.hall.now)) (sym items) (all_more (IsNew c.args.hall.now) old session i.new (s.ok.0 ∙ i.hall, s.ok.2, s.ok.3));
+      numbered = subst (λ (list : List Sitting). AreNumbered (length before) (map (λ (x : Sitting). x.number) list)) (sym items)
+          (subst (AreNumbered (length before)) (sym numbers)
+          (numbered_more (length before) (map (λ (x : Sitting). x.number) old) session.number i.numbered
+          (s.ok.1 ∙ (ap length i.names ∙ omega (arith, long, few, many, i.count, i.within)))));
+      room = c.push_reserved.ensures.capacity ∙ i.room;
+    }

@@ -1,0 +1,19 @@
+use Rattle.std.proofs.Common.{◌≡◌, ◌≤◌, ◌++◌, length, map, take, vec_capacity}
+use Rattle.std.specs.List.{AllByRecursion}
+use Rattle.turn_engine.specs.Sessions.{Sitting, own}
+use Rattle.script_threads.specs.Playing.{IsNew, AreNumbered}
+use Rattle.script_threads.proofs.beginning.split_all.Given as goal
+
+abbrev pub invariant-loop-name : goal.invariant-loop-name
+invariant-loop-name g l = record {
+  hall : l.first.hall ≡ l.hall;
+  number : l.first.number ≡ 0;
+  own_stays : own l.first ≡ own l.initial.first;
+  lost : l.first.lost ≡ l.initial.first.lost;
+  names : l.first.seen.names ≡ l.initial.first.seen.names ++ take l.name-index l.names;
+  count : length l.sessions.items ≡ l.name-index;
+  within : l.name-index ≤ length l.names;
+  new : AllByRecursion (IsNew l.hall) l.sessions.items;
+  numbered : AreNumbered (length l.initial.first.seen.names) (map (λ (s : Sitting). s.number) l.sessions.items);
+  room : vec_capacity l.sessions ≡ vec_capacity l.initial.sessions;
+}

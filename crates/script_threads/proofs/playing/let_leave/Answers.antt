@@ -1,0 +1,35 @@
+use Rattle.std.proofs.Common.{◌≡◌, false, ap, sym, ◌∙◌, inl, inr}
+use Rattle.turn_board.specs.Boards.{phase_of}
+use Rattle.turn_board.specs.declared.Phase.TheVariants.{Leaving}
+use Rattle.turn_engine.specs.Calls.{has_left, reply_of}
+use Rattle.script_threads.proofs.Leaving.{no_calls, still_leaving, leaves_on}
+use Rattle.script_threads.proofs.playing.let_leave.Goals as goal
+
+pub returns-then-left-clause-calls : goal.returns-then-left-clause-calls
+returns-then-left-clause-calls g c = c.loop.invariant.calls
+
+pub returns-then-lacked-clause-calls : goal.returns-then-lacked-clause-calls
+returns-then-lacked-clause-calls g c =
+    let i = c.loop.invariant in
+    let before = g.E.Recorded.board c.loop.engine in
+    let leaving = still_leaving before i.phase (sym c.left.ensures ∙ c.if-left.false) in
+    let on = leaves_on before (g.E.Recorded.board c.step-progress.new.self) (reply_of c.step-progress.result) leaving c.step-progress.ensures in
+    λ x. on.calls x ∙ i.calls x
+
+pub returns-clause-calls : goal.returns-clause-calls
+returns-clause-calls g c = c.loop.invariant.calls
+
+pub loop-init : goal.loop-init
+loop-init g c = record {
+  names = c.leave.ensures.names;
+  calls = no_calls (g.E.Recorded.board c.args.engine.now) (g.E.Recorded.board c.leave.new.self) Leaving c.leave.ensures;
+  phase = inl c.leave.ensures.phase_is;
+}
+
+pub loop-preserved : goal.loop-preserved
+loop-preserved g c =
+    let i = c.loop.invariant in
+    let before = g.E.Recorded.board c.loop.engine in
+    let leaving = still_leaving before i.phase (sym c.left.ensures ∙ c.if-left.false) in
+    let on = leaves_on before (g.E.Recorded.board c.step-progress.new.self) (reply_of c.step-progress.result) leaving c.step-progress.ensures in
+    record { names = on.names ∙ i.names; calls = λ x. on.calls x ∙ i.calls x; phase = on.phase }

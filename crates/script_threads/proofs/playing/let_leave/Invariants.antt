@@ -1,0 +1,11 @@
+use Rattle.std.proofs.Common.{◌≡◌, ◌⊎◌, ℕ}
+use Rattle.turn_board.specs.declared.Phase.TheVariants.{Leaving, Left}
+use Rattle.turn_board.specs.Boards.{calls_of, phase_of}
+use Rattle.script_threads.proofs.playing.let_leave.Given as goal
+
+abbrev pub invariant-loop : goal.invariant-loop
+invariant-loop g l = record {
+  names : (g.E.Recorded.board l.engine).names ≡ (g.E.Recorded.board l.fn.engine).names;
+  calls : (x : ℕ) → calls_of x (g.E.Recorded.board l.engine).past ≡ calls_of x (g.E.Recorded.board l.fn.engine).past;
+  phase : (phase_of (g.E.Recorded.board l.engine) 0 ≡ Leaving) ⊎ (phase_of (g.E.Recorded.board l.engine) 0 ≡ Left);
+}

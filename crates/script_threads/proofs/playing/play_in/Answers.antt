@@ -1,0 +1,47 @@
+use Rattle.std.proofs.Common.{◌++◌, ◌∷◌, List, ℕ, length, take, refl, sym, ap, subst, ◌∙◌}
+use Rattle.std.specs.Prelude.{All}
+use Rattle.std.proofs.Math.Seq.{take-length}
+use Rattle.script.specs.declared.script.ScriptItem.{ScriptItem}
+use Rattle.turn_engine.specs.Sessions.{setup}
+use Rattle.script_threads.specs.Playing.{HasBegunIn, HasPlayedIn, IsWhole}
+use Rattle.script_threads.proofs.Openings.{takes_all, named_so_far}
+use Rattle.script_threads.proofs.Concluding.{only}
+use Rattle.script_threads.proofs.playing.play_in.Goals as goal
+
+pub make_calls-requires-clause-takes : goal.make_calls-requires-clause-takes
+make_calls-requires-clause-takes g c =
+    subst (λ (list : List ScriptItem). All (λ x. g.E.Turns.takes x.item) list) (sym c.as_slice.ensures)
+    (takes_all g.E.Turns.takes c.args.script.now.items c.requires.takes (c.requires.playable.statements refl))
+
+pub play_all-receipts-requires-clause-takes : goal.play_all-receipts-requires-clause-takes
+play_all-receipts-requires-clause-takes g c = λ κs bounds.
+    takes_all g.E.Turns.takes c.args.script.now.items c.requires.takes (c.requires.playable.statements refl)
+
+pub conclude-requires-clause-begun : goal.conclude-requires-clause-begun
+conclude-requires-clause-begun g c =
+    only (HasPlayedIn c.args.hall c.args.script.now.items) (HasBegunIn c.args.hall c.args.script.now.items) c.play_all-receipts.result.items (λ r is. is.0)
+    c.play_all-receipts.ensures.played
+
+pub conclude-requires-clause-named : goal.conclude-requires-clause-named
+conclude-requires-clause-named g c =
+    named_so_far c.args.script.now c.split_all-joined.new.first.seen.names c.args.others.now (length c.split_all-joined.new.sessions.items) c.requires.names.0
+    (c.split_all-joined.ensures.names
+    ∙ ap (λ (list : List (List ℕ)). list ++ take (length c.split_all-joined.new.sessions.items) c.args.others.now) (c.make_calls.ensures.names c.requires.first.1 ∙ c.requires.first.2))
+
+pub conclude-requires-clause-whole : goal.conclude-requires-clause-whole
+conclude-requires-clause-whole g c = λ all. record {
+  named = c.split_all-joined.ensures.names
+      ∙ (ap (λ (list : List (List ℕ)). list ++ take (length c.split_all-joined.new.sessions.items) c.args.others.now)
+      (c.make_calls.ensures.names c.requires.first.1 ∙ c.requires.first.2)
+      ∙ (ap (λ n. setup ∷ take n c.args.others.now) (c.split_all-joined.ensures.all c.if-joined.true)
+      ∙ (ap (λ (list : List (List ℕ)). setup ∷ list) (take-length c.args.others.now) ∙ sym c.requires.names.0)));
+  kept = sym c.is_lost.ensures ∙ c.if-not-is_lost.true;
+  whole = only (HasPlayedIn c.args.hall c.args.script.now.items) (IsWhole c.args.script.now.items) c.play_all-receipts.result.items (λ r is. is.1)
+      c.play_all-receipts.ensures.played;
+}
+
+pub conclude-requires-else-joined-clause-named : goal.conclude-requires-else-joined-clause-named
+conclude-requires-else-joined-clause-named g c =
+    named_so_far c.args.script.now c.split_all-joined.new.first.seen.names c.args.others.now (length c.split_all-joined.new.sessions.items) c.requires.names.0
+    (c.split_all-joined.ensures.names
+    ∙ ap (λ (list : List (List ℕ)). list ++ take (length c.split_all-joined.new.sessions.items) c.args.others.now) (c.make_calls.ensures.names c.requires.first.1 ∙ c.requires.first.2))

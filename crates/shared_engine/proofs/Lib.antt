@@ -1,0 +1,4 @@
+pub mod Shown
+pub mod Turning
+pub mod Resting
+pub mod Sending

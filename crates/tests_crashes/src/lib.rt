@@ -1,0 +1,11 @@
+//! Tests of the program over disks that crash, fail or hold something else: what is answered, and what a later run reads.
+#![tactic(auto)]
+
+#[cfg(test)]
+mod crashes;
+#[cfg(test)]
+mod failures;
+#[cfg(test)]
+mod program;
+#[cfg(test)]
+mod refusals;
