@@ -1,0 +1,3 @@
+mod Counting
+pub mod Soundness
+pub mod First

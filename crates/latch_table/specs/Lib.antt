@@ -1,0 +1,4 @@
+pub mod Targets
+pub mod Held
+pub mod Calls
+pub mod Order
