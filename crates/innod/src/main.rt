@@ -2,37 +2,43 @@
 //! answered; or prints the database as SQL. All that it does there is `script_runner::run`.
 #![tactic(auto)]
 
-use disk_file::{FileDisk, FileSource, LockFiles, StdSink, SystemClock};
+use disk_file::{FileDisk, FileSource, StdSink, SystemClock};
 use disk_mem::OpenGate;
 use inno_types::{Bytes, Listed};
 use script_runner::{Fault, cause_line, run};
 use std::alloc::{AllocError, Global};
-use std::io::Print;
 use std::process::ExitCode;
-use std::sync::Wait;
-use std::thread::Threads;
-use std::time::Clock as Timer;
 use std::{env, io};
 use store_api::NoMemory;
 
 fn main(rt: HostRuntime) -> io::Result<ExitCode> {
-    let status = match words_of(&rt) {
-        Ok(words) => {
-            let file = word_at(&words, 2);
-            let script = word_at(&words, 3);
-            let ran = run_over_files(&rt, rt.alloc(), &words, file, script);
-            status_of(&rt, ran, file, script)?
-        }
+    let words = match words_of(&rt) {
+        Ok(words) => words,
         Err(error) if error.kind() == io::ErrorKind::InvalidData => {
-            tell(&rt, Fault::Usage, "", "")?;
-            1
+            return ended(&rt, Fault::Usage, 1, "", "");
         }
         Err(error) => return Err(error),
     };
-    if status != 0 {
-        eprintln!(rt; "innod: status {status}")?;
-    }
-    Ok(ExitCode::from(status))
+    let file = word_at(&words, 2);
+    let script = word_at(&words, 3);
+    let Ok((bytes, disk, mut source)) = objects(&rt, &words, file, script) else {
+        return ended(&rt, Fault::NoMemory, 8, file, script);
+    };
+    let mut sink = StdSink::new(&rt);
+    let clock = SystemClock::new(&rt);
+    let outcome = run(
+        &rt,
+        rt.alloc(),
+        &bytes,
+        &mut source,
+        disk,
+        &mut sink,
+        &clock,
+        &OpenGate,
+    );
+    let (fault, status) = (outcome.fault, outcome.status);
+    drop(outcome);
+    ended(&rt, fault, status, file, script)
 }
 
 /// The program's words. One that is no UTF-8 is an error, of invalid data.
@@ -44,23 +50,19 @@ fn words_of(rt: &HostRuntime) -> io::Result<Vec<String>> {
     Ok(words)
 }
 
-/// Says why a run ended without success, and with which status.
-fn status_of(
+/// Says why the run ended without success, if it did, and with which status.
+fn ended(
     rt: &HostRuntime,
-    ran: Result<(u8, Fault), NoMemory>,
+    fault: Fault,
+    status: u8,
     file: &str,
     script: &str,
-) -> io::Result<u8> {
-    match ran {
-        Ok((status, fault)) => {
-            tell(rt, fault, file, script)?;
-            Ok(status)
-        }
-        Err(NoMemory) => {
-            tell(rt, Fault::NoMemory, file, script)?;
-            Ok(8)
-        }
+) -> io::Result<ExitCode> {
+    tell(rt, fault, file, script)?;
+    if status != 0 {
+        eprintln!(rt; "innod: status {status}")?;
     }
+    Ok(ExitCode::from(status))
 }
 
 fn word_at(words: &[String], place: usize) -> &str {
@@ -70,41 +72,30 @@ fn word_at(words: &[String], place: usize) -> &str {
     }
 }
 
-/// Runs the program's words over real objects. Where no script is named, as for `init` or `dump`, the source has an empty
-/// name, and is never opened.
-fn run_over_files<R>(
-    rt: &R,
-    alloc: Global,
+/// The words as bytes, the disk over the files, and the source over the script. Where no script is named, as for `init` or
+/// `dump`, the source has an empty name, and is never opened.
+fn objects<'r>(
+    rt: &'r HostRuntime,
     words: &[String],
     file: &str,
     script: &str,
-) -> Result<(u8, Fault), NoMemory>
-where
-    R: LockFiles + Print + Timer + Threads + Wait + Sync,
-    R::File: Send,
-{
+) -> Result<
+    (
+        Vec<Bytes>,
+        FileDisk<&'r HostRuntime>,
+        FileSource<&'r HostRuntime>,
+    ),
+    NoMemory,
+> {
+    let alloc = rt.alloc();
     let bytes = all_bytes(alloc, words)?;
     let (file, script) = (bytes_of(alloc, file)?, bytes_of(alloc, script)?);
     let disk = FileDisk::new(rt, alloc, &file)?;
-    let Ok(mut source) = FileSource::new(rt, alloc, &script) else {
+    let Ok(source) = FileSource::new(rt, alloc, &script) else {
         drop(disk);
         return Err(NoMemory);
     };
-    let mut sink = StdSink::new(rt);
-    let clock = SystemClock::new(rt);
-    let outcome = run(
-        rt,
-        alloc,
-        &bytes,
-        &mut source,
-        disk,
-        &mut sink,
-        &clock,
-        &OpenGate,
-    );
-    let told = (outcome.status, outcome.fault);
-    drop(outcome);
-    Ok(told)
+    Ok((bytes, disk, source))
 }
 
 /// Says the cause of a fault, if there is one.

@@ -25,7 +25,7 @@ fn bytes(alloc: Global, text: &str) -> Result<Bytes, AllocError> {
 }
 
 /// Runs the program with these words over a disk.
-fn ran<R: Threads + Wait + Timer + Sync>(
+fn run_words<R: Threads + Wait + Timer + Sync>(
     rt: &R,
     alloc: Global,
     words: &[&str],
@@ -64,7 +64,7 @@ pub fn made<R: Threads + Wait + Timer + Sync>(
     alloc: Global,
     disk: MemDisk,
 ) -> Result<Ran, NoMemory> {
-    ran(rt, alloc, &["innod", "init", "f"], "", disk)
+    run_words(rt, alloc, &["innod", "init", "f"], "", disk)
 }
 
 /// Plays a script.
@@ -74,7 +74,7 @@ pub fn played<R: Threads + Wait + Timer + Sync>(
     disk: MemDisk,
     script: &str,
 ) -> Result<Ran, NoMemory> {
-    ran(rt, alloc, &["innod", "play", "f", "s"], script, disk)
+    run_words(rt, alloc, &["innod", "play", "f", "s"], script, disk)
 }
 
 /// How many commits were acknowledged up to a moment.
