@@ -47,16 +47,26 @@ fn refused<R: Abort + Threads + Wait + Timer + Sync>(
     Ok((fault, status))
 }
 
+/// The page with one of its first bytes changed.
+fn changed(mut page: [u8; 4096], at: u8, byte: u8) -> [u8; 4096] {
+    page[usize::from(at)] = byte;
+    page
+}
+
+/// The page with a right sum.
+fn sealed(mut page: [u8; 4096]) -> [u8; 4096] {
+    let sum = fnv(&page[8..]);
+    page[..8].copy_from_slice(&sum.to_be_bytes());
+    page
+}
+
 /// Writes page 0 with a byte changed; its sum is made right where that is asked for.
-fn change(disk: &mut MemDisk, at: u8, byte: u8, sealed: bool) -> Result<(), Failed> {
+fn change(disk: &mut MemDisk, at: u8, byte: u8, seals: bool) -> Result<(), Failed> {
     let mut page = [0; 4096];
     disk.read(Area::Pages, 0, &mut page)?;
-    page[usize::from(at)] = byte;
-    if sealed {
-        let sum = fnv(&page[8..]);
-        page[..8].copy_from_slice(&sum.to_be_bytes());
-    }
-    disk.write(Area::Pages, 0, &page)?;
+    let other = changed(page, at, byte);
+    let other = if seals { sealed(other) } else { other };
+    disk.write(Area::Pages, 0, &other)?;
     disk.sync(Area::Pages)
 }
 
