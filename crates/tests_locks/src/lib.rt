@@ -1,9 +1,12 @@
-//! Locks: the documentation's table of conflicts, requests that wait, cycles of waits, and threads that take the turn.
+//! Locks: the documentation's table of conflicts, requests that wait, cycles of waits, latches, and threads that take the
+//! turn.
 //! There is nothing here but tests.
 #![tactic(auto)]
 
 #[cfg(test)]
 mod cycles;
+#[cfg(test)]
+mod latches;
 #[cfg(test)]
 mod requests;
 #[cfg(test)]
