@@ -24,7 +24,7 @@ use Rattle.redo_log.specs.Logged.{GoesOnAt, IsLogged, Stands, StandsMeanwhile}
 use Rattle.law_crashes.specs.Since.{IsMounted}
 use Rattle.law_crashes.proofs.Mount.{durable_mounted}
 use Rattle.std.specs.Prelude.{Result, Ok, Err, OnOk, OnErr, nat_le}
-use Rattle.commit_log.specs.View.{CommitView, IsKept, due_of, IsLogging, is_commit, is_acknowledgement}
+use Rattle.commit_log.specs.View.{CommitView, IsKept, due_of, IsLogging, IsEntryOf, is_commit, is_acknowledgement}
 
 -- ---- drafts
 
@@ -53,10 +53,14 @@ module _ (s t : ℕ) (past : List Event) (mine : is_of s (events.Committed t) �
   own_committed = grind (arith, nat_tests, mine)
 
 -- another session's entry leaves a session's changes
-own_other : (e : Event) (past : List Event) (s u : ℕ) → is_of s e ≡ true → u ≢ s → own u (e ∷ past) ≡ own u past
-own_other e past s u mine differ = (untouched e past u (let x : is_of u e ≡ false = grind (arith, nat_tests, mine, differ) in x)).own_is
+own_others : (e : Event) (past : List Event) (s u : ℕ) → is_of s e ≡ true → u ≢ s → own u (e ∷ past) ≡ own u past
+own_others e past s u mine differ = (untouched e past u (let x : is_of u e ≡ false = grind (arith, nat_tests, mine, differ) in x)).own_is
 
-leaves : (e : Event) (s : ℕ) → is_of s e ≡ true → is_acknowledgement e ≡ false → is_commit e ≡ false → leaves_log e ≡ true
+own_other : (e : Event) (past : List Event) (s u : ℕ) → IsEntryOf s e → u ≢ s → own u (e ∷ past) ≡ own u past
+own_other (events.Signal name) past s u mine differ = refl
+own_other e past s u mine differ = own_others e past s u mine differ
+
+leaves : (e : Event) (s : ℕ) → IsEntryOf s e → is_acknowledgement e ≡ false → is_commit e ≡ false → leaves_log e ≡ true
 leaves (events.Opened db) s mine unacked plain = absurd (false≢true mine)
 leaves (events.Committed t) s mine unacked plain = absurd (false≢true (sym plain))
 leaves (events.Acked t moment) s mine unacked plain = absurd (false≢true (sym unacked))
@@ -65,7 +69,7 @@ leaves e s mine unacked plain = refl
 -- ---- the log
 
 -- an entry that is no commit
-pub entered : (e : Event) (s : ℕ) (old new : CommitView) → is_of s e ≡ true → is_acknowledgement e ≡ false → is_commit e ≡ false → new.log ≡ old.log
+pub entered : (e : Event) (s : ℕ) (old new : CommitView) → IsEntryOf s e → is_acknowledgement e ≡ false → is_commit e ≡ false → new.log ≡ old.log
     → new.dues ≡ old.dues → new.begun ≡ old.begun
     → ((past : List Event) → (draft_of s old.drafts).changes ≡ own s past → (draft_of s new.drafts).changes ≡ own s (e ∷ past))
     → ((u : ℕ) → u ≢ s → draft_of u new.drafts ≡ draft_of u old.drafts) → (root now : Past) (past : List Event)

@@ -1,8 +1,8 @@
 -- What contracts see of an engine's log, and what holds of it beside a past.
 use Rattle.std.specs.Prelude.{◌≡◌, ℕ, ◌<◌, ◌≤◌, Bool, true, false, List, length, slice_index_or}
 use Rattle.inno_model.specs.declared.event.Event.{Event}
-use Rattle.inno_model.specs.declared.event.Event.TheVariants.{Changed, Committed, Acked}
-use Rattle.inno_model.specs.Past.{own}
+use Rattle.inno_model.specs.declared.event.Event.TheVariants.{Changed, Committed, Acked, Signal}
+use Rattle.inno_model.specs.Past.{is_of, own}
 use Rattle.store_api.specs.Past.{Past}
 use Rattle.redo_log.specs.View.{LogView}
 use Rattle.law_crashes.specs.Since.{IsDurable}
@@ -38,6 +38,11 @@ pub record IsLogging (root now : Past) (past : List Event) (view : CommitView) :
 abbrev pub IsReady : ℕ → Event → List DraftView → Type 0
 IsReady s (Changed t change) drafts = ((draft_of s drafts).ready ≡ true) × HasRecord change
 IsReady s other drafts = Unit {0}
+
+-- an entry of the session's, or a signal, which is no session's
+abbrev pub IsEntryOf : ℕ → Event → Type 0
+IsEntryOf s (Signal name) = Unit {0}
+IsEntryOf s e = is_of s e ≡ true
 
 abbrev pub is_commit : Event → Bool
 is_commit (Committed s) = true

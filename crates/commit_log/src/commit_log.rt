@@ -4,12 +4,12 @@ ghost use Rattle.std.specs.Prelude.{◌≡◌, ◌+◌, ◌<◌, ◌≤◌, ℕ,
 ghost use Rattle.inno_db.specs.Database.{Database};
 ghost use Rattle.inno_model.specs.declared.event.Event.{Event as EventValue};
 ghost use Rattle.inno_model.specs.declared.event.Event.TheVariants.{Opened, Acked};
-ghost use Rattle.inno_model.specs.Past.{is_of, begins_txn};
+ghost use Rattle.inno_model.specs.Past.{begins_txn};
 ghost use Rattle.store_api.specs.Past.{Past};
 ghost use Rattle.store_api.specs.Causes.{HasCause};
 ghost use Rattle.drafts.specs.View.{draft_of};
 ghost use Rattle.law_crashes.specs.Since.{IsMounted};
-ghost use Rattle.commit_log.specs.View.{due_of, IsJoined, IsLogging, IsReady, is_commit, is_acknowledgement};
+ghost use Rattle.commit_log.specs.View.{due_of, IsEntryOf, IsJoined, IsLogging, IsReady, is_commit, is_acknowledgement};
 
 use crate::redraft::redraft;
 use drafts::Drafts;
@@ -75,11 +75,11 @@ impl CommitLog {
         self.drafts.reserve(session, &mut self.log)
     }
 
-    /// Takes over an entry that the session has added to the history: its changes go to its draft, and a commit's to the log.
+    /// Takes over an entry that the session has added to the history, a signal too: its changes go to its draft, and a commit's to the log.
     /// It takes no memory.
     pub fn enter(&mut self, session: u32, entry: &Event)
         requires joined { IsJoined session self.old }
-        requires mine { is_of session entry.now ≡ true }
+        requires mine { IsEntryOf session entry.now }
         requires unacked { is_acknowledgement entry.now ≡ false }
         requires ready { IsReady session entry.now self.old.drafts }
         ensures joined { length self.new.drafts ≡ length self.old.drafts }

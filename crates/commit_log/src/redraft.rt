@@ -2,9 +2,9 @@
 
 ghost use Rattle.std.specs.Prelude.{◌≡◌, ◌≢◌, ◌<◌, ◌≤◌, ◌∷◌, ℕ, List, length, true, false};
 ghost use Rattle.inno_model.specs.declared.event.Event.{Event as EventValue};
-ghost use Rattle.inno_model.specs.Past.{is_of, begins_txn, own};
+ghost use Rattle.inno_model.specs.Past.{begins_txn, own};
 ghost use Rattle.drafts.specs.View.{draft_of, promised_to_all};
-ghost use Rattle.commit_log.specs.View.{is_commit, IsReady};
+ghost use Rattle.commit_log.specs.View.{is_commit, IsEntryOf, IsReady};
 
 use drafts::Drafts;
 use inno_model::Event;
@@ -12,7 +12,7 @@ use inno_model::Event;
 /// Takes over into the session's draft what an entry of it, which is no commit, changes.
 pub(crate) fn redraft(drafts: &mut Drafts, session: u32, entry: &Event)
     requires joined { session < length drafts.old }
-    requires mine { is_of session entry.now ≡ true }
+    requires mine { IsEntryOf session entry.now }
     requires uncommitted { is_commit entry.now ≡ false }
     requires ready { IsReady session entry.now drafts.old }
     ensures mine { (past : List EventValue) → (draft_of session drafts.old).changes ≡ own session past

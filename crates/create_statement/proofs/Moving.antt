@@ -23,7 +23,7 @@ use Rattle.shared_lists.specs.State.{State, IsNow, Adds, Closes, Stays, task_of}
 use Rattle.sql_lists.specs.Kept.{AreStanding, OwesAck}
 use Rattle.sql_lists.specs.Tables.{MayMake, MakesNone, begun, created_by, table_made}
 use Rattle.sql_lists.specs.Going.{NearsAcked}
-use Rattle.sql_lists.specs.Steps.{Steps, GoesOnAcked, AsksToWrite, changes_rows, HasRowsAlone, plain_edge, open_txn, acknowledges}
+use Rattle.sql_lists.specs.Steps.{Steps, GoesOnAcked, AsksToWrite, changes_rows, HasRowsAlone, plain_edge, open_txn, is_apart}
 use Rattle.sql_lists.specs.declared.advance.Advance.TheVariants as advance
 use Rattle.sql_lists.proofs.Moving.{stays_none, moves_none, moves_stays, moves_adds, moves_closes, moves_made, moves_none_made, below_phase}
 use Rattle.create_statement.specs.declared.machine.CreateStatement.{CreateStatement}
@@ -58,7 +58,7 @@ ends s old new m reply adds rows idle = (
 )
 
 -- an entry of its own that changes no rows
-adds_one : (s : ℕ) (e : Event) (old new : State) (m : CreateStatement) → is_of s e ≡ true → acknowledges e ≡ false
+adds_one : (s : ℕ) (e : Event) (old new : State) (m : CreateStatement) → is_of s e ≡ true → is_apart e ≡ false
     → changes_rows e ≡ false
     → started s (e ∷ old.past) ≡ started s old.past → Adds e s old new → RunsBy new s m → task_of s old ≡ Idle → Steps IsRunning s old new m advance.Went
 adds_one s e old new m mine unacked spares same adds runs idle = (
@@ -68,7 +68,7 @@ adds_one s e old new m mine unacked spares same adds runs idle = (
       adds.past_is ∙ same,
 )
 
-closes_one : (s : ℕ) (e : Event) (old new : State) (m : CreateStatement) → is_of s e ≡ true → acknowledges e ≡ false
+closes_one : (s : ℕ) (e : Event) (old new : State) (m : CreateStatement) → is_of s e ≡ true → is_apart e ≡ false
     → changes_rows e ≡ false
     → started s (e ∷ old.past) ≡ started s old.past → Closes e s old new → RunsBy new s m → task_of s old ≡ Idle → Steps IsRunning s old new m advance.Went
 closes_one s e old new m mine unacked spares same closes runs idle =

@@ -12,7 +12,7 @@ use Rattle.sql_grammar.specs.Grammar.{Spells}
 use Rattle.sql_history.specs.Items.{own_before, base, point}
 use Rattle.sql_history.specs.Waiting.{is_victim}
 use Rattle.sql_history.specs.Legal.{CommittedFirst, LeavesIt, EndsCreate}
-use Rattle.law_past_agreement.specs.Order.{IsOfRow}
+use Rattle.law_past_agreement.specs.Order.{IsOfRow, IsNoOthers}
 use Rattle.shared_lists.specs.State.{State}
 use Rattle.sql_lists.specs.Steps.{HasRowsAlone, StaysRunning}
 use Rattle.sql_lists.proofs.Moving.{StaysByOne, stays_running}
@@ -107,7 +107,7 @@ module _ (e : Event) (h : List Event) (s : ℕ) (other : is_of s e ≡ false) wh
         rows_alone = rows_on g.rows_alone;
       }
 
-module _ (old new : State) (t s : ℕ) (differ : t ≢ s) (e : Event) (mine : is_of t e ≡ true) (adds : new.past ≡ e ∷ old.past) where
+module _ (old new : State) (t s : ℕ) (differ : t ≢ s) (e : Event) (mine : IsNoOthers t e) (adds : new.past ≡ e ∷ old.past) where
   other : is_of s e ≡ false
   other = other_of e t s mine (λ is. differ (sym is))
 

@@ -85,3 +85,7 @@ stops_of s answer old before new taken steps =
       taken = taken;
       steps = steps;
     }
+
+-- an engine that has stopped, or stops, has no item that gives up waiting
+pub never_waits : (s : ℕ) (answer : Progress) (old new : StoppedState) (reply : _) → StoppedStepsBy s answer old new → answer ≡ progress.Done reply → ⊥
+never_waits s answer old new reply steps is = subst (λ a. StoppedStepsBy s a old new) is steps

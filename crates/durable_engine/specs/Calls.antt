@@ -6,13 +6,13 @@ use Rattle.inno_types.specs.declared.reply.Reply.{Reply}
 use Rattle.inno_types.specs.declared.reply.Reply.TheVariants.{Done}
 use Rattle.inno_types.specs.declared.reply.Cause.TheVariants.{Disk}
 use Rattle.inno_model.specs.declared.event.Event.{Event}
-use Rattle.inno_model.specs.declared.event.Event.TheVariants.{Started, Ended}
+use Rattle.inno_model.specs.declared.event.Event.TheVariants.{Started}
 use Rattle.inno_model.specs.Past.{is_of, started}
 use Rattle.store_api.specs.declared.answers.Progress.{Progress}
 use Rattle.store_api.specs.declared.answers.Progress.TheVariants as progress
 use Rattle.turn_board.specs.declared.Phase.TheVariants.{Idle, Leaving, Left}
 use Rattle.sql_lists.specs.Steps.{WaitsFor}
-use Rattle.session_engine.specs.Calls.{KeepsItems}
+use Rattle.session_engine.specs.Calls.{KeepsItems, EndsItem, IsAwaited}
 use Rattle.stopped_sessions.specs.declared.seats.Seat.{Seat}
 use Rattle.stopped_sessions.specs.Seats.{State as StoppedState, phase_at, halted, ended, phase_after}
 use Rattle.stopped_sessions.specs.Calls.{is_at_work, StepsBy as StoppedStepsBy}
@@ -59,7 +59,7 @@ pub record GoesOn (s : ℕ) (old new : List Event) : Type 0 where
 -- the step ends the session's item with the reply, or its ending
 abbrev pub EndsBy : {D : Type 0} → ℕ → Reply → State D → State D → Type 0
 EndsBy s reply old new =
-    ((new.past ≡ Ended s (started s old.past) reply ∷ old.past) × (phase_at new.seats s ≡ Idle))
+    (EndsItem s reply old.past new.past × (phase_at new.seats s ≡ Idle))
     ⊎ ((phase_at old.seats s ≡ Leaving) × (reply ≡ Done) × (new.past ≡ old.past) × (phase_at new.seats s ≡ Left))
 
 -- The session's item ends with the reply that says of the stop, or its ending is over; why the engine stopped stands in the
@@ -82,6 +82,7 @@ StepsBy s progress.Went old new = StepsOn s old new × GoesOn s old.past new.pas
 StepsBy s (progress.Waiting blockers) old new =
     StepsOn s old new × (new.past ≡ old.past) × Works s new × IfSome old.running (λ sessions. (by : ℕ) × WaitsFor s by blockers sessions.lists)
 StepsBy s progress.NoMemory old new = StepsOn s old new × (new.past ≡ old.past) × Works s new
+StepsBy s progress.NotYet old new = StepsOn s old new × (new.past ≡ old.past) × Works s new × IsAwaited s old.past
 StepsBy s (progress.Done reply) old new = StepsOn s old new × EndsBy s reply old new
 StepsBy s (progress.Stopped cause) old new = StepsOn s old new × (cause ≡ Disk) × Halts s old new
 StepsBy s other old new = ⊥

@@ -1,5 +1,5 @@
 -- What the engine is to its callers, and what holds of it at all times.
-use Rattle.std.specs.Prelude.{◌≡◌, ℕ, ◌<◌, ◌≤◌, true, Option, None, Some, List, [], length, refl}
+use Rattle.std.specs.Prelude.{◌≡◌, ℕ, ◌<◌, ◌≤◌, Bool, true, false, Option, None, Some, List, [], length, refl}
 use Rattle.std.specs.Coded.{Coded, code_by, coded×, coded_list, coded_option, coded_ℕ}
 use Rattle.inno_types.specs.declared.reply.Cause.TheVariants.{Disk}
 use Rattle.inno_model.specs.declared.event.Event.{Event}
@@ -9,7 +9,7 @@ use Rattle.store_api.specs.Causes.{Rose}
 use Rattle.turn_board.specs.declared.Phase.TheVariants.{Idle}
 use Rattle.law_crashes.specs.Since.{KeepsSince}
 use Rattle.commit_log.specs.View.{IsLogging}
-use Rattle.session_engine.specs.Seats.{State as Sessions, state_code as sessions_code}
+use Rattle.session_engine.specs.Seats.{State as Sessions, state_code as sessions_code, seat_at, owes}
 use Rattle.stopped_sessions.specs.declared.seats.Seat.{Seat}
 use Rattle.stopped_sessions.specs.contracts.seats.Seat as of_seat
 use Rattle.logged_sessions.specs.State.{State as LoggedState}
@@ -66,3 +66,11 @@ IsIdle s state = phase_at state.seats s ≡ Idle
 -- an item of it is under way, or its ending
 abbrev pub IsWorking : {D : Type 0} → ℕ → State D → Type 0
 IsWorking s state = is_at_work (phase_at state.seats s) ≡ true
+
+abbrev pub owes_of : ℕ → Option Sessions → Bool
+owes_of s None = false
+owes_of s (Some sessions) = owes (seat_at sessions.seats s)
+
+-- the commit of its item is yet to be acknowledged; in an engine that has stopped, none is
+abbrev pub owes_ack : {D : Type 0} → ℕ → State D → Bool
+owes_ack s state = owes_of s state.running

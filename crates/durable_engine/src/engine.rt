@@ -1,8 +1,7 @@
 //! The calls of the engine: its sessions run, or they are those of an engine that has stopped.
 
-ghost use Rattle.std.specs.Prelude.{◌≡◌, ◌≢◌, ◌<◌, ◌≤◌, ◌^◌, ℕ, [], length, true, false, None, All, IsTrue, IfOk, IfErr, OnOk, OnErr};
+ghost use Rattle.std.specs.Prelude.{◌≡◌, ◌≢◌, ◌<◌, ◌≤◌, ◌^◌, ℕ, [], length, true, false, None, All, IsTrue, IfOk, IfErr, IfSome, OnOk, OnErr};
 ghost use Rattle.store_api.specs.Causes.{Rose};
-ghost use Rattle.inno_types.specs.declared.reply.Item.TheVariants.{Sql};
 ghost use Rattle.inno_db.specs.Database.{Database};
 ghost use Rattle.inno_model.specs.Past.{under_way};
 ghost use Rattle.sql_grammar.specs.Grammar.{Spells};
@@ -53,8 +52,9 @@ impl<D: Disk, R: Root, L: SharedLists> Model for DurableEngine<D, R, L> {
 
 impl<D: Disk, R: Root, L: SharedLists> DurableEngine<D, R, L> {
     ghost use Rattle.law_crashes.specs.Since.{KeepsSince};
-    ghost use Rattle.durable_engine.specs.State.{IsJoined, IsIdle, IsWorking};
+    ghost use Rattle.durable_engine.specs.State.{IsJoined, IsIdle, IsWorking, owes_ack};
     ghost use Rattle.durable_engine.specs.Calls.{Joins, Starts, StepsBy, Leaves, SameState};
+    ghost use Rattle.session_engine.specs.Calls.{GivesUpInVain};
     ghost use Rattle.durable_engine.specs.Going.{Nears};
     ghost use Rattle.durable_engine.specs.Whole.{HoldsAll};
 
@@ -131,11 +131,23 @@ impl<D: Disk, R: Root, L: SharedLists> DurableEngine<D, R, L> {
         }
     }
 
-    /// Starts an item of the session: a statement, since nothing else can be asked for so far.
+    /// Whether the commit of the session's item is yet to be acknowledged, which its next step does. Once the engine has
+    /// stopped, none is.
+    pub fn owes_ack(&self, s: u32) -> bool
+        requires { IsJoined s self.now }
+        ensures { result ≡ owes_ack s self.now }
+    {
+        match &self.core {
+            Core::Running(sessions) => sessions.owes_ack(s),
+            Core::Stopped(_) => false,
+            Core::Changing => unreachable!(),
+        }
+    }
+
+    /// Starts an item of the session.
     pub fn start(&mut self, s: u32, item: &Item) -> Result<(), NoMemory>
         requires joined { IsJoined s self.old }
         requires idle { IsIdle s self.old }
-        requires sql { (text : _) × (item.now ≡ Sql text) }
         ensures ok { OnOk result (Starts s item.now self.old self.new) }
         ensures err { OnErr result (SameState self.old self.new) }
     {
@@ -146,16 +158,17 @@ impl<D: Disk, R: Root, L: SharedLists> DurableEngine<D, R, L> {
         }
     }
 
-    /// Makes a step of the session's item under way, or of its ending. A commit is acknowledged by a step of its own, which
+    /// Makes a step of the session's item under way, or of its ending, at a moment in seconds. A commit is acknowledged by a step of its own, which
     /// flushes the log unless it is flushed so far. Where the disk fails then, the engine has stopped.
-    pub fn step(&mut self, s: u32, _now: u64) -> Progress
+    pub fn step(&mut self, s: u32, now: u64) -> Progress
         requires joined { IsJoined s self.old }
         requires working { IsWorking s self.old }
         ensures steps { StepsBy s result self.old self.new }
         ensures nears { Nears s result self.old self.new }
+        ensures waited { IfSome self.old.running (GivesUpInVain s now result) }
     {
         let core = mem::replace(&mut self.core, Core::Changing);
-        let (core, progress) = step_of(core, s, &mut self.disk);
+        let (core, progress) = step_of(core, s, now, &mut self.disk);
         self.core = core;
         progress
     }

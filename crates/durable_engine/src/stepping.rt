@@ -1,6 +1,7 @@
 //! A step of an engine, whichever it is: of sessions that run, of an engine that stops by it, or of one that has stopped.
 
-ghost use Rattle.std.specs.Prelude.{◌≡◌, ◌<◌, length, true, OnOk, OnErr};
+ghost use Rattle.std.specs.Prelude.{◌≡◌, ◌<◌, length, true, IfSome, OnOk, OnErr};
+ghost use Rattle.session_engine.specs.Calls.{GivesUpInVain};
 ghost use Rattle.store_api.specs.Past.{Past};
 ghost use Rattle.commit_log.specs.View.{IsLogging};
 ghost use Rattle.stopped_sessions.specs.Seats.{phase_at};
@@ -22,6 +23,7 @@ use turn_board::Phase;
 pub(crate) fn step_of<D: Disk, L: SharedLists>(
     core: Core<L>,
     s: u32,
+    now: u64,
     disk: &mut D,
 ) -> (Core<L>, Progress)
     requires joined { IsJoined s (state_of disk.old core) }
@@ -29,10 +31,11 @@ pub(crate) fn step_of<D: Disk, L: SharedLists>(
     requires kept { (root : Past) × IsKept root (D.past disk.old) core }
     ensures steps { StepsBy s result.1 (state_of disk.old core) (state_of disk.new result.0) }
     ensures nears { Nears s result.1 (state_of disk.old core) (state_of disk.new result.0) }
+    ensures waited { IfSome (state_of disk.old core).running (GivesUpInVain s now result.1) }
     ensures kept { (root : Past) → IsKept root (D.past disk.old) core → IsKept root (D.past disk.new) result.0 }
 {
     match core {
-        Core::Running(sessions) => run_on(sessions, s, disk),
+        Core::Running(sessions) => run_on(sessions, s, now, disk),
         Core::Stopped(mut sessions) => {
             let progress = step_stopped(&mut sessions, s);
             (Core::Stopped(sessions), progress)
@@ -45,6 +48,7 @@ pub(crate) fn step_of<D: Disk, L: SharedLists>(
 fn run_on<D: Disk, L: SharedLists>(
     sessions: LoggedSessions<L>,
     s: u32,
+    now: u64,
     disk: &mut D,
 ) -> (Core<L>, Progress)
     requires joined { IsJoined s (running_state disk.old sessions) }
@@ -52,11 +56,12 @@ fn run_on<D: Disk, L: SharedLists>(
     requires kept { (root : Past) × IsLogging root (D.past disk.old) sessions.sessions.lists.past sessions.log }
     ensures steps { StepsBy s result.1 (running_state disk.old sessions) (state_of disk.new result.0) }
     ensures nears { Nears s result.1 (running_state disk.old sessions) (state_of disk.new result.0) }
+    ensures waited { GivesUpInVain s now result.1 sessions.sessions }
     ensures kept { (root : Past) → IsKeptRunning root (D.past disk.old) sessions → IsKept root (D.past disk.new) result.0 }
 {
     let mut sessions = sessions;
     if !sessions.owes_ack(s) {
-        let progress = sessions.step(s);
+        let progress = sessions.step(s, now);
         return (Core::Running(sessions), progress);
     }
     match sessions.acknowledge(s, disk) {

@@ -6,7 +6,7 @@ use Rattle.inno_types.specs.declared.stmt.Stmt.TheVariants as stmt
 use Rattle.inno_db.specs.declared.change.Change.{Change}
 use Rattle.inno_db.specs.Outcome.{outcome}
 use Rattle.inno_model.specs.declared.event.Event.{Event}
-use Rattle.inno_model.specs.Past.{did, begins_txn, IsOpen}
+use Rattle.inno_model.specs.Past.{of_item, did, begins_txn, IsOpen}
 use Rattle.sql_grammar.specs.Grammar.{Spells}
 use Rattle.sql_history.specs.Items.{point, base, HasMade}
 use Rattle.sql_history.specs.Legal.{Takes, IsLegal, IsWriting, IsCreation, ChangesBy, EndsCreate, MadeSome}
@@ -148,6 +148,10 @@ of_writings state s (writings.Ending kept given) r =
     replied s state.past r.0.statement r.0.takes r.0.writes r.0.reply.was_open r.0.reply.count r.0.reply.made
 
 -- ---- whichever
+
+-- an item that has done nothing
+pub of_nothing : (s : ℕ) (past : List Event) → of_item s past ≡ [] → MadeSome Spells s past
+of_nothing s past nothing = inl (none_yet s past nothing)
 
 pub of_statements : (state : State) (s : ℕ) (m : Statement) → IsLegal Spells state.past → IsRunning state s m → MadeSome Spells s state.past
 of_statements state s (statements.Unread at) legal r = inl (none_yet s state.past r.1.nothing)

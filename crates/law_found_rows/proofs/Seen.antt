@@ -16,7 +16,7 @@ use Rattle.inno_model.proofs.Commits.{committed_stays, view_within}
 use Rattle.row_versions.specs.declared.place.Place.{Place}
 use Rattle.row_versions.specs.Chains.{Chains, first_seen, sees}
 use Rattle.law_coded_rows.specs.Tables.{in_table}
-use Rattle.law_past_agreement.specs.Order.{created, IsTabled, IsOrdered}
+use Rattle.law_past_agreement.specs.Order.{created, IsTabled, IsOrdered, IsNoOthers}
 use Rattle.law_past_agreement.specs.Rows.{is_at, row_at, row_of, row_opened, seen, row_seen}
 use Rattle.law_past_agreement.specs.Agreement.{ViewAgrees}
 use Rattle.law_past_agreement.proofs.Tables.{at_stays, own_tabled, committed_tabled}
@@ -32,11 +32,15 @@ use Rattle.law_found_rows.specs.Pasts.{AddsAtMostOne}
 -- ---- one entry more
 
 -- an entry of one session is no other's
-other_of : (e : Event) (t s : ℕ) → is_of t e ≡ true → t ≢ s → is_of s e ≡ false
-other_of e t s mine differ = grind (arith, nat_tests, mine, differ)
+own_of : (e : Event) (t s : ℕ) → is_of t e ≡ true → t ≢ s → is_of s e ≡ false
+own_of e t s mine differ = grind (arith, nat_tests, mine, differ)
+
+pub other_of : (e : Event) (t s : ℕ) → IsNoOthers t e → t ≢ s → is_of s e ≡ false
+other_of (events.Signal name) t s mine differ = refl
+other_of e t s mine differ = own_of e t s mine differ
 
 -- an entry of a session adds a table at most
-grown : (t : ℕ) (e : Event) (h : List Event) → is_of t e ≡ true → (more : List Schema) × (created (e ∷ h) ≡ created h ++ more)
+grown : (t : ℕ) (e : Event) (h : List Event) → IsNoOthers t e → (more : List Schema) × (created (e ∷ h) ≡ created h ++ more)
 grown t (events.Opened db) h mine = (let x = mine in cc)
 grown t (events.Changed u (changes.Create schema)) h mine = (schema ∷ [], refl)
 grown t (events.Changed u (changes.Put table row)) h mine = ([], sym (append-nil (created h)))
@@ -44,7 +48,7 @@ grown t (events.Changed u (changes.Remove table key)) h mine = ([], sym (append-
 grown t e h mine = ([], sym (append-nil (created h)))
 
 -- an entry of a session opens nothing
-opening_stays : (t : ℕ) (e : Event) (h : List Event) (place : Place) → is_of t e ≡ true → row_opened (e ∷ h) place ≡ row_opened h place
+opening_stays : (t : ℕ) (e : Event) (h : List Event) (place : Place) → IsNoOthers t e → row_opened (e ∷ h) place ≡ row_opened h place
 opening_stays t (events.Opened db) h place mine = (let x = mine in cc)
 opening_stays t e h place mine = refl
 
@@ -59,7 +63,7 @@ all_joined P [] ys all other = other
 all_joined P (x ∷ xs) ys all other = (all.0, all_joined P xs ys all.1 other)
 
 -- what a view shows of a place
-entry_leaves : (t s n : ℕ) (e : Event) (h : List Event) (place : Place) → IsOrdered h → is_of t e ≡ true → t ≢ s → n ≤ commits h
+entry_leaves : (t s n : ℕ) (e : Event) (h : List Event) (place : Place) → IsOrdered h → IsNoOthers t e → t ≢ s → n ≤ commits h
     → row_seen (e ∷ h) s n place ≡ row_seen h s n place
 entry_leaves t s n e h place ordered mine differ within =
     let more = grown t e h mine in

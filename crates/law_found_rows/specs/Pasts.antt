@@ -1,8 +1,8 @@
 -- How a history goes on by a step of a session.
-use Rattle.std.specs.Prelude.{◌≡◌, ◌⊎◌, ℕ, true, List, ◌∷◌}
+use Rattle.std.specs.Prelude.{◌≡◌, ◌⊎◌, ℕ, List, ◌∷◌}
 use Rattle.inno_model.specs.declared.event.Event.{Event}
-use Rattle.inno_model.specs.Past.{is_of}
+use Rattle.law_past_agreement.specs.Order.{IsNoOthers}
 
--- No entry has come, or one of this session.
+-- No entry has come, or one of this session, or a signal.
 abbrev pub AddsAtMostOne : ℕ → List Event → List Event → Type 0
-AddsAtMostOne t old new = (new ≡ old) ⊎ ((e : Event) × (is_of t e ≡ true) × (new ≡ e ∷ old))
+AddsAtMostOne t old new = (new ≡ old) ⊎ ((e : Event) × IsNoOthers t e × (new ≡ e ∷ old))

@@ -24,6 +24,7 @@ use Rattle.law_logged_changes.specs.Logs.{LogsAgree}
 use Rattle.law_logged_changes.specs.Steps.{LeavesLog, HasNoLog, OfAll}
 use Rattle.law_logged_changes.proofs.Leaving.{rows_leave, all_left}
 use Rattle.law_found_rows.specs.Pasts.{AddsAtMostOne}
+use Rattle.law_found_rows.proofs.Seen.{other_of}
 use Rattle.desks.specs.declared.desk.Desk.{Desk}
 use Rattle.desks.specs.declared.desk.Doing.{Doing}
 use Rattle.desks.specs.declared.desk.Doing.TheVariants.{Nothing, Searching, Changing, Lagging, Undoing}
@@ -50,15 +51,12 @@ leaves_rows old new same = record {
 
 -- ---- the past of the others
 
-other_of : (e : Event) (t s : ℕ) → is_of t e ≡ true → s ≢ t → is_of s e ≡ false
-other_of e t s mine differ = grind (arith, nat_tests, mine, differ)
-
 same_past : (h : List Event) (s : ℕ) → IsUntouched h h s
 same_past h s = record { count = refl; item = refl; before = refl; entries = refl; level_is = refl; txn_is = refl; own_is = refl; view_is = refl }
 
 pub others_past : (t s : ℕ) (old new : List Event) → s ≢ t → AddsAtMostOne t old new → IsUntouched old new s
 others_past t s old new differ (inl same) = subst (λ h. IsUntouched old h s) (sym same) (same_past old s)
-others_past t s old new differ (inr adds) = subst (λ h. IsUntouched old h s) (sym adds.2) (untouched adds.0 old s (other_of adds.0 t s adds.1 differ))
+others_past t s old new differ (inr adds) = subst (λ h. IsUntouched old h s) (sym adds.2) (untouched adds.0 old s (other_of adds.0 t s adds.1 (λ same. differ (sym same))))
 
 pub past_grows : (t : ℕ) (old new : List Event) → AddsAtMostOne t old new → length old ≤ length new
 past_grows t old new (inl same) = subst (λ (h : List Event). length old ≤ length h) (sym same) (omega arith)

@@ -1,12 +1,12 @@
--- Items that start and end, commits that are acknowledged, and what sessions set.
-use Rattle.std.proofs.Common.{◌≡◌, ◌≢◌, ℕ, ◌+◌, ◌<◌, ◌≤◌, ◌^◌, ◌==◌, Bool, true, false, Option, Some, None, List, [], ◌∷◌, length, refl, sym, ap, ◌∙◌, inl, inr, arith, ◌⊎◌}
+-- Items that start and end, commits that are acknowledged, signals, and what sessions set.
+use Rattle.std.proofs.Common.{◌≡◌, ◌≢◌, ℕ, zero, suc, subst, ◌+◌, ◌<◌, ◌≤◌, ◌^◌, ◌==◌, Bool, true, false, Option, Some, None, List, [], ◌∷◌, length, refl, sym, ap, ◌∙◌, inl, inr, arith, ◌⊎◌}
 use Rattle.std.specs.Prelude.{slice_get, slice_set, is_some}
 use Rattle.std.proofs.lemmas.Bool.Decides.{nat_tests}
 use Rattle.std.proofs.lemmas.List.{length-set}
 use Rattle.inno_types.specs.declared.reply.Item.{Item}
 use Rattle.inno_types.specs.declared.reply.Reply.{Reply}
 use Rattle.inno_model.specs.declared.event.Event.{Event}
-use Rattle.inno_model.specs.declared.event.Event.TheVariants.{Started, Ended, Acked}
+use Rattle.inno_model.specs.declared.event.Event.TheVariants.{Started, Ended, Acked, Signal}
 use Rattle.inno_model.specs.Past.{is_of, own, started, under_way, of_item, awaits_ack}
 use Rattle.law_past_agreement.specs.Order.{MayCome}
 use Rattle.world.specs.State.{WorldState, Session, Work, IsSession, HasWork}
@@ -16,9 +16,9 @@ use Rattle.undo_apply.specs.declared.work_room.WorkRoom.{WorkRoom}
 use Rattle.law_world_agreement.specs.Steps.{IsEntered as IsSettled}
 use Rattle.law_world_agreement.specs.Agreement.{Agrees}
 use Rattle.law_world_agreement.proofs.Opening.{set_here, set_other}
-use Rattle.law_world_agreement.proofs.Entries.{started_agrees, ended_agrees, acked_agrees, unentered_agrees}
+use Rattle.law_world_agreement.proofs.Entries.{started_agrees, ended_agrees, acked_agrees, signal_agrees, unentered_agrees}
 use Rattle.shared_lists.specs.Fitting.{FitsThen}
-use Rattle.world.specs.EngineCalls.{item_started, acknowledged}
+use Rattle.world.specs.EngineCalls.{item_started, acknowledged, signalled}
 use Rattle.law_found_rows.specs.Pasts.{AddsAtMostOne}
 use Rattle.desks.specs.declared.desk.Desk.{Desk}
 use Rattle.desks.specs.declared.desk.Doing.TheVariants.{Nothing}
@@ -29,6 +29,12 @@ use Rattle.law_held_entries.proofs.Sessions.{own_session, same_log, same_writer,
 
 absurd_false : false ≡ true → ⊥
 absurd_false is = cc
+
+-- a session put where it stood
+put_back : (sessions : List Session) (t : ℕ) (session : Session) → slice_get sessions t ≡ Some session → slice_set sessions t session ≡ sessions
+put_back [] t session there = refl
+put_back (x ∷ sessions) zero session there = let e = there in cc
+put_back (x ∷ sessions) (suc t) session there = ap (λ ys. x ∷ ys) (put_back sessions t session there)
 
 -- a session with other rooms for entries, and another past
 abbrev pub with_past : ℕ → Session → List Event → ℕ → WorldState → WorldState
@@ -141,6 +147,19 @@ module _ (writer : Option ℕ) (cuts : ℕ) (undo : UndoRoom) (room : WorkRoom) 
       (inr (Acked t moment, mine_acked moment, refl)) refl held.fits (λ busy. held.has_room.replies t session there busy)
       (λ waits. absurd (absurd_false (sym (acked_waits moment) ∙ waits)))
       (same_writer t writer old (with_past t after past old.rows old) desks (others after)) refl (held.started t)
+
+  -- a signal changes nothing of the session
+  pub signal_held : (name : List ℕ) → t < length old.names → length old.past + 1 < 2 ^ 63
+      → IsHeld (signalled name old) writer desks cuts undo room
+  signal_held name joined few =
+      let past : List Event = Signal name ∷ old.past in
+      subst (λ (sessions : List Session). IsHeld (record old { sessions = sessions; past = past }) writer desks cuts undo room)
+      (put_back old.sessions t session there)
+      (on session past old.rows refl desks
+      (signal_agrees held.chains writer old (with_past t session past old.rows old) t name held.agrees joined few (settled session past old.rows refl))
+      (inr (Signal name, tt, refl)) refl held.fits (λ busy. held.has_room.replies t session there busy)
+      (λ waits. held.has_room.acks t session there waits)
+      (same_writer t writer old (with_past t session past old.rows old) desks (others session)) refl (held.started t))
 
   -- a session with other settings or rooms, and no entry
   pub unentered_held : (after : Session) → after.work ≡ session.work → after.can_reply ≡ session.can_reply → after.can_ack ≡ session.can_ack

@@ -15,7 +15,7 @@ use Rattle.inno_db.specs.Database.{Database}
 use Rattle.inno_db.specs.declared.change.Change.{Change}
 use Rattle.inno_db.specs.declared.change.Change.TheVariants.{Create, Put, Remove}
 use Rattle.inno_model.specs.declared.event.Event.{Event}
-use Rattle.inno_model.specs.declared.event.Event.TheVariants.{Opened, Begin, Started, View, Changed, Undone, Ended, Committed, Acked, RolledBack}
+use Rattle.inno_model.specs.declared.event.Event.TheVariants.{Opened, Begin, Started, View, Changed, Undone, Ended, Committed, Acked, RolledBack, Signal}
 use Rattle.inno_model.specs.Past.{is_of, level, txn, own, view_of, begins, commits, committed, opening, started, under_way, IsOpen}
 use Rattle.inno_model.proofs.Commits.{begins_few}
 use Rattle.read_view.specs.Sight.{Sight, is_seen}
@@ -315,6 +315,22 @@ module _ (names : List (List ℕ)) (h : List Event) (room : ℕ) (schemas : List
 
   pub acked_owed : (s moment : ℕ) → MayCome h (Acked s moment) → s < length names → 1 ≤ owed
   acked_owed s moment may joined = omega (arith, owing.owed_acked s moment h may.0 may.1, owed_in s joined)
+
+  -- a signal is no session's entry
+  pub agreed_signal : (s : ℕ) (name : List ℕ) → length (Signal name ∷ h) < 2 ^ 63 → s < length names → (room' : ℕ) → owed ≤ room'
+      → IsAgreed names (Signal name ∷ h) room' schemas chains txns slots owed writer
+  agreed_signal s name few joined room' fits =
+      subst (λ (xs : List Slot). IsAgreed names (Signal name ∷ h) room' schemas chains txns xs owed writer) (set_back slots s)
+      (after (Signal name) s (λ u differ. refl) tt few joined refl refl txns agreed.txns_are
+      (get_or slots s fresh)
+      (record {
+        started_is = (agreed.sessions s).started_is;
+        work_is = work_kept schemas (Signal name) h s tt ids refl refl refl refl refl (get_or slots s fresh).work (agreed.sessions s).work_is;
+      })
+      chains (λ place. rows.rows_stay (Signal name) h (λ u. refl) (λ u. refl) (λ n id. refl) (λ n. refl) (row_opened h place) (is_at schemas place)
+      (versions_at place chains) (agreed.rows place))
+      writer (fewer h (Signal name ∷ h) (λ u none. none) (λ u o. o) writer agreed.writes)
+      owed room' (omega arith) fits)
 
   pub agreed_begin : (s m : ℕ) (l : Level) → MayCome h (Begin s (begins h + 1) l) → m ≡ txns.begun + 1 → length (Begin s m l ∷ h) < 2 ^ 63
       → s < length names → (room' : ℕ) → owed + 2 ≤ room'

@@ -6,7 +6,7 @@ use Rattle.inno_db.specs.declared.change.Change.{Change}
 use Rattle.inno_db.specs.declared.change.Change.TheVariants.{Create, Put, Remove}
 use Rattle.inno_model.specs.declared.event.Event.{Event}
 use Rattle.inno_model.specs.declared.event.Event.TheVariants as events
-use Rattle.inno_model.specs.Past.{started, under_way, of_item, begins, own, IsOpen, IsClosed, awaits_ack}
+use Rattle.inno_model.specs.Past.{is_of, started, under_way, of_item, begins, own, IsOpen, IsClosed, awaits_ack}
 
 -- the tables that have been made, by number
 abbrev pub created : List Event → List Schema
@@ -35,6 +35,11 @@ IsTabled tables (Remove table key) = table < tables
 abbrev pub IsUndoable : ℕ → List Change → Type 0
 IsUndoable keep [] = ⊥
 IsUndoable keep (change ∷ before) = IsOfRow change × (length before ≡ keep)
+
+-- an entry of this session, or a signal, which is no session's
+abbrev pub IsNoOthers : ℕ → Event → Type 0
+IsNoOthers t (events.Signal name) = Unit {0}
+IsNoOthers t e = is_of t e ≡ true
 
 abbrev pub MayCome : List Event → Event → Type 0
 MayCome past (events.Opened db) = past ≡ []

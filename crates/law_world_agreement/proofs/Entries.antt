@@ -9,7 +9,7 @@ use Rattle.inno_types.specs.declared.reply.Item.{Item}
 use Rattle.inno_types.specs.declared.reply.Reply.{Reply}
 use Rattle.inno_db.specs.declared.change.Change.{Change}
 use Rattle.inno_model.specs.declared.event.Event.{Event}
-use Rattle.inno_model.specs.declared.event.Event.TheVariants.{Started, Ended, Acked, Undone}
+use Rattle.inno_model.specs.declared.event.Event.TheVariants.{Started, Ended, Acked, Undone, Signal}
 use Rattle.inno_model.specs.Past.{own, started, under_way}
 use Rattle.row_versions.specs.declared.place.Place.{Place}
 use Rattle.row_versions.specs.Chains.{Chains, Pops}
@@ -19,7 +19,7 @@ use Rattle.law_past_agreement.specs.Rows.{place_in}
 use Rattle.law_past_agreement.specs.Order.{IsOfRow, IsUndoable, MayCome}
 use Rattle.law_past_agreement.specs.Agreement.{IsAgreed, owed_by_all}
 use Rattle.law_past_agreement.proofs.Rows.{own_undone}
-use Rattle.law_past_agreement.proofs.Agree.{agreed_started, agreed_ended, agreed_acked, agreed_undone}
+use Rattle.law_past_agreement.proofs.Agree.{agreed_started, agreed_ended, agreed_acked, agreed_signal, agreed_undone}
 use Rattle.world.specs.State.{WorldState, Session, Work}
 use Rattle.law_world_agreement.specs.Agreement.{sight_of, work_at, slots_from, Agrees}
 use Rattle.law_world_agreement.specs.Steps.{IsEntered, IsTakenBackBy}
@@ -119,6 +119,15 @@ acked_agrees chains writer old new s moment agrees joined may few entered =
     let xs = slots_from 0 old.past old.schemas old.sessions in
     entered_agrees chains writer (Acked s moment ∷ old.past) old new agrees entered R (R - 1) xs
     (agreed_acked old.names old.past R old.schemas chains old.txns xs R writer agrees.lists s moment may (omega (arith, few)) joined R (omega arith))
+    (λ u. refl) (λ u out. refl) (λ u. refl)
+
+pub signal_agrees : (chains : Chains) (writer : Option ℕ) (old new : WorldState) (s : ℕ) (name : List ℕ) → Agrees chains writer old
+    → s < length old.names → length old.past + 1 < 2 ^ 63 → IsEntered (Signal name ∷ old.past) old new → Agrees chains writer new
+signal_agrees chains writer old new s name agrees joined few entered =
+    let R = owed_by_all old.past (length old.names) in
+    let xs = slots_from 0 old.past old.schemas old.sessions in
+    entered_agrees chains writer (Signal name ∷ old.past) old new agrees entered R R xs
+    (agreed_signal old.names old.past R old.schemas chains old.txns xs R writer agrees.lists s name (omega (arith, few)) joined R (omega arith))
     (λ u. refl) (λ u out. refl) (λ u. refl)
 
 less_of : (work now : Work) (places : List (Option Place)) → now.txn ≡ work.txn → now.level ≡ work.level → now.id ≡ work.id → now.view ≡ work.view

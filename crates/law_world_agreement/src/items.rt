@@ -3,7 +3,7 @@
 ghost use Rattle.std.specs.Prelude.{◌≡◌, ◌<◌, ◌^◌, ◌+◌, ℕ, List, [], ◌∷◌, length, Option, None};
 ghost use Rattle.inno_types.specs.declared.reply.Item.{Item};
 ghost use Rattle.inno_types.specs.declared.reply.Reply.{Reply};
-ghost use Rattle.inno_model.specs.declared.event.Event.TheVariants.{Started, Ended, Acked};
+ghost use Rattle.inno_model.specs.declared.event.Event.TheVariants.{Started, Ended, Acked, Signal};
 ghost use Rattle.inno_model.specs.Past.{started, under_way};
 ghost use Rattle.row_versions.specs.Chains.{Chains};
 ghost use Rattle.law_past_agreement.specs.Order.{MayCome};
@@ -22,7 +22,7 @@ pub fn a_session_joins()
         → Agrees chains writer old → IsJoined name old new → Agrees chains writer new }
 {}
 
-/// The entries by which items begin, end and are acknowledged leave it agreed, and so does a step without an entry.
+/// The entries by which items begin, end and are acknowledged leave it agreed, and so do a signal and a step without an entry.
 pub fn items_begin_and_end()
     ensures started { (chains : Chains) (writer : Option ℕ) (old new : WorldState) (s j : ℕ) (item : Item)
         → Agrees chains writer old → s < length old.names → under_way s old.past ≡ None → j ≡ started s old.past + 1
@@ -33,6 +33,9 @@ pub fn items_begin_and_end()
     ensures acked { (chains : Chains) (writer : Option ℕ) (old new : WorldState) (s moment : ℕ)
         → Agrees chains writer old → s < length old.names → MayCome old.past (Acked s moment)
         → length old.past + 1 < 2 ^ 63 → IsEntered (Acked s moment ∷ old.past) old new → Agrees chains writer new }
+    ensures signal { (chains : Chains) (writer : Option ℕ) (old new : WorldState) (s : ℕ) (name : List ℕ)
+        → Agrees chains writer old → s < length old.names
+        → length old.past + 1 < 2 ^ 63 → IsEntered (Signal name ∷ old.past) old new → Agrees chains writer new }
     ensures unentered { (chains : Chains) (writer : Option ℕ) (old new : WorldState)
         → Agrees chains writer old → IsEntered old.past old new → Agrees chains writer new }
 {}

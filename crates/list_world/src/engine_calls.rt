@@ -71,6 +71,12 @@ impl EngineWorld for ListWorld {
         self.history.add(Event::Acked { s, moment });
     }
 
+    fn add_signal(&mut self, name: Bytes) -> Result<(), NoMemory> {
+        take_room(&mut self.history, &self.sessions, 1)?;
+        self.history.add(Event::Signal { name });
+        Ok(())
+    }
+
     fn set(&mut self, s: u32, stmt: &Stmt) {
         self.sessions[s as usize].set(stmt);
     }

@@ -9,14 +9,15 @@ use Rattle.std.specs.List.{AllByRecursion}
 use Rattle.store_api.specs.declared.answers.Progress.{Progress}
 use Rattle.store_api.specs.declared.answers.Progress.TheVariants as progress
 use Rattle.inno_types.specs.declared.reply.Item.{Item}
+use Rattle.inno_types.specs.declared.reply.Reply.{Reply}
 use Rattle.inno_model.specs.declared.event.Event.{Event}
 use Rattle.inno_model.specs.declared.event.Event.TheVariants as events
 use Rattle.inno_model.specs.Past.{is_of, begins_txn, started, opening}
-use Rattle.sql_lists.specs.Steps.{acknowledges, changes_rows}
-use Rattle.commit_log.specs.View.{is_acknowledgement}
+use Rattle.sql_lists.specs.Steps.{is_apart, changes_rows}
+use Rattle.commit_log.specs.View.{is_acknowledgement, IsEntryOf}
 use Rattle.law_logged_histories.specs.Records.{HasItsRecord}
 use Rattle.session_engine.specs.Seats.{State as Sessions}
-use Rattle.session_engine.specs.Calls.{KeepsItems, TellsOne as StepTellsOne, TellsNone, GoesOn, StepsBy}
+use Rattle.session_engine.specs.Calls.{KeepsItems, TellsOne as StepTellsOne, TellsNone, GoesOn, HasGiven, StepsBy}
 use Rattle.logged_sessions.specs.Entering.{MayEnter, TellsOne, TellNone, tells_change}
 
 -- ---- entries, the newest first
@@ -25,15 +26,23 @@ use Rattle.logged_sessions.specs.Entering.{MayEnter, TellsOne, TellNone, tells_c
 pub record AreAdded (s : ℕ) (old new : List Event) : Type 0 where
   pub entries : List Event
   pub past_is : new ≡ entries ++ old
-  pub each : AllByRecursion (λ e. (is_of s e ≡ true) × (acknowledges e ≡ false)) entries
+  pub each : AllByRecursion (λ e. IsEntryOf s e × (is_acknowledgement e ≡ false)) entries
   pub tells : StepTellsOne entries
   -- none of them starts an item
   pub counts : (u : ℕ) → started u new ≡ started u old
 
-both : (s : ℕ) (es : List Event) → AllByRecursion (λ e. (is_of s e ≡ true) × KeepsItems e) es → AllByRecursion (λ e. acknowledges e ≡ false) es
-    → AllByRecursion (λ e. (is_of s e ≡ true) × (acknowledges e ≡ false)) es
+entry_of : (s : ℕ) (e : Event) → is_of s e ≡ true → IsEntryOf s e
+entry_of s (events.Signal name) mine = tt
+entry_of s e mine = mine
+
+same_words : (e : Event) → is_apart e ≡ false → is_acknowledgement e ≡ false
+same_words (events.Acked s moment) unacked = absurd (false≢true (sym unacked))
+same_words e unacked = refl
+
+both : (s : ℕ) (es : List Event) → AllByRecursion (λ e. (is_of s e ≡ true) × KeepsItems e) es → AllByRecursion (λ e. is_apart e ≡ false) es
+    → AllByRecursion (λ e. IsEntryOf s e × (is_acknowledgement e ≡ false)) es
 both s [] each unacked = tt
-both s (e ∷ es) each unacked = ((each.0.0, unacked.0), both s es each.1 unacked.1)
+both s (e ∷ es) each unacked = ((entry_of s e each.0.0, same_words e unacked.0), both s es each.1 unacked.1)
 
 counted_one : (u : ℕ) (e : Event) (h : List Event) → KeepsItems e → started u (e ∷ h) ≡ started u h
 counted_one u (events.Started t j item) h keeps = absurd keeps
@@ -45,6 +54,30 @@ counted_all u s (e ∷ es) h each = counted_one u e (es ++ h) each.0.1 ∙ count
 
 added_none : (s : ℕ) (old new : List Event) → new ≡ old → AreAdded s old new
 added_none s old new is = record { entries = []; past_is = is; each = tt; tells = tt; counts = λ u. ap (started u) is }
+
+ended_mine : (s j : ℕ) (reply : Reply) → is_of s (events.Ended s j reply) ≡ true
+ended_mine s j reply = grind (arith, nat_tests)
+
+-- the item ends, and may have given its signal
+added_end : (s : ℕ) (reply : Reply) (old new past : List Event) → HasGiven s old past → new ≡ events.Ended s (started s old) reply ∷ past → AreAdded s old new
+added_end s reply old new past (inl same) is =
+    let past_is = is ∙ ap (λ h. events.Ended s (started s old) reply ∷ h) same in
+    record {
+      entries = events.Ended s (started s old) reply ∷ [];
+      past_is = past_is;
+      each = ((ended_mine s (started s old) reply, refl), tt);
+      tells = tt;
+      counts = λ u. ap (started u) past_is;
+    }
+added_end s reply old new past (inr given) is =
+    let past_is = is ∙ ap (λ h. events.Ended s (started s old) reply ∷ h) given.2 in
+    record {
+      entries = events.Ended s (started s old) reply ∷ events.Signal given.0 ∷ [];
+      past_is = past_is;
+      each = ((ended_mine s (started s old) reply, refl), ((tt, refl), tt));
+      tells = tt;
+      counts = λ u. ap (started u) past_is;
+    }
 
 pub steps_added : (s : ℕ) (answer : Progress) (old new : Sessions) → StepsBy s answer old new → AreAdded s old.lists.past new.lists.past
 steps_added s progress.Went old new steps =
@@ -58,14 +91,9 @@ steps_added s progress.Went old new steps =
     }
 steps_added s (progress.Waiting blockers) old new steps = added_none s old.lists.past new.lists.past steps.1.past_stays
 steps_added s progress.NoMemory old new steps = added_none s old.lists.past new.lists.past steps.1
+steps_added s progress.NotYet old new steps = added_none s old.lists.past new.lists.past steps.1.past_stays
 steps_added s (progress.Done reply) old new steps = elim steps.1 [
-  | inl ends ↦ record {
-    entries = events.Ended s (started s old.lists.past) reply ∷ [];
-    past_is = ends.0;
-    each = ((grind (arith, nat_tests), refl), tt);
-    tells = tt;
-    counts = λ u. ap (started u) ends.0;
-  }
+  | inl ends ↦ added_end s reply old.lists.past new.lists.past ends.0.0 ends.0.1 ends.0.2
   | inr goes ↦ added_none s old.lists.past new.lists.past (ap (λ l. l.past) goes.2)
 ]
 steps_added s other old new steps = elim steps [ ]
@@ -112,15 +140,6 @@ tells_reversed (e ∷ es) tells records =
 
 -- ---- what the log takes over
 
-same_words : (e : Event) → acknowledges e ≡ false → is_acknowledgement e ≡ false
-same_words (events.Acked s moment) unacked = absurd (false≢true (sym unacked))
-same_words e unacked = refl
-
-taken : (s : ℕ) (es : List Event) → AllByRecursion (λ e. (is_of s e ≡ true) × (acknowledges e ≡ false)) es
-    → AllByRecursion (λ e. (is_of s e ≡ true) × (is_acknowledgement e ≡ false)) es
-taken s [] each = tt
-taken s (e ∷ es) each = ((each.0.0, same_words e each.0.1), taken s es each.1)
-
 pub count_behind : (es past : List Event) → count_by changes_rows (es ++ past) ≡ count_by changes_rows es + count_by changes_rows past
 count_behind es past = sum_by-append (λ e. cond (changes_rows e) 1 0) es past
 
@@ -144,7 +163,7 @@ pub may_enter : (s : ℕ) (ready : Bool) (old new : List Event) (added : AreAdde
     → (ready ≡ true) ⊎ TellsNone old new → MayEnter s ready (reverse added.entries)
 may_enter s ready old new added records room =
     record {
-      mine = all_reversed (λ e. (is_of s e ≡ true) × (is_acknowledgement e ≡ false)) added.entries (taken s added.entries added.each);
+      mine = all_reversed (λ e. IsEntryOf s e × (is_acknowledgement e ≡ false)) added.entries added.each;
       tells = elim room [
         | inl is ↦ inl (
           is,
@@ -157,7 +176,7 @@ may_enter s ready old new added records room =
     }
 
 -- an opening stays what it is
-opening_kept : (s : ℕ) (es past : List Event) → AllByRecursion (λ e. (is_of s e ≡ true) × (acknowledges e ≡ false)) es → opening (es ++ past) ≡ opening past
+opening_kept : (s : ℕ) (es past : List Event) → AllByRecursion (λ e. IsEntryOf s e × (is_acknowledgement e ≡ false)) es → opening (es ++ past) ≡ opening past
 opening_kept s [] past each = refl
 opening_kept s (events.Opened db ∷ es) past each = absurd (false≢true each.0.0)
 opening_kept s (e ∷ es) past each = opening_kept s es past each.1
@@ -210,12 +229,12 @@ rest_before told events all cut added past is long =
 -- ---- one entry
 
 -- of a session, which tells no change and acknowledges nothing
-pub enters_one : (s : ℕ) (ready : Bool) (e : Event) (old new added past : List Event) → is_of s e ≡ true → acknowledges e ≡ false → tells_change e ≡ false
+pub enters_one : (s : ℕ) (ready : Bool) (e : Event) (old new added past : List Event) → is_of s e ≡ true → is_apart e ≡ false → tells_change e ≡ false
     → new ≡ e ∷ old → new ≡ added ++ past → length past ≡ length old → MayEnter s ready (reverse added)
 enters_one s ready e old new added past mine unacked quiet is also long =
     let cut = same_length added (e ∷ []) past old (sym also ∙ is) long in
     subst (λ es. MayEnter s ready (reverse es)) (sym cut.0)
-    (record { mine = ((mine, same_words e unacked), tt); tells = inr (quiet, tt) })
+    (record { mine = ((entry_of s e mine, same_words e unacked), tt); tells = inr (quiet, tt) })
 
 -- entries that a step has added, as the log sees them
 pub enters_added : (s : ℕ) (ready : Bool) (old new more past : List Event) (added : AreAdded s old new) → new ≡ more ++ past → length past ≡ length old

@@ -4,6 +4,7 @@ use Rattle.std.proofs.lemmas.Bool.Decides.{nat_tests, eqb_tells}
 use Rattle.std.proofs.lemmas.List.{get_or-set_same, get_or-set_other, get_or_read, length-set, length-append}
 use Rattle.std.specs.Prelude.{All, Result, Ok, Err, OnOk, OnErr}
 use Rattle.inno_types.specs.declared.reply.Item.{Item}
+use Rattle.inno_types.specs.declared.reply.Item.TheVariants as items
 use Rattle.inno_model.specs.declared.event.Event.{Event}
 use Rattle.inno_model.specs.declared.event.Event.TheVariants as events
 use Rattle.inno_model.specs.Past.{started, opening, under_way}
@@ -18,11 +19,13 @@ use Rattle.turn_board.specs.declared.Phase.TheVariants as phases
 use Rattle.commit_records.specs.Room.{IsLoggable}
 use Rattle.commit_log.specs.View.{CommitView}
 use Rattle.session_engine.specs.declared.seats.Seat.{Seat as StatementSeat}
-use Rattle.session_engine.specs.declared.seats.Seat.TheVariants.{Idle, Busy, Leaving, Left}
-use Rattle.session_engine.specs.Seats.{State as Sessions, seat_at, phase_of, SeatAgrees, AreSeats}
+use Rattle.session_engine.specs.declared.seats.Seat.TheVariants.{Idle, Busy, Signalling, Leaving, Left}
+use Rattle.session_engine.specs.declared.seats.SignalItem.{SignalItem}
+use Rattle.session_engine.specs.declared.seats.SignalItem.TheVariants.{Gives, Awaits}
+use Rattle.session_engine.specs.Seats.{State as Sessions, seat_at, phase_of, HasAsked, SeatAgrees, AreSeats}
 use Rattle.session_engine.specs.Calls.{Joins, SameState, Starts, StepsOn, StepsBy, Acknowledges}
 use Rattle.session_engine.proofs.Others.{has_item}
-use Rattle.law_broken_off.proofs.Broken.{of_statements}
+use Rattle.law_broken_off.proofs.Broken.{of_statements, of_nothing}
 use Rattle.stopped_sessions.specs.declared.seats.Seat.{Seat}
 use Rattle.stopped_sessions.specs.Seats.{phase_at, seat_at as stopped_seat_at, PhaseAgrees, AreSeats as AreStoppedSeats}
 use Rattle.logged_sessions.specs.State.{AreSeated}
@@ -35,10 +38,16 @@ some_item : (item : Option Item) → item ≢ None → (x : Item) × (item ≡ S
 some_item None some = absurd (some refl)
 some_item (Some x) some = (x, refl)
 
+signals_off : (s : ℕ) (item : SignalItem) (past : List Event) → HasAsked s item past → PhaseAgrees past s phases.Busy
+signals_off s (Gives name) past asked = ((items.Signal name, asked.asked), of_nothing s past asked.nothing)
+signals_off s (Awaits wait) past asked = ((items.Await wait.name, asked.0.asked), of_nothing s past asked.0.nothing)
+
 breaks_off : (lists : Lists) (s : ℕ) (seat : StatementSeat) → IsLegal Spells lists.past → SeatAgrees lists s seat → PhaseAgrees lists.past s (phase_of seat)
 breaks_off lists s Idle legal agrees = (agrees.0.rests, agrees.1)
 breaks_off lists s (Busy statement) legal agrees =
     (some_item (under_way s lists.past) (has_item lists s statement agrees), of_statements lists s statement legal agrees)
+breaks_off lists s (Signalling item) legal agrees =
+    signals_off s item lists.past agrees.0
 breaks_off lists s Leaving legal agrees = agrees.may.rests
 breaks_off lists s Left legal agrees = agrees.0
 
@@ -126,6 +135,7 @@ pub steps_on : (s : ℕ) (answer : Progress) (old new : Sessions) → StepsBy s 
 steps_on s progress.Went old new steps = steps.0
 steps_on s (progress.Waiting blockers) old new steps = steps.0
 steps_on s progress.NoMemory old new steps = steps.0
+steps_on s progress.NotYet old new steps = steps.0
 steps_on s (progress.Done reply) old new steps = steps.0
 steps_on s other old new steps = elim steps [ ]
 

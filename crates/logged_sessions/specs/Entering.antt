@@ -3,8 +3,7 @@ use Rattle.std.specs.Prelude.{◌≡◌, ◌⊎◌, ℕ, Bool, true, false, List
 use Rattle.std.specs.List.{AllByRecursion}
 use Rattle.inno_model.specs.declared.event.Event.{Event}
 use Rattle.inno_model.specs.declared.event.Event.TheVariants.{Begin, Changed}
-use Rattle.inno_model.specs.Past.{is_of}
-use Rattle.commit_log.specs.View.{is_acknowledgement}
+use Rattle.commit_log.specs.View.{is_acknowledgement, IsEntryOf}
 use Rattle.commit_records.specs.Room.{HasRecord}
 
 abbrev pub tells_change : Event → Bool
@@ -22,7 +21,7 @@ TellsOne (Begin s n level ∷ later) = TellsOne later
 TellsOne (Changed s change ∷ later) = HasRecord change × TellNone later
 TellsOne (other ∷ later) = TellNone later
 
--- The session's own entries, none of which acknowledges a commit. Where they tell a change, there is room for it.
+-- The session's own entries, or signals, none of which acknowledges a commit. Where they tell a change, there is room for it.
 pub record MayEnter (s : ℕ) (ready : Bool) (entries : List Event) : Type 0 where
-  pub mine : AllByRecursion (λ e. (is_of s e ≡ true) × (is_acknowledgement e ≡ false)) entries
+  pub mine : AllByRecursion (λ e. IsEntryOf s e × (is_acknowledgement e ≡ false)) entries
   pub tells : ((ready ≡ true) × TellsOne entries) ⊎ TellNone entries

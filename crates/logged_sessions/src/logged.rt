@@ -4,7 +4,6 @@
 ghost use Rattle.std.specs.Prelude.{◌≡◌, ◌≢◌, ◌⊎◌, ◌≤◌, ◌<◌, ◌^◌, ◌++◌, ℕ, List, [], ◌∷◌, length, reverse, true, false, None, All, IsTrue, IfOk, OnOk, OnErr};
 ghost use Rattle.store_api.specs.Past.{Past};
 ghost use Rattle.store_api.specs.Causes.{HasCause};
-ghost use Rattle.inno_types.specs.declared.reply.Item.TheVariants.{Sql};
 ghost use Rattle.inno_db.specs.Database.{Database};
 ghost use Rattle.inno_model.specs.declared.event.Event.{Event as EventValue};
 ghost use Rattle.inno_model.specs.declared.event.Event.TheVariants.{Acked};
@@ -59,7 +58,7 @@ impl<L: SharedLists> Model for LoggedSessions<L> {
 
 impl<L: SharedLists> LoggedSessions<L> {
     ghost use Rattle.session_engine.specs.Seats.{seat_at, owes};
-    ghost use Rattle.session_engine.specs.Calls.{Joins, Starts, StepsBy, Acknowledges, Leaves, SameState};
+    ghost use Rattle.session_engine.specs.Calls.{Joins, Starts, StepsBy, Acknowledges, GivesUpInVain, Leaves, SameState};
     ghost use Rattle.session_engine.specs.Going.{Nears};
     ghost use Rattle.logged_sessions.specs.State.{IsJoined, IsIdle, IsWorking};
 
@@ -124,11 +123,10 @@ impl<L: SharedLists> LoggedSessions<L> {
         self.sessions.left(s)
     }
 
-    /// Starts an item of the session, a statement.
+    /// Starts an item of the session.
     pub fn start(&mut self, s: u32, item: &Item) -> Result<(), NoMemory>
         requires joined { IsJoined s self.old }
         requires idle { IsIdle s self.old }
-        requires sql { (text : _) × (item.now ≡ Sql text) }
         ensures ok { OnOk result (Starts s item.now self.old.sessions self.new.sessions) }
         ensures err { OnErr result (SameState self.old.sessions self.new.sessions) }
         ensures phase_err { OnErr result (self.new.seats ≡ self.old.seats) }
@@ -179,18 +177,19 @@ impl<L: SharedLists> LoggedSessions<L> {
         Ok(())
     }
 
-    /// Makes a step of the session's item under way, or of its ending. Where there is no room in the log for the change that
-    /// its statement is about to make, the statement gives up.
-    pub fn step(&mut self, s: u32) -> Progress
+    /// Makes a step of the session's item under way, or of its ending, at a moment in seconds. Where there is no room in the
+    /// log for the change that its statement is about to make, the statement gives up.
+    pub fn step(&mut self, s: u32, now: u64) -> Progress
         requires joined { IsJoined s self.old }
         requires working { IsWorking s self.old }
         requires acked { owes (seat_at self.old.sessions.seats s) ≡ false }
         ensures steps { StepsBy s result self.old.sessions self.new.sessions }
         ensures nears { Nears s result self.old.sessions self.new.sessions }
+        ensures waited { GivesUpInVain s now result self.old.sessions }
         ensures phase { phase_at self.new.seats s ≡ phase_of (seat_at self.new.sessions.seats s) }
         ensures others { (u : ℕ) → u ≢ s → phase_at self.new.seats u ≡ phase_at self.old.seats u }
-        ensures kept { (root now : Past) → IsLogging root now self.old.sessions.lists.past self.old.log
-            → IsLogging root now self.new.sessions.lists.past self.new.log }
+        ensures kept { (root past : Past) → IsLogging root past self.old.sessions.lists.past self.old.log
+            → IsLogging root past self.new.sessions.lists.past self.new.log }
     {
         let wanted = self.sessions.wants_room(s);
         if !has_room(&mut self.log, s, wanted) {
@@ -198,7 +197,7 @@ impl<L: SharedLists> LoggedSessions<L> {
             return Progress::NoMemory;
         }
         let told = self.sessions.history().events().len();
-        let progress = self.sessions.step(s);
+        let progress = self.sessions.step(s, now);
         take_over(&mut self.log, s, self.sessions.history(), told);
         self.seats[s as usize].phase = self.sessions.phase(s);
         progress

@@ -11,8 +11,8 @@ use Rattle.inno_db.specs.declared.change.Change.{Change}
 use Rattle.inno_db.specs.declared.change.Change.TheVariants.{Create, Put, Remove}
 use Rattle.inno_db.specs.Database.{Database, RowMap, key_in, rows_of}
 use Rattle.inno_model.specs.declared.event.Event.{Event}
-use Rattle.inno_model.specs.Past.{is_of, own, commits, opening, changed}
-use Rattle.law_past_agreement.specs.Order.{created, IsTabled}
+use Rattle.inno_model.specs.Past.{own, commits, opening, changed}
+use Rattle.law_past_agreement.specs.Order.{created, IsTabled, IsNoOthers}
 use Rattle.law_past_agreement.specs.Rows.{seen}
 use Rattle.law_past_agreement.proofs.Tables.{key_stays}
 use Rattle.law_past_agreement.specs.DatabaseTables.{with_all_tables}
@@ -107,7 +107,7 @@ same_schema : (schemas more : List Schema) (n : ℕ) (first other : Schema) → 
 same_schema schemas more n first other there now = there ∙ (sym (got_before schemas more n first there) ∙ now)
 
 -- an entry of another session leaves the rows that are seen in a table
-module _ (t s n : ℕ) (e : Event) (h : List Event) (mine : is_of t e ≡ true) (same-own : own s (e ∷ h) ≡ own s h) (within : n ≤ commits h)
+module _ (t s n : ℕ) (e : Event) (h : List Event) (mine : IsNoOthers t e) (same-own : own s (e ∷ h) ≡ own s h) (within : n ≤ commits h)
     (all : AllByRecursion (IsTabled (length (created h))) (seen h s n)) where
   rows_now : (table : ℕ) → rows_of table (changed (with_all_tables h) (seen h s n)) ≡ rows_of table (changed (with_all_tables (e ∷ h)) (seen (e ∷ h) s n))
   rows_now table =

@@ -18,7 +18,7 @@ use Rattle.sql_lists.proofs.Moving.{StaysByOne, stays_running}
 use Rattle.sql_lists.proofs.Staying.{other_of, not_starting, at_work, is_within, before_within, starts_not, within_of_other, point_stays}
 use Rattle.shared_lists.specs.Tasks.{Task}
 use Rattle.shared_lists.specs.State.{task_of}
-use Rattle.law_past_agreement.specs.Order.{IsOfRow, created}
+use Rattle.law_past_agreement.specs.Order.{IsOfRow, IsNoOthers, created}
 use Rattle.std.specs.List.{AllByRecursion}
 use Rattle.read_statement.specs.declared.machine.Read.{Read}
 use Rattle.read_statement.specs.declared.machine.Found.{Found}
@@ -85,7 +85,7 @@ module _ (s : ℕ) (e : Event) (h : List Event) (within : is_within s e ≡ true
         ended = closed_on (is_rows kept) s e h same-commits same-rolls c.ended;
       }
 
-module _ (t s : ℕ) (e : Event) (h : List Event) (mine : is_of t e ≡ true) (other : is_of s e ≡ false) where
+module _ (t s : ℕ) (e : Event) (h : List Event) (mine : IsNoOthers t e) (other : is_of s e ≡ false) where
   same : IsUntouched h (e ∷ h) s
   same = untouched e h s other
 

@@ -13,15 +13,15 @@ use Rattle.inno_db.specs.Names.{table_place}
 use Rattle.inno_db.proofs.Outcomes.{table_read}
 use Rattle.inno_model.specs.declared.event.Event.{Event}
 use Rattle.inno_model.specs.declared.event.Event.TheVariants as events
-use Rattle.inno_model.specs.Past.{is_of, own, commits, committed}
+use Rattle.inno_model.specs.Past.{own, commits, committed}
 use Rattle.inno_model.proofs.Commits.{committed_stays}
 use Rattle.sql_history.specs.Readings.{is_plain_select}
-use Rattle.law_past_agreement.specs.Order.{created, IsTabled}
+use Rattle.law_past_agreement.specs.Order.{created, IsTabled, IsNoOthers}
 use Rattle.law_past_agreement.specs.Rows.{seen}
 use Rattle.read_statement.proofs.Selects.{of_plain}
 
 -- an entry of a session adds a table at most
-pub grown : (t : ℕ) (e : Event) (h : List Event) → is_of t e ≡ true → (more : List Schema) × (created (e ∷ h) ≡ created h ++ more)
+pub grown : (t : ℕ) (e : Event) (h : List Event) → IsNoOthers t e → (more : List Schema) × (created (e ∷ h) ≡ created h ++ more)
 grown t (events.Opened db) h mine = (let x = mine in cc)
 grown t (events.Changed u (changes.Create schema)) h mine = (schema ∷ [], refl)
 grown t (events.Changed u (changes.Put table row)) h mine = ([], sym (append-nil (created h)))
@@ -78,7 +78,7 @@ tabled_more : (n m : ℕ) → n ≤ m → (cs : List Change) → AllByRecursion 
 tabled_more n m le [] all = tt
 tabled_more n m le (c ∷ cs) all = (tabled_one n m le c all.0, tabled_more n m le cs all.1)
 
-module _ (t s n : ℕ) (e : Event) (h : List Event) (mine : is_of t e ≡ true) (same-own : own s (e ∷ h) ≡ own s h) (within : n ≤ commits h) where
+module _ (t s n : ℕ) (e : Event) (h : List Event) (mine : IsNoOthers t e) (same-own : own s (e ∷ h) ≡ own s h) (within : n ≤ commits h) where
   pub same_seen : seen (e ∷ h) s n ≡ seen h s n
   same_seen = ap (λ cs. cs ++ committed n (e ∷ h)) same-own ∙ ap (λ cs. own s h ++ cs) (committed_stays e h n within)
 

@@ -15,7 +15,7 @@ use Rattle.run_outcome.specs.Streams.{AppendsFront}
 
 -- The engine takes statements alone so far. So a directive about a signal or a tick is a bad line.
 abbrev pub allowed : Directives
-allowed = record { signals = false; ticks = false }
+allowed = record { signals = true; ticks = false }
 
 abbrev pub status_of : Fault → ℕ
 status_of Nothing = 0

@@ -92,7 +92,7 @@ pub fn read_input<S: Source>(alloc: Global, source: &mut S) -> Result<Script, Fa
         Err(ReadBad::NoMemory) => return Err(Fault::NoMemory),
     };
     let allowed = Directives {
-        signals: false,
+        signals: true,
         ticks: false,
     };
     match read_script(alloc, bytes.as_slice(), allowed) {

@@ -1,10 +1,11 @@
 -- How far sessions are in a script, after each kind of move.
-use Rattle.std.proofs.Common.{◌≡◌, ◌∙◌, sym, ap, refl, ℕ, ◌+◌, ◌<◌, ◌≤◌, List, [], ◌∷◌, ◌++◌, ◌⊎◌, length, take, drop, get_or, set, Bool, true, false, cond, eqb, arith, rules, suc, inl, inr}
+use Rattle.std.proofs.Common.{◌≡◌, ◌∙◌, sym, ap, refl, ℕ, ◌+◌, ◌<◌, ◌≤◌, List, [], ◌∷◌, ◌++◌, ◌⊎◌, length, take, drop, get_or, set}
+use Rattle.std.proofs.Common.{Bool, true, false, cond, eqb, arith, rules, suc, inl, inr}
 use Rattle.std.specs.Prelude.{◌≢◌, All, Result, Ok, Err, OnOk, None, is_ok}
 use Rattle.std.proofs.lemmas.Bool.{eq-eqb, ne_eqb}
 use Rattle.std.proofs.lemmas.Bool.Decides.{eqb_tells}
-use Rattle.std.proofs.lemmas.List.{take-append-drop, append-nil, get_or-set_same, get_or_past}
-use Rattle.std.proofs.Math.Seq.{drop-cons, take-add, take-length}
+use Rattle.std.proofs.lemmas.List.{take-append-drop, take-take, append-nil, get_or-set_same, get_or_past, take_more, length-take, length-take-le}
+use Rattle.std.proofs.Math.Seq.{take-length}
 use Rattle.inno_types.specs.declared.reply.Item.{Item}
 use Rattle.inno_model.specs.declared.event.Event.{Event}
 use Rattle.inno_model.specs.declared.event.Event.TheVariants.{Started}
@@ -12,10 +13,8 @@ use Rattle.inno_model.specs.Past.{under_way}
 use Rattle.inno_model.specs.Text.{items}
 use Rattle.script.specs.declared.script.Script.{Script}
 use Rattle.script.specs.declared.script.ScriptItem.{ScriptItem}
-use Rattle.script.specs.Script.{IsPlayable}
-use Rattle.run_outcome.specs.Faults.{allowed}
-use Rattle.run_outcome.proofs.Fronts.{one_more}
-use Rattle.script_play.specs.Sessions.{items_of, HasStarted, AreNamed, FollowsScript, HasPlayed, AllRest}
+use Rattle.script.specs.declared.script.Tick.{Tick}
+use Rattle.script_play.specs.Sessions.{items_of, HasStarted, AreNamed, HaveNames, FollowsScript, HasPlayed, AllRest, seconds_in, PassesWaits}
 use Rattle.script_play.proofs.Answering.{rests}
 
 chosen : (b : Bool) (x : Item) (xs ys : List Item) → cond b (x ∷ (xs ++ ys)) (xs ++ ys) ≡ cond b (x ∷ xs) xs ++ ys
@@ -29,14 +28,14 @@ items_of_append s (x ∷ xs) ys = rw (items_of_append s xs ys) (chosen (eqb x.s 
 pub other_item : (s n : ℕ) (script : List ScriptItem) (d : ScriptItem) → n < length script → (get_or script n d).s ≢ s
     → items_of s (take (n + 1) script) ≡ items_of s (take n script)
 other_item s n script d h other =
-    ap (items_of s) (one_more n script d h) ∙ items_of_append s (take n script) (get_or script n d ∷ [])
+    ap (items_of s) (take_more script n d h) ∙ items_of_append s (take n script) (get_or script n d ∷ [])
     ∙ ap (λ b. items_of s (take n script) ++ cond b ((get_or script n d).item ∷ []) []) (ne_eqb (get_or script n d).s s other) ∙ append-nil
     (items_of s (take n script))
 
 pub own_item : (s n : ℕ) (script : List ScriptItem) (d : ScriptItem) → n < length script → (get_or script n d).s ≡ s
     → items_of s (take (n + 1) script) ≡ items_of s (take n script) ++ (get_or script n d).item ∷ []
 own_item s n script d h own =
-    ap (items_of s) (one_more n script d h) ∙ items_of_append s (take n script) (get_or script n d ∷ [])
+    ap (items_of s) (take_more script n d h) ∙ items_of_append s (take n script) (get_or script n d ∷ [])
     ∙ ap (λ b. items_of s (take n script) ++ cond b ((get_or script n d).item ∷ []) []) (eq-eqb (get_or script n d).s s own)
 
 -- the place of a session moves
@@ -48,7 +47,8 @@ set_within places s n bound h all = search (arith, rules)
 
 -- the place moves over items of others
 pub moves_over : (script : List ScriptItem) (places : List ℕ) (past : List Event) (s n : ℕ) → s < length places → n ≤ length script
-    → items_of s (take n script) ≡ items_of s (take (get_or places s 0) script) → HasStarted script places past → HasStarted script (set places s n) past
+    → items_of s (take n script) ≡ items_of s (take (get_or places s 0) script) → HasStarted script places past
+    → HasStarted script (set places s n) past
 moves_over script places past s n joined h same started = record {
   within = set_within places s n (length script) h started.within;
   items = λ t. elim (eqb_tells t s) [
@@ -59,8 +59,8 @@ moves_over script places past s n joined h same started = record {
 }
 
 -- the session starts an item before which only those of others stand from its place on
-pub starts_item : (script : List ScriptItem) (places : List ℕ) (old new : List Event) (s n j : ℕ) (d : ScriptItem) → s < length places → n < length script
-    → items_of s (take n script) ≡ items_of s (take (get_or places s 0) script) → (get_or script n d).s ≡ s
+pub starts_item : (script : List ScriptItem) (places : List ℕ) (old new : List Event) (s n j : ℕ) (d : ScriptItem) → s < length places
+    → n < length script → items_of s (take n script) ≡ items_of s (take (get_or places s 0) script) → (get_or script n d).s ≡ s
     → new ≡ Started s j (get_or script n d).item ∷ old → HasStarted script places old → HasStarted script (set places s (n + 1)) new
 starts_item script places old new s n j d joined h over own is started = record {
   within = set_within places s (n + 1) (length script) (omega arith) started.within;
@@ -80,6 +80,30 @@ starts_item script places old new s n j d joined h over own is started = record 
 pub stays : (script : List ScriptItem) (places : List ℕ) (old new : List Event) → ((s : ℕ) → items s new ≡ items s old) → HasStarted script places old
     → HasStarted script places new
 stays script places old new same started = record { within = started.within; items = λ s. same s ∙ started.items s }
+
+below : (s n : ℕ) → (s < n) ⊎ (n ≤ s)
+below s n = search (arith, rules)
+
+place_within : (bound : ℕ) (places : List ℕ) (s : ℕ) → All (λ place. place ≤ bound) places → get_or places s 0 ≤ bound
+place_within bound places s within = elim (below s (length places)) [
+  | inl here ↦ within s 0 here
+  | inr past_all ↦ omega (arith, get_or_past places s 0 past_all)
+]
+
+known_length : (script : List ScriptItem) (n m : ℕ) → n ≤ m → n ≤ length script → n ≤ length (take m script)
+known_length script n m h short = search (arith, rules, length-take)
+
+-- more of the items are known
+pub more_known : (script : List ScriptItem) (n m : ℕ) (places : List ℕ) (past : List Event) → n ≤ m → n ≤ length script
+    → HasStarted (take n script) places past → HasStarted (take m script) places past
+more_known script n m places past h short started =
+    let front = length-take-le n script short in
+    record {
+      within = λ k d here. let fits = started.within k d here in omega (arith, fits, front, known_length script n m h short);
+      items = λ s. let fits = place_within (length (take n script)) places s started.within in
+          started.items s ∙ ap (items_of s) (take-take (get_or places s 0) n script (omega (arith, fits, front))
+          ∙ sym (take-take (get_or places s 0) m script (omega (arith, fits, front, h))));
+    }
 
 pub follows : (script : List ScriptItem) (places : List ℕ) (past : List Event) → HasStarted script places past → FollowsScript script past
 follows script places past started s =
@@ -105,19 +129,16 @@ nobodys s n (x ∷ script) h named =
     ap (λ b. cond b (x.item ∷ items_of s script) (items_of s script)) (ne_eqb x.s s apart) ∙ nobodys s n script h
     (λ k d bound. named (suc k) d (omega (arith, bound)))
 
-below : (s n : ℕ) → (s < n) ⊎ (n ≤ s)
-below s n = search (arith, rules)
-
 -- all places are at the end
-pub to_the_end : (script : Script) (places : List ℕ) (names : List (List ℕ)) (past : List Event) → IsPlayable allowed script → names ≡ script.names
+pub to_the_end : (script : Script) (places : List ℕ) (names : List (List ℕ)) (past : List Event) → HaveNames script → names ≡ script.names
     → length places ≡ length names → All (λ place. place ≡ length script.items) places
     → HasStarted script.items places past → HasPlayed script names past
-to_the_end script places names past playable names_are count ends started = record {
+to_the_end script places names past have_names names_are count ends started = record {
   names_are = names_are;
   items = λ s. elim (below s (length places)) [
     | inl here ↦ started.items s ∙ ap (λ place. items_of s (take place script.items)) (ends s 0 here) ∙ ap (items_of s) (take-length script.items)
     | inr past_all ↦ started.items s ∙ ap (λ place. items_of s (take place script.items)) (get_or_past places s 0 past_all)
-        ∙ sym (nobodys s (length script.names) script.items (omega (arith, past_all, count, ap length names_are)) playable.named)
+        ∙ sym (nobodys s (length script.names) script.items (omega (arith, past_all, count, ap length names_are)) have_names)
   ];
 }
 
@@ -137,3 +158,16 @@ on_ok (Err error) f p = p
 pub of_ok : {T E P : Type 0} (result : Result T E) → is_ok result ≡ true → OnOk result P → P
 of_ok (Ok value) is p = p
 of_ok (Err error) is p = cc
+
+-- no time but waits passes, and then no time but waits
+pub waits_on : (a b c : ℕ) → PassesWaits a b → PassesWaits b c → PassesWaits a c
+waits_on a b c one other = (one.0 + other.0, let first = one.1 in let second = other.1 in omega (arith, first, second))
+
+-- the script's seconds, one tick after another
+seconds_append : (ticks : List Tick) (tick : Tick) → seconds_in (ticks ++ tick ∷ []) ≡ seconds_in ticks + tick.seconds
+seconds_append [] tick = omega arith
+seconds_append (first ∷ ticks) tick = omega (arith, seconds_append ticks tick)
+
+pub seconds_more : (ticks : List Tick) (n : ℕ) (d : Tick) → n < length ticks
+    → seconds_in (take (n + 1) ticks) ≡ seconds_in (take n ticks) + (get_or ticks n d).seconds
+seconds_more ticks n d h = ap seconds_in (take_more ticks n d h) ∙ seconds_append (take n ticks) (get_or ticks n d)

@@ -1,31 +1,33 @@
-//! Plays a script on the calling thread: its items in order, and after each the steps of all sessions until no
-//! session can go on.
+//! Plays a script on the calling thread: its items in order, and after each the steps of all sessions until no session can
+//! go on. Time passes at the script's ticks, and at the end where all who are there wait.
 
-ghost use Rattle.std.specs.Prelude.{◌≡◌, ◌<◌, ◌≤◌, ◌++◌, [], ℕ, List, length, take, slice_index_or, All, IsTrue, IfSome, OnOk, None, true};
+ghost use Rattle.std.specs.Prelude.{◌≡◌, ◌+◌, ◌<◌, ◌≤◌, ◌↔◌, ◌++◌, [], ℕ, List, length, take, slice_index_or, min, max};
+ghost use Rattle.std.specs.Prelude.{All, IsTrue, IfSome, IfOk, OnOk, OnErr, None, true};
 ghost use Rattle.inno_model.specs.Past.{under_way};
 ghost use Rattle.inno_model.specs.Text.{items};
 ghost use Rattle.script.specs.declared.script.ScriptItem.{ScriptItem as ScriptItemValue};
-ghost use Rattle.script.specs.Script.{IsPlayable};
-ghost use Rattle.run_outcome.specs.Faults.{allowed};
-ghost use Rattle.script_play.specs.Sessions.{IsJoined, IsIdle, StartsNothing, AreNamed, FollowsScript, HasPlayed, AllRest, Plays, IsNew, items_of, IsStatement};
+ghost use Rattle.script_play.specs.Sessions.{IsJoined, IsIdle, IsNextToLeave, StartsNothing, AreNamed, HaveNames, FollowsScript};
+ghost use Rattle.script_play.specs.Sessions.{HasPlayed, AllRest, Plays, Settles, IsNew, PassesWaits, items_of, seconds_in};
 
 use crate::sessions::Sessions;
 use inno_types::Bytes;
-use script::{Script, ScriptItem};
+use script::{Script, ScriptItem, Tick};
 use std::alloc::Global;
 use store_api::{NoMemory, Progress};
 
-/// The moment of all steps.
-const MOMENT: u64 = 0;
+/// So many seconds end each wait.
+const LONGEST_WAIT: u64 = 50;
 
 /// Joins the sessions of a script, plays it to its end, and lets all sessions leave.
 pub fn play<E: Sessions>(alloc: Global, engine: &mut E, script: &Script) -> Result<(), NoMemory>
     requires new { IsNew (E.shown engine.old) }
-    requires playable { IsPlayable allowed script.now }
+    requires named { HaveNames script.now }
     ensures named { AreNamed script.now (E.shown engine.new).names }
     ensures follows { FollowsScript script.now.items (E.shown engine.new).past }
     ensures played { OnOk result (HasPlayed script.now (E.shown engine.new).names (E.shown engine.new).past) }
     ensures rests { OnOk result (AllRest (E.shown engine.new).past) }
+    // What has passed is the script's time, and at the end the longest wait, as often as all who were there waited.
+    ensures moment { OnOk result (PassesWaits (seconds_in script.now.ticks) (E.shown engine.new).moment) }
 {
     if script.names.len() > u32::MAX as usize {
         return Err(NoMemory);
@@ -33,7 +35,12 @@ pub fn play<E: Sessions>(alloc: Global, engine: &mut E, script: &Script) -> Resu
     join_all(engine, script.names.as_slice())?;
     let mut places = Vec::new(alloc);
     places.resize(script.names.len(), 0)?;
-    play_items(engine, script.items.as_slice(), &mut places)
+    play_items(
+        engine,
+        script.items.as_slice(),
+        script.ticks.as_slice(),
+        &mut places,
+    )
 }
 
 fn join_all<E: Sessions>(engine: &mut E, names: &[Bytes]) -> Result<(), NoMemory>
@@ -42,6 +49,7 @@ fn join_all<E: Sessions>(engine: &mut E, names: &[Bytes]) -> Result<(), NoMemory
     ensures nothing { (s : ℕ) → items s (E.shown engine.new).past ≡ [] }
     ensures named { (left : List (List ℕ)) × (names.now ≡ (E.shown engine.new).names ++ left) }
     ensures names { OnOk result ((E.shown engine.new).names ≡ names.now) }
+    ensures moment { OnOk result ((E.shown engine.new).moment ≡ 0) }
 {
     for name in names {
         let _ = engine.join(name)?;
@@ -61,12 +69,13 @@ fn all_at(end: usize, places: &[usize]) -> bool
     true
 }
 
-/// Whether all sessions have left.
-fn all_left<E: Sessions>(engine: &E, count: u32) -> bool
+/// Whether all sessions have left, from one on.
+fn all_left<E: Sessions>(engine: &E, first: u32, count: u32) -> bool
     requires { count ≡ length (E.shown engine.now).names }
-    ensures { IsTrue result → (s : ℕ) → IsJoined s (E.shown engine.now) → under_way s (E.shown engine.now).past ≡ None }
+    ensures left { IsTrue result → (s : ℕ) → first ≤ s → IsJoined s (E.shown engine.now) → (E.shown engine.now).has_left s ≡ true }
+    ensures over { IsTrue result → (s : ℕ) → first ≤ s → IsJoined s (E.shown engine.now) → under_way s (E.shown engine.now).past ≡ None }
 {
-    for s in 0..count {
+    for s in first..count {
         if !engine.has_left(s) {
             return false;
         }
@@ -74,28 +83,83 @@ fn all_left<E: Sessions>(engine: &E, count: u32) -> bool
     true
 }
 
-/// Plays all items, and lets the sessions leave.
+/// Plays the setup part, then all items and ticks in order, and lets the sessions leave.
 fn play_items<E: Sessions>(
     engine: &mut E,
     items: &[ScriptItem],
+    ticks: &[Tick],
     places: &mut [usize],
 ) -> Result<(), NoMemory>
-    requires starts { Plays items.now places.old (E.shown engine.old) (E.shown engine.old) }
+    requires starts { Plays [] places.old (E.shown engine.old) (E.shown engine.old) }
+    requires first { (E.shown engine.old).moment ≡ 0 }
     requires few { length places.old ≤ 4294967295 }
-    requires statements { All IsStatement items.now }
     ensures plays { Plays items.now places.new (E.shown engine.old) (E.shown engine.new) }
     ensures ends { OnOk result (All (λ place. place ≡ length items.now) places.new) }
     ensures rest { OnOk result ((s : ℕ) → IsJoined s (E.shown engine.new) → under_way s (E.shown engine.new).past ≡ None) }
+    ensures moment { OnOk result (PassesWaits (seconds_in ticks.now) (E.shown engine.new).moment) }
 {
-    for known in 0..items.len() {
-        settle(engine, items, known + 1, places)?;
+    let mut known = setup_items(items);
+    let _ = settle(engine, &items[..known], places)?;
+    for tick in ticks {
+        known = play_until(engine, items, known, tick.items, places)?;
+        pass_time(engine, tick.seconds as u64)?;
+        let _ = settle(engine, &items[..known], places)?;
     }
+    let _ = play_until(engine, items, known, items.len(), places)?;
     leave_all(engine, items, places)?;
-    if all_at(items.len(), places) && all_left(engine, places.len() as u32) {
+    if all_at(items.len(), places) && all_left(engine, 0, places.len() as u32) {
         Ok(())
     } else {
         Err(NoMemory)
     }
+}
+
+/// How many of the items are the setup part's: those before the first one of another session.
+fn setup_items(items: &[ScriptItem]) -> usize
+    ensures within { result ≤ length items.now }
+    ensures setup { All (λ x. x.s ≡ 0) (take result items.now) }
+    ensures others { result < length items.now → (d : ScriptItemValue) → (slice_index_or items.now result d).s ≡ 0 → ⊥ }
+{
+    for (place, item) in items.iter().enumerate() {
+        if item.s != 0 {
+            return place;
+        }
+    }
+    items.len()
+}
+
+/// Plays the items one after another up to a place, at one moment, and says how many are known then.
+fn play_until<E: Sessions>(
+    engine: &mut E,
+    items: &[ScriptItem],
+    known: usize,
+    until: usize,
+    places: &mut [usize],
+) -> Result<usize, NoMemory>
+    requires starts { Plays (take known items.now) places.old (E.shown engine.old) (E.shown engine.old) }
+    requires known { known ≤ length items.now }
+    requires few { length places.old ≤ 4294967295 }
+    ensures settles { Settles items.now places.new (E.shown engine.old) (E.shown engine.new) }
+    ensures known { IfOk result (λ n. Settles (take n items.now) places.new (E.shown engine.old) (E.shown engine.new)) }
+    ensures until { IfOk result (λ n. n ≡ max known (min until (length items.now))) }
+{
+    let until = until.min(items.len()).max(known);
+    for next in known..until {
+        let _ = settle(engine, &items[..next + 1], places)?;
+    }
+    Ok(until)
+}
+
+/// So many seconds pass.
+fn pass_time<E: Sessions>(engine: &mut E, seconds: u64) -> Result<(), NoMemory>
+    ensures ok { OnOk result (E.shown engine.new ≡ record (E.shown engine.old) { moment = (E.shown engine.old).moment + seconds }) }
+    ensures err { OnErr result (E.shown engine.new ≡ E.shown engine.old) }
+{
+    let Some(moment) = engine.moment().checked_add(seconds) else {
+        return Err(NoMemory);
+    };
+    engine.wait_until(moment);
+    Ok(())
 }
 
 /// Lets the sessions leave one after another, the setup part last.
@@ -106,31 +170,57 @@ fn leave_all<E: Sessions>(
 ) -> Result<(), NoMemory>
     requires starts { Plays items.now places.old (E.shown engine.old) (E.shown engine.old) }
     requires few { length places.old ≤ 4294967295 }
-    requires statements { All IsStatement items.now }
-    ensures { Plays items.now places.new (E.shown engine.old) (E.shown engine.new) }
+    ensures plays { Plays items.now places.new (E.shown engine.old) (E.shown engine.new) }
+    ensures moment { OnOk result (PassesWaits (E.shown engine.old).moment (E.shown engine.new).moment) }
 {
-    settle(engine, items, items.len(), places)?;
     for _ in 0..u64::MAX {
-        let Some(s) = next_to_leave(engine, places.len() as u32) else {
+        if !leave_next(engine, items, places)? {
             return Ok(());
-        };
-        engine.leave(s);
-        settle(engine, items, items.len(), places)?;
+        }
     }
     Err(NoMemory)
 }
 
-/// The lowest session that can leave, the setup part after all others.
+/// Lets the next session leave, and says whether one was there. Where all who are there wait, the longest wait passes instead.
+/// Then each of them goes on, or else none ever would, so that the play ends.
+fn leave_next<E: Sessions>(
+    engine: &mut E,
+    items: &[ScriptItem],
+    places: &mut [usize],
+) -> Result<bool, NoMemory>
+    requires starts { Plays items.now places.old (E.shown engine.old) (E.shown engine.old) }
+    requires few { length places.old ≤ 4294967295 }
+    ensures plays { Plays items.now places.new (E.shown engine.old) (E.shown engine.new) }
+    ensures moment { OnOk result (PassesWaits (E.shown engine.old).moment (E.shown engine.new).moment) }
+{
+    let count = places.len() as u32;
+    if let Some(s) = next_to_leave(engine, count) {
+        engine.leave(s);
+        let _ = settle(engine, items, places)?;
+        return Ok(true);
+    }
+    if all_left(engine, 0, count) {
+        return Ok(false);
+    }
+    pass_time(engine, LONGEST_WAIT)?;
+    if settle(engine, items, places)? {
+        Ok(true)
+    } else {
+        Err(NoMemory)
+    }
+}
+
+/// The lowest session that can leave. The setup part can once all others have left.
 fn next_to_leave<E: Sessions>(engine: &E, count: u32) -> Option<u32>
     requires { count ≡ length (E.shown engine.now).names }
-    ensures { IfSome result (λ s. IsJoined s (E.shown engine.now) × IsIdle s (E.shown engine.now)) }
+    ensures { IfSome result (λ s. IsNextToLeave s (E.shown engine.now)) }
 {
     for s in 1..count {
         if is_idle(engine, s) {
             return Some(s);
         }
     }
-    if count > 0 && is_idle(engine, 0) {
+    if count > 0 && all_left(engine, 1, count) && is_idle(engine, 0) {
         Some(0)
     } else {
         None
@@ -140,27 +230,24 @@ fn next_to_leave<E: Sessions>(engine: &E, count: u32) -> Option<u32>
 /// Whether the session has nothing under way and hasn't left.
 fn is_idle<E: Sessions>(engine: &E, s: u32) -> bool
     requires { IsJoined s (E.shown engine.now) }
-    ensures { IsTrue result → IsIdle s (E.shown engine.now) }
+    ensures { IsTrue result ↔ IsIdle s (E.shown engine.now) }
 {
     !engine.is_working(s) && !engine.has_left(s)
 }
 
-/// Makes passes over the sessions until one changes nothing. So many of the items are known.
+/// Makes passes over the sessions until one changes nothing, and says whether anything has changed.
 fn settle<E: Sessions>(
     engine: &mut E,
     items: &[ScriptItem],
-    known: usize,
     places: &mut [usize],
-) -> Result<(), NoMemory>
+) -> Result<bool, NoMemory>
     requires starts { Plays items.now places.old (E.shown engine.old) (E.shown engine.old) }
     requires few { length places.old ≤ 4294967295 }
-    requires statements { All IsStatement items.now }
-    requires known { known ≤ length items.now }
-    ensures { Plays items.now places.new (E.shown engine.old) (E.shown engine.new) }
+    ensures { Settles items.now places.new (E.shown engine.old) (E.shown engine.new) }
 {
-    for _ in 0..u64::MAX {
-        if !pass(engine, items, known, places)? {
-            return Ok(());
+    for turn in 0..u64::MAX {
+        if !pass(engine, items, places)? {
+            return Ok(turn > 0);
         }
     }
     Err(NoMemory)
@@ -170,18 +257,15 @@ fn settle<E: Sessions>(
 fn pass<E: Sessions>(
     engine: &mut E,
     items: &[ScriptItem],
-    known: usize,
     places: &mut [usize],
 ) -> Result<bool, NoMemory>
     requires starts { Plays items.now places.old (E.shown engine.old) (E.shown engine.old) }
     requires few { length places.old ≤ 4294967295 }
-    requires statements { All IsStatement items.now }
-    requires known { known ≤ length items.now }
-    ensures { Plays items.now places.new (E.shown engine.old) (E.shown engine.new) }
+    ensures { Settles items.now places.new (E.shown engine.old) (E.shown engine.new) }
 {
     let mut changed = false;
     for s in 0..places.len() as u32 {
-        if go_on(engine, items, known, places, s)? {
+        if go_on(engine, items, places, s)? {
             changed = true;
         }
     }
@@ -192,18 +276,15 @@ fn pass<E: Sessions>(
 fn go_on<E: Sessions>(
     engine: &mut E,
     items: &[ScriptItem],
-    known: usize,
     places: &mut [usize],
     s: u32,
 ) -> Result<bool, NoMemory>
     requires starts { Plays items.now places.old (E.shown engine.old) (E.shown engine.old) }
     requires joined { IsJoined s (E.shown engine.old) }
-    requires statements { All IsStatement items.now }
-    requires known { known ≤ length items.now }
-    ensures { Plays items.now places.new (E.shown engine.old) (E.shown engine.new) }
+    ensures { Settles items.now places.new (E.shown engine.old) (E.shown engine.new) }
 {
     for turn in 0..u64::MAX {
-        if !advance(engine, items, known, places, s)? {
+        if !advance(engine, items, places, s)? {
             return Ok(turn > 0);
         }
     }
@@ -214,15 +295,12 @@ fn go_on<E: Sessions>(
 fn advance<E: Sessions>(
     engine: &mut E,
     items: &[ScriptItem],
-    known: usize,
     places: &mut [usize],
     s: u32,
 ) -> Result<bool, NoMemory>
     requires starts { Plays items.now places.old (E.shown engine.old) (E.shown engine.old) }
     requires joined { IsJoined s (E.shown engine.old) }
-    requires statements { All IsStatement items.now }
-    requires known { known ≤ length items.now }
-    ensures { Plays items.now places.new (E.shown engine.old) (E.shown engine.new) }
+    ensures { Settles items.now places.new (E.shown engine.old) (E.shown engine.new) }
 {
     if engine.has_left(s) {
         return Ok(false);
@@ -230,8 +308,8 @@ fn advance<E: Sessions>(
     if engine.is_working(s) {
         return step(engine, s);
     }
-    let next = skip_others(items, known, places[s as usize], s);
-    if next >= known {
+    let next = skip_others(items, places[s as usize], s);
+    if next >= items.len() {
         places[s as usize] = next;
         return Ok(false);
     }
@@ -247,14 +325,14 @@ fn step<E: Sessions>(engine: &mut E, s: u32) -> Result<bool, NoMemory>
     requires working { (E.shown engine.old).is_working s ≡ true }
     ensures { StartsNothing (E.shown engine.old) (E.shown engine.new) }
 {
-    let progress = engine.step(s, MOMENT);
+    let progress = engine.step(s);
     let lacked = lacked_memory(&progress);
     let went = went_on(&progress);
     drop(progress);
     if !lacked || !engine.is_working(s) {
         return Ok(went);
     }
-    let again = engine.step(s, MOMENT);
+    let again = engine.step(s);
     let lacked = lacked_memory(&again);
     let went = went_on(&again);
     drop(again);
@@ -270,18 +348,17 @@ fn went_on(progress: &Progress) -> bool {
     !matches!(progress, Progress::Waiting { .. } | Progress::NotYet)
 }
 
-/// The place of the session's first known item from a place on, or where the known items end.
-fn skip_others(items: &[ScriptItem], known: usize, place: usize, s: u32) -> usize
-    requires known { known ≤ length items.now }
-    requires place { place ≤ length items.now }
+/// The place of the session's first item from a place on, or the end.
+fn skip_others(items: &[ScriptItem], place: usize, s: u32) -> usize
+    requires { place ≤ length items.now }
     ensures within { result ≤ length items.now }
     ensures others { items_of s (take result items.now) ≡ items_of s (take place items.now) }
-    ensures found { result < known → (d : ScriptItemValue) → (slice_index_or items.now result d).s ≡ s }
+    ensures found { result < length items.now → (d : ScriptItemValue) → (slice_index_or items.now result d).s ≡ s }
 {
-    for next in place..known {
+    for next in place..items.len() {
         if items[next].s == s {
             return next;
         }
     }
-    place.max(known)
+    items.len()
 }

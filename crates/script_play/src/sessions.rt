@@ -1,7 +1,6 @@
 //! Sessions as play drives them: each makes its steps alone, and between the steps anybody's may come.
 
-ghost use Rattle.std.specs.Prelude.{◌≡◌, ◌<◌, ◌^◌, List, ℕ, length, true, None, IsTrue, OnOk, OnErr};
-ghost use Rattle.inno_types.specs.declared.reply.Item.TheVariants.{Sql};
+ghost use Rattle.std.specs.Prelude.{◌≡◌, ◌<◌, ◌≤◌, ◌^◌, length, true, None, IsTrue, OnOk, OnErr};
 ghost use Rattle.inno_model.specs.Past.{under_way};
 ghost use Rattle.inno_types.specs.Order.{IsBelow};
 ghost use Rattle.script_play.specs.Sessions.{Shown, IsJoined, IsIdle, StartsNothing, Joins, Starts};
@@ -9,9 +8,9 @@ ghost use Rattle.script_play.specs.Sessions.{Shown, IsJoined, IsIdle, StartsNoth
 use inno_types::{Bytes, Item};
 use store_api::{NoMemory, Progress};
 
-/// Sessions that make their steps one at a time.
+/// Sessions that make their steps one at a time, at a moment that they are told.
 pub trait Sessions {
-    /// The names, the past, and who is at work.
+    /// The names, the past, the moment, and who is at work.
     ghost shown: { Self → Shown };
 
     /// Adds a session, whose number is that of the sessions before it.
@@ -31,15 +30,24 @@ pub trait Sessions {
         ensures told { result ≡ (shown self.now).has_left s }
         ensures over { IsTrue result → under_way s (shown self.now).past ≡ None };
 
+    /// The moment of the steps to come, in seconds.
+    fn moment(&self) -> u64
+        ensures { result ≡ (shown self.now).moment };
+
+    /// Time passes until this moment.
+    fn wait_until(&mut self, moment: u64)
+        requires { (shown self.old).moment ≤ moment }
+        ensures { shown self.new ≡ record (shown self.old) { moment = moment } };
+
+    /// Starts an item of a session that has nothing to do.
     fn start(&mut self, s: u32, item: &Item) -> Result<(), NoMemory>
         requires joined { IsJoined s (shown self.old) }
         requires idle { IsIdle s (shown self.old) }
-        requires statement { (text : List ℕ) × (item.now ≡ Sql text) }
         ensures ok { OnOk result (Starts s item.now (shown self.old) (shown self.new)) }
         ensures err { OnErr result (StartsNothing (shown self.old) (shown self.new)) };
 
-    /// Makes a step of the session's item, or of its way out.
-    fn step(&mut self, s: u32, now: u64) -> Progress
+    /// Makes a step of the session's item, or of its way out, at the moment.
+    fn step(&mut self, s: u32) -> Progress
         requires joined { IsJoined s (shown self.old) }
         requires working { (shown self.old).is_working s ≡ true }
         ensures starts { StartsNothing (shown self.old) (shown self.new) }

@@ -2,3 +2,4 @@ mod Stepping
 pub mod Following
 pub mod Untouched
 pub mod Causing
+mod Taking

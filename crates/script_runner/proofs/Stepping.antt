@@ -11,7 +11,7 @@ use Rattle.inno_model.specs.Text.{items}
 use Rattle.sql_history.specs.Counts.{has_stopped}
 use Rattle.turn_board.specs.declared.Phase.{Phase}
 use Rattle.turn_board.specs.declared.Phase.TheVariants as phases
-use Rattle.session_engine.specs.Calls.{KeepsItems}
+use Rattle.session_engine.specs.Calls.{KeepsItems, HasGiven}
 use Rattle.stopped_sessions.specs.Seats.{halted, ended, phase_at}
 use Rattle.stopped_sessions.specs.Calls.{is_at_work, has_left}
 use Rattle.durable_engine.specs.State.{State}
@@ -42,21 +42,37 @@ ended_kept other t j s past = refl
 stopped_kept : (cause : Cause) (phase : Phase) (t j s : ℕ) (past : List Event) → items s (ended t j phase (halted cause past)) ≡ items s past
 stopped_kept cause phase t j s past = ended_kept phase t j s (halted cause past) ∙ told_once (has_stopped past) cause past s
 
-pub starts_nothing : {D : Type 0} (t : ℕ) (answer : Progress) (old new : State D) → StepsBy t answer old new → StartsNothing (shown_of old) (shown_of new)
-starts_nothing t progress.Went old new steps = record { names = steps.0.names_stay; items = goes_on t old.past new.past steps.1 }
-starts_nothing t (progress.Waiting blockers) old new steps = record { names = steps.0.names_stay; items = λ s. ap (items s) steps.1 }
-starts_nothing t progress.NoMemory old new steps = record { names = steps.0.names_stay; items = λ s. ap (items s) steps.1 }
-starts_nothing t (progress.Done reply) old new steps =
+-- a signal starts nothing
+given_kept : (t : ℕ) (old past : List Event) → HasGiven t old past → (s : ℕ) → items s past ≡ items s old
+given_kept t old past (inl same) s = ap (items s) same
+given_kept t old past (inr given) s = ap (items s) given.2
+
+pub starts_nothing : {D : Type 0} (t moment : ℕ) (answer : Progress) (old new : State D) → StepsBy t answer old new
+    → StartsNothing (shown_of moment old) (shown_of moment new)
+starts_nothing t moment progress.Went old new steps =
+    record { names = steps.0.names_stay; moment = refl; items = goes_on t old.past new.past steps.1 }
+starts_nothing t moment (progress.Waiting blockers) old new steps =
+    record { names = steps.0.names_stay; moment = refl; items = λ s. ap (items s) steps.1 }
+starts_nothing t moment progress.NoMemory old new steps =
+    record { names = steps.0.names_stay; moment = refl; items = λ s. ap (items s) steps.1 }
+starts_nothing t moment progress.NotYet old new steps =
+    record { names = steps.0.names_stay; moment = refl; items = λ s. ap (items s) steps.1 }
+starts_nothing t moment (progress.Done reply) old new steps =
     record {
       names = steps.0.names_stay;
-      items = λ s. elim steps.1 [ inl ends ↦ ap (items s) ends.0 | inr goes ↦ ap (items s) goes.2 ];
+      moment = refl;
+      items = λ s. elim steps.1 [
+        | inl ends ↦ ap (items s) ends.0.2 ∙ given_kept t old.past ends.0.0 ends.0.1 s
+        | inr goes ↦ ap (items s) goes.2
+      ];
     }
-starts_nothing t (progress.Stopped cause) old new steps =
+starts_nothing t moment (progress.Stopped cause) old new steps =
     record {
       names = steps.0.names_stay;
+      moment = refl;
       items = λ s. ap (items s) steps.2.past_is ∙ stopped_kept _ (phase_at old.seats t) t _ s old.past;
     }
-starts_nothing t other old new steps = elim steps [ ]
+starts_nothing t moment other old new steps = elim steps [ ]
 
 -- who has nothing to do and hasn't left is idle
 pub idle : (phase : Phase) → is_at_work phase ≡ false → has_left phase ≡ false → phase ≡ phases.Idle

@@ -8,14 +8,15 @@ use script_play::Sessions;
 use shared_lists::SharedLists;
 use store_api::{Disk, NoMemory, Progress};
 
-/// An engine whose sessions play makes step.
+/// An engine whose sessions play makes step, and the moment of their steps, in seconds.
 #[derive(Drop)]
 pub struct Seats<D: Disk, R: Root, L: SharedLists> {
     pub engine: DurableEngine<D, R, L>,
+    pub moment: u64,
 }
 
 impl<D: Disk, R: Root, L: SharedLists> Sessions for Seats<D, R, L> {
-    ghost shown = { λ e. shown_of e.engine };
+    ghost shown = { λ e. shown_of e.moment e.engine };
 
     fn join(&mut self, name: &Bytes) -> Result<u32, NoMemory> {
         self.engine.join(name)
@@ -29,12 +30,20 @@ impl<D: Disk, R: Root, L: SharedLists> Sessions for Seats<D, R, L> {
         self.engine.left(s)
     }
 
+    fn moment(&self) -> u64 {
+        self.moment
+    }
+
+    fn wait_until(&mut self, moment: u64) {
+        self.moment = moment;
+    }
+
     fn start(&mut self, s: u32, item: &Item) -> Result<(), NoMemory> {
         self.engine.start(s, item)
     }
 
-    fn step(&mut self, s: u32, now: u64) -> Progress {
-        self.engine.step(s, now)
+    fn step(&mut self, s: u32) -> Progress {
+        self.engine.step(s, self.moment)
     }
 
     fn leave(&mut self, s: u32) {

@@ -78,9 +78,9 @@ fn in_turn<D: Disk, B: Root, L: SharedLists>(
     ensures played { IsTrue result.1 → HasPlayed script.now result.0.names result.0.past }
     ensures rests { IsTrue result.1 → AllRest result.0.past }
 {
-    let mut seats = Seats { engine };
+    let mut seats = Seats { engine, moment: 0 };
     let played = play(alloc, &mut seats, script).is_ok();
-    let Seats { engine } = seats;
+    let Seats { engine, moment: _ } = seats;
     (engine, played)
 }
 

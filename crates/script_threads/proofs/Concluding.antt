@@ -1,5 +1,6 @@
 -- What the history of a script holds, once each session has its calls in it.
-use Rattle.std.proofs.Common.{◌≡◌, ℕ, zero, suc, ◌+◌, ◌<◌, ◌≤◌, ◌⊎◌, ◌||◌, not, Bool, true, false, List, [], ◌∷◌, ◌++◌, length, map, refl, sym, ap, subst, ◌∙◌, inl, inr, arith}
+use Rattle.std.proofs.Common.{◌≡◌, ℕ, zero, suc, ◌+◌, ◌<◌, ◌≤◌, ◌⊎◌, ◌||◌, not, Bool, true, false, List, [], ◌∷◌, ◌++◌, length, map}
+use Rattle.std.proofs.Common.{refl, sym, ap, subst, ◌∙◌, inl, inr, arith}
 use Rattle.std.specs.Prelude.{None, All, Any}
 use Rattle.std.specs.List.{AllByRecursion, list_any}
 use Rattle.std.proofs.lemmas.Bool.Decides.{eqb_tells}
@@ -10,13 +11,11 @@ use Rattle.inno_model.specs.Past.{under_way}
 use Rattle.inno_model.specs.Text.{items}
 use Rattle.script.specs.declared.script.Script.{Script}
 use Rattle.script.specs.declared.script.ScriptItem.{ScriptItem}
-use Rattle.script.specs.Script.{IsPlayable}
 use Rattle.turn_board.specs.declared.Board.{Board}
 use Rattle.turn_board.specs.Boards.{calls_of}
 use Rattle.atomic_table.specs.Seated.{TableId}
 use Rattle.turn_engine.specs.Sessions.{Sitting, own, HasCalls}
-use Rattle.run_outcome.specs.Faults.{allowed}
-use Rattle.script_play.specs.Sessions.{items_of, FollowsScript, HasPlayed, AllRest}
+use Rattle.script_play.specs.Sessions.{items_of, HaveNames, FollowsScript, HasPlayed, AllRest}
 use Rattle.script_play.proofs.Places.{nobodys}
 use Rattle.script_threads.specs.Playing.{HasBegun, IsWhole, HasBegunIn, HasPlayedIn, IsAll, AreNumbered}
 use Rattle.script_threads.proofs.Calls.{items_by_calls, under_way_by_calls}
@@ -76,7 +75,9 @@ module _ (script : List ScriptItem) (past : List Event) (count : ℕ) (first : S
   pub follows_all : FollowsScript script past
   follows_all zero = of_one first 0 zeroth first_calls first_begun
   follows_all (suc x) = elim (let h : (suc x < count) ⊎ (count ≤ suc x) = search (arith) in h) [
-    | inl here ↦ let r = find (λ r. (calls_of r.number past ≡ own r) × HasBegun script r) 1 (suc x) rs numbered (both (λ r. calls_of r.number past ≡ own r) (HasBegun script) rs calls begun) (omega arith) (omega (arith, here, counted)) in
+    | inl here ↦
+        let r = find (λ r. (calls_of r.number past ≡ own r) × HasBegun script r) 1 (suc x) rs numbered
+        (both (λ r. calls_of r.number past ≡ own r) (HasBegun script) rs calls begun) (omega arith) (omega (arith, here, counted)) in
         of_one r.0 (suc x) r.2 r.1.0 r.1.1
     | inr beyond ↦ (items_of (suc x) script, sym (ap (λ list. list ++ items_of (suc x) script) (no_items (suc x) (others (suc x) beyond))))
   ]
@@ -88,7 +89,9 @@ module _ (script : List ScriptItem) (past : List Event) (count : ℕ) (first : S
   pub rest_all : AllRest past
   rest_all zero = rests_one first 0 zeroth first_calls first_begun
   rest_all (suc x) = elim (let h : (suc x < count) ⊎ (count ≤ suc x) = search (arith) in h) [
-    | inl here ↦ let r = find (λ r. (calls_of r.number past ≡ own r) × HasBegun script r) 1 (suc x) rs numbered (both (λ r. calls_of r.number past ≡ own r) (HasBegun script) rs calls begun) (omega arith) (omega (arith, here, counted)) in
+    | inl here ↦
+        let r = find (λ r. (calls_of r.number past ≡ own r) × HasBegun script r) 1 (suc x) rs numbered
+        (both (λ r. calls_of r.number past ≡ own r) (HasBegun script) rs calls begun) (omega arith) (omega (arith, here, counted)) in
         rests_one r.0 (suc x) r.2 r.1.0 r.1.1
     | inr beyond ↦ under_way_by_calls (suc x) past ∙ ap (under_way (suc x)) (others (suc x) beyond)
   ]
@@ -103,7 +106,8 @@ module _ (script : List ScriptItem) (past : List Event) (count : ℕ) (first : S
   plays_all first_kept first_whole whole kept named (suc x) = elim (let h : (suc x < count) ⊎ (count ≤ suc x) = search (arith) in h) [
     | inl here ↦
         let r = find (λ r. (calls_of r.number past ≡ own r) × ((r.lost ≡ false) × IsWhole script r)) 1 (suc x) rs numbered
-        (both (λ r. calls_of r.number past ≡ own r) (λ r. (r.lost ≡ false) × IsWhole script r) rs calls (both (λ r. r.lost ≡ false) (IsWhole script) rs kept whole)) (omega arith) (omega (arith, here, counted)) in
+        (both (λ r. calls_of r.number past ≡ own r) (λ r. (r.lost ≡ false) × IsWhole script r) rs calls
+        (both (λ r. r.lost ≡ false) (IsWhole script) rs kept whole)) (omega arith) (omega (arith, here, counted)) in
         whole_one r.0 (suc x) r.2 r.1.0 r.1.1.0 r.1.1.1
     | inr beyond ↦ no_items (suc x) (others (suc x) beyond) ∙ sym (nobodys (suc x) count script beyond named)
   ]
@@ -145,11 +149,11 @@ module _ (hall : TableId) (script : Script) (gathered left : Board) (first : Sit
   rest_left = rest_all script.items left.past (length first.seen.names) first rs zeroth first_calls_left played_first.0.1 calls_left begun_left numbered counted
       others_left
 
-  pub plays_left : IsAll script first rs → list_any (λ r. r.lost) rs ≡ false → IsPlayable allowed script → left.names ≡ first.seen.names
+  pub plays_left : IsAll script first rs → list_any (λ r. r.lost) rs ≡ false → HaveNames script → left.names ≡ first.seen.names
       → HasPlayed script left.names left.past
-  plays_left all kept playable names = record {
+  plays_left all kept have_names names = record {
     names_are = names ∙ all.named;
     items = plays_all script.items left.past (length first.seen.names) first rs zeroth first_calls_left played_first.0.1 calls_left begun_left numbered counted
         others_left all.kept played_first.1 all.whole (none_lost rs kept)
-        (subst (λ (names : List (List ℕ)). All (λ item. item.s < length names) script.items) (sym all.named) playable.named);
+        (subst (λ (names : List (List ℕ)). All (λ item. item.s < length names) script.items) (sym all.named) have_names);
   }

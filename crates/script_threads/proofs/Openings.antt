@@ -1,9 +1,6 @@
 -- What a script that is played on threads begins with.
-use Rattle.std.proofs.Common.{◌≡◌, ◌<◌, ℕ, List, [], ◌∷◌, ◌++◌, length, take, drop, get_or, refl, sym, ap, subst, ◌∙◌, inl, inr}
-use Rattle.std.specs.Prelude.{All}
+use Rattle.std.proofs.Common.{◌≡◌, ℕ, List, [], ◌∷◌, ◌++◌, take, drop, sym, ap, ◌∙◌, inl, inr}
 use Rattle.std.proofs.lemmas.List.{take-append-drop}
-use Rattle.inno_types.specs.declared.reply.Item.{Item}
-use Rattle.inno_types.specs.declared.reply.Item.TheVariants.{Sql}
 use Rattle.inno_model.specs.Text.{items}
 use Rattle.script.specs.declared.script.Script.{Script}
 use Rattle.script.specs.declared.script.ScriptItem.{ScriptItem}
@@ -13,10 +10,6 @@ use Rattle.turn_engine.specs.Sessions.{setup, IsUncalled}
 use Rattle.script_play.specs.Sessions.{AreNamed, FollowsScript}
 use Rattle.script_play.proofs.Places.{nobody_named, follows_nothing}
 use Rattle.script_threads.proofs.Calls.{items_by_calls}
-
-pub takes_all : (takes : Item → Type 0) (script : List ScriptItem) → ((text : List ℕ) → takes (Sql text))
-    → All (λ x. (text : List ℕ) × (x.item ≡ Sql text)) script → All (λ x. takes x.item) script
-takes_all takes script each statements = λ k d here. let is = statements k d here in subst takes (sym is.1) (each is.0)
 
 -- so many of the sessions have joined
 pub named_so_far : (script : Script) (names others : List (List ℕ)) (n : ℕ) → script.names ≡ setup ∷ others → names ≡ (setup ∷ []) ++ take n others

@@ -167,8 +167,11 @@ where
         thread::scope_env(),
         rt,
         |scope| -> Vec<Receipt>
-            requires { AllByRecursion (IsNew hall.now) sessions.items × All (λ x. E.takes x.item) script.now.items × (parts.items ≡ []) × (vec_len sessions ≤ vec_capacity parts) × (receipts.items ≡ []) × (vec_len sessions ≤ vec_capacity receipts) }
-            ensures { AllByRecursion (HasPlayedIn hall.entry.now script.entry.now.items) result.items × (map (λ r. r.number) result.items ≡ map (λ s. s.number) sessions.items) }
+            requires { AllByRecursion (IsNew hall.now) sessions.items × All (λ x. E.takes x.item) script.now.items
+                × (parts.items ≡ []) × (vec_len sessions ≤ vec_capacity parts)
+                × (receipts.items ≡ []) × (vec_len sessions ≤ vec_capacity receipts) }
+            ensures { AllByRecursion (HasPlayedIn hall.entry.now script.entry.now.items) result.items
+                × (map (λ r. r.number) result.items ≡ map (λ s. s.number) sessions.items) }
         {
             let parts = start_all(scope, rt, hall, clock, gate, script, sessions, parts);
             join_all(rt, hall, script, parts, receipts)

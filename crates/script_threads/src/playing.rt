@@ -1,14 +1,11 @@
 //! Plays a script over an engine that nobody has joined: it is shared, each session plays, and the engine comes back.
 
-ghost use Rattle.std.specs.Prelude.{◌≡◌, ◌≤◌, ◌<◌, ◌+◌, ◌∷◌, [], ℕ, List, length, map, true, All, IsTrue, OnOk, vec_capacity, vec_len};
+ghost use Rattle.std.specs.Prelude.{◌≡◌, ◌≤◌, ◌<◌, ◌+◌, ◌∷◌, [], ℕ, length, map, true, All, IsTrue, OnOk, vec_capacity, vec_len};
 ghost use Rattle.std.specs.List.{AllByRecursion, list_any};
-ghost use Rattle.inno_types.specs.declared.reply.Item.TheVariants.{Sql};
-ghost use Rattle.script.specs.Script.{IsPlayable};
 ghost use Rattle.turn_board.specs.Boards.{calls_of, phase_of};
 ghost use Rattle.turn_board.specs.declared.Phase.TheVariants.{Idle};
 ghost use Rattle.turn_engine.specs.Sessions.{own, setup};
-ghost use Rattle.run_outcome.specs.Faults.{allowed};
-ghost use Rattle.script_play.specs.Sessions.{AreNamed, FollowsScript, HasPlayed, AllRest};
+ghost use Rattle.script_play.specs.Sessions.{AreNamed, HaveNames, FollowsScript, HasPlayed, AllRest};
 ghost use Rattle.script_threads.specs.Playing.{IsNew, HasBegunIn, HasPlayedIn, IsAll, AreNumbered};
 
 use crate::beginning::{Rooms, other_names, split_all};
@@ -24,7 +21,7 @@ use store_api::{Clock, Gate, NoMemory, Progress};
 use turn_engine::{Hall, Receipt, Session, Turns, share};
 
 /// Plays a script: the setup part on the calling thread, then each other session on a thread of its own. At last the setup
-/// part leaves. The engine comes back in any case.
+/// part leaves. The time is the clock's, and the script's ticks let none pass. The engine comes back in any case.
 pub fn play_on_threads<E, C, G, R>(
     rt: &R,
     alloc: Global,
@@ -40,8 +37,8 @@ where
     R: Threads + Wait + Timer + Sync,
     requires nobody { (E.board engine).names ≡ [] }
     requires no_calls { (x : ℕ) → calls_of x (E.board engine).past ≡ [] }
-    requires playable { IsPlayable allowed script.now }
-    requires takes { (text : List ℕ) → E.takes (Sql text) }
+    requires each_named { HaveNames script.now }
+    requires takes { All (λ x. E.takes x.item) script.now.items }
     ensures named { AreNamed script.now (E.board result.0).names }
     ensures follows { FollowsScript script.now.items (E.board result.0).past }
     ensures played { OnOk result.1 (HasPlayed script.now (E.board result.0).names (E.board result.0).past) }
@@ -77,8 +74,8 @@ where
     R: Threads + Wait + Timer + Sync,
     requires first { IsNew hall first × (first.number ≡ 0) × (first.seen.names ≡ setup ∷ []) }
     requires names { (script.now.names ≡ setup ∷ others.now) × (length others.now ≤ 64) }
-    requires playable { IsPlayable allowed script.now }
-    requires takes { (text : List ℕ) → E.takes (Sql text) }
+    requires each_named { HaveNames script.now }
+    requires takes { All (λ x. E.takes x.item) script.now.items }
     requires sessions { (rooms.sessions.items ≡ []) × (length others.now ≤ vec_capacity rooms.sessions) }
     requires parts { (rooms.parts.items ≡ []) × (length others.now ≤ vec_capacity rooms.parts) }
     requires receipts { (rooms.receipts.items ≡ []) × (length others.now ≤ vec_capacity rooms.receipts) }
@@ -161,7 +158,7 @@ fn conclude<E: Turns>(
     requires begun { AllByRecursion (HasBegunIn hall script.now.items) receipts.items }
     requires numbered { AreNumbered 1 (map (λ r. r.number) receipts.items) × (length first.seen.names ≡ length receipts.items + 1) }
     requires named { AreNamed script.now first.seen.names }
-    requires playable { IsPlayable allowed script.now }
+    requires each_named { HaveNames script.now }
     requires whole { IsTrue all → IsAll script.now first receipts.items }
     ensures named { AreNamed script.now (E.board result.0).names }
     ensures follows { FollowsScript script.now.items (E.board result.0).past }

@@ -12,7 +12,7 @@ use Rattle.shared_lists.specs.declared.answers.Undone.{Undone}
 use Rattle.shared_lists.specs.declared.answers.Undone.TheVariants as undone
 use Rattle.shared_lists.specs.State.{State as Lists, Closes, Stays, task_of}
 use Rattle.shared_lists.specs.Steps.{TakesBack}
-use Rattle.sql_lists.specs.Steps.{HasRowsAlone, acknowledges, changes_rows}
+use Rattle.sql_lists.specs.Steps.{HasRowsAlone, is_apart, changes_rows}
 use Rattle.sql_lists.proofs.Moving.{moves_closes, moves_stays, moves_takes_back}
 use Rattle.transaction_statements.specs.Running.{TakesBackTo}
 use Rattle.transaction_statements.proofs.Stepping.{rows_of_none, rows_left}
@@ -24,7 +24,7 @@ module _ (s : ℕ) (old new : Lists) (out : IsGoingOut s old) where
   goes_none : new.past ≡ old.past → GoesOn s old.past new.past
   goes_none is = record { entries = []; past_is = is; each = tt; tells = tt; unacked = tt }
 
-  goes_one : (e : Event) → is_of s e ≡ true → KeepsItems e → TellsOne (e ∷ []) → acknowledges e ≡ false → new.past ≡ e ∷ old.past → GoesOn s old.past new.past
+  goes_one : (e : Event) → is_of s e ≡ true → KeepsItems e → TellsOne (e ∷ []) → is_apart e ≡ false → new.past ≡ e ∷ old.past → GoesOn s old.past new.past
   goes_one e mine keeps tells unacked is =
       record { entries = e ∷ []; past_is = is; each = ((mine, keeps), tt); tells = tells; unacked = (unacked, tt) }
 

@@ -1,3 +1,5 @@
+mod Signals
+mod Signalled
 pub mod Others
 pub mod Seating
 mod Leaving

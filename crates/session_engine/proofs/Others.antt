@@ -2,6 +2,8 @@
 use Rattle.std.proofs.Common.{◌≡◌, ◌≢◌, ℕ, Bool, true, false, Option, Some, None, List, [], ◌∷◌, length, refl, sym, ap, subst, ◌∙◌, inl, inr, arith}
 use Rattle.std.proofs.lemmas.Bool.Decides.{nat_tests}
 use Rattle.std.specs.List.{AllByRecursion}
+use Rattle.inno_types.specs.declared.reply.Item.{Item}
+use Rattle.inno_types.specs.declared.reply.Item.TheVariants as items
 use Rattle.inno_types.specs.declared.reply.Item.TheVariants.{Sql}
 use Rattle.inno_model.specs.declared.event.Event.{Event}
 use Rattle.inno_model.specs.declared.event.Event.TheVariants as events
@@ -28,9 +30,13 @@ use Rattle.write_statement.proofs.Others.{stays as write_runs}
 use Rattle.statement.specs.declared.under_way.Statement.{Statement}
 use Rattle.statement.specs.declared.under_way.Statement.TheVariants as statements
 use Rattle.session_engine.specs.declared.seats.Seat.{Seat}
-use Rattle.session_engine.specs.declared.seats.Seat.TheVariants.{Idle, Busy, Leaving, Left}
+use Rattle.session_engine.specs.declared.seats.Seat.TheVariants.{Idle, Busy, Signalling, Leaving, Left}
 use Rattle.statement.specs.Running.{HasOnlyStarted, IsReadFrom, IsRunning}
-use Rattle.session_engine.specs.Seats.{MayGoOut, IsGoingOut, SeatAgrees}
+use Rattle.session_engine.specs.declared.seats.SignalItem.{SignalItem}
+use Rattle.session_engine.specs.declared.seats.SignalItem.TheVariants.{Gives, Awaits}
+use Rattle.session_engine.specs.Signals.{HasOnlyAsked, HasSeenNone}
+use Rattle.session_engine.specs.Seats.{MayGoOut, IsGoingOut, HasAsked, SeatAgrees}
+use Rattle.session_engine.proofs.Signals.{seen_on}
 
 leaving_same : (e : Event) (h : List Event) (s : ℕ) → is_of s e ≡ false → is_leaving s (e ∷ h) ≡ is_leaving s h
 leaving_same e h s other = grind (arith, nat_tests, other)
@@ -78,6 +84,22 @@ module _ (old new : Lists) (t s : ℕ) (differ : t ≢ s) (adding : AddingOne t 
       by_past (λ h. (under_way s h ≡ None) × IsClosed s h)
       (λ e other before. let same = untouched e old.past s other in (same.item ∙ before.0, same.level_is ∙ before.1))
 
+  only_asked_on : (item : Item) → HasOnlyAsked s item old.past → HasOnlyAsked s item new.past
+  only_asked_on item = by_past (HasOnlyAsked s item) (λ e other before.
+      let same = untouched e old.past s other in
+      record {
+        asked = same.item ∙ before.asked;
+        nothing = same.entries ∙ before.nothing;
+        rows_alone = subst (AllByRecursion IsOfRow) (sym same.own_is) before.rows_alone;
+      })
+
+  asked_on : (item : SignalItem) → HasAsked s item old.past → HasAsked s item new.past
+  asked_on (Gives name) asked = only_asked_on (items.Signal name) asked
+  asked_on (Awaits wait) asked = (
+    only_asked_on (items.Await wait.name) asked.0,
+    by_past (HasSeenNone wait.name wait.seen) (λ e other before. seen_on wait.name wait.seen e old.past before) asked.1,
+  )
+
   runs_on : (old.writer ≡ Some s → new.writer ≡ Some s) → (statement : Statement) → IsRunning old s statement → IsRunning new s statement
   runs_on keeps (statements.Unread at) runs = (runs.0, started_on runs.0 runs.1, runs.2, same_task ∙ runs.3)
   runs_on keeps (statements.Asked stmt) runs = (runs.0, started_on runs.0 runs.1, runs.2, same_task ∙ runs.3)
@@ -93,6 +115,7 @@ stays_by_one : (old new : Lists) (t s : ℕ) → t ≢ s → AddingOne t old new
 stays_by_one old new t s differ adding keeps same_task Idle agrees =
     (out_on old new t s differ adding same_task agrees.0, stays_on old new t s differ adding same_task agrees.1, same_task ∙ agrees.2)
 stays_by_one old new t s differ adding keeps same_task (Busy statement) agrees = runs_on old new t s differ adding same_task keeps statement agrees
+stays_by_one old new t s differ adding keeps same_task (Signalling item) agrees = (asked_on old new t s differ adding same_task item agrees.0, same_task ∙ agrees.1)
 stays_by_one old new t s differ adding keeps same_task Leaving agrees = going_on old new t s differ adding same_task agrees
 stays_by_one old new t s differ adding keeps same_task Left agrees =
     (let closed = closed_on old new t s differ adding same_task (agrees.0, agrees.1) in (closed.0, closed.1, same_task ∙ agrees.2))

@@ -6,7 +6,9 @@ use Rattle.std.proofs.lemmas.List.{get_or-set_same, get_or-set_other, length-set
 use Rattle.std.specs.List.{AllByRecursion}
 use Rattle.std.specs.Prelude.{Result, Ok, Err, OnOk, OnErr}
 use Rattle.inno_types.specs.declared.reply.Item.{Item}
+use Rattle.inno_types.specs.declared.reply.Item.TheVariants as items
 use Rattle.inno_types.specs.declared.reply.Item.TheVariants.{Sql}
+use Rattle.inno_types.specs.declared.reply.Reply.TheVariants as replies
 use Rattle.inno_types.specs.declared.reply.Reply.{Reply}
 use Rattle.inno_db.specs.Database.{Database}
 use Rattle.inno_model.specs.declared.event.Event.{Event}
@@ -17,23 +19,27 @@ use Rattle.store_api.specs.declared.answers.Progress.{Progress}
 use Rattle.store_api.specs.declared.answers.Progress.TheVariants as progress
 use Rattle.sql_history.specs.Legal.{is_leaving}
 use Rattle.shared_lists.specs.Tasks as tasks
-use Rattle.law_past_agreement.specs.Order.{IsOfRow}
+use Rattle.law_past_agreement.specs.Order.{IsOfRow, IsNoOthers}
 use Rattle.shared_lists.specs.State.{State as Lists, Lists as AllLists, IsFirst, Adds, Stays, task_of}
 use Rattle.sql_lists.specs.declared.advance.Advance.{Advance}
 use Rattle.sql_lists.specs.declared.advance.Advance.TheVariants as advance
-use Rattle.sql_lists.specs.Steps.{Moves, Adding, AsksToWrite, IsEntryOf, Steps, HasRowsAlone, TellsOne as StepTellsOne}
+use Rattle.sql_lists.specs.Steps.{Moves, Adding, AsksToWrite, IsEntryOf, Steps, HasRowsAlone, is_apart, TellsOne as StepTellsOne}
 use Rattle.sql_lists.proofs.Moving.{adding_none, adding_one, moves_none, moves_stays, moves_adds}
 use Rattle.sql_lists.specs.Going.{Nears as StatementNears}
 use Rattle.statement.specs.declared.under_way.Statement.{Statement}
 use Rattle.session_engine.specs.declared.seats.Seat.{Seat}
-use Rattle.session_engine.specs.declared.seats.Seat.TheVariants.{Idle, Busy, Leaving, Left}
+use Rattle.session_engine.specs.declared.seats.Seat.TheVariants.{Idle, Busy, Signalling, Leaving, Left}
+use Rattle.session_engine.specs.declared.seats.SignalItem.{SignalItem}
+use Rattle.session_engine.specs.declared.seats.SignalItem.TheVariants.{Gives, Awaits}
 use Rattle.statement.specs.Running.{IsRunning, IsReadFrom, owes_ack, acked}
 use Rattle.statement.proofs.Acked.{goes_on_acked, acked_nears}
 use Rattle.statement.proofs.Rooms.{runs_without_room}
-use Rattle.session_engine.specs.Seats.{seat_at, is_working, MayGoOut, IsGoingOut, SeatAgrees, AreSeats, owes, phase_of, without_room}
-use Rattle.session_engine.specs.Calls.{AreFirst, SameLists, Joins, Starts, SameState, OthersStay, KeepsItems, TellsOne, GoesOn, StepsOn, Settled, GoesOut, StepsBy, Acknowledges, GivesUp}
+use Rattle.session_engine.specs.Seats.{seat_at, is_working, MayGoOut, IsGoingOut, HasAsked, IsSeatOf, SeatAgrees, AreSeats, owes, phase_of, without_room}
+use Rattle.session_engine.specs.Calls.{AreFirst, SameLists, Joins, Starts, SameState, OthersStay, KeepsItems, TellsOne, GoesOn, StepsOn, Settled, GoesOut, HasGiven, EndsSignal, Signals, StepsBy, Acknowledges, GivesUp, WaitsInVain, GivesUpInVain, WaitsOn}
 use Rattle.statement.specs.Going.{statement_to_go}
 use Rattle.session_engine.specs.Going.{Nears, NearsEnding}
+use Rattle.session_engine.specs.Signals.{AreSpent, HasOnlyAsked}
+use Rattle.session_engine.proofs.Signals.{spent_on, spent_all, spent_signal, seen_first}
 use Rattle.session_engine.proofs.Others.{seat_stays, has_item, read_runs}
 
 -- ---- seats
@@ -56,24 +62,31 @@ others_set seats s seat u apart = get_or-set_other seats s u seat Idle apart
 pub owing_is : (seat : Seat) → owes seat ≡ true → ((statement : Statement) → seat ≡ Busy statement → ⊥) → ⊥
 owing_is Idle owed other = false≢true owed
 owing_is (Busy statement) owed other = other statement refl
+owing_is (Signalling item) owed other = false≢true owed
 owing_is Leaving owed other = false≢true owed
 owing_is Left owed other = false≢true owed
 
-pub leaving_is : (seat : Seat) → is_working seat ≡ true → ((statement : Statement) → seat ≡ Busy statement → ⊥) → seat ≡ Leaving
-leaving_is Idle works other = absurd (false≢true works)
-leaving_is (Busy statement) works other = absurd (other statement refl)
-leaving_is Leaving works other = refl
-leaving_is Left works other = absurd (false≢true works)
+pub leaving_is : (seat : Seat) → is_working seat ≡ true → ((statement : Statement) → seat ≡ Busy statement → ⊥)
+    → ((item : SignalItem) → seat ≡ Signalling item → ⊥) → seat ≡ Leaving
+leaving_is Idle works other signal = absurd (false≢true works)
+leaving_is (Busy statement) works other signal = absurd (other statement refl)
+leaving_is (Signalling item) works other signal = absurd (signal item refl)
+leaving_is Leaving works other signal = refl
+leaving_is Left works other signal = absurd (false≢true works)
 
 -- ---- one session moves
 
--- what a session does to the lists: by a step of its statement, or by an acknowledgement
+ended_mine : (t j : ℕ) (reply : Reply) → is_of t (events.Ended t j reply) ≡ true
+ended_mine t j reply = grind (arith, nat_tests)
+
+-- what a session does to the lists: by a step of its item, or by an acknowledgement
 pub record SessionMoves (t : ℕ) (old new : Lists) : Type 0 where
   pub names_stay : new.names ≡ old.names
   pub adding : Adding t old new
   pub writer_stays : (s : ℕ) → s ≢ t → old.writer ≡ Some s → new.writer ≡ Some s
   pub may_write : new.writer ≡ Some t → (old.writer ≡ Some t) ⊎ AsksToWrite t old.past
   pub tasks_stay : (s : ℕ) → s ≢ t → task_of s new ≡ task_of s old
+  pub spends : AreSpent old.past → AreSpent new.past
 
 pub of_statement : (t : ℕ) (old new : Lists) → Moves t old new → SessionMoves t old new
 of_statement t old new moves =
@@ -83,7 +96,28 @@ of_statement t old new moves =
       writer_stays = moves.writer_stays;
       may_write = moves.may_write;
       tasks_stay = moves.tasks_stay;
+      spends = λ spent. subst AreSpent (sym moves.adding.past_is) (spent_all moves.adding.entries old.past moves.unacked spent);
     }
+
+ended_adding : (t : ℕ) (reply : Reply) (old new : Lists) (past : List Event) → HasGiven t old.past past
+    → new.past ≡ events.Ended t (started t old.past) reply ∷ past → Adding t old new
+ended_adding t reply old new past (inl same) is =
+    adding_one t (events.Ended t (started t old.past) reply) old new (grind (arith, nat_tests))
+    (is ∙ ap (λ h. events.Ended t (started t old.past) reply ∷ h) same) (λ changes. absurd (false≢true changes))
+ended_adding t reply old new past (inr given) is =
+    record {
+      entries = events.Ended t (started t old.past) reply ∷ events.Signal given.0 ∷ [];
+      past_is = is ∙ ap (λ h. events.Ended t (started t old.past) reply ∷ h) given.2;
+      each = ((ended_mine t (started t old.past) reply, λ changes. absurd (false≢true changes)), ((tt, λ changes. absurd (false≢true changes)), tt));
+    }
+
+ended_spent : (t : ℕ) (reply : Reply) (old past : List Event) → HasGiven t old past → AreSpent old
+    → AreSpent (events.Ended t (started t old) reply ∷ past)
+ended_spent t reply old past (inl same) spent =
+    spent_on (events.Ended t (started t old) reply) past tt (subst AreSpent (sym same) spent)
+ended_spent t reply old past (inr given) spent =
+    subst (λ h. AreSpent (events.Ended t (started t old) reply ∷ h)) (sym given.2)
+    (spent_signal t (started t old) given.0 reply old given.1 spent)
 
 of_acknowledgement : (t moment : ℕ) (old new : Lists) → Adds (events.Acked t moment) t old new → SessionMoves t old new
 of_acknowledgement t moment old new adds =
@@ -93,6 +127,31 @@ of_acknowledgement t moment old new adds =
       writer_stays = λ s differ held. adds.writer_is ∙ held;
       may_write = λ mine. inl (sym adds.writer_is ∙ mine);
       tasks_stay = adds.others;
+      spends = λ spent. subst AreSpent (sym adds.past_is) (spent_on (events.Acked t moment) old.past tt spent);
+    }
+
+-- an item of a signal ends, and may have given it
+of_signal : (t : ℕ) (reply : Reply) (old new : Lists) → EndsSignal t reply old new → SessionMoves t old new
+of_signal t reply old new ends =
+    record {
+      names_stay = ends.names_stay;
+      adding = ended_adding t reply old new ends.ends.0 ends.ends.1 ends.ends.2;
+      writer_stays = λ s differ held. ends.writer_stays ∙ held;
+      may_write = λ mine. inl (sym ends.writer_stays ∙ mine);
+      tasks_stay = λ s differ. ends.tasks_stay s;
+      spends = λ spent. subst AreSpent (sym ends.ends.2) (ended_spent t reply old.past ends.ends.0 ends.ends.1 spent);
+    }
+
+-- nothing has changed
+of_nothing : (t : ℕ) (old new : Lists) → SameLists old new → SessionMoves t old new
+of_nothing t old new same =
+    record {
+      names_stay = same.names_stay;
+      adding = adding_none t old new same.past_stays;
+      writer_stays = λ s differ held. same.writer_stays ∙ held;
+      may_write = λ mine. inl (sym same.writer_stays ∙ mine);
+      tasks_stay = λ s differ. same.tasks_stay s;
+      spends = λ spent. subst AreSpent (sym same.past_stays) spent;
     }
 
 moved : (old new : Lists) (t s : ℕ) → SessionMoves t old new → s ≢ t → (seat : Seat) → SeatAgrees old s seat → SeatAgrees new s seat
@@ -112,6 +171,7 @@ seats_kept old new seats s seat are joined moves agrees =
             | inr differ ↦ subst (SeatAgrees new u) (sym (get_or-set_other seats s u seat Idle differ.1))
                 (moved old new s u moves differ.1 (get_or seats u Idle) (are.each u))
           ];
+      spent = moves.spends are.spent;
     }
 
 -- ---- an engine that is opened
@@ -124,6 +184,7 @@ first_seats db lists first idle =
           let rests : under_way u lists.past ≡ None = ap (under_way u) first.past in
           let nothing : own u lists.past ≡ [] = ap (own u) first.past in
           (record { rests = rests; rows_alone = subst (AllByRecursion IsOfRow) (sym nothing) tt }, ap (is_leaving u) first.past, idle u);
+      spent = subst AreSpent (sym first.past) (λ name. omega arith);
     }
 
 pub are_first : (db : Database) (all : AllLists) (lists : Lists) → IsFirst all → all.state.past ≡ events.Opened db ∷ [] → lists ≡ all.state → AreFirst db lists
@@ -147,6 +208,7 @@ module _ (old new : Lists) (past-is : new.past ≡ old.past) (writer-is : new.wr
       record {
         enough = rw (names-are, length-append old.names (name ∷ []), length-append seats (Idle ∷ [])) (omega (arith, are.enough));
         each = λ u. subst (SeatAgrees new u) (sym (joined_seat seats u)) (seat_kept u (get_or seats u Idle) (are.each u));
+        spent = subst AreSpent (sym past-is) are.spent;
       }
 
   -- a seat too many waits for its session
@@ -155,6 +217,7 @@ module _ (old new : Lists) (past-is : new.past ≡ old.past) (writer-is : new.wr
       record {
         enough = rw (names-are, length-append seats (Idle ∷ [])) (omega (arith, are.enough));
         each = λ u. subst (SeatAgrees new u) (sym (joined_seat seats u)) (seat_kept u (get_or seats u Idle) (are.each u));
+        spent = subst AreSpent (sym past-is) are.spent;
       }
 
 pub joined_seats : (seats : List Seat) (u : ℕ) → seat_at (seats ++ Idle ∷ []) u ≡ seat_at seats u
@@ -179,6 +242,7 @@ seats_same old new seats s stays are =
     record {
       enough = rw same.names_stay are.enough;
       each = λ u. seat_kept old new same.past_stays same.writer_stays same.tasks_stay u (get_or seats u Idle) (are.each u);
+      spent = subst AreSpent (sym same.past_stays) are.spent;
     }
 
 -- ---- an item that starts
@@ -186,18 +250,55 @@ seats_same old new seats s stays are =
 starts_of : (s j : ℕ) (item : Item) → is_of s (events.Started s j item) ≡ true
 starts_of s j item = grind (arith, nat_tests)
 
-pub seats_started : (old new : Lists) (seats : List Seat) (s : ℕ) (text : List ℕ) (item : Item) (statement : Statement) → AreSeats old seats
-    → s < length old.names → seat_at seats s ≡ Idle → item ≡ Sql text
-    → Adds (events.Started s (started s old.past + 1) item) s old new → IsReadFrom text statement → AreSeats new (set seats s (Busy statement))
-seats_started old new seats s text item statement are joined idle item-is adds reads =
-    let e : Event = events.Started s (started s old.past + 1) (Sql text) in
-    let adds_text : Adds e s old new = subst (λ i. Adds (events.Started s (started s old.past + 1) i) s old new) item-is adds in
-    let moves : Moves s old new = moves_adds s e old new (starts_of s (started s old.past + 1) (Sql text)) refl (λ x. absurd (false≢true x)) adds_text in
-    let rests : SeatAgrees old s Idle = subst (SeatAgrees old s) idle (are.each s) in
-    seats_kept old new seats s (Busy statement) are joined (of_statement s old new moves)
-    (read_runs old new s (started s old.past + 1) text statement rests.0.rows_alone rests.2 adds_text reads)
+only_asked : (s j : ℕ) (item : Item) (h : List Event) → HasRowsAlone s h → HasOnlyAsked s item (events.Started s j item ∷ h)
+only_asked s j item h rows = record { asked = grind (arith, nat_tests); nothing = grind (arith, nat_tests); rows_alone = rows }
+
+-- the seat that is taken at the start agrees
+starts_seated : (old new : Lists) (s : ℕ) (item : Item) (seat : Seat) → SeatAgrees old s Idle → Adds (events.Started s (started s old.past + 1) item) s old new
+    → IsSeatOf item seat → SeatAgrees new s seat
+starts_seated old new s (Sql text) (Busy statement) rests adds reads =
+    read_runs old new s (started s old.past + 1) text statement rests.0.rows_alone rests.2 adds reads
+starts_seated old new s (Sql text) Idle rests adds reads = absurd reads
+starts_seated old new s (Sql text) (Signalling item) rests adds reads = absurd reads
+starts_seated old new s (Sql text) Leaving rests adds reads = absurd reads
+starts_seated old new s (Sql text) Left rests adds reads = absurd reads
+starts_seated old new s (items.Signal name) seat rests adds reads =
+    subst (SeatAgrees new s) (sym reads) (
+      subst (HasOnlyAsked s (items.Signal name)) (sym adds.past_is) (only_asked s (started s old.past + 1) (items.Signal name) old.past rests.0.rows_alone),
+      adds.task_is ∙ rests.2,
+    )
+starts_seated old new s (items.Await name) seat rests adds reads =
+    subst (SeatAgrees new s) (sym reads) (
+      (
+        subst (HasOnlyAsked s (items.Await name)) (sym adds.past_is) (only_asked s (started s old.past + 1) (items.Await name) old.past rests.0.rows_alone),
+        seen_first name new.past,
+      ),
+      adds.task_is ∙ rests.2,
+    )
+
+pub seats_started : (old new : Lists) (seats : List Seat) (s : ℕ) (item : Item) (seat : Seat) → AreSeats old seats
+    → s < length old.names → seat_at seats s ≡ Idle
+    → Adds (events.Started s (started s old.past + 1) item) s old new → IsSeatOf item seat → AreSeats new (set seats s seat)
+seats_started old new seats s item seat are joined idle adds reads =
+    let e : Event = events.Started s (started s old.past + 1) item in
+    let moves : Moves s old new = moves_adds s e old new (starts_of s (started s old.past + 1) item) refl (λ x. absurd (false≢true x)) adds in
+    seats_kept old new seats s seat are joined (of_statement s old new moves)
+    (starts_seated old new s item seat (subst (SeatAgrees old s) idle (are.each s)) adds reads)
 
 -- ---- a step
+
+-- what an item of a signal leaves of its session's changes
+has_rows : (s : ℕ) (item : SignalItem) (h : List Event) → HasAsked s item h → HasRowsAlone s h
+has_rows s (Gives name) h asked = asked.rows_alone
+has_rows s (Awaits wait) h asked = asked.0.rows_alone
+
+rows_then : (s : ℕ) (old past : List Event) → HasGiven s old past → HasRowsAlone s old → HasRowsAlone s past
+rows_then s old past (inl same) rows = subst (HasRowsAlone s) (sym same) rows
+rows_then s old past (inr given) rows = subst (HasRowsAlone s) (sym given.2) rows
+
+lists_same : (old new : Lists) → new ≡ old → SameLists old new
+lists_same old new is =
+    subst (SameLists old) (sym is) (record { names_stay = refl; past_stays = refl; writer_stays = refl; tasks_stay = λ u. refl })
 
 moves_is : (old new : Lists) (s : ℕ) → new ≡ old → Moves s old new
 moves_is old new s is = subst (Moves s old) (sym is) (moves_none s old)
@@ -240,14 +341,21 @@ item_before (events.Started t j item) h s keeps = absurd keeps
 item_before (events.Ended t j reply) h s keeps = absurd keeps
 item_before e h s keeps = refl
 
-all_keep : (es h : List Event) (s : ℕ) (writer : Option ℕ) → AllByRecursion (IsEntryOf s writer) es → started s (es ++ h) ≡ started s h
+-- an entry of a statement is its session's
+own_entry : (s : ℕ) (e : Event) → IsNoOthers s e → is_apart e ≡ false → is_of s e ≡ true
+own_entry s (events.Signal name) mine apart = absurd (false≢true (sym apart))
+own_entry s e mine apart = mine
+
+all_keep : (es h : List Event) (s : ℕ) (writer : Option ℕ) → AllByRecursion (IsEntryOf s writer) es → AllByRecursion (λ e. is_apart e ≡ false) es
+    → started s (es ++ h) ≡ started s h
     → under_way s (es ++ h) ≢ None
     → AllByRecursion (λ e. (is_of s e ≡ true) × KeepsItems e) es
-all_keep [] h s writer each count item = tt
-all_keep (e ∷ es) h s writer each count item =
+all_keep [] h s writer each apart count item = tt
+all_keep (e ∷ es) h s writer each apart count item =
     let same : started s (e ∷ (es ++ h)) ≡ started s (es ++ h) = omega (arith, count, all_rise es h s, started_rise e (es ++ h) s) in
-    let keeps : KeepsItems e = keeps_items e (es ++ h) s each.0.0 same item in
-    ((each.0.0, keeps), all_keep es h s writer each.1 (sym same ∙ count) (λ none. item (item_before e (es ++ h) s keeps ∙ none)))
+    let mine : is_of s e ≡ true = own_entry s e each.0.0 apart.0 in
+    let keeps : KeepsItems e = keeps_items e (es ++ h) s mine same item in
+    ((mine, keeps), all_keep es h s writer each.1 apart.1 (sym same ∙ count) (λ none. item (item_before e (es ++ h) s keeps ∙ none)))
 
 -- what a statement's step says of the change that it tells
 told_one : (s : ℕ) (old : Lists) (entries : List Event) → StepTellsOne s old entries → TellsOne entries
@@ -261,7 +369,7 @@ goes_on old new s moves count item =
     record {
       entries = adding.entries;
       past_is = adding.past_is;
-      each = all_keep adding.entries old.past s new.writer adding.each (subst (λ g. started s g ≡ started s old.past) adding.past_is count)
+      each = all_keep adding.entries old.past s new.writer adding.each moves.unacked (subst (λ g. started s g ≡ started s old.past) adding.past_is count)
           (subst (λ g. under_way s g ≢ None) adding.past_is item);
       tells = told_one s old adding.entries moves.tells;
       unacked = moves.unacked;
@@ -325,7 +433,7 @@ module _ (old new : Lists) (seats : List Seat) (s : ℕ) (are : AreSeats old sea
   step_does statement advance.NoMemory seat answer steps settled =
       rw settled.1 (steps_on seat (of_statement s old new steps.0), steps.2, ap is_working (is_at seat ∙ settled.0))
   step_does statement (advance.Done reply) seat answer steps settled =
-      rw settled.1 (steps_on seat (of_statement s old new steps.0), inl (steps.1, is_at seat ∙ settled.0))
+      rw settled.1 (steps_on seat (of_statement s old new steps.0), inl ((old.past, inl refl, steps.1), is_at seat ∙ settled.0))
 
   step_nears_by : (before after : Statement) (seat : Seat) → seat_at seats s ≡ Busy before → seat ≡ Busy after
       → IsBelow (statement_to_go s new after) (statement_to_go s old before)
@@ -364,6 +472,56 @@ module _ (old new : Lists) (seats : List Seat) (s : ℕ) (are : AreSeats old sea
         (record { lists = new; seats = set (set seats s Idle) s (Busy (acked statement)) })
     acked_nears_it =
         step_nears statement (acked statement) advance.Went (Busy (acked statement)) progress.Went was (acked_nears statement owed old new s) (refl, refl)
+
+  -- ---- a step of an item of a signal
+
+  module _ (now : ℕ) (item : SignalItem) (was : seat_at seats s ≡ Signalling item) where
+    asked : HasAsked s item old.past × (task_of s old ≡ tasks.Idle)
+    asked = subst (SeatAgrees old s) was (are.each s)
+
+    ended_seat : (reply : Reply) → EndsSignal s reply old new → SeatAgrees new s Idle
+    ended_seat reply ends =
+        ended_item new s (started s old.past) reply ends.ends.0 ends.ends.2
+        (rows_then s old.past ends.ends.0 ends.ends.1 (has_rows s item old.past asked.0)) (ends.tasks_stay s ∙ asked.1)
+
+    pub signals_keep : (seat : Seat) (answer : Progress) → Signals s now item old new seat answer → AreSeats new (set (set seats s Idle) s seat)
+    signals_keep seat (progress.Done reply) does =
+        kept seat (of_signal s reply old new does.0) (subst (SeatAgrees new s) (sym does.1) (ended_seat reply does.0))
+    signals_keep seat progress.NotYet does =
+        kept seat (of_nothing s old new (lists_same old new does.0))
+        (subst (SeatAgrees new s) (sym does.2.3) (subst (λ l. HasAsked s does.2.0 l.past × (task_of s l ≡ tasks.Idle)) (sym does.0) (does.2.1, asked.1)))
+    signals_keep seat progress.NoMemory does =
+        kept seat (of_nothing s old new does.0)
+        (subst (SeatAgrees new s) (sym does.1) (subst (HasAsked s item) (sym does.0.past_stays) asked.0, does.0.tasks_stay s ∙ asked.1))
+    signals_keep seat other does = elim does [ ]
+
+    pub signals_do : (seat : Seat) (answer : Progress) → Signals s now item old new seat answer
+        → StepsBy s answer (record { lists = old; seats = seats }) (record { lists = new; seats = set (set seats s Idle) s seat })
+    signals_do seat (progress.Done reply) does = (steps_on seat (of_signal s reply old new does.0), inl (does.0.ends, is_at seat ∙ does.1))
+    signals_do seat progress.NotYet does =
+        let same = lists_same old new does.0 in
+        (steps_on seat (of_nothing s old new same), same, ap is_working (is_at seat ∙ does.2.3), does.1)
+    signals_do seat progress.NoMemory does =
+        (steps_on seat (of_nothing s old new does.0), does.0.past_stays, ap is_working (is_at seat ∙ does.1))
+    signals_do seat other does = elim does [ ]
+
+    pub signals_near : (seat : Seat) (answer : Progress) → Signals s now item old new seat answer
+        → Nears s answer (record { lists = old; seats = seats }) (record { lists = new; seats = set (set seats s Idle) s seat })
+    signals_near seat (progress.Done reply) does = tt
+    signals_near seat progress.NotYet does = tt
+    signals_near seat progress.NoMemory does = tt
+    signals_near seat other does = elim does [ ]
+
+    pub signals_patient : (seat : Seat) (answer : Progress) → Signals s now item old new seat answer → answer ≡ progress.NotYet
+        → WaitsOn s now (record { lists = new; seats = set (set seats s Idle) s seat })
+    signals_patient seat answer does is =
+        let waits = subst (Signals s now item old new seat) is does in (waits.2.0, is_at seat ∙ waits.2.3, waits.2.2)
+
+    pub signals_wait : (seat : Seat) (answer : Progress) → Signals s now item old new seat answer → GivesUpInVain s now answer (record { lists = old; seats = seats })
+    signals_wait seat answer does other waited at is =
+        let same : Signalling item ≡ Signalling other = sym was ∙ at in
+        let one : item ≡ other = cc in
+        subst (λ (x : SignalItem). WaitsInVain now waited x old.past) one (subst (Signals s now item old new seat) is does).2
 
   -- ---- a step of the ending
 
@@ -423,6 +581,7 @@ module _ (old new : Lists) (past-is : new.past ≡ old.past) (writer-is : new.wr
 without_room_agrees : (lists : Lists) (s : ℕ) (seat : Seat) → SeatAgrees lists s seat → SeatAgrees lists s (without_room seat)
 without_room_agrees lists s Idle agrees = agrees
 without_room_agrees lists s (Busy statement) agrees = runs_without_room lists s statement agrees
+without_room_agrees lists s (Signalling item) agrees = agrees
 without_room_agrees lists s Leaving agrees = agrees
 without_room_agrees lists s Left agrees = agrees
 

@@ -1,13 +1,15 @@
 -- What each call of the engine does, between two states.
-use Rattle.std.specs.Prelude.{◌≡◌, ◌≢◌, ◌⊎◌, ℕ, ◌+◌, true, false, None, Some, List, [], ◌∷◌, ◌++◌, count_by}
+use Rattle.std.specs.Prelude.{◌≡◌, ◌≢◌, ◌⊎◌, ℕ, ◌+◌, ◌-◌, ◌≤◌, ◌<◌, true, false, None, Some, List, [], ◌∷◌, ◌++◌, count_by}
 use Rattle.std.specs.List.{AllByRecursion}
 use Rattle.inno_types.specs.declared.reply.Item.{Item}
+use Rattle.inno_types.specs.declared.reply.Item.TheVariants as items
 use Rattle.inno_types.specs.declared.reply.Reply.{Reply}
-use Rattle.inno_types.specs.declared.reply.Reply.TheVariants.{Done}
+use Rattle.inno_types.specs.declared.reply.Reply.TheVariants.{Done, NotSignalled}
 use Rattle.inno_db.specs.Database.{Database}
 use Rattle.inno_model.specs.declared.event.Event.{Event}
-use Rattle.inno_model.specs.declared.event.Event.TheVariants.{Opened, Started, Changed, Ended, Acked}
-use Rattle.inno_model.specs.Past.{is_of, begins_txn, started, IsClosed}
+use Rattle.inno_model.specs.declared.event.Event.TheVariants.{Opened, Started, Changed, Ended, Acked, Signal}
+use Rattle.inno_model.specs.Past.{is_of, begins_txn, started, under_way, IsClosed}
+use Rattle.sql_history.specs.Counts.{signals}
 use Rattle.store_api.specs.declared.answers.Progress.{Progress}
 use Rattle.store_api.specs.declared.answers.Progress.TheVariants as progress
 use Rattle.turn_board.specs.declared.Phase.TheVariants.{Busy}
@@ -15,12 +17,14 @@ use Rattle.shared_lists.specs.Tasks as tasks
 use Rattle.shared_lists.specs.State.{State as Lists, Adds, task_of}
 use Rattle.sql_lists.specs.declared.advance.Advance.{Advance}
 use Rattle.sql_lists.specs.declared.advance.Advance.TheVariants as advance
-use Rattle.sql_lists.specs.Steps.{Moves, AsksToWrite, Steps, WaitsFor, acknowledges, changes_rows}
+use Rattle.sql_lists.specs.Steps.{Moves, AsksToWrite, Steps, WaitsFor, is_apart, changes_rows}
 use Rattle.statement.specs.declared.under_way.Statement.{Statement}
 use Rattle.statement.specs.Running.{IsRunning}
 use Rattle.session_engine.specs.declared.seats.Seat.{Seat}
 use Rattle.session_engine.specs.declared.seats.Seat.TheVariants as seats
-use Rattle.session_engine.specs.Seats.{State, seat_at, is_working, phase_of, without_room, IsGoingOut}
+use Rattle.session_engine.specs.declared.seats.SignalItem.{SignalItem}
+use Rattle.session_engine.specs.declared.seats.SignalItem.TheVariants.{Gives, Awaits}
+use Rattle.session_engine.specs.Seats.{State, seat_at, is_working, phase_of, without_room, HasAsked, IsGoingOut}
 
 -- the lists of this database, where nobody has joined
 pub record AreFirst (db : Database) (lists : Lists) : Type 0 where
@@ -80,7 +84,7 @@ pub record GoesOn (s : ℕ) (old new : List Event) : Type 0 where
   pub past_is : new ≡ entries ++ old
   pub each : AllByRecursion (λ e. (is_of s e ≡ true) × KeepsItems e) entries
   pub tells : TellsOne entries
-  pub unacked : AllByRecursion (λ e. acknowledges e ≡ false) entries
+  pub unacked : AllByRecursion (λ e. is_apart e ≡ false) entries
 
 -- a step of a session: what it leaves as it was
 pub record StepsOn (s : ℕ) (old new : State) : Type 0 where
@@ -90,10 +94,18 @@ pub record StepsOn (s : ℕ) (old new : State) : Type 0 where
   pub others_go_on : (u : ℕ) → u ≢ s → task_of u new.lists ≡ task_of u old.lists
   pub others_stay : OthersStay s old.seats new.seats
 
+-- the past before an item ends: as it was, or with the signal that the item gives
+abbrev pub HasGiven : ℕ → List Event → List Event → Type 0
+HasGiven s old past = (past ≡ old) ⊎ ((name : List ℕ) × (under_way s old ≡ Some (items.Signal name)) × (past ≡ Signal name ∷ old))
+
+-- the session's item ends with the reply
+abbrev pub EndsItem : ℕ → Reply → List Event → List Event → Type 0
+EndsItem s reply old new = (past : List Event) × HasGiven s old past × (new ≡ Ended s (started s old) reply ∷ past)
+
 -- the step ends the session's item with the reply, or its ending
 abbrev pub EndsBy : ℕ → Reply → State → State → Type 0
 EndsBy s reply old new =
-    ((new.lists.past ≡ Ended s (started s old.lists.past) reply ∷ old.lists.past) × (seat_at new.seats s ≡ seats.Idle))
+    (EndsItem s reply old.lists.past new.lists.past × (seat_at new.seats s ≡ seats.Idle))
     ⊎ ((seat_at old.seats s ≡ seats.Leaving) × (reply ≡ Done) × (new.lists ≡ old.lists) × (seat_at new.seats s ≡ seats.Left))
 
 -- the seat and the answer that a statement's step comes to
@@ -102,6 +114,50 @@ Settled statement advance.Went seat answer = (seat ≡ seats.Busy statement) × 
 Settled statement (advance.Waiting by blockers) seat answer = (seat ≡ seats.Busy statement) × (answer ≡ progress.Waiting blockers)
 Settled statement advance.NoMemory seat answer = (seat ≡ seats.Busy statement) × (answer ≡ progress.NoMemory)
 Settled statement (advance.Done reply) seat answer = (seat ≡ seats.Idle) × (answer ≡ progress.Done reply)
+
+-- the step ends an item that gives a signal or awaits one
+pub record EndsSignal (s : ℕ) (reply : Reply) (old new : Lists) : Type 0 where
+  pub names_stay : new.names ≡ old.names
+  pub writer_stays : new.writer ≡ old.writer
+  pub tasks_stay : (u : ℕ) → task_of u new ≡ task_of u old
+  pub ends : EndsItem s reply old.past new.past
+
+-- Such an item gives up waiting where its signal isn't there and so many seconds, fifty at least, have passed since its first
+-- step.
+abbrev pub WaitsInVain : ℕ → ℕ → SignalItem → List Event → Type 0
+WaitsInVain now waited (Gives name) past = ⊥
+WaitsInVain now waited (Awaits wait) past =
+    (signals wait.name past ≡ 0) × (since : ℕ) × (wait.since ≡ Some since) × (waited ≡ now - since) × (50 ≤ waited)
+
+abbrev pub HasCause : ℕ → SignalItem → Reply → List Event → Type 0
+HasCause now item (NotSignalled waited) past = WaitsInVain now waited item past
+HasCause now item other past = Unit {0}
+
+-- it is awaited, and not there
+abbrev pub IsAwaited : ℕ → List Event → Type 0
+IsAwaited s past = (name : List ℕ) × (under_way s past ≡ Some (items.Await name)) × (signals name past ≡ 0)
+
+-- fewer than fifty seconds have passed since its first step
+abbrev pub IsPatient : ℕ → SignalItem → Type 0
+IsPatient now (Gives name) = ⊥
+IsPatient now (Awaits wait) = (since : ℕ) × (wait.since ≡ Some since) × (now - since < 50)
+
+-- what a step of such an item does
+abbrev pub Signals : ℕ → ℕ → SignalItem → Lists → Lists → Seat → Progress → Type 0
+Signals s now item old new seat (progress.Done reply) = EndsSignal s reply old new × (seat ≡ seats.Idle) × HasCause now item reply old.past
+Signals s now item old new seat progress.NotYet = (new ≡ old) × IsAwaited s old.past × ((later : SignalItem) × HasAsked s later old.past × IsPatient now later × (seat ≡ seats.Signalling later))
+Signals s now item old new seat progress.NoMemory = SameLists old new × (seat ≡ seats.Signalling item)
+Signals s now item old new seat other = ⊥
+
+-- where such an item gives up waiting, it has waited in vain
+abbrev pub GivesUpInVain : ℕ → ℕ → Progress → State → Type 0
+GivesUpInVain s now answer old =
+    (item : SignalItem) (waited : ℕ) → seat_at old.seats s ≡ seats.Signalling item → answer ≡ progress.Done (NotSignalled waited)
+    → WaitsInVain now waited item old.lists.past
+
+-- the session's item waits on
+abbrev pub WaitsOn : ℕ → ℕ → State → Type 0
+WaitsOn s now new = (item : SignalItem) × (seat_at new.seats s ≡ seats.Signalling item) × IsPatient now item
 
 -- what a step of a session's ending does
 abbrev pub GoesOut : ℕ → Lists → Lists → Seat → Progress → Type 0
@@ -116,6 +172,8 @@ StepsBy s progress.Went old new = StepsOn s old new × GoesOn s old.lists.past n
 StepsBy s (progress.Waiting blockers) old new =
     StepsOn s old new × SameLists old.lists new.lists × (is_working (seat_at new.seats s) ≡ true) × ((by : ℕ) × WaitsFor s by blockers old.lists)
 StepsBy s progress.NoMemory old new = StepsOn s old new × (new.lists.past ≡ old.lists.past) × (is_working (seat_at new.seats s) ≡ true)
+StepsBy s progress.NotYet old new =
+    StepsOn s old new × SameLists old.lists new.lists × (is_working (seat_at new.seats s) ≡ true) × IsAwaited s old.lists.past
 StepsBy s (progress.Done reply) old new = StepsOn s old new × EndsBy s reply old new
 StepsBy s other old new = ⊥
 

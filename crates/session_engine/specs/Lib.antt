@@ -1,3 +1,4 @@
+pub mod Signals
 pub mod Seats
 pub mod Calls
 pub mod Going

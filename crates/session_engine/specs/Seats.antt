@@ -1,6 +1,8 @@
 -- What the engine is to its callers, and what holds of each session's seat.
 use Rattle.std.specs.Prelude.{◌≡◌, ℕ, ◌<◌, ◌≤◌, Bool, true, false, None, List, length, slice_index_or, refl}
 use Rattle.std.specs.Coded.{Coded, code_by, coded×, coded_list}
+use Rattle.inno_types.specs.declared.reply.Item.{Item}
+use Rattle.inno_types.specs.declared.reply.Item.TheVariants as items
 use Rattle.inno_model.specs.declared.event.Event.{Event}
 use Rattle.inno_model.specs.Past.{under_way, own, IsClosed}
 use Rattle.sql_history.specs.Legal.{is_leaving}
@@ -8,11 +10,14 @@ use Rattle.shared_lists.specs.Tasks as tasks
 use Rattle.shared_lists.specs.State.{State as Lists, state_code as lists_code, task_of}
 use Rattle.sql_lists.specs.Steps.{HasRowsAlone}
 use Rattle.transaction_statements.specs.Running.{TakesBackTo}
-use Rattle.statement.specs.Running.{IsRunning, owes_ack, wants_room as statement_wants_room, without_room as statement_without_room}
+use Rattle.statement.specs.Running.{IsReadFrom, IsRunning, owes_ack, wants_room as statement_wants_room, without_room as statement_without_room}
 use Rattle.turn_board.specs.declared.Phase.{Phase}
 use Rattle.turn_board.specs.declared.Phase.TheVariants as phases
 use Rattle.session_engine.specs.declared.seats.Seat.{Seat}
-use Rattle.session_engine.specs.declared.seats.Seat.TheVariants.{Idle, Busy, Leaving, Left}
+use Rattle.session_engine.specs.declared.seats.Seat.TheVariants.{Idle, Busy, Signalling, Leaving, Left}
+use Rattle.session_engine.specs.declared.seats.SignalItem.{SignalItem}
+use Rattle.session_engine.specs.declared.seats.SignalItem.TheVariants.{Gives, Awaits}
+use Rattle.session_engine.specs.Signals.{AreSpent, HasOnlyAsked, HasSeenNone}
 use Rattle.session_engine.specs.contracts.seats.Seat as of_seat
 
 -- what all sessions share, and where each session stands
@@ -29,10 +34,11 @@ state_code =
 abbrev pub seat_at : List Seat → ℕ → Seat
 seat_at seats s = slice_index_or seats s Idle
 
--- a session at work on a statement, or on its way out
+-- a session at work on a statement or a signal, or on its way out
 abbrev pub is_working : Seat → Bool
 is_working Idle = false
 is_working (Busy statement) = true
+is_working (Signalling item) = true
 is_working Leaving = true
 is_working Left = false
 
@@ -43,6 +49,7 @@ has_left other = false
 abbrev pub phase_of : Seat → Phase
 phase_of Idle = phases.Idle
 phase_of (Busy statement) = phases.Busy
+phase_of (Signalling item) = phases.Busy
 phase_of Leaving = phases.Leaving
 phase_of Left = phases.Left
 
@@ -85,10 +92,23 @@ pub record IsGoingOut (s : ℕ) (lists : Lists) : Type 0 where
   pub may : MayGoOut s lists.past
   pub task : TakesBackTo 0 (length (own s lists.past)) (task_of s lists)
 
+-- the item gives the signal or awaits it, as its session's says
+abbrev pub HasAsked : ℕ → SignalItem → List Event → Type 0
+HasAsked s (Gives name) past = HasOnlyAsked s (items.Signal name) past
+HasAsked s (Awaits wait) past = HasOnlyAsked s (items.Await wait.name) past × HasSeenNone wait.name wait.seen past
+
+-- what is seated of an item before its first step
+abbrev pub IsSeatOf : Item → Seat → Type 0
+IsSeatOf (items.Sql text) (Busy statement) = IsReadFrom text statement
+IsSeatOf (items.Signal name) seat = seat ≡ Signalling (Gives name)
+IsSeatOf (items.Await name) seat = seat ≡ Signalling (Awaits (record { name = name; seen = 0; since = None }))
+IsSeatOf item other = ⊥
+
 -- What is kept of a session is what the past says. One that is idle or gone has nothing under way with rows.
 abbrev pub SeatAgrees : Lists → ℕ → Seat → Type 0
 SeatAgrees lists s Idle = MayGoOut s lists.past × (is_leaving s lists.past ≡ false) × (task_of s lists ≡ tasks.Idle)
 SeatAgrees lists s (Busy statement) = IsRunning lists s statement
+SeatAgrees lists s (Signalling item) = HasAsked s item lists.past × (task_of s lists ≡ tasks.Idle)
 SeatAgrees lists s Leaving = IsGoingOut s lists
 SeatAgrees lists s Left = (under_way s lists.past ≡ None) × IsClosed s lists.past × (task_of s lists ≡ tasks.Idle)
 
@@ -96,3 +116,4 @@ pub record AreSeats (lists : Lists) (seats : List Seat) : Type 0 where
   -- a seat for each session, and maybe some that wait for their sessions
   pub enough : length lists.names ≤ length seats
   pub each : (s : ℕ) → SeatAgrees lists s (seat_at seats s)
+  pub spent : AreSpent lists.past

@@ -4,7 +4,8 @@
 
 mod machine;
 mod seats;
+mod signalling;
 mod steps;
 
 pub use machine::SessionEngine;
-pub use seats::Seat;
+pub use seats::{Seat, SignalItem, Wait};

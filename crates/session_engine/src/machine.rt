@@ -3,11 +3,9 @@
 
 ghost use Rattle.std.specs.Prelude.{◌≡◌, ◌≢◌, ℕ, ◌<◌, ◌≤◌, ◌^◌, [], length, true, false, None, IsTrue, IfOk, OnOk, OnErr};
 ghost use Rattle.std.specs.List.{list_any};
-ghost use Rattle.inno_types.specs.declared.reply.Item.TheVariants.{Sql};
 ghost use Rattle.inno_db.specs.Database.{Database};
 ghost use Rattle.shared_lists.specs.Tasks.{Idle as TaskIdle};
 ghost use Rattle.shared_lists.specs.State.{task_of};
-ghost use Rattle.statement.specs.Running.{ReadsItem};
 ghost use Rattle.law_page_errors.specs.Space.{ends_for_pages};
 ghost use Rattle.law_past_agreement.specs.Order.{IsOrdered};
 ghost use Rattle.shared_lists.specs.Fitting.{FitsThen};
@@ -15,12 +13,12 @@ ghost use Rattle.sql_lists.specs.Kept.{AreStanding};
 ghost use Rattle.session_engine.specs.Calls.{AreFirst};
 
 use crate::seats::{Seat, Seats};
+use crate::signalling::signal;
 use crate::steps::{go_out, read_item, settled, without_room};
 use inno_model::History;
 use inno_types::{Bytes, Item};
 use shared_lists::SharedLists;
 use sql_lists::SqlLists;
-use statement::Statement;
 use std::alloc::Global;
 use std::marker::Model;
 use store_api::{NoMemory, Progress};
@@ -47,8 +45,8 @@ impl<L: SharedLists> Model for SessionEngine<L> {
 }
 
 impl<L: SharedLists> SessionEngine<L> {
-    ghost use Rattle.session_engine.specs.Seats.{IsJoined, IsIdle, IsWorking, HasEnded};
-    ghost use Rattle.session_engine.specs.Calls.{Joins, Starts, StepsBy, TellsNone, Acknowledges, GivesUp, Leaves, SameState};
+    ghost use Rattle.session_engine.specs.Seats.{IsJoined, IsIdle, IsWorking, HasEnded, IsSeatOf};
+    ghost use Rattle.session_engine.specs.Calls.{Joins, Starts, StepsBy, TellsNone, Acknowledges, GivesUp, GivesUpInVain, WaitsOn, Leaves, SameState};
     ghost use Rattle.session_engine.specs.Going.{Nears};
     ghost use Rattle.session_engine.specs.Seats.{has_left, is_working, owes, phase_of, wants_room, seat_at, AreSeats};
     ghost use Rattle.sql_grammar.specs.Grammar.{Spells};
@@ -121,28 +119,27 @@ impl<L: SharedLists> SessionEngine<L> {
         self.seats.has_left(s)
     }
 
-    /// Starts an item of the session: a statement, since nothing else can be asked for so far.
+    /// Starts an item of the session.
     pub fn start(&mut self, s: u32, item: &Item) -> Result<(), NoMemory>
         requires joined { IsJoined s self.old }
         requires idle { IsIdle s self.old }
-        requires sql { (text : _) × (item.now ≡ Sql text) }
         ensures ok { OnOk result (Starts s item.now self.old self.new) }
         ensures err { OnErr result (SameState self.old self.new) }
     {
-        let statement = read_item(self.alloc, item)?;
-        self.seat(s, item.copied()?, statement)
+        let seat = read_item(self.alloc, item)?;
+        self.seat(s, item.copied()?, seat)
     }
 
-    /// Seats a statement that was read from the item.
-    fn seat(&mut self, s: u32, item: Item, statement: Statement) -> Result<(), NoMemory>
+    /// Seats what was read from the item.
+    fn seat(&mut self, s: u32, item: Item, seat: Seat) -> Result<(), NoMemory>
         requires joined { IsJoined s self.old }
         requires idle { IsIdle s self.old }
-        requires reads { ReadsItem item statement }
+        requires reads { IsSeatOf item seat }
         ensures ok { OnOk result (Starts s item self.old self.new) }
         ensures err { OnErr result (SameState self.old self.new) }
     {
         self.lists.start(s, item)?;
-        let _ = self.seats.replace(s, Seat::Busy(statement));
+        let _ = self.seats.replace(s, seat);
         Ok(())
     }
 
@@ -188,19 +185,27 @@ impl<L: SharedLists> SessionEngine<L> {
         let _ = self.seats.replace(s, without_room(seat));
     }
 
-    /// Makes a step of the session's item under way, or of its ending. It tells no change unless room was wanted for one.
-    pub fn step(&mut self, s: u32) -> Progress
+    /// Makes a step of the session's item under way, or of its ending, at a moment in seconds. It tells no change unless room
+    /// was wanted for one.
+    pub fn step(&mut self, s: u32, now: u64) -> Progress
         requires joined { IsJoined s self.old }
         requires working { IsWorking s self.old }
         requires acked { owes (seat_at self.old.seats s) ≡ false }
         ensures steps { StepsBy s result self.old self.new }
         ensures quiet { wants_room (seat_at self.old.seats s) ≡ false → TellsNone self.old.lists.past self.new.lists.past }
         ensures nears { Nears s result self.old self.new }
+        ensures waits { result ≡ Progress.NotYet → WaitsOn s now self.new }
+        ensures waited { GivesUpInVain s now result self.old }
     {
         match self.seats.replace(s, Seat::Idle) {
             Seat::Busy(statement) => {
                 let (statement, advance) = statement.step(self.alloc, s, &mut self.lists);
                 let (seat, progress) = settled(statement, advance);
+                let _ = self.seats.replace(s, seat);
+                progress
+            }
+            Seat::Signalling(item) => {
+                let (seat, progress) = signal(s, item, now, &mut self.lists);
                 let _ = self.seats.replace(s, seat);
                 progress
             }

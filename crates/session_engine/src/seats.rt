@@ -1,8 +1,9 @@
-//! Where each session stands: idle, at work on a statement, on its way out, or gone.
+//! Where each session stands: idle, at work on a statement or a signal, on its way out, or gone.
 
 ghost use Rattle.std.specs.Prelude.{◌≡◌, ◌<◌, [], ◌∷◌, ◌++◌, length, OnOk, OnErr, slice_set};
 ghost use Rattle.session_engine.specs.Seats.{seat_at, is_working, owes, phase_of, wants_room, has_left};
 
+use inno_types::Bytes;
 use statement::Statement;
 use std::alloc::{AllocError, Global};
 use std::marker::Model;
@@ -13,9 +14,29 @@ use turn_board::Phase;
 pub enum Seat {
     Idle,
     Busy(Statement),
+    /// Its item gives a signal, or awaits one.
+    Signalling(SignalItem),
     /// Its open transaction is being rolled back.
     Leaving,
     Left,
+}
+
+/// An item that is no statement.
+#[derive(Drop)]
+pub enum SignalItem {
+    /// It gives the signal of this name.
+    Gives(Bytes),
+    Awaits(Wait),
+}
+
+/// How far an item is that awaits a signal.
+#[derive(Drop)]
+pub struct Wait {
+    pub name: Bytes,
+    /// So many of the oldest entries of the history don't give it.
+    pub seen: usize,
+    /// The moment of the item's first step, in seconds.
+    pub since: Option<u64>,
 }
 
 /// The seats of all sessions, by number.
@@ -61,7 +82,7 @@ impl Seats {
     {
         match &self.seats[session as usize] {
             Seat::Idle | Seat::Left => false,
-            Seat::Busy(_) | Seat::Leaving => true,
+            Seat::Busy(_) | Seat::Signalling(_) | Seat::Leaving => true,
         }
     }
 
@@ -72,7 +93,7 @@ impl Seats {
     {
         match &self.seats[session as usize] {
             Seat::Busy(statement) => statement.owes_ack(),
-            Seat::Idle | Seat::Leaving | Seat::Left => false,
+            Seat::Idle | Seat::Signalling(_) | Seat::Leaving | Seat::Left => false,
         }
     }
 
@@ -83,7 +104,7 @@ impl Seats {
     {
         match &self.seats[session as usize] {
             Seat::Busy(statement) => statement.wants_room(),
-            Seat::Idle | Seat::Leaving | Seat::Left => false,
+            Seat::Idle | Seat::Signalling(_) | Seat::Leaving | Seat::Left => false,
         }
     }
 
@@ -93,7 +114,7 @@ impl Seats {
     {
         match &self.seats[session as usize] {
             Seat::Idle => Phase::Idle,
-            Seat::Busy(_) => Phase::Busy,
+            Seat::Busy(_) | Seat::Signalling(_) => Phase::Busy,
             Seat::Leaving => Phase::Leaving,
             Seat::Left => Phase::Left,
         }

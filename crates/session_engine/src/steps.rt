@@ -1,14 +1,13 @@
 //! The parts of a session's steps: its item is read, a step of its statement is settled, and its ending makes steps.
 
 ghost use Rattle.std.specs.Prelude.{◌≡◌, ◌<◌, length, IfOk};
-ghost use Rattle.inno_types.specs.declared.reply.Item.TheVariants.{Sql};
 ghost use Rattle.inno_model.specs.Past.{own, IsOpen};
-ghost use Rattle.statement.specs.Running.{IsReadFrom, ReadsItem};
+ghost use Rattle.statement.specs.Running.{IsReadFrom};
 ghost use Rattle.session_engine.specs.Calls.{Settled, GoesOut, TellsNone};
-ghost use Rattle.session_engine.specs.Seats.{IsGoingOut, without_room};
+ghost use Rattle.session_engine.specs.Seats.{IsGoingOut, IsSeatOf, without_room};
 ghost use Rattle.session_engine.specs.Going.{NearsEnding};
 
-use crate::seats::Seat;
+use crate::seats::{Seat, SignalItem, Wait};
 use inno_types::{Item, Reply};
 use shared_lists::{SharedLists, Undone};
 use sql_lists::{Advance, SqlLists};
@@ -17,15 +16,19 @@ use statement::Statement;
 use std::alloc::Global;
 use store_api::{NoMemory, Progress};
 
-/// The statement of an item, before its first step.
-pub fn read_item(alloc: Global, item: &Item) -> Result<Statement, NoMemory>
-    requires { (text : _) × (item.now ≡ Sql text) }
-    ensures { IfOk result (ReadsItem item.now) }
+/// The seat of a session whose item this is, before its first step.
+pub fn read_item(alloc: Global, item: &Item) -> Result<Seat, NoMemory>
+    ensures { IfOk result (IsSeatOf item.now) }
 {
-    let Item::Sql(text) = item else {
-        unreachable!()
-    };
-    read(alloc, text.as_slice())
+    match item {
+        Item::Sql(text) => Ok(Seat::Busy(read(alloc, text.as_slice())?)),
+        Item::Signal(name) => Ok(Seat::Signalling(SignalItem::Gives(name.copied()?))),
+        Item::Await(name) => Ok(Seat::Signalling(SignalItem::Awaits(Wait {
+            name: name.copied()?,
+            seen: 0,
+            since: None,
+        }))),
+    }
 }
 
 /// The statement that a text spells, before its first step.

@@ -20,7 +20,7 @@ use Rattle.stopped_sessions.specs.Calls.{is_at_work}
 use Rattle.durable_engine.specs.State.{State}
 use Rattle.durable_engine.specs.Calls.{OthersStay, SameState, Joins, Starts, Leaves, EndsBy, StepsBy}
 use Rattle.shared_engine.specs.Shown.{AreAtRest}
-use Rattle.shared_engine.proofs.Turning.{same_item, halt}
+use Rattle.shared_engine.proofs.Turning.{same_item, halt, given_same}
 
 no_idle : (p : Phase) → is_at_work p ≡ true → p ≡ Idle → ⊥
 no_idle Idle works is = absurd (cc)
@@ -79,7 +79,7 @@ module _ {D : Type 0} where
   }
 
   done_turns : (s : ℕ) (reply : Reply) (a b : State D) → EndsBy s reply a b → Turns s a b
-  done_turns s reply a b (inl e) = ended_turns s (started s a.past) reply a b a.past e.0 (λ y. refl)
+  done_turns s reply a b (inl e) = ended_turns s (started s a.past) reply a b e.0.0 e.0.2 (λ y. given_same s a.past e.0.0 e.0.1 y)
   done_turns s reply a b (inr e) = record { others = λ y apart. ap (under_way y) e.2; own = λ idle. let left = e.3 in absurd (cc) }
 
   halted_turns : (s : ℕ) (a b : State D) (p : Phase) → is_at_work p ≡ true → b.past ≡ ended s (started s a.past) p (halted Disk a.past)
@@ -109,6 +109,7 @@ module _ {D : Type 0} where
   })
   stepped_rests s (progress.Waiting blockers) a b rest joined works h = rests_on s a b rest joined h.0.names_stay h.0.others_stay (going_turns s a b h.1 h.2)
   stepped_rests s progress.NoMemory a b rest joined works h = rests_on s a b rest joined h.0.names_stay h.0.others_stay (going_turns s a b h.1 h.2)
+  stepped_rests s progress.NotYet a b rest joined works h = rests_on s a b rest joined h.0.names_stay h.0.others_stay (going_turns s a b h.1 h.2)
   stepped_rests s (progress.Done reply) a b rest joined works h = rests_on s a b rest joined h.0.names_stay h.0.others_stay (done_turns s reply a b h.1)
   stepped_rests s (progress.Stopped cause) a b rest joined works h =
       rests_on s a b rest joined h.0.names_stay h.0.others_stay (halted_turns s a b (phase_at a.seats s) works h.2.past_is h.2.phase_is)

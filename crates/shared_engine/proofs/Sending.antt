@@ -27,6 +27,7 @@ use Rattle.sql_lists.proofs.lists.SqlLists.TheSendSync as sql-sent
 use Rattle.session_engine.specs.contracts.machine.SessionEngine as sessions
 use Rattle.logged_sessions.specs.contracts.logged.LoggedSessions as logged
 use Rattle.durable_engine.specs.contracts.engine.DurableEngine as engine
+use Rattle.shared_engine.proofs.patience.Patience.TheSendSync as patience-sent
 use Rattle.shared_engine.specs.contracts.engine.SharedEngine as shared
 
 -- ---- statements
@@ -82,4 +83,4 @@ module _ (L : RattleType) (h : lists.Ghosts L.Denot) (sends : IsSend L) where
     engine_sends = search (sendable, crosses, logged_sends, stopped-sent.the_send) depth 60 fits 100000
 
     pub shared_sends : IsSend (shared.the_row D B L d b h)
-    shared_sends = search (sendable, engine_sends) depth 60 fits 100000
+    shared_sends = search (sendable, engine_sends, patience-sent.the_send) depth 60 fits 100000

@@ -9,7 +9,7 @@ use Rattle.inno_types.specs.declared.reply.Reply.{Reply}
 use Rattle.inno_types.specs.declared.reply.Reply.TheVariants as replies
 use Rattle.inno_types.specs.declared.reply.Cause.TheVariants.{Disk}
 use Rattle.inno_model.specs.declared.event.Event.{Event}
-use Rattle.inno_model.specs.declared.event.Event.TheVariants.{Started, Ended, Stopped}
+use Rattle.inno_model.specs.declared.event.Event.TheVariants.{Started, Ended, Stopped, Signal}
 use Rattle.inno_model.specs.Past.{is_of, started, under_way}
 use Rattle.sql_grammar.specs.Grammar.{Spells}
 use Rattle.sql_history.specs.Counts.{has_stopped}
@@ -21,7 +21,7 @@ use Rattle.turn_board.specs.declared.Phase.TheVariants.{Idle, Busy, Leaving, Lef
 use Rattle.turn_board.specs.Boards.{calls_of, phase_of}
 use Rattle.turn_board.proofs.Places.{calls_of-append}
 use Rattle.turn_engine.specs.Calls.{Makes, Joins, EndsBy, StepsBy, IsUnderWay, item_number, reply_of}
-use Rattle.session_engine.specs.Calls.{KeepsItems}
+use Rattle.session_engine.specs.Calls.{KeepsItems, HasGiven}
 use Rattle.stopped_sessions.specs.Seats.{phase_at, halted, ended, phase_after}
 use Rattle.stopped_sessions.specs.Calls.{is_at_work, has_left}
 use Rattle.durable_engine.specs.State.{State}
@@ -62,6 +62,11 @@ halt_of past false = (Stopped Disk ∷ [], refl, λ y. refl, λ y. refl)
 
 pub halt : (past : List Event) → (halt : List Event) × IsHalt past halt
 halt past = let h = halt_of past (has_stopped past) in (h.0, record { past_is = h.1; quiet = h.2; same = h.3 })
+
+-- a signal starts and ends no item
+pub given_same : (s : ℕ) (old past : List Event) → HasGiven s old past → (y : ℕ) → under_way y past ≡ under_way y old
+given_same s old past (inl same) y = ap (under_way y) same
+given_same s old past (inr given) y = ap (under_way y) given.2
 
 -- an item that ends was under way
 was_asked : (s j : ℕ) (reply : Reply) (past : List Event) → IsLegal Spells (Ended s j reply ∷ past) → under_way s past ≡ None → ⊥
@@ -176,11 +181,20 @@ module _ {D : Type 0} where
       makes s a b newer [] Left on.names_stay past (λ y apart. quiet y) (λ y apart. ap (under_way y) past ∙ same y) on.others_stay (quiet s)
       (ap (shown b.past s) left)
 
+  ends_given : (s : ℕ) (reply : Reply) (a b : State D) → StepsOn s a b → (past : List Event) → HasGiven s a.past past
+      → b.past ≡ Ended s (started s a.past) reply ∷ past → phase_at b.seats s ≡ Idle
+      → Makes s (board_of a) (board_of b) (Ended s (started s a.past) reply ∷ []) Idle
+  ends_given s reply a b on past (inl same) is idle =
+      ends s reply a b [] on (is ∙ ap (λ h. Ended s (started s a.past) reply ∷ h) same) (λ y. refl) (λ y. refl) idle
+  ends_given s reply a b on past (inr given) is idle =
+      ends s reply a b (Signal given.0 ∷ []) on (is ∙ ap (λ h. Ended s (started s a.past) reply ∷ h) given.2) (λ y. refl) (λ y. refl) idle
+
   done : (s : ℕ) (reply : Reply) (a b : State D) → StepsOn s a b → EngineEndsBy s reply a b
       → (has_left (phase_at b.seats s) ≡ true → under_way s b.past ≡ None) → IsLegal Spells b.past → (o : Option Item) → under_way s a.past ≡ o
       → EndsBy s (board_of a) (working_on o) reply (board_of b)
-  done s reply a b on (inl e) gone legal (Some item) is = ends s reply a b [] on e.0 (λ y. refl) (λ y. refl) e.1
-  done s reply a b on (inl e) gone legal None is = absurd (was_asked s (started s a.past) reply a.past (subst (IsLegal Spells) e.0 legal) is)
+  done s reply a b on (inl e) gone legal (Some item) is = ends_given s reply a b on e.0.0 e.0.1 e.0.2 e.1
+  done s reply a b on (inl e) gone legal None is =
+      absurd (was_asked s (started s a.past) reply e.0.0 (subst (IsLegal Spells) e.0.2 legal) (given_same s a.past e.0.0 e.0.1 s ∙ is))
   done s reply a b on (inr e) gone legal (Some item) is =
       absurd (had_none s item b.past (gone (ap has_left e.3)) (ap (under_way s) e.2 ∙ is))
   done s reply a b on (inr e) gone legal None is = is_gone s a b [] on e.2 (λ y. refl) (λ y. refl) e.3
@@ -210,6 +224,7 @@ module _ {D : Type 0} where
   steps_on s progress.Went a b works h gone legal = goes s a b h.1.entries h.0 h.1.past_is h.1.each h.2
   steps_on s (progress.Waiting blockers) a b works h gone legal = goes s a b [] h.0 h.1 tt h.2
   steps_on s progress.NoMemory a b works h gone legal = goes s a b [] h.0 h.1 tt h.2
+  steps_on s progress.NotYet a b works h gone legal = goes s a b [] h.0 h.1 tt h.2
   steps_on s (progress.Done reply) a b works h gone legal = done s reply a b h.0 h.1 gone legal (under_way s a.past) refl
   steps_on s (progress.Stopped cause) a b works h gone legal =
       halts s a b h.0 (phase_at a.seats s) works h.2.past_is h.2.phase_is gone legal (under_way s a.past) refl

@@ -8,6 +8,7 @@ ghost use Rattle.sql_history.specs.Legal.{IsLegal};
 ghost use Rattle.stopped_sessions.specs.Seats.{phase_at};
 ghost use Rattle.stopped_sessions.specs.Calls.{has_left};
 
+use crate::patience::Patience;
 use durable_engine::{DurableEngine, Root};
 use shared_lists::SharedLists;
 use std::marker::Model;
@@ -18,6 +19,8 @@ use turn_board::Recorded;
 #[derive(Drop)]
 pub struct SharedEngine<D: Disk, R: Root, L: SharedLists> {
     pub(crate) engine: DurableEngine<D, R, L>,
+    /// How long commits may wait yet for others to be flushed with.
+    pub(crate) left: Patience,
 }
 
 impl<D: Disk, R: Root, L: SharedLists> Model for SharedEngine<D, R, L> {
@@ -46,14 +49,17 @@ impl<D: Disk, R: Root, L: SharedLists> SharedEngine<D, R, L> {
         requires rests { (s : ℕ) → under_way s engine.past ≡ None }
         ensures { result ≡ engine }
     {
-        SharedEngine { engine }
+        SharedEngine {
+            engine,
+            left: Patience::new(),
+        }
     }
 
     /// The engine inside.
     pub fn into_engine(self) -> DurableEngine<D, R, L>
         ensures { result ≡ self }
     {
-        let SharedEngine { engine } = self;
+        let SharedEngine { engine, left: _ } = self;
         engine
     }
 }

@@ -3,6 +3,8 @@
 #![tactic(auto)]
 
 mod engine;
+mod lingering;
+mod patience;
 mod turns;
 
 pub use engine::SharedEngine;

@@ -1,9 +1,8 @@
-//! The calls by which sessions on threads drive an engine: each is one call of the engine inside, on its board.
-
-ghost use Rattle.std.specs.Prelude.{◌≡◌, ℕ, List};
-ghost use Rattle.inno_types.specs.declared.reply.Item.TheVariants.{Sql};
+//! The calls by which sessions on threads drive an engine: each is one call of the engine inside, on its board, or a step
+//! that lingers.
 
 use crate::engine::{SharedEngine, agree};
+use crate::lingering::{lingers, step_of};
 use durable_engine::Root;
 use inno_types::{Bytes, Item};
 use shared_lists::SharedLists;
@@ -11,7 +10,7 @@ use store_api::{Disk, NoMemory, Progress};
 use turn_engine::Turns;
 
 impl<D: Disk, R: Root, L: SharedLists> Turns for SharedEngine<D, R, L> {
-    ghost takes = { λ item. (text : List ℕ) × (item ≡ Sql text) };
+    ghost takes = { λ item. Unit {0} };
 
     fn join(&mut self, name: &Bytes) -> Result<u32, NoMemory> {
         self.engine.join(name)
@@ -22,7 +21,7 @@ impl<D: Disk, R: Root, L: SharedLists> Turns for SharedEngine<D, R, L> {
     }
 
     fn step(&mut self, s: u32, now: u64) -> Progress {
-        let progress = self.engine.step(s, now);
+        let progress = step_of(&mut self.engine, &mut self.left, s, now);
         agree(&self.engine, s);
         progress
     }
@@ -31,8 +30,8 @@ impl<D: Disk, R: Root, L: SharedLists> Turns for SharedEngine<D, R, L> {
         self.engine.leave(s);
     }
 
-    fn lingers(&self, _s: u32) -> bool {
-        false
+    fn lingers(&self, s: u32) -> bool {
+        lingers(&self.engine, &self.left, s)
     }
 
     fn left(&self, s: u32) -> bool {

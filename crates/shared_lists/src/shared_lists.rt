@@ -3,7 +3,7 @@
 ghost use Rattle.std.specs.Prelude.{◌≡◌, ◌≢◌, ℕ, ◌+◌, ◌-◌, ◌<◌, ◌≤◌, ◌^◌, [], ◌∷◌, ◌++◌, true, false, length, is_some, OnOk, OnErr, IfOk, IfSome, IfNone, Some, None, slice_get, slice_index_or, slice_set};
 ghost use Rattle.inno_types.specs.declared.value.Schema.{Schema};
 ghost use Rattle.inno_db.specs.declared.change.Change.TheVariants.{Create};
-ghost use Rattle.inno_model.specs.declared.event.Event.TheVariants.{Begin, Started, View, Changed as ChangedEvent, Undone as UndoneEvent, Ended, Committed, Acked, RolledBack};
+ghost use Rattle.inno_model.specs.declared.event.Event.TheVariants.{Begin, Started, View, Changed as ChangedEvent, Undone as UndoneEvent, Ended, Committed, Acked, RolledBack, Signal};
 ghost use Rattle.inno_model.specs.Past.{under_way, level, own, started, begins, view_of, txn, IsOpen};
 ghost use Rattle.sql_history.specs.Counts.{rows_of_reply};
 ghost use Rattle.sql_history.specs.Settings.{at_first, at_begin, at_end, saved, set_by};
@@ -193,6 +193,15 @@ pub trait SharedLists: Drop {
         requires may { MayCome (lists self.old).state.past (Acked session moment) }
         requires idle { task_of session (lists self.old).state ≡ Idle }
         ensures adds { Adds (Acked session moment) session (lists self.old).state (lists self.new).state }
+        ensures settings { (lists self.new).settings ≡ (lists self.old).settings }
+        ensures rows { (lists self.new).rows ≡ (lists self.old).rows };
+
+    /// Gives a signal of this name, which stays. An `Err` changes nothing.
+    fn signal(&mut self, session: u32, name: Bytes) -> Result<(), NoMemory>
+        requires joined { session < length (lists self.old).state.names }
+        requires idle { task_of session (lists self.old).state ≡ Idle }
+        ensures ok { OnOk result (Adds (Signal name) session (lists self.old).state (lists self.new).state) }
+        ensures err { OnErr result (Stays session (lists self.old).state (lists self.new).state) }
         ensures settings { (lists self.new).settings ≡ (lists self.old).settings }
         ensures rows { (lists self.new).rows ≡ (lists self.old).rows };
 

@@ -26,7 +26,7 @@ use Rattle.sql_grammar.specs.Grammar.{Spells}
 use Rattle.sql_history.specs.Items.{Asks}
 use Rattle.sql_history.specs.Settings.{Setting, HasSet, at_first, at_begin, at_end, saved, set_by}
 use Rattle.sql_history.specs.Counts.{has_stopped, last_moment, rows_of_entry, rows_kept, rows_of_reply, most_rows}
-use Rattle.sql_history.specs.Legal.{MayFollow, PaysCommit, MayBegin, MayView, MayChange, MayUndo, MayCommit, MayRollBack, is_leaving, IsWithin, EndsBy, owed_by, owes_commit}
+use Rattle.sql_history.specs.Legal.{MayFollow, PaysCommit, MayBegin, MayView, MayChange, MayUndo, MayCommit, MayRollBack, MaySignal, is_leaving, IsWithin, EndsBy, owed_by, owes_commit}
 use Rattle.law_past_agreement.specs.Order.{created, is_creation, IsOfRow, IsTabled, IsUndoable, MayCome}
 use Rattle.law_past_agreement.proofs.Ids.{ids_of}
 use Rattle.sql_plan.specs.declared.choice.Plan.{Plan}
@@ -41,8 +41,8 @@ use Rattle.shared_lists.specs.Tasks.{Task, Idle, asked, left_by}
 use Rattle.shared_lists.specs.State.{State, Lists, IsFirst, IsNow, Adds, Closes, Turns, Stays, task_of, writer_without}
 use Rattle.shared_lists.specs.Steps.{Searches, Changes, TakesBack, rows_of_change, rows_entered}
 use Rattle.sql_lists.specs.Tables.{MayMake, begun, created_by, table_made, none_made}
-use Rattle.sql_lists.specs.Kept.{IsKept, MayReply, OwesAck, SetsQuietly, AreStanding, IsInOrder, made as tables_made}
-use Rattle.sql_lists.proofs.Settings.{AllSet, set_other, sets_one, sets_none, sets_joined, set_at_begin, set_at_commit, set_at_rollback, set_at_end, set_at_done}
+use Rattle.sql_lists.specs.Kept.{IsKept, MayReply, is_of_signal, OwesAck, SetsQuietly, AreStanding, IsInOrder, made as tables_made}
+use Rattle.sql_lists.proofs.Settings.{AllSet, set_other, sets_one, sets_none, sets_joined, set_at_begin, set_at_commit, set_at_rollback, set_at_end, set_at_signal, set_at_done}
 use Rattle.sql_lists.proofs.Moving.{then_adds, then_closes, then_locks, writer_gone}
 use Rattle.sql_lists.proofs.Ordered.{same_seen, ordered_changed, ordered_undone, ordered_committed}
 use Rattle.sql_lists.proofs.Standing.{schemas_after, committed_is, stands_plain, stands_row, stands_begun, stands_rolled_back, stands_undone, stands_committed, stands_made}
@@ -122,6 +122,13 @@ module _ (names : List (List ℕ)) (h : List Event) (settings : List Setting) (r
       (sets_none (events.Acked s moment) h settings (λ u x held. held) kept.set) refl refl kept.runs refl
       (stands_plain _ h (λ u. refl) refl (λ u. refl) kept.stands)
       (same_seen (events.Acked s moment) h (λ u. refl) refl refl kept.ordered)
+
+  pub kept_signal : (name : List ℕ) → MaySignal name h → IsKept names (events.Signal name ∷ h) settings rows
+  kept_signal name may =
+      adds (events.Signal name) settings (kept.opened, kept.runs, may, pays _) tt
+      (sets_none (events.Signal name) h settings (λ u x held. held) kept.set) refl refl kept.runs refl
+      (stands_plain _ h (λ u. refl) refl (λ u. refl) kept.stands)
+      (same_seen (events.Signal name) h (λ u. refl) refl refl kept.ordered)
 
   begin_of : (s n : ℕ) (l : Level) → is_of s (events.Begin s n l) ≡ true
   begin_of s n l = grind (arith, nat_tests)
@@ -240,6 +247,17 @@ module _ (names : List (List ℕ)) (h : List Event) (settings : List Setting) (r
     | inr differ ↦ set_other (events.Ended s (started s h) reply) h u (get_or settings u at_first)
         (mine_alone s (events.Ended s (started s h) reply) (ended_of s (started s h) reply) u differ.1) (kept.set u)
   ]) refl
+
+  pub kept_signalled : (s : ℕ) → MayReply s replies.Done h → is_of_signal (under_way s h) ≡ true
+      → IsKept names (events.Ended s (started s h) replies.Done ∷ h) settings rows
+  kept_signalled s may asked =
+      subst (λ n. IsKept names (events.Ended s (started s h) replies.Done ∷ h) settings n) (omega arith)
+      (kept_end s replies.Done settings may (λ u. elim (eqb_tells u s) [
+        | inl same ↦ subst (λ v. HasSet Spells v (events.Ended s (started s h) replies.Done ∷ h) (get_or settings v at_first)) (sym same.1)
+            (set_at_signal h s (started s h) (get_or settings s at_first) asked (kept.set s))
+        | inr differ ↦ set_other (events.Ended s (started s h) replies.Done) h u (get_or settings u at_first)
+            (mine_alone s (events.Ended s (started s h) replies.Done) (ended_of s (started s h) replies.Done) u differ.1) (kept.set u)
+      ]) refl)
 
   pub kept_done : (s : ℕ) (stmt : Stmt) (x : Setting) → s < length names → MayReply s replies.Done h → Asks Spells s stmt h
       → x ≡ set_by stmt (length (own s h)) (is_some (level s h)) (get_or settings s at_first)

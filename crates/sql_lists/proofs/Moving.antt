@@ -22,10 +22,11 @@ use Rattle.shared_lists.specs.declared.answers.Undone.TheVariants as undone
 use Rattle.shared_lists.specs.Tasks.{Task, Idle, asked, left_by}
 use Rattle.shared_lists.specs.State.{State, IsNow, Adds, Closes, Turns, Stays, task_of, writer_without}
 use Rattle.shared_lists.specs.Steps.{Searches, GoesOn, Enters, Changes, TakesBack}
+use Rattle.law_past_agreement.specs.Order.{IsNoOthers}
 use Rattle.sql_grammar.specs.Grammar.{Spells}
 use Rattle.sql_history.specs.Legal.{Takes, IsCreation}
 use Rattle.sql_history.specs.Counts.{last_moment}
-use Rattle.sql_lists.specs.Steps.{Adding, IsEntryOf, MayWriteAlone, AsksToWrite, Moves, StaysRunning, Intends, acknowledges, changes_rows, TellsOne}
+use Rattle.sql_lists.specs.Steps.{Adding, IsEntryOf, MayWriteAlone, AsksToWrite, Moves, StaysRunning, Intends, is_apart, changes_rows, TellsOne}
 use Rattle.sql_lists.specs.Tables.{table_made, none_made}
 use Rattle.sql_lists.specs.Going.{left, to_close, to_roll_back}
 use Rattle.inno_types.specs.Order.{IsBelow}
@@ -39,14 +40,19 @@ adding_none t old new past_is = record { entries = []; past_is = past_is; each =
 pub writes_alone : (t : ℕ) (writer : Option ℕ) → writer ≡ Some t → MayWriteAlone t writer
 writes_alone t writer mine s differ theirs = (let same : Some t ≡ Some s = sym mine ∙ theirs in let x : t ≡ s = cc in differ (sym x))
 
-pub adding_one : (t : ℕ) (e : Event) (old new : State) → is_of t e ≡ true → new.past ≡ e ∷ old.past → (changes_rows e ≡ true → MayWriteAlone t new.writer)
+pub adding_one : (t : ℕ) (e : Event) (old new : State) → IsNoOthers t e → new.past ≡ e ∷ old.past → (changes_rows e ≡ true → MayWriteAlone t new.writer)
     → Adding t old new
 adding_one t e old new mine past_is alone = record { entries = e ∷ []; past_is = past_is; each = ((mine, alone), tt) }
+
+-- the session's own entry is no other's
+pub of_own : (t : ℕ) (e : Event) → is_of t e ≡ true → IsNoOthers t e
+of_own t (events.Signal name) mine = tt
+of_own t e mine = mine
 
 -- one entry at most
 abbrev pub AddingOne : ℕ → State → State → Type 0
 AddingOne t old new =
-    (new.past ≡ old.past) ⊎ ((e : Event) × (is_of t e ≡ true) × (new.past ≡ e ∷ old.past) × (changes_rows e ≡ true → MayWriteAlone t new.writer))
+    (new.past ≡ old.past) ⊎ ((e : Event) × IsNoOthers t e × (new.past ≡ e ∷ old.past) × (changes_rows e ≡ true → MayWriteAlone t new.writer))
 
 pub adding_at_most_one : (t : ℕ) (old new : State) → AddingOne t old new → Adding t old new
 adding_at_most_one t old new adding = elim adding [ inl stays ↦ adding_none t old new stays | inr adds ↦ adding_one t adds.0 old new adds.1 adds.2 adds.3 ]
@@ -149,18 +155,18 @@ may_tell t old (events.Changed s change) foretold changes = (foretold refl).0
 may_tell t old e foretold changes = absurd (false≢true changes)
 
 -- only an acknowledgement has a moment
-spares_moment : (e : Event) (past : List Event) → acknowledges e ≡ false → last_moment (e ∷ past) ≡ last_moment past
+spares_moment : (e : Event) (past : List Event) → is_apart e ≡ false → last_moment (e ∷ past) ≡ last_moment past
 spares_moment (events.Acked s moment) past unacked = absurd (false≢true (sym unacked))
 spares_moment e past unacked = refl
 
 -- whatever becomes of the session's task
-pub moves_entry : (t : ℕ) (e : Event) (task : Task) (old new : State) → is_of t e ≡ true → acknowledges e ≡ false
+pub moves_entry : (t : ℕ) (e : Event) (task : Task) (old new : State) → is_of t e ≡ true → is_apart e ≡ false
     → (changes_rows e ≡ true → Foretold t old e) → IsNow (e ∷ old.past) t task old.writer old new → Moves t old new
 unfolding adding_one
 moves_entry t e task old new mine unacked foretold now =
     record {
       names_stay = now.names_are;
-      adding = adding_one t e old new mine now.past_is (λ changes. writes_alone t new.writer (now.writer_is ∙ may_tell t old e foretold changes));
+      adding = adding_one t e old new (of_own t e mine) now.past_is (λ changes. writes_alone t new.writer (now.writer_is ∙ may_tell t old e foretold changes));
       tells = one_told t old e foretold;
       unacked = (unacked, tt);
       acks_none = ap last_moment now.past_is ∙ spares_moment e old.past unacked;
@@ -169,7 +175,7 @@ moves_entry t e task old new mine unacked foretold now =
       tasks_stay = now.others;
     }
 
-pub moves_adds : (t : ℕ) (e : Event) (old new : State) → is_of t e ≡ true → acknowledges e ≡ false
+pub moves_adds : (t : ℕ) (e : Event) (old new : State) → is_of t e ≡ true → is_apart e ≡ false
     → (changes_rows e ≡ true → Foretold t old e) → Adds e t old new → Moves t old new
 moves_adds t e old new mine unacked foretold adds = moves_entry t e (task_of t old) old new mine unacked foretold adds
 
@@ -184,13 +190,13 @@ none_left (Some w) t is = elim (eqb_tells w t) [
   | inr differ ↦ (let x : Some w ≡ Some t = sym (rw differ.0 refl) ∙ is in let y : w ≡ t = cc in differ.1 y)
 ]
 
-pub moves_closes : (t : ℕ) (e : Event) (old new : State) → is_of t e ≡ true → acknowledges e ≡ false → changes_rows e ≡ false
+pub moves_closes : (t : ℕ) (e : Event) (old new : State) → is_of t e ≡ true → is_apart e ≡ false → changes_rows e ≡ false
     → Closes e t old new → Moves t old new
 unfolding adding_one
 moves_closes t e old new mine unacked spares closes =
     record {
       names_stay = closes.names_are;
-      adding = adding_one t e old new mine closes.past_is (λ changes. absurd (false≢true (sym spares ∙ changes)));
+      adding = adding_one t e old new (of_own t e mine) closes.past_is (λ changes. absurd (false≢true (sym spares ∙ changes)));
       tells = one_told t old e (λ changes. absurd (false≢true (sym spares ∙ changes)));
       unacked = (unacked, tt);
       acks_none = ap last_moment closes.past_is ∙ spares_moment e old.past unacked;

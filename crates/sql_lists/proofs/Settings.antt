@@ -11,6 +11,7 @@ use Rattle.inno_model.specs.declared.event.Event.{Event}
 use Rattle.inno_model.specs.declared.event.Event.TheVariants as events
 use Rattle.inno_model.specs.Past.{is_of, under_way, own, level}
 use Rattle.sql_grammar.specs.Grammar.{Spells}
+use Rattle.sql_lists.specs.Kept.{is_of_signal}
 use Rattle.sql_history.specs.Items.{Asks}
 use Rattle.sql_history.specs.Settings.{Setting, HasSet, SetByItem, at_first, at_begin, at_end, set_by}
 use Rattle.std.specs.Prelude.{is_some}
@@ -74,6 +75,15 @@ quiet item reply made is_open x not_done = refl
 pub set_at_end : (h : List Event) (s j : ℕ) (reply : Reply) (x : Setting) → reply ≢ replies.Done → HasSet Spells s h x
     → HasSet Spells s (events.Ended s j reply ∷ h) x
 set_at_end h s j reply x not_done held = rw (same_test s) (x, held, quiet (under_way s h) reply (length (own s h)) (is_some (level s h)) x not_done)
+
+-- an item of a signal sets nothing
+quiet_signal : (item : _) (made : ℕ) (is_open : Bool) (x : Setting) → is_of_signal item ≡ true → SetByItem Spells item replies.Done made is_open x x
+quiet_signal (Some (items.Sql text)) made is_open x asked = (let no = asked in cc)
+quiet_signal item made is_open x asked = refl
+
+pub set_at_signal : (h : List Event) (s j : ℕ) (x : Setting) → is_of_signal (under_way s h) ≡ true → HasSet Spells s h x
+    → HasSet Spells s (events.Ended s j replies.Done ∷ h) x
+set_at_signal h s j x asked held = rw (same_test s) (x, held, quiet_signal (under_way s h) (length (own s h)) (is_some (level s h)) x asked)
 
 -- a statement that was done sets what it sets
 pub set_at_done : (h : List Event) (s j : ℕ) (stmt : Stmt) (x : Setting) → Asks Spells s stmt h → HasSet Spells s h x

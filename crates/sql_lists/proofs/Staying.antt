@@ -11,19 +11,24 @@ use Rattle.inno_model.specs.Moments.{starts}
 use Rattle.sql_grammar.specs.Grammar.{Spells}
 use Rattle.sql_history.specs.Items.{of_turn, is_over, point, before_turn, own_before, base}
 use Rattle.sql_history.specs.Legal.{Takes}
+use Rattle.law_past_agreement.specs.Order.{IsNoOthers}
 use Rattle.shared_lists.specs.State.{State}
 use Rattle.sql_lists.specs.Steps.{changes_rows}
 use Rattle.sql_lists.proofs.Moving.{AddingOne}
 
 -- an entry of one session is no other's
-pub other_of : (e : Event) (t u : ℕ) → is_of t e ≡ true → u ≢ t → is_of u e ≡ false
-other_of e t u mine differ = grind (arith, nat_tests, mine, differ)
+own_of : (e : Event) (t u : ℕ) → is_of t e ≡ true → u ≢ t → is_of u e ≡ false
+own_of e t u mine differ = grind (arith, nat_tests, mine, differ)
+
+pub other_of : (e : Event) (t u : ℕ) → IsNoOthers t e → u ≢ t → is_of u e ≡ false
+other_of (events.Signal name) t u mine differ = refl
+other_of e t u mine differ = own_of e t u mine differ
 
 pub not_starting : (e : Event) (u : ℕ) → is_of u e ≡ false → starts u e ≡ false
 not_starting (events.Started t j item) u other = other
 not_starting e u other = refl
 
-pub opening_stays : (e : Event) (h : List Event) (t : ℕ) → is_of t e ≡ true → opening (e ∷ h) ≡ opening h
+pub opening_stays : (e : Event) (h : List Event) (t : ℕ) → IsNoOthers t e → opening (e ∷ h) ≡ opening h
 opening_stays (events.Opened db) h t mine = cc
 opening_stays e h t mine = refl
 
@@ -100,7 +105,7 @@ committed_more n (events.Committed t ∷ h) le = grind (arith, nat_tests, commit
 committed_more n (e ∷ h) le = committed_more n h le
 
 -- an entry of a session without changes leaves what is committed
-pub committed_all : (e : Event) (h : List Event) (t : ℕ) → is_of t e ≡ true → own t h ≡ [] → committed (commits (e ∷ h)) (e ∷ h) ≡ committed (commits h) h
+pub committed_all : (e : Event) (h : List Event) (t : ℕ) → IsNoOthers t e → own t h ≡ [] → committed (commits (e ∷ h)) (e ∷ h) ≡ committed (commits h) h
 committed_all (events.Committed t') h t mine none =
     elim (eqb_tells t' t) [
       | inl same ↦ (let empty : own t' h ≡ [] = ap (λ x. own x h) same.1 ∙ none in grind

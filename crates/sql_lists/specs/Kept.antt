@@ -1,7 +1,8 @@
 -- What is kept beside the lists agrees with the past, which is legal.
-use Rattle.std.specs.Prelude.{◌≡◌, ◌≢◌, ℕ, ◌≤◌, true, false, None, Some, List, [], ◌∷◌, ◌++◌, length, slice_index_or}
+use Rattle.std.specs.Prelude.{◌≡◌, ◌≢◌, ℕ, ◌≤◌, Bool, true, false, Option, None, Some, List, [], ◌∷◌, ◌++◌, length, slice_index_or}
 use Rattle.std.specs.List.{list_any}
 use Rattle.inno_types.specs.declared.reply.Item.{Item}
+use Rattle.inno_types.specs.declared.reply.Item.TheVariants as items
 use Rattle.inno_types.specs.declared.reply.Reply.{Reply}
 use Rattle.inno_types.specs.declared.stmt.Stmt.{Stmt}
 use Rattle.inno_types.specs.declared.stmt.Stmt.TheVariants.{Savepoint}
@@ -59,6 +60,12 @@ pub record MayReply (s : ℕ) (reply : Reply) (past : List Event) : Type 0 where
   pub item : Item
   pub asked : under_way s past ≡ Some item
   pub ends : EndsBy false Spells s item reply past
+
+-- the item gives a signal, or awaits one
+abbrev pub is_of_signal : Option Item → Bool
+is_of_signal (Some (items.Signal name)) = true
+is_of_signal (Some (items.Await name)) = true
+is_of_signal other = false
 
 -- the session's commit is yet to be acknowledged
 pub record OwesAck (s : ℕ) (past : List Event) : Type 0 where

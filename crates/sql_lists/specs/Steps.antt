@@ -8,12 +8,12 @@ use Rattle.inno_types.specs.declared.lock.Mode.TheVariants.{X}
 use Rattle.inno_types.specs.declared.stmt.Stmt.{Stmt}
 use Rattle.inno_db.specs.declared.change.Change.{Change}
 use Rattle.inno_model.specs.declared.event.Event.{Event}
-use Rattle.inno_model.specs.declared.event.Event.TheVariants.{Changed, Ended, Acked}
-use Rattle.inno_model.specs.Past.{is_of, begins_txn, started, of_item, own, level, txn, IsOpen}
+use Rattle.inno_model.specs.declared.event.Event.TheVariants.{Changed, Ended, Acked, Signal}
+use Rattle.inno_model.specs.Past.{begins_txn, started, of_item, own, level, txn, IsOpen}
 use Rattle.sql_grammar.specs.Grammar.{Spells}
 use Rattle.sql_history.specs.Legal.{Takes, IsWriting, IsCreation}
 use Rattle.sql_history.specs.Counts.{last_moment}
-use Rattle.law_past_agreement.specs.Order.{IsOfRow}
+use Rattle.law_past_agreement.specs.Order.{IsOfRow, IsNoOthers}
 use Rattle.shared_lists.specs.Tasks.{Idle, asked}
 use Rattle.shared_lists.specs.State.{State, task_of, Adds, Stays}
 use Rattle.sql_lists.specs.declared.advance.Advance.{Advance}
@@ -39,13 +39,15 @@ changes_rows other = false
 abbrev pub MayWriteAlone : ℕ → Option ℕ → Type 0
 MayWriteAlone t writer = (s : ℕ) → s ≢ t → writer ≢ Some s
 
--- an entry of the session's; changes are made where no other session may write
+-- an entry of the session's, or a signal; changes are made where no other session may write
 abbrev pub IsEntryOf : ℕ → Option ℕ → Event → Type 0
-IsEntryOf t writer e = (is_of t e ≡ true) × (changes_rows e ≡ true → MayWriteAlone t writer)
+IsEntryOf t writer e = IsNoOthers t e × (changes_rows e ≡ true → MayWriteAlone t writer)
 
-abbrev pub acknowledges : Event → Bool
-acknowledges (Acked s moment) = true
-acknowledges other = false
+-- an acknowledgement or a signal, which no statement adds
+abbrev pub is_apart : Event → Bool
+is_apart (Acked s moment) = true
+is_apart (Signal name) = true
+is_apart other = false
 
 -- the session's task asks for the change, or its item makes a table
 abbrev pub Intends : ℕ → State → Change → Type 0
@@ -59,7 +61,7 @@ TellsOne t old [] = Unit {0}
 TellsOne t old (Changed s change ∷ earlier) = Intends t old change × AllByRecursion (λ e. begins_txn e ≡ true) earlier
 TellsOne t old (other ∷ earlier) = TellsOne t old earlier
 
--- entries of the session's are added, the newest first
+-- entries of the session's, or signals, are added, the newest first
 pub record Adding (t : ℕ) (old new : State) : Type 0 where
   pub entries : List Event
   pub past_is : new.past ≡ entries ++ old.past
@@ -74,7 +76,7 @@ pub record Moves (t : ℕ) (old new : State) : Type 0 where
   pub names_stay : new.names ≡ old.names
   pub adding : Adding t old new
   pub tells : TellsOne t old adding.entries
-  pub unacked : AllByRecursion (λ e. acknowledges e ≡ false) adding.entries
+  pub unacked : AllByRecursion (λ e. is_apart e ≡ false) adding.entries
   pub acks_none : last_moment new.past ≡ last_moment old.past
   pub writer_stays : (s : ℕ) → s ≢ t → old.writer ≡ Some s → new.writer ≡ Some s
   -- none but an item that asks to write takes the right to

@@ -6,20 +6,20 @@ ghost use Rattle.inno_types.specs.declared.value.Schema.{Schema};
 ghost use Rattle.inno_types.specs.declared.reply.Reply.TheVariants.{Done};
 ghost use Rattle.inno_types.specs.declared.stmt.Stmt.TheVariants.{Savepoint as SavepointStmt};
 ghost use Rattle.inno_types.specs.declared.lock.Level.TheVariants.{Serializable};
-ghost use Rattle.inno_model.specs.declared.event.Event.TheVariants.{Begin, Started, View, Ended, Committed, Acked, RolledBack};
+ghost use Rattle.inno_model.specs.declared.event.Event.TheVariants.{Begin, Started, View, Ended, Committed, Acked, RolledBack, Signal};
 ghost use Rattle.inno_model.specs.Past.{under_way, level, own, started, begins, view_of, txn, IsOpen};
 ghost use Rattle.sql_grammar.specs.Grammar.{Spells};
 ghost use Rattle.sql_history.specs.Items.{Asks};
 ghost use Rattle.sql_history.specs.Settings.{HasSet};
 ghost use Rattle.sql_history.specs.Counts.{has_stopped, last_moment, rows_kept, rows_of_reply, most_rows};
-ghost use Rattle.sql_history.specs.Legal.{IsLegal, MayBegin, MayView, MayChange, MayUndo, MayCommit, MayRollBack, is_leaving, owes_commit};
+ghost use Rattle.sql_history.specs.Legal.{IsLegal, MayBegin, MayView, MayChange, MayUndo, MayCommit, MayRollBack, MaySignal, is_leaving, owes_commit};
 ghost use Rattle.law_fitting_rows.specs.Storable.{IsStorable};
 ghost use Rattle.law_past_agreement.specs.Order.{created, IsOfRow, IsTabled, IsUndoable, IsOrdered};
 ghost use Rattle.shared_lists.specs.Fitting.{FitsWell, FitsThen};
 ghost use Rattle.shared_lists.specs.Tasks.{Idle, Searching, is_changing, asked, steps_left, MayTakeBack};
 ghost use Rattle.shared_lists.specs.State.{IsFirst, IsNow, Adds, Closes, Turns, Stays, task_of, writer_without};
 ghost use Rattle.shared_lists.specs.Steps.{Searches, AreNewestRows, Changes, TakesBack};
-ghost use Rattle.sql_lists.specs.Kept.{MayReply, OwesAck, SetsQuietly, AreStanding, IsInOrder};
+ghost use Rattle.sql_lists.specs.Kept.{MayReply, is_of_signal, OwesAck, SetsQuietly, AreStanding, IsInOrder};
 ghost use Rattle.sql_lists.specs.Tables.{MayMake, MakesNone, table_made};
 ghost use Rattle.sql_lists.specs.Steps.{open_txn, plain_edge};
 
@@ -378,6 +378,28 @@ impl<L: SharedLists> SqlLists<L> {
         ensures { Adds (Acked session moment) session self.old self.new }
     {
         self.lists.ack(session, moment);
+    }
+
+    /// Ends an item that has given a signal, or has awaited one that was given. It sets nothing.
+    pub fn end_signal(&mut self, session: u32)
+        requires joined { session < length self.old.names }
+        requires may { MayReply session Done self.old.past }
+        requires asked { is_of_signal (under_way session self.old.past) ≡ true }
+        requires idle { task_of session self.old ≡ Idle }
+        ensures { Adds (Ended session (started session self.old.past) Done) session self.old self.new }
+    {
+        self.lists.end(session, Reply::Done);
+    }
+
+    /// Gives the signal that the session's item asks for. An `Err` changes nothing.
+    pub fn signal(&mut self, session: u32, name: Bytes) -> Result<(), NoMemory>
+        requires joined { session < length self.old.names }
+        requires may { MaySignal name self.old.past }
+        requires idle { task_of session self.old ≡ Idle }
+        ensures ok { OnOk result (Adds (Signal name) session self.old self.new) }
+        ensures err { OnErr result (Stays session self.old self.new) }
+    {
+        self.lists.signal(session, name)
     }
 
     /// Ends the rollback of the session's transaction, which may write no longer.

@@ -36,7 +36,7 @@ fn step<L: SharedLists>(engine: &mut SessionEngine<L>) -> Progress
         engine.acknowledge(0, 0);
         return Progress::Went;
     }
-    engine.step(0)
+    engine.step(0, 0)
 }
 
 /// The answer of the only session to a statement.

@@ -132,6 +132,21 @@ fn prints_what_sessions_were_answered(rt: HostRuntime) -> Result<(), Fail> {
     let cases = [
         ran("run", "", ""),
         ran(
+            "play",
+            "@session a\n@await go\n",
+            "@session a\n1> NOT SIGNALLED\n",
+        ),
+        ran(
+            "play",
+            "@session a\n@await go\n@session b\n@signal go\n",
+            "@session a\n1> OK\n@session b\n1> OK\n",
+        ),
+        ran(
+            "run",
+            "@session a\n@await go\n@session b\n@signal go\n",
+            "@session a\n1> OK\n@session b\n1> OK\n",
+        ),
+        ran(
             "run",
             ONE_SESSION,
             "@session setup\n1> OK\n@session a\n1> OK 1\n2> ROWS 1\n1\t10\n3> ERROR 1062 (23000)\n4> OK\n",
@@ -243,7 +258,7 @@ fn prints_what_sessions_were_answered(rt: HostRuntime) -> Result<(), Fail> {
         ),
         failed("@sesion a\n", 0, 0, Fault::ScriptBad { line: 1 }, 2),
         failed(
-            "@session a\nBEGIN;\n@signal x\n",
+            "@session a\nBEGIN;\n@tick 1\n",
             0,
             0,
             Fault::ScriptBad { line: 3 },

@@ -19,7 +19,7 @@ use Rattle.shared_lists.specs.declared.answers.Undone.TheVariants as undone
 use Rattle.shared_lists.specs.Tasks.{Task, Idle, Searching, Changing, Lagging, Undoing, MayTakeBack, undo_to_go}
 use Rattle.shared_lists.specs.State.{State, task_of, Adds, Closes, Stays}
 use Rattle.shared_lists.specs.Steps.{TakesBack}
-use Rattle.sql_lists.specs.Steps.{Steps, GoesOnAcked, changes_rows, HasRowsAlone, acknowledges}
+use Rattle.sql_lists.specs.Steps.{Steps, GoesOnAcked, changes_rows, HasRowsAlone, is_apart}
 use Rattle.sql_lists.specs.Kept.{OwesAck}
 use Rattle.sql_lists.specs.Going.{Nears, NearsAcked}
 use Rattle.sql_lists.specs.declared.advance.Advance.TheVariants as advance
@@ -44,7 +44,7 @@ runs_now : (s : ℕ) (past : List Event) (task : Task) (new : State) (m : Transa
 runs_now s past task new m past-is task-is runs has =
     subst (λ h. RunsBy h s m × HasTask m (length (own s h)) (task_of s new)) (sym past-is) (runs, subst (HasTask m (length (own s past))) (sym task-is) has)
 
-adds_one : (s : ℕ) (e : Event) (old new : State) (m : TransactionStatement) → is_of s e ≡ true → acknowledges e ≡ false
+adds_one : (s : ℕ) (e : Event) (old new : State) (m : TransactionStatement) → is_of s e ≡ true → is_apart e ≡ false
     → changes_rows e ≡ false
     → started s (e ∷ old.past) ≡ started s old.past → Adds e s old new → RunsBy (e ∷ old.past) s m → HasTask m (length (own s (e ∷ old.past)))
     (task_of s old) → Steps IsRunning s old new m advance.Went
@@ -54,7 +54,7 @@ adds_one s e old new m mine unacked spares same adds runs has = (
   ap (started s) adds.past_is ∙ same,
 )
 
-closes_one : (s : ℕ) (e : Event) (old new : State) (m : TransactionStatement) → is_of s e ≡ true → acknowledges e ≡ false
+closes_one : (s : ℕ) (e : Event) (old new : State) (m : TransactionStatement) → is_of s e ≡ true → is_apart e ≡ false
     → changes_rows e ≡ false
     → started s (e ∷ old.past) ≡ started s old.past → Closes e s old new → RunsBy (e ∷ old.past) s m → HasTask m (length (own s (e ∷ old.past)))
     (task_of s old) → Steps IsRunning s old new m advance.Went

@@ -6,6 +6,8 @@ use Rattle.inno_model.specs.declared.event.Event.TheVariants.{Ended}
 use Rattle.inno_model.specs.Past.{started}
 use Rattle.inno_model.specs.Recorded.{Extends}
 use Rattle.atomic_table.specs.Table.{Me}
+use Rattle.store_api.specs.declared.answers.Progress.{Progress}
+use Rattle.store_api.specs.declared.answers.Progress.TheVariants.{Waiting, NotYet, NoMemory}
 use Rattle.turn_board.specs.declared.Phase.{Phase}
 use Rattle.turn_board.specs.declared.Phase.TheVariants.{Idle, Busy, Left}
 use Rattle.turn_board.specs.declared.Board.{Board}
@@ -44,6 +46,13 @@ StepWent s a phase None b = Went s a b [] phase
 abbrev pub reply_in : Stepped → Option Reply
 reply_in (Over reply) = Some reply
 reply_in (GoesOn pause) = None
+
+-- the step can't go on before others have brought something about, or memory has come free
+abbrev pub HasToWait : Progress → Type 0
+HasToWait (Waiting blockers) = Unit {0}
+HasToWait NotYet = Unit {0}
+HasToWait NoMemory = Unit {0}
+HasToWait other = ⊥
 
 -- From a to b, as session 0 has seen it, session n has joined under this name. It is idle and has not called, and nor has
 -- session 0.

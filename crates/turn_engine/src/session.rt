@@ -209,7 +209,8 @@ fn call<E: Turns, C: Clock, R: Wait + Timer>(
     ensures gate { pass.new.table_id ≡ pass.old.table_id }
     ensures rests { Rests pass.new.me s }
     ensures len { len.new ≡ length pass.new.me.0.mine.seen.past }
-    ensures some { IfSome result (λ r. Went s pass.old.me.0.mine.seen pass.new.me.0.mine.seen (Ended s (item_number s pass.old.me.0.mine.seen) r ∷ Started s (item_number s pass.old.me.0.mine.seen) item.now ∷ []) Idle) }
+    ensures some { let seen = pass.old.me.0.mine.seen in let n = item_number s seen in
+        IfSome result (λ r. Went s seen pass.new.me.0.mine.seen (Ended s n r ∷ Started s n item.now ∷ []) Idle) }
     ensures none { IfNone result (Went s pass.old.me.0.mine.seen pass.new.me.0.mine.seen [] Idle) }
 {
     if start_turn(rt, gate, pass, len, s, item).is_err() {

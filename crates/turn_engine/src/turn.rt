@@ -7,7 +7,7 @@ ghost use Rattle.turn_board.specs.declared.Phase.TheVariants.{Idle, Busy, Leavin
 ghost use Rattle.turn_board.specs.Boards.{phase_of};
 ghost use Rattle.turn_rule.specs.Steps.{HasTurn};
 ghost use Rattle.turn_engine.specs.Calls.{IsUnderWay, item_number, reply_of};
-ghost use Rattle.turn_engine.specs.Turns.{Rests, Went, StepWent, HasJoined, reply_in};
+ghost use Rattle.turn_engine.specs.Turns.{Rests, Went, StepWent, HasJoined, HasToWait, reply_in};
 
 use crate::turns::Turns;
 use crossbeam_utils::Backoff;
@@ -23,7 +23,7 @@ pub enum Pause {
     No,
     /// Others that are ready come first.
     Short,
-    /// Others have to bring something about first.
+    /// Others have to bring something about first, or memory to come free.
     Long,
 }
 
@@ -108,9 +108,10 @@ pub fn step_turn<E: Turns, R: Wait>(
     after(progress, lingers)
 }
 
-/// What a step came to, by its answer.
+/// What a step came to, by its answer. Where others or memory are wanting, the session stays away from the turn for long.
 fn after(progress: Progress, lingers: bool) -> Stepped
-    ensures { reply_in result ≡ reply_of progress }
+    ensures reply { reply_in result ≡ reply_of progress }
+    ensures pause { HasToWait progress → result ≡ Stepped.GoesOn Pause.Long }
 {
     match progress {
         Progress::Done(reply) => Stepped::Over(reply),

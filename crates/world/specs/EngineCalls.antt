@@ -6,7 +6,7 @@ use Rattle.inno_types.specs.declared.reply.Reply.{Reply}
 use Rattle.inno_types.specs.declared.stmt.Stmt.{Stmt}
 use Rattle.inno_db.specs.Database.{Database}
 use Rattle.inno_db.specs.declared.change.Change.TheVariants.{Create}
-use Rattle.inno_model.specs.declared.event.Event.TheVariants.{Opened, Started, Ended, Acked, Changed}
+use Rattle.inno_model.specs.declared.event.Event.TheVariants.{Opened, Started, Ended, Acked, Changed, Signal}
 use Rattle.entries.specs.Lists.{empty_index}
 use Rattle.sql_history.specs.Settings.{at_first, set_by}
 use Rattle.sql_history.specs.Counts.{rows_of_reply}
@@ -54,6 +54,10 @@ item_ended s j reply session state =
 -- the commit is acknowledged, at this moment
 abbrev pub acknowledged : ℕ → ℕ → Session → WorldState → WorldState
 acknowledged s moment session state = with_entry (Acked s moment) (with_session s (record session { can_ack = false }) state)
+
+-- a signal of this name is given
+abbrev pub signalled : List ℕ → WorldState → WorldState
+signalled name state = with_entry (Signal name) state
 
 -- the session has set what a statement sets that was done
 abbrev pub with_setting : ℕ → Stmt → Session → WorldState → WorldState

@@ -4,7 +4,7 @@ ghost use Rattle.std.specs.Prelude.{◌≡◌, ◌+◌, ◌<◌, ◌≤◌, ◌^
 ghost use Rattle.inno_db.specs.declared.limits.TheConstants.{MOST_KEYS};
 ghost use Rattle.sql_history.specs.Counts.{rows_of_reply};
 ghost use Rattle.world.specs.State.{Session, Work, HasWork, IsSession};
-ghost use Rattle.world.specs.EngineCalls.{joined, item_started, item_ended, acknowledged, with_setting, MakesTable};
+ghost use Rattle.world.specs.EngineCalls.{joined, item_started, item_ended, acknowledged, signalled, with_setting, MakesTable};
 ghost use Rattle.world.specs.Memory.{IsInMemory};
 
 use crate::World;
@@ -63,6 +63,11 @@ pub trait EngineWorld: World + Drop {
     fn ack(&mut self, s: u32, moment: u64)
         requires { (session : Session) × IsSession s session (Self.state self.old) × (session.can_ack ≡ true) }
         ensures { (session : Session) → IsSession s session (Self.state self.old) → Self.state self.new ≡ acknowledged s moment session (Self.state self.old) };
+
+    /// Adds a signal of this name, which stays. An `Err` changes nothing.
+    fn add_signal(&mut self, name: Bytes) -> Result<(), NoMemory>
+        ensures ok { OnOk result (Self.state self.new ≡ signalled name (Self.state self.old)) }
+        ensures err { OnErr result (Self.state self.new ≡ Self.state self.old) };
 
     /// Sets what a statement sets that was done, other than a savepoint of an open transaction. It takes no memory.
     fn set(&mut self, s: u32, stmt: &Stmt)

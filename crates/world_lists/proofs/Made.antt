@@ -8,7 +8,7 @@ use Rattle.inno_types.specs.declared.reply.Item.{Item}
 use Rattle.inno_types.specs.declared.reply.Reply.{Reply}
 use Rattle.inno_types.specs.declared.stmt.Stmt.{Stmt}
 use Rattle.inno_model.specs.declared.event.Event.{Event}
-use Rattle.inno_model.specs.declared.event.Event.TheVariants.{Started, Ended, View, Committed, Acked, RolledBack}
+use Rattle.inno_model.specs.declared.event.Event.TheVariants.{Started, Ended, View, Committed, Acked, RolledBack, Signal}
 use Rattle.inno_model.specs.Past.{own, txn, started, under_way, of_item, IsOpen, awaits_ack}
 use Rattle.inno_model.proofs.Commits.{begins_few}
 use Rattle.sql_history.specs.Settings.{Setting, at_first, set_by}
@@ -22,7 +22,7 @@ use Rattle.world.specs.Endings.{IsCommitted, IsRolledBack}
 use Rattle.world.specs.declared.undo_room.UndoRoom.{UndoRoom}
 use Rattle.law_world_agreement.specs.Steps.{viewed}
 use Rattle.undo_apply.specs.declared.work_room.WorkRoom.{WorkRoom}
-use Rattle.world.specs.EngineCalls.{item_started, item_ended, acknowledged, with_setting}
+use Rattle.world.specs.EngineCalls.{item_started, item_ended, acknowledged, signalled, with_setting}
 use Rattle.row_changes.specs.Records.{IsListed}
 use Rattle.law_changing_rows.proofs.Listed.{listed_of}
 use Rattle.shared_lists.specs.Tasks.{Idle}
@@ -35,7 +35,7 @@ use Rattle.desks.specs.Shown.{seen_of, shown}
 use Rattle.law_held_entries.specs.Seen.{settings_of}
 use Rattle.desks.proofs.Showing.{task_is}
 use Rattle.law_held_entries.proofs.Seen.{left_same, rests_of, now_of, settings_by}
-use Rattle.law_held_entries.proofs.Items.{started_held, ended_held, acked_held, unentered_held}
+use Rattle.law_held_entries.proofs.Items.{started_held, ended_held, acked_held, signal_held, unentered_held}
 use Rattle.law_held_entries.proofs.Transactions.{txn_here, txn_elsewhere, viewed_held, saved_held, committed_held, rolled_back_held}
 use Rattle.law_held_entries.proofs.Sessions.{start_here}
 use Rattle.world_lists.proofs.Answering.{desk_read, few_more}
@@ -150,6 +150,12 @@ module _ (s : ℕ) (old : WorldState) (writer : Option ℕ) (desks : List Desk) 
         subst (λ (w : WorldState). IsHeld w writer desks cuts undo room) (sym new_is)
         (acked_held writer cuts undo room old desks held s (at_rest idle) told session is moment (joined_here joined)
         (past_here (λ h. MayCome h (Acked s moment)) may) (few_by (Acked s moment) (acknowledged s moment session old) new_is refl few))
+
+    pub signal_made : (name : List ℕ) → length new.past < 2 ^ 63 → new ≡ signalled name old → IsHeld new writer desks cuts undo room
+    signal_made name few new_is =
+        subst (λ (w : WorldState). IsHeld w writer desks cuts undo room) (sym new_is)
+        (signal_held writer cuts undo room old desks held s (at_rest idle) told session is name (joined_here joined)
+        (few_by (Signal name) (signalled name old) new_is refl few))
 
     pub ended_made : (j : ℕ) (reply : Reply) → MayCome lists.state.past (Ended s j reply) → length new.past < 2 ^ 63
         → new ≡ item_ended s j reply session old → IsHeld new writer desks cuts undo room

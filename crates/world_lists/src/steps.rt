@@ -159,6 +159,12 @@ impl<W: EngineWorld> SharedLists for WorldLists<W> {
         is_short(&self.world);
     }
 
+    fn signal(&mut self, _session: u32, name: Bytes) -> Result<(), NoMemory> {
+        self.world.add_signal(name)?;
+        is_short(&self.world);
+        Ok(())
+    }
+
     fn roll_back(&mut self, session: u32) {
         match self.world.roll_back(session) {
             Move::Done => {

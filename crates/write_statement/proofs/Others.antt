@@ -21,7 +21,7 @@ use Rattle.sql_history.specs.Legal.{Takes}
 use Rattle.sql_history.specs.Waiting.{is_victim}
 use Rattle.shared_lists.specs.Tasks.{Idle, is_changing, asked, MayTakeBack}
 use Rattle.shared_lists.specs.State.{State, task_of}
-use Rattle.law_past_agreement.specs.Order.{created, IsOfRow}
+use Rattle.law_past_agreement.specs.Order.{created, IsOfRow, IsNoOthers}
 use Rattle.sql_lists.specs.Steps.{IsTaken, StaysRunning, MayWriteAlone, changes_rows}
 use Rattle.sql_lists.proofs.Moving.{AddingOne, stays_running}
 use Rattle.sql_lists.proofs.Staying.{other_of, not_starting, at_work, point_now, point_stays, IsSteady, steady_on, base_on}
@@ -37,14 +37,14 @@ not_true : (b : Bool) → (b ≡ true → ⊥) → b ≡ false
 not_true true refuted = absurd (refuted refl)
 not_true false refuted = refl
 
-no_table_more : (e : Event) (h : List Event) (t : ℕ) → is_of t e ≡ true → changes_rows e ≡ false → created (e ∷ h) ≡ created h
+no_table_more : (e : Event) (h : List Event) (t : ℕ) → IsNoOthers t e → changes_rows e ≡ false → created (e ∷ h) ≡ created h
 no_table_more (events.Opened db) h t mine spares = cc
 no_table_more (events.Changed u change) h t mine spares = cc
 no_table_more e h t mine spares = refl
 
 module _ (old new : State) (t s : ℕ) (differ : t ≢ s) (adding : AddingOne t old new) (keeps : old.writer ≡ Some s → new.writer ≡ Some s)
     (task-is : task_of s new ≡ task_of s old) where
-  other : (e : Event) → is_of t e ≡ true → is_of s e ≡ false
+  other : (e : Event) → IsNoOthers t e → is_of s e ≡ false
   other e mine = other_of e t s mine (λ is. differ (sym is))
 
   -- ---- what is the session's own

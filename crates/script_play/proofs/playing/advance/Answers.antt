@@ -10,12 +10,13 @@ returns g c =
     let next = c.skip_others-next.result in
     record {
       names = starts.names;
+      moment = starts.moment;
       count = length-set c.args.places.now c.args.s (next + 1) ∙ c.requires.starts.count ∙ ap length (sym starts.names);
       started =
           starts_item c.args.items.now c.args.places.now old.past (g.E.Sessions.shown c.start.new.self).past c.args.s next starts.number
           c.index-items-next.result
           (omega (arith, c.requires.joined, c.requires.starts.count))
-          (omega (arith, c.if-next-known.false, c.requires.known))
-          c.skip_others-next.ensures.others (c.skip_others-next.ensures.found c.if-next-known.false c.index-items-next.result) starts.past
+          (omega (arith, c.if-next-items.false))
+          c.skip_others-next.ensures.others (c.skip_others-next.ensures.found c.if-next-items.false c.index-items-next.result) starts.past
           c.requires.starts.started;
     }

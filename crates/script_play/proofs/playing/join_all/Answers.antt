@@ -1,5 +1,5 @@
-use Rattle.std.proofs.Common.{◌∙◌, sym, ap, [], ◌++◌, take, drop, List, ℕ}
-use Rattle.std.proofs.lemmas.List.{take-append-drop, append-nil}
+use Rattle.std.proofs.Common.{◌∙◌, sym, ap, ◌++◌, drop, List, ℕ}
+use Rattle.std.proofs.lemmas.List.{take-append-drop}
 use Rattle.script_play.proofs.playing.join_all.Goals as goal
 
 pub returns-in_err-join-clause-named : goal.returns-in_err-join-clause-named

@@ -1,7 +1,7 @@
-use Rattle.std.proofs.Common.{◌≡◌, ◌∙◌, refl, sym, ap, subst, length, List, ◌++◌, ℕ, arith}
+use Rattle.std.proofs.Common.{◌≡◌, ◌∙◌, sym, ap, subst, length, List, ◌++◌, ℕ, arith}
 use Rattle.std.specs.Prelude.{All}
 use Rattle.script.specs.declared.script.ScriptItem.{ScriptItem}
-use Rattle.script_play.specs.Sessions.{HasStarted, IsStatement}
+use Rattle.script_play.specs.Sessions.{HasStarted}
 use Rattle.script_play.proofs.Places.{nobody_named}
 use Rattle.script_play.proofs.Places.{follows, follows_nothing, on_ok, to_the_end, to_rest}
 use Rattle.script_play.proofs.playing.play.Goals as goal
@@ -15,10 +15,6 @@ returns-in_err-join_all-clause-follows g c = follows_nothing c.args.script.now.i
 pub returns-in_err-resize-clause-follows : goal.returns-in_err-resize-clause-follows
 returns-in_err-resize-clause-follows g c = follows_nothing c.args.script.now.items (g.E.Sessions.shown c.join_all.new.engine).past c.join_all.ensures.nothing
 
-pub play_items-requires-clause-statements : goal.play_items-requires-clause-statements
-play_items-requires-clause-statements g c =
-    subst (λ (list : List ScriptItem). All IsStatement list) (sym c.as_slice-2.ensures) (c.requires.playable.statements refl)
-
 pub returns-clause-follows : goal.returns-clause-follows
 returns-clause-follows g c =
     let past = (g.E.Sessions.shown c.play_items.new.engine).past in
@@ -31,7 +27,7 @@ returns-clause-played g c =
     let places = c.play_items.new.places in
     let plays = c.play_items.ensures.plays in
     on_ok c.play_items.result
-    (λ ends. to_the_end c.args.script.now places shown.names shown.past c.requires.playable
+    (λ ends. to_the_end c.args.script.now places shown.names shown.past c.requires.named
     (plays.names ∙ c.in_ok-join_all.ensures.names ∙ c.as_slice.ensures) plays.count
     (subst (λ (list : List ScriptItem). All (λ place. place ≡ length list) places) c.as_slice-2.ensures ends)
     (subst (λ (list : List ScriptItem). HasStarted list places shown.past) c.as_slice-2.ensures plays.started))

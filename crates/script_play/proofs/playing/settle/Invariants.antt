@@ -1,5 +1,5 @@
-use Rattle.script_play.specs.Sessions.{Plays}
+use Rattle.script_play.specs.Sessions.{Settles}
 use Rattle.script_play.proofs.playing.settle.Given as goal
 
-abbrev pub invariant-loop : goal.invariant-loop
-invariant-loop g l = Plays l.items l.places (g.E.Sessions.shown l.fn.engine) (g.E.Sessions.shown l.engine)
+abbrev pub invariant-loop-turn : goal.invariant-loop-turn
+invariant-loop-turn g l = Settles l.items l.places (g.E.Sessions.shown l.fn.engine) (g.E.Sessions.shown l.engine)

@@ -7,3 +7,6 @@ returns-clause-played g c = λ sufficed. of_ok c.play.result (sym c.is_ok-played
 
 pub returns-clause-rests : goal.returns-clause-rests
 returns-clause-rests g c = λ sufficed. of_ok c.play.result (sym c.is_ok-played.ensures.value ∙ sufficed) c.play.ensures.rests
+
+pub play-requires-clause-named : goal.play-requires-clause-named
+play-requires-clause-named g c = c.requires.playable.named

@@ -5,6 +5,7 @@ use Rattle.script.specs.declared.script.Script.{Script}
 use Rattle.durable_engine.specs.State.{State}
 use Rattle.script_play.specs.Sessions.{AreNamed, FollowsScript, HasPlayed, AllRest}
 use Rattle.script_play.proofs.Places.{of_ok}
+use Rattle.script_runner.proofs.Taking.{all_taken}
 use Rattle.script_runner.proofs.ways.on_threads.Goals as goal
 
 pub returns-clause-follows : goal.returns-clause-follows
@@ -27,3 +28,9 @@ play_on_threads-shared-requires-send-E g c = λ κs bounds.
     let root = c.type_bounds.send-B in
     let lists = c.type_bounds.send-L in
     search (param_send, arg_send, shared_sends) depth 12
+
+pub play_on_threads-shared-requires-clause-each_named : goal.play_on_threads-shared-requires-clause-each_named
+play_on_threads-shared-requires-clause-each_named g c = λ κs bounds. c.requires.playable.named
+
+pub play_on_threads-shared-requires-clause-takes : goal.play_on_threads-shared-requires-clause-takes
+play_on_threads-shared-requires-clause-takes g c = λ κs bounds. all_taken c.args.script.now.items

@@ -1,7 +1,6 @@
 use Rattle.std.proofs.Common.{◌+◌, ◌++◌, ◌∷◌, [], ℕ, List, length, map, take, sym, ap, subst, ◌∙◌, append_assoc, arith}
 use Rattle.std.specs.List.{AllByRecursion}
-use Rattle.std.proofs.lemmas.List.{length-append, length-take-le}
-use Rattle.run_outcome.proofs.Fronts.{one_more}
+use Rattle.std.proofs.lemmas.List.{length-append, length-take-le, take_more}
 use Rattle.turn_engine.specs.Sessions.{Sitting}
 use Rattle.script_threads.specs.Playing.{IsNew, AreNumbered}
 use Rattle.script_threads.proofs.Splitting.{numbered_more, all_more, map_more, map_length}
@@ -28,7 +27,8 @@ loop-name-preserved g c =
       own_stays = s.same.2 ∙ i.own_stays;
       lost = s.same.3 ∙ i.lost;
       names = s.names ∙ (ap (λ (list : List (List ℕ)). list ++ name ∷ []) i.names ∙ (append_assoc before (take n names) (name ∷ [])
-          ∙ ap (λ (list : List (List ℕ)). before ++ list) (ap (λ (x : List ℕ). take n names ++ x ∷ []) c.name-item.is ∙ sym (one_more n names name c.loop-name-test.true))));
+          ∙ ap (λ (list : List (List ℕ)). before ++ list) (ap (λ (x : List ℕ). take n names ++ x ∷ []) c.name-item.is
+          ∙ sym (take_more names n name c.loop-name-test.true))));
       count = ap length items ∙ (length-append old (session ∷ []) ∙ omega (arith, i.count));
       within = omega (arith, c.loop-name-test.true);
       new = subst (AllByRecursion (IsNew c.args.hall.now)) (sym items) (all_more (IsNew c.args.hall.now) old session i.new (s.ok.0 ∙ i.hall, s.ok.2, s.ok.3));

@@ -35,6 +35,7 @@ returns-then-gone-clause-played g c = elim c.if-all.branch [
       c.gather-engine.ensures.receipts c.gather-engine.ensures.others c.let_leave-gone.ensures.calls
       (c.requires.whole w.if-all.true)
       (subst (λ (list : List Sitting). list_any (λ (r : Sitting). r.lost) list ≡ false) w.deref.ensures.value
-      (sym w.any_lost.ensures ∙ not_true w.any_lost.result (sym w.whole-is ∙ c.if-whole.true))) c.requires.playable (c.let_leave-gone.ensures.names ∙ c.gather-engine.ensures.names)
+      (sym w.any_lost.ensures ∙ not_true w.any_lost.result (sym w.whole-is ∙ c.if-whole.true))) c.requires.each_named
+      (c.let_leave-gone.ensures.names ∙ c.gather-engine.ensures.names)
   | else-all w ↦ (let e = sym c.if-whole.true ∙ w.whole-is in cc)
 ]

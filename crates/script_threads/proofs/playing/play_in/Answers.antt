@@ -1,21 +1,16 @@
-use Rattle.std.proofs.Common.{◌++◌, ◌∷◌, List, ℕ, length, take, refl, sym, ap, subst, ◌∙◌}
+use Rattle.std.proofs.Common.{◌++◌, ◌∷◌, List, ℕ, length, take, sym, ap, subst, ◌∙◌}
 use Rattle.std.specs.Prelude.{All}
 use Rattle.std.proofs.Math.Seq.{take-length}
 use Rattle.script.specs.declared.script.ScriptItem.{ScriptItem}
 use Rattle.turn_engine.specs.Sessions.{setup}
 use Rattle.script_threads.specs.Playing.{HasBegunIn, HasPlayedIn, IsWhole}
-use Rattle.script_threads.proofs.Openings.{takes_all, named_so_far}
+use Rattle.script_threads.proofs.Openings.{named_so_far}
 use Rattle.script_threads.proofs.Concluding.{only}
 use Rattle.script_threads.proofs.playing.play_in.Goals as goal
 
 pub make_calls-requires-clause-takes : goal.make_calls-requires-clause-takes
 make_calls-requires-clause-takes g c =
-    subst (λ (list : List ScriptItem). All (λ x. g.E.Turns.takes x.item) list) (sym c.as_slice.ensures)
-    (takes_all g.E.Turns.takes c.args.script.now.items c.requires.takes (c.requires.playable.statements refl))
-
-pub play_all-receipts-requires-clause-takes : goal.play_all-receipts-requires-clause-takes
-play_all-receipts-requires-clause-takes g c = λ κs bounds.
-    takes_all g.E.Turns.takes c.args.script.now.items c.requires.takes (c.requires.playable.statements refl)
+    subst (λ (list : List ScriptItem). All (λ x. g.E.Turns.takes x.item) list) (sym c.as_slice.ensures) c.requires.takes
 
 pub conclude-requires-clause-begun : goal.conclude-requires-clause-begun
 conclude-requires-clause-begun g c =
@@ -26,7 +21,8 @@ pub conclude-requires-clause-named : goal.conclude-requires-clause-named
 conclude-requires-clause-named g c =
     named_so_far c.args.script.now c.split_all-joined.new.first.seen.names c.args.others.now (length c.split_all-joined.new.sessions.items) c.requires.names.0
     (c.split_all-joined.ensures.names
-    ∙ ap (λ (list : List (List ℕ)). list ++ take (length c.split_all-joined.new.sessions.items) c.args.others.now) (c.make_calls.ensures.names c.requires.first.1 ∙ c.requires.first.2))
+    ∙ ap (λ (list : List (List ℕ)). list ++ take (length c.split_all-joined.new.sessions.items) c.args.others.now)
+    (c.make_calls.ensures.names c.requires.first.1 ∙ c.requires.first.2))
 
 pub conclude-requires-clause-whole : goal.conclude-requires-clause-whole
 conclude-requires-clause-whole g c = λ all. record {
@@ -44,4 +40,5 @@ pub conclude-requires-else-joined-clause-named : goal.conclude-requires-else-joi
 conclude-requires-else-joined-clause-named g c =
     named_so_far c.args.script.now c.split_all-joined.new.first.seen.names c.args.others.now (length c.split_all-joined.new.sessions.items) c.requires.names.0
     (c.split_all-joined.ensures.names
-    ∙ ap (λ (list : List (List ℕ)). list ++ take (length c.split_all-joined.new.sessions.items) c.args.others.now) (c.make_calls.ensures.names c.requires.first.1 ∙ c.requires.first.2))
+    ∙ ap (λ (list : List (List ℕ)). list ++ take (length c.split_all-joined.new.sessions.items) c.args.others.now)
+    (c.make_calls.ensures.names c.requires.first.1 ∙ c.requires.first.2))

@@ -17,7 +17,8 @@ returns-in_default-new-clause-follows g c = uncalled_follows c.args.script.now.i
 
 pub returns-in-Err-clause-named : goal.returns-in-Err-clause-named
 returns-in-Err-clause-named g c =
-    uncalled_named c.args.script.now c.in-Some.others.now (g.E.Recorded.board c.in-Err.engine) (sym c.as_slice.ensures ∙ c.in-Some.ensures.0) c.in-Err.ensures.err
+    uncalled_named c.args.script.now c.in-Some.others.now (g.E.Recorded.board c.in-Err.engine)
+    (sym c.as_slice.ensures ∙ c.in-Some.ensures.0) c.in-Err.ensures.err
 
 pub returns-in-Err-clause-follows : goal.returns-in-Err-clause-follows
 returns-in-Err-clause-follows g c = uncalled_follows c.args.script.now.items (g.E.Recorded.board c.in-Err.engine) c.in-Err.ensures.err.quiet

@@ -3,7 +3,7 @@ use Rattle.inno_model.specs.declared.event.Event.TheVariants as events
 use Rattle.inno_model.specs.declared.event.Event.{Event}
 use Rattle.inno_model.specs.Past.{is_of}
 use Rattle.drafts.specs.View.{draft_of}
-use Rattle.commit_log.specs.View.{CommitView, IsJoined, IsLogging, is_commit}
+use Rattle.commit_log.specs.View.{CommitView, IsJoined, IsLogging, IsEntryOf, is_commit}
 use Rattle.commit_log.proofs.Logging.{committed, entered}
 use Rattle.commit_log.proofs.commit_log.CommitLog.enter.Goals as goal
 
@@ -13,7 +13,7 @@ returns-in-Committed-clause-kept c =
     let s = c.args.session in
     let old : CommitView = record { log = l.log; drafts = l.drafts; dues = l.dues.items; begun = l.begun } in
     let new : CommitView = record { log = c.commit-due.new.log; drafts = c.commit-due.new.self; dues = c.set_due.new.dues.items; begun = l.begun } in
-    let mine : is_of s (events.Committed c.in-Committed.s) ≡ true = subst (λ (e : Event). is_of s e ≡ true) c.in-Committed.is c.requires.mine in
+    let mine : is_of s (events.Committed c.in-Committed.s) ≡ true = subst (IsEntryOf s) c.in-Committed.is c.requires.mine in
     let joined : s < length old.drafts = subst (λ (v : CommitView). IsJoined s v) (sym c.self.view_is) c.requires.joined in
     λ root now past is.
     subst (λ (e : Event). IsLogging root now (e ∷ past) new) (sym c.in-Committed.is)

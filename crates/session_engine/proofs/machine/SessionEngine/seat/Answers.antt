@@ -10,8 +10,8 @@ invariant_of-self-2 g c =
     let joined : c.args.s < length engine.lists.names = subst (λ st. c.args.s < length st.lists.names) (sym c.self.view_is) c.requires.joined in
     let idle : seat_at engine.seats c.args.s ≡ Idle = subst (λ st. seat_at st.seats c.args.s ≡ Idle) (sym c.self.view_is) c.requires.idle in
     rw c.replace.ensures.is
-    (seats_started engine.lists c.start.new.self engine.seats c.args.s c.requires.reads.0 c.args.item c.args.statement c.self.invariant joined idle
-    c.requires.reads.1 c.in_ok-start.ensures.ok c.requires.reads.2)
+    (seats_started engine.lists c.start.new.self engine.seats c.args.s c.args.item c.args.seat c.self.invariant joined idle
+    c.in_ok-start.ensures.ok c.requires.reads)
 
 pub invariant_of-self : goal.invariant_of-self
 invariant_of-self g c =

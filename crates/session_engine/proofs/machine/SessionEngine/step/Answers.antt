@@ -1,6 +1,6 @@
-use Rattle.std.proofs.Common.{length, ◌≡◌, ◌<◌, ◌∙◌, subst, sym, true}
+use Rattle.std.proofs.Common.{length, ◌≡◌, ◌<◌, ◌∙◌, subst, sym, ap, true}
 use Rattle.session_engine.specs.Seats.{seat_at, is_working}
-use Rattle.session_engine.proofs.Seating.{leaving_is, step_keeps, step_does, step_nears, out_keeps, out_does, out_nears}
+use Rattle.session_engine.proofs.Seating.{leaving_is, step_keeps, step_does, step_nears, signals_keep, signals_do, signals_near, signals_patient, signals_wait, out_keeps, out_does, out_nears}
 use Rattle.session_engine.proofs.machine.SessionEngine.step.Goals as goal
 
 pub invariant_of-self : goal.invariant_of-self
@@ -19,7 +19,8 @@ invariant_of-self-in_default g c =
     let joined : c.args.s < length engine.lists.names = subst (λ st. c.args.s < length st.lists.names) (sym c.self.view_is) c.requires.joined in
     let works : is_working (seat_at engine.seats c.args.s) ≡ true =
     subst (λ st. is_working (seat_at st.seats c.args.s) ≡ true) (sym c.self.view_is) c.requires.working in
-    let leaving = leaving_is (seat_at engine.seats c.args.s) works (λ statement is. c.in_default.not-Busy statement (c.replace.ensures.was ∙ is)) in
+    let leaving = leaving_is (seat_at engine.seats c.args.s) works (λ statement is. c.in_default.not-Busy statement (c.replace.ensures.was ∙ is))
+    (λ item is. c.in_default.not-Signalling item (c.replace.ensures.was ∙ is)) in
     let out = c.go_out-seat in
     rw (c.replace-in_default.ensures.is, c.replace.ensures.is)
     (out_keeps engine.lists out.new.lists engine.seats c.args.s c.self.invariant joined leaving out.result.0 out.result.1 out.ensures.goes)
@@ -40,7 +41,8 @@ returns-in_default-clause-steps g c =
     let joined : c.args.s < length engine.lists.names = subst (λ st. c.args.s < length st.lists.names) (sym c.self.view_is) c.requires.joined in
     let works : is_working (seat_at engine.seats c.args.s) ≡ true =
     subst (λ st. is_working (seat_at st.seats c.args.s) ≡ true) (sym c.self.view_is) c.requires.working in
-    let leaving = leaving_is (seat_at engine.seats c.args.s) works (λ statement is. c.in_default.not-Busy statement (c.replace.ensures.was ∙ is)) in
+    let leaving = leaving_is (seat_at engine.seats c.args.s) works (λ statement is. c.in_default.not-Busy statement (c.replace.ensures.was ∙ is))
+    (λ item is. c.in_default.not-Signalling item (c.replace.ensures.was ∙ is)) in
     let out = c.go_out-seat in
     rw (← c.self.view_is, c.replace-in_default.ensures.is, c.replace.ensures.is)
     (out_does engine.lists out.new.lists engine.seats c.args.s c.self.invariant joined leaving out.result.0 out.result.1 out.ensures.goes)
@@ -61,8 +63,63 @@ returns-in_default-clause-nears g c =
     let joined : c.args.s < length engine.lists.names = subst (λ st. c.args.s < length st.lists.names) (sym c.self.view_is) c.requires.joined in
     let works : is_working (seat_at engine.seats c.args.s) ≡ true =
     subst (λ st. is_working (seat_at st.seats c.args.s) ≡ true) (sym c.self.view_is) c.requires.working in
-    let leaving = leaving_is (seat_at engine.seats c.args.s) works (λ statement is. c.in_default.not-Busy statement (c.replace.ensures.was ∙ is)) in
+    let leaving = leaving_is (seat_at engine.seats c.args.s) works (λ statement is. c.in_default.not-Busy statement (c.replace.ensures.was ∙ is))
+    (λ item is. c.in_default.not-Signalling item (c.replace.ensures.was ∙ is)) in
     let out = c.go_out-seat in
     rw (← c.self.view_is, c.replace-in_default.ensures.is, c.replace.ensures.is)
     (out_nears engine.lists out.new.lists engine.seats c.args.s c.self.invariant joined leaving out.result.0 out.result.1 out.ensures.goes
     out.ensures.nears)
+
+pub invariant_of-self-in-Signalling : goal.invariant_of-self-in-Signalling
+invariant_of-self-in-Signalling g c =
+    let engine = c.self.inside in
+    let joined : c.args.s < length engine.lists.names = subst (λ st. c.args.s < length st.lists.names) (sym c.self.view_is) c.requires.joined in
+    let does = c.signal-seat in
+    rw (c.replace-in-Signalling.ensures.is, c.replace.ensures.is)
+    (signals_keep engine.lists does.new.lists engine.seats c.args.s c.self.invariant joined c.args.now c.in-Signalling.item
+    (sym c.replace.ensures.was ∙ c.in-Signalling.is) does.result.0 does.result.1 does.ensures)
+
+pub returns-in-Signalling-clause-steps : goal.returns-in-Signalling-clause-steps
+returns-in-Signalling-clause-steps g c =
+    let engine = c.self.inside in
+    let joined : c.args.s < length engine.lists.names = subst (λ st. c.args.s < length st.lists.names) (sym c.self.view_is) c.requires.joined in
+    let does = c.signal-seat in
+    rw (← c.self.view_is, c.replace-in-Signalling.ensures.is, c.replace.ensures.is)
+    (signals_do engine.lists does.new.lists engine.seats c.args.s c.self.invariant joined c.args.now c.in-Signalling.item
+    (sym c.replace.ensures.was ∙ c.in-Signalling.is) does.result.0 does.result.1 does.ensures)
+
+pub returns-in-Signalling-clause-nears : goal.returns-in-Signalling-clause-nears
+returns-in-Signalling-clause-nears g c =
+    let engine = c.self.inside in
+    let joined : c.args.s < length engine.lists.names = subst (λ st. c.args.s < length st.lists.names) (sym c.self.view_is) c.requires.joined in
+    let does = c.signal-seat in
+    rw (← c.self.view_is, c.replace-in-Signalling.ensures.is, c.replace.ensures.is)
+    (signals_near engine.lists does.new.lists engine.seats c.args.s c.self.invariant joined c.args.now c.in-Signalling.item
+    (sym c.replace.ensures.was ∙ c.in-Signalling.is) does.result.0 does.result.1 does.ensures)
+
+pub returns-in-Signalling-clause-waits : goal.returns-in-Signalling-clause-waits
+returns-in-Signalling-clause-waits g c =
+    let engine = c.self.inside in
+    let joined : c.args.s < length engine.lists.names = subst (λ st. c.args.s < length st.lists.names) (sym c.self.view_is) c.requires.joined in
+    let does = c.signal-seat in
+    rw (c.replace-in-Signalling.ensures.is, c.replace.ensures.is)
+    (signals_patient engine.lists does.new.lists engine.seats c.args.s c.self.invariant joined c.args.now c.in-Signalling.item
+    (sym c.replace.ensures.was ∙ c.in-Signalling.is) does.result.0 does.result.1 does.ensures)
+
+pub returns-in-Signalling-clause-waited : goal.returns-in-Signalling-clause-waited
+returns-in-Signalling-clause-waited g c =
+    let engine = c.self.inside in
+    let joined : c.args.s < length engine.lists.names = subst (λ st. c.args.s < length st.lists.names) (sym c.self.view_is) c.requires.joined in
+    let does = c.signal-seat in
+    rw (← c.self.view_is)
+    (signals_wait engine.lists does.new.lists engine.seats c.args.s c.self.invariant joined c.args.now c.in-Signalling.item
+    (sym c.replace.ensures.was ∙ c.in-Signalling.is) does.result.0 does.result.1 does.ensures)
+
+pub returns-in-Busy-clause-waited : goal.returns-in-Busy-clause-waited
+returns-in-Busy-clause-waited g c =
+    let busy = sym c.replace.ensures.was ∙ c.in-Busy.is in
+    λ item waited at is. absurd (let both = sym busy ∙ (ap (λ st. seat_at st.seats c.args.s) c.self.view_is ∙ at) in cc)
+
+pub returns-in_default-clause-waited : goal.returns-in_default-clause-waited
+returns-in_default-clause-waited g c =
+    λ item waited at is. absurd (c.in_default.not-Signalling item (c.replace.ensures.was ∙ (ap (λ st. seat_at st.seats c.args.s) c.self.view_is ∙ at)))

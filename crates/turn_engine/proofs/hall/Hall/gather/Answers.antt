@@ -15,10 +15,12 @@ pub returns-clause-idle : goal.returns-clause-idle
 returns-clause-idle g c =
     let p = c.into_pass-pass.ensures in
     first_idle (g.E.Recorded.board c.close.result) c.args.first
-    (gathers _ _ c.args.first c.args.receipts.items _ p.rests.alone p.claim c.requires.first c.absorb.ensures.seat c.close.ensures.held).0 c.requires.first p.idle
+    (gathers _ _ c.args.first c.args.receipts.items _ p.rests.alone p.claim c.requires.first c.absorb.ensures.seat c.close.ensures.held).0
+    c.requires.first p.idle
 
 pub returns-clause-others : goal.returns-clause-others
 returns-clause-others g c =
     let p = c.into_pass-pass.ensures in
-    others_quiet (g.E.Recorded.board c.close.result) c.args.first (gathers _ _ c.args.first c.args.receipts.items _ p.rests.alone p.claim c.requires.first c.absorb.ensures.seat c.close.ensures.held).2
+    others_quiet (g.E.Recorded.board c.close.result) c.args.first
+    (gathers _ _ c.args.first c.args.receipts.items _ p.rests.alone p.claim c.requires.first c.absorb.ensures.seat c.close.ensures.held).2
     c.close.ensures.unseated
