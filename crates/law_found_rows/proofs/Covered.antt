@@ -23,7 +23,8 @@ use Rattle.inno_db.specs.Refusals.{refusal}
 use Rattle.inno_db.specs.Outcome.{outcome, matching, unless_refused, on_rows, on_number, on_schema, select_answer, update_answer, delete_answer, answered, counted, updated, deleted, selected_of}
 use Rattle.sql_plan.specs.declared.choice.Plan.{Plan}
 use Rattle.sql_plan.specs.Covers.{CoversMatches}
-use Rattle.sql_plan.specs.Visits.{is_from, is_up_to, is_within, index_key, IsRowOf}
+use Rattle.inno_types.specs.Ranges.{is_from, is_up_to, is_within}
+use Rattle.sql_plan.specs.Visits.{index_key, IsRowOf}
 use Rattle.law_found_rows.specs.Plans.{SearchesFor, IsOpenRange}
 use Rattle.law_found_rows.proofs.Passing.{passing_map, rows_of-passing}
 

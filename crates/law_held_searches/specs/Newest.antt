@@ -5,7 +5,8 @@ use Rattle.row_versions.specs.Chains.{Chains}
 use Rattle.law_coded_rows.specs.Tables.{Said, what_is_there, HasItsColumns, in_table}
 use Rattle.sql_plan.specs.declared.choice.Plan.{Plan}
 use Rattle.sql_plan.specs.Plans.{whole_index}
-use Rattle.sql_plan.specs.Visits.{is_within, index_key}
+use Rattle.inno_types.specs.Ranges.{is_within}
+use Rattle.sql_plan.specs.Visits.{index_key}
 use Rattle.world.specs.State.{WorldState}
 use Rattle.row_changes.specs.Told.{AreRowsAs}
 use Rattle.row_search.specs.declared.found.FoundRow.{FoundRow}

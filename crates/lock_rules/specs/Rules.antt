@@ -66,6 +66,10 @@ rule_mode DuplicateCheck mode = S
 rule_mode Changed mode = X
 rule_mode rule mode = mode
 
+-- a search of the clustered index for one key, which finds one record at most
+abbrev pub is_unique : Case → Bool
+is_unique c = c.index % 8 == 0 && is_single c.range
+
 -- a record that the search visits in its range
 abbrev pub is_visited : Case → Place → Bool
 is_visited c Within = c.spot.index == c.index && is_within c.range c.spot.key
@@ -92,11 +96,11 @@ is_clustered_of c New = false
 
 -- the case is one of the rule
 abbrev pub is_case_of : Rule → Case → Bool
-is_case_of UniqueFound c = is_single c.range && is_visited c c.place && not c.marked
-is_case_of UniqueMarked c = is_single c.range && is_visited c c.place && c.marked
-is_case_of UniqueAbsent c = is_single c.range && is_passed c c.place
-is_case_of RangeRecord c = is_visited c c.place
-is_case_of PastRange c = is_passed c c.place
+is_case_of UniqueFound c = is_unique c && is_visited c c.place && not c.marked
+is_case_of UniqueMarked c = is_unique c && is_visited c c.place && c.marked
+is_case_of UniqueAbsent c = is_unique c && is_passed c c.place
+is_case_of RangeRecord c = not (is_unique c) && is_visited c c.place
+is_case_of PastRange c = not (is_unique c) && is_passed c c.place
 is_case_of ClusteredOfEntry c = is_clustered_of c c.place && not c.marked
 is_case_of ToInsert c = is_changed c c.place
 is_case_of Inserted c = is_changed c c.place && is_some c.spot.key

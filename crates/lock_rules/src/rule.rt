@@ -2,6 +2,7 @@
 //! A lock's reason shows the rule's number. The engine asks before each request; definitions of histories cite the same words.
 
 ghost use Rattle.std.specs.Prelude.{◌≡◌, ◌∷◌, take, length, is_some, Some, IfSome, IfNone, None, ℕ, option_copied};
+ghost use Rattle.inno_types.specs.Ranges as keys;
 ghost use Rattle.lock_rules.specs.Ranges as ranges;
 ghost use Rattle.lock_rules.specs.Rules as spec;
 
@@ -152,11 +153,12 @@ impl Rule {
         ensures { result ≡ spec.is_case_of self case.now }
     {
         match self {
-            Rule::UniqueFound => is_single(&case.range) && case.is_visited() && !case.marked,
-            Rule::UniqueMarked => is_single(&case.range) && case.is_visited() && case.marked,
-            Rule::UniqueAbsent => is_single(&case.range) && case.is_passed(),
-            Rule::RangeRecord | Rule::LowerSearch => case.is_visited(),
-            Rule::PastRange => case.is_passed(),
+            Rule::UniqueFound => case.is_unique() && case.is_visited() && !case.marked,
+            Rule::UniqueMarked => case.is_unique() && case.is_visited() && case.marked,
+            Rule::UniqueAbsent => case.is_unique() && case.is_passed(),
+            Rule::RangeRecord => !case.is_unique() && case.is_visited(),
+            Rule::PastRange => !case.is_unique() && case.is_passed(),
+            Rule::LowerSearch => case.is_visited(),
             Rule::ClusteredOfEntry => case.is_clustered_of_entry() && !case.marked,
             Rule::ToInsert => case.is_changed(),
             Rule::Inserted | Rule::DuplicateCheck | Rule::Changed => {
@@ -179,6 +181,13 @@ impl Rule {
 }
 
 impl Case {
+    /// Whether the search is one of the clustered index for one key.
+    fn is_unique(&self) -> bool
+        ensures { result ≡ spec.is_unique self.now }
+    {
+        self.index % 8 == 0 && is_single(&self.range)
+    }
+
     fn is_visited(&self) -> bool
         ensures { result ≡ spec.is_visited self.now self.now.place }
     {
@@ -231,9 +240,9 @@ impl Case {
     }
 }
 
-/// As many of the key's first bytes as the bound has, against the bound.
-fn against(bound: &Bytes, key: &[u8]) -> Ordering
-    ensures { result ≡ ranges.against bound.now key.now }
+/// As many of the key's first bytes as the bound has, beside the bound.
+fn beside(key: &[u8], bound: &Bytes) -> Ordering
+    ensures { result ≡ keys.beside key.now bound.now }
 {
     let bound = bound.as_slice();
     let front = key.get(..bound.len()).unwrap_or(key);
@@ -241,22 +250,22 @@ fn against(bound: &Bytes, key: &[u8]) -> Ordering
 }
 
 fn is_from(low: &Bound, key: &[u8]) -> bool
-    ensures { result ≡ ranges.is_from low.now key.now }
+    ensures { result ≡ keys.is_from low.now key.now }
 {
     match low {
         Bound::Open => true,
-        Bound::With(bound) => against(bound, key).is_ge(),
-        Bound::Without(bound) => against(bound, key).is_gt(),
+        Bound::With(bound) => beside(key, bound).is_ge(),
+        Bound::Without(bound) => beside(key, bound).is_gt(),
     }
 }
 
 fn is_up_to(high: &Bound, key: &[u8]) -> bool
-    ensures { result ≡ ranges.is_up_to high.now key.now }
+    ensures { result ≡ keys.is_up_to high.now key.now }
 {
     match high {
         Bound::Open => true,
-        Bound::With(bound) => against(bound, key).is_le(),
-        Bound::Without(bound) => against(bound, key).is_lt(),
+        Bound::With(bound) => beside(key, bound).is_le(),
+        Bound::Without(bound) => beside(key, bound).is_lt(),
     }
 }
 

@@ -22,7 +22,8 @@ use Rattle.sql_plan.specs.declared.choice.Plan.{Plan}
 use Rattle.sql_plan.specs.declared.part.Bounding.{Bounding}
 use Rattle.sql_plan.specs.Parts.{ranges_of}
 use Rattle.sql_plan.specs.Plans.{places_of, key_on, after_clustered, index_on, chosen_column, allowed, plan_if, plan_by, plan_of, whole_index}
-use Rattle.sql_plan.specs.Visits.{is_within, index_key, are_indexable, IsRowOf}
+use Rattle.inno_types.specs.Ranges.{is_within}
+use Rattle.sql_plan.specs.Visits.{index_key, are_indexable, IsRowOf}
 use Rattle.sql_plan.specs.Covers.{CoversMatches}
 use Rattle.sql_history.specs.Readings.{is_plain_select}
 use Rattle.plain_sql.specs.Finding.{IsReadFrom}

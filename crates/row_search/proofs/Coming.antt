@@ -12,7 +12,8 @@ use Rattle.entries.specs.Pairs.{Pair, key_cmp, IsFirstOf, NonePasses}
 use Rattle.entries.proofs.Order.{key_cmp_total, key_itself}
 use Rattle.law_coded_rows.specs.Entries.{is_same_value}
 use Rattle.law_coded_rows.proofs.Values.{value_itself, one_key}
-use Rattle.sql_plan.specs.Visits.{is_from, is_up_to, is_within, kind_at, index_key}
+use Rattle.inno_types.specs.Ranges.{is_from, is_up_to, is_within}
+use Rattle.sql_plan.specs.Visits.{kind_at, index_key}
 use Rattle.row_search.specs.declared.found.FoundRow.{FoundRow}
 use Rattle.row_search.specs.declared.scan.Scan.{Scan}
 use Rattle.row_search.specs.FoundRows.{IsSeenRow, AreFound}

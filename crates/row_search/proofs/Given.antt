@@ -12,7 +12,7 @@ use Rattle.chain.specs.declared.kept.Kept.{Kept}
 use Rattle.row_versions.specs.declared.version.Version.{Version}
 use Rattle.row_versions.specs.Chains.{first_seen}
 use Rattle.law_coded_rows.specs.Records.{IsRecordWith}
-use Rattle.sql_plan.specs.Visits.{is_from, is_up_to}
+use Rattle.inno_types.specs.Ranges.{is_from, is_up_to}
 use Rattle.world.specs.State.{WorldState, index_of}
 use Rattle.row_search.specs.declared.side.Side.{Side}
 use Rattle.row_search.specs.declared.side.Side.TheVariants.{Before, Within, Behind}

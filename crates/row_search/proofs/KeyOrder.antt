@@ -9,7 +9,7 @@ use Rattle.inno_types.specs.declared.stmt.Bound.{Bound}
 use Rattle.inno_types.specs.declared.stmt.Bound.TheVariants.{Open, With, Without}
 use Rattle.entries.specs.Pairs.{key_cmp}
 use Rattle.entries.proofs.Order.{key_cmp_is, same_key}
-use Rattle.sql_plan.specs.Visits.{beside, is_from, is_up_to}
+use Rattle.inno_types.specs.Ranges.{beside, is_from, is_up_to}
 use Rattle.row_search.specs.Ranges.{bound_bytes}
 
 -- ---- any total order

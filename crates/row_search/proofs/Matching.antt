@@ -19,7 +19,8 @@ use Rattle.law_coded_rows.specs.Entries.{is_same_value}
 use Rattle.law_coded_rows.proofs.Values.{value_total, same_value}
 use Rattle.law_coded_rows.proofs.FirstPlaces.{keys_order}
 use Rattle.sql_plan.specs.declared.choice.Plan.{Plan}
-use Rattle.sql_plan.specs.Visits.{kind_at, primary_key, index_key, is_within}
+use Rattle.inno_types.specs.Ranges.{is_within}
+use Rattle.sql_plan.specs.Visits.{kind_at, primary_key, index_key}
 use Rattle.sql_plan.specs.Covers.{CoversMatches}
 use Rattle.row_search.specs.declared.found.FoundRow.{FoundRow}
 use Rattle.row_search.specs.FoundRows.{IsSeenRow, times_found, once_if, RiseByKey, AreFound}

@@ -11,7 +11,8 @@ use Rattle.chain.specs.declared.kept.Kept.{Kept}
 use Rattle.row_versions.specs.declared.version.Version.{Version}
 use Rattle.row_versions.specs.Chains.{older}
 use Rattle.law_coded_rows.specs.Records.{LeadTo}
-use Rattle.sql_plan.specs.Visits.{is_within, index_key}
+use Rattle.inno_types.specs.Ranges.{is_within}
+use Rattle.sql_plan.specs.Visits.{index_key}
 use Rattle.world.specs.State.{WorldState, index_of}
 use Rattle.world.specs.Undoing.{IsUnchanged}
 use Rattle.row_search.specs.declared.found.FoundRow.{FoundRow}

@@ -8,7 +8,8 @@ use Rattle.inno_types.specs.declared.stmt.Bound.TheVariants.{Open, With, Without
 use Rattle.inno_types.specs.declared.stmt.Range.{Range}
 use Rattle.key_codec.specs.Keys.{key_width}
 use Rattle.entries.specs.Pairs.{key_cmp}
-use Rattle.sql_plan.specs.Visits.{is_from, is_up_to, is_within, index_key, kind_at}
+use Rattle.inno_types.specs.Ranges.{is_from, is_up_to, is_within}
+use Rattle.sql_plan.specs.Visits.{index_key, kind_at}
 use Rattle.row_search.specs.declared.side.Side.{Side}
 use Rattle.row_search.specs.declared.side.Side.TheVariants.{Before, Within, Behind}
 use Rattle.row_search.specs.declared.scan.Scan.{Scan}

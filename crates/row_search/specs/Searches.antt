@@ -12,7 +12,8 @@ use Rattle.chain.specs.declared.kept.Kept.{Kept}
 use Rattle.row_versions.specs.declared.version.Version.{Version}
 use Rattle.row_versions.specs.Chains.{first_seen}
 use Rattle.law_coded_rows.specs.Records.{LeadTo, IsRecordWith}
-use Rattle.sql_plan.specs.Visits.{is_within, kind_at, primary_key}
+use Rattle.inno_types.specs.Ranges.{is_within}
+use Rattle.sql_plan.specs.Visits.{kind_at, primary_key}
 use Rattle.world.specs.State.{WorldState, index_of}
 use Rattle.row_search.specs.declared.scan.Scan.{Scan}
 use Rattle.row_search.specs.declared.phase.Phase.{Phase}

@@ -3,7 +3,8 @@
 ghost use Rattle.std.specs.Prelude.{◌≡◌, [], length, take, IfOk};
 ghost use Rattle.std.specs.Ordering.{nat_cmp};
 ghost use Rattle.std.specs.Cmp.Lexicographic.{slice_cmp};
-ghost use Rattle.sql_plan.specs.Visits.{beside as beside_lem, is_from, is_up_to, kind_at};
+ghost use Rattle.inno_types.specs.Ranges.{beside as beside_lem, is_from, is_up_to};
+ghost use Rattle.sql_plan.specs.Visits.{kind_at};
 ghost use Rattle.row_search.specs.Ranges.{bound_bytes, IsOnSide, primary_part};
 
 use crate::side::Side;

@@ -13,7 +13,8 @@ use Rattle.law_past_agreement.specs.Rows.{seen}
 use Rattle.law_past_agreement.specs.DatabaseTables.{with_all_tables}
 use Rattle.sql_plan.specs.declared.choice.Plan.{Plan}
 use Rattle.sql_plan.specs.Plans.{whole_index}
-use Rattle.sql_plan.specs.Visits.{is_within, index_key}
+use Rattle.inno_types.specs.Ranges.{is_within}
+use Rattle.sql_plan.specs.Visits.{index_key}
 use Rattle.shared_lists.specs.declared.answers.Reading.{Reading}
 use Rattle.shared_lists.specs.declared.answers.Reading.TheVariants.{View, Newest}
 use Rattle.shared_lists.specs.declared.answers.Searched.{Searched}

@@ -23,7 +23,8 @@ use Rattle.sql_plan.specs.declared.choice.Plan.{Plan}
 use Rattle.sql_plan.specs.Parts.{ranges_of}
 use Rattle.sql_plan.specs.Bounds.{HaveSize, range_of}
 use Rattle.sql_plan.specs.Plans.{places_of, key_on, after_clustered, index_on, first_keyed, chosen_column, allowed, plan_if, plan_on, plan_by, plan_of, searched_if, searched, searched_in, searched_by}
-use Rattle.sql_plan.specs.Visits.{is_within, kind_if, primary_key, entry_if, index_key, value_if, leading_value, are_indexable, IsRowOf}
+use Rattle.inno_types.specs.Ranges.{is_within}
+use Rattle.sql_plan.specs.Visits.{kind_if, primary_key, entry_if, index_key, value_if, leading_value, are_indexable, IsRowOf}
 use Rattle.sql_plan.specs.Covers.{CoversMatches, PassesNulls}
 use Rattle.search_range.proofs.Admitted.{Admits, and_both}
 use Rattle.sql_plan.proofs.Gathered.{AllAllow, all_allow, IsPresent, bounded_present, found_present, admitted}

@@ -23,7 +23,7 @@ use Rattle.search_range.specs.declared.interval.Limit.TheVariants.{Open, With, W
 use Rattle.search_range.specs.declared.interval.Interval.{Interval}
 use Rattle.search_range.specs.Intervals.{is_empty}
 use Rattle.sql_plan.specs.Bounds.{HasSize, HaveSize, value_bytes, bound_bytes, null_bytes, low_bound, high_bound, range_of}
-use Rattle.sql_plan.specs.Visits.{beside, is_from, is_up_to, is_within}
+use Rattle.inno_types.specs.Ranges.{beside, is_from, is_up_to, is_within}
 use Rattle.search_range.proofs.Admitted.{Admits, and_both, both_and, has_type, low_admits, high_admits, admits_some}
 use Rattle.sql_plan.proofs.Bytes.{placed}
 

@@ -7,7 +7,8 @@ use Rattle.inno_types.specs.declared.stmt.Filter.{Filter}
 use Rattle.inno_db.specs.declared.truth.Truth.TheVariants.{True}
 use Rattle.inno_db.specs.Conditions.{truth_of}
 use Rattle.sql_plan.specs.declared.choice.Plan.{Plan}
-use Rattle.sql_plan.specs.Visits.{is_within, index_key, leading_value, IsRowOf}
+use Rattle.inno_types.specs.Ranges.{is_within}
+use Rattle.sql_plan.specs.Visits.{index_key, leading_value, IsRowOf}
 
 -- each row that meets the condition has its key in the range
 abbrev pub CoversMatches : Schema → Filter → Plan → Type 0

@@ -1,9 +1,6 @@
--- Which keys of an index lie in a range, and the keys that a row has.
-use Rattle.std.specs.Prelude.{◌≡◌, ℕ, ◌-◌, ◌==◌, Bool, true, not, ◌&&◌, List, [], length, take, Option, Some, None, if◌then◌else◌, slice_get, slice_index_or}
+-- The keys that a row has in the indexes of its table.
+use Rattle.std.specs.Prelude.{◌≡◌, ℕ, ◌-◌, ◌==◌, Bool, ◌&&◌, List, [], Option, Some, None, if◌then◌else◌, slice_get, slice_index_or}
 use Rattle.std.specs.List.{list_all}
-use Rattle.std.specs.declared.cmp.Ordering.{Ordering}
-use Rattle.std.specs.Ordering.{nat_cmp, is_lt, is_le, is_gt, is_ge}
-use Rattle.std.specs.Cmp.Lexicographic.{slice_cmp}
 use Rattle.inno_types.specs.declared.value.Value.{Value}
 use Rattle.inno_types.specs.declared.value.Value.TheVariants.{Null}
 use Rattle.inno_types.specs.declared.value.Kind.{Kind}
@@ -11,30 +8,9 @@ use Rattle.inno_types.specs.declared.value.Kind.TheVariants.{BigInt}
 use Rattle.inno_types.specs.declared.value.Column.{Column}
 use Rattle.inno_types.specs.declared.value.Key.{Key}
 use Rattle.inno_types.specs.declared.value.Schema.{Schema}
-use Rattle.inno_types.specs.declared.stmt.Bound.{Bound}
-use Rattle.inno_types.specs.declared.stmt.Bound.TheVariants.{Open, With, Without}
-use Rattle.inno_types.specs.declared.stmt.Range.{Range}
 use Rattle.inno_db.specs.Database.{key_of}
 use Rattle.inno_db.specs.Declarations.{is_indexable}
 use Rattle.key_codec.specs.Keys.{HasEntry, key_code, entry_code}
-
--- a key beside a bound: as many first bytes are compared as the bound has
-abbrev pub beside : List ℕ → List ℕ → Ordering
-beside key bound = slice_cmp nat_cmp (take (length bound) key) bound
-
-abbrev pub is_from : Bound → List ℕ → Bool
-is_from Open key = true
-is_from (With bound) key = is_ge (beside key bound)
-is_from (Without bound) key = is_gt (beside key bound)
-
-abbrev pub is_up_to : Bound → List ℕ → Bool
-is_up_to Open key = true
-is_up_to (With bound) key = is_le (beside key bound)
-is_up_to (Without bound) key = is_lt (beside key bound)
-
--- whether a key lies in a range
-abbrev pub is_within : Range → List ℕ → Bool
-is_within range key = not range.empty && (is_from range.low key && is_up_to range.high key)
 
 abbrev pub kind_if : Option Column → Kind
 kind_if None = BigInt

@@ -25,7 +25,8 @@ use Rattle.inno_db.specs.Storing.{place_in_tuple, literal_at, stored, misfit, un
 use Rattle.inno_db.specs.Typing.{type_of, type_if, literal_fits, given_fits, all_fit, filter_fits, tuple_fits}
 use Rattle.sql_plan.specs.declared.choice.Plan.{Plan}
 use Rattle.sql_plan.specs.Plans.{whole_index}
-use Rattle.sql_plan.specs.Visits.{is_within, index_key}
+use Rattle.inno_types.specs.Ranges.{is_within}
+use Rattle.sql_plan.specs.Visits.{index_key}
 use Rattle.write_plan.specs.Keys.{is_value, values_given, has_given_key, is_place, is_plain_key, IsMade}
 use Rattle.write_plan.specs.Planning.{Covers, HoldsKeys}
 

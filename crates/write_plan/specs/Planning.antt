@@ -14,7 +14,8 @@ use Rattle.inno_db.specs.Typing.{filter_fits, tuple_fits}
 use Rattle.sql_plan.specs.declared.choice.Plan.{Plan}
 use Rattle.sql_plan.specs.Covers.{CoversMatches}
 use Rattle.sql_plan.specs.Plans.{plan_of, whole_index}
-use Rattle.sql_plan.specs.Visits.{are_indexable, is_within, index_key, IsRowOf}
+use Rattle.inno_types.specs.Ranges.{is_within}
+use Rattle.sql_plan.specs.Visits.{are_indexable, index_key, IsRowOf}
 use Rattle.write_plan.specs.Keys.{is_plain_key, has_given_key, IsMade}
 
 -- the plan that is chosen for a condition; all of the table, where a column that leads an index is long

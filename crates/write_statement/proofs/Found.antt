@@ -39,7 +39,8 @@ use Rattle.shared_lists.specs.Fitting.{FitsThen}
 use Rattle.shared_lists.specs.State.{State}
 use Rattle.sql_plan.specs.declared.choice.Plan.{Plan}
 use Rattle.sql_plan.specs.Plans.{whole_index}
-use Rattle.sql_plan.specs.Visits.{is_within, index_key, IsRowOf}
+use Rattle.inno_types.specs.Ranges.{is_within}
+use Rattle.sql_plan.specs.Visits.{index_key, IsRowOf}
 use Rattle.sql_lists.specs.Kept.{AreStanding, AreInOrder, IsInOrder, made}
 use Rattle.write_statement.specs.declared.machine.Search.{Search}
 use Rattle.write_statement.specs.declared.settling.Settled.{Settled}
