@@ -37,7 +37,7 @@ pub record Passed (tree : Tree) (pages : ℕ → List ℕ) (ys : List ℕ) (n pa
   pub same : first_in tree pages ys ≡ first_in tree pages zs
   pub count : length zs + n ≤ length ys
 
-leaves_each : (P : ℕ → Type 0) (level : List ℕ) (lows : List (List ℕ)) → AllByRecursion (AllByRecursion P) (level ∷ lows)
+pub leaves_each : (P : ℕ → Type 0) (level : List ℕ) (lows : List (List ℕ)) → AllByRecursion (AllByRecursion P) (level ∷ lows)
     → AllByRecursion P (leaves_of (level ∷ lows))
 leaves_each P level [] each = each.0
 leaves_each P level (low ∷ lows) each = leaves_each P low lows each.1

@@ -9,6 +9,7 @@ use Rattle.btree.specs.declared.page.Down.{Down}
 use Rattle.btree.specs.declared.page.Down.TheVariants.{Leaf, Child}
 use Rattle.std.specs.List.{slice_get}
 use Rattle.entries.specs.Pairs.{Pair}
+use Rattle.entries.specs.Calls.{HasKey}
 use Rattle.law_flat_tree.specs.Pages.{pair_of, leaf_pairs}
 use Rattle.btree.specs.declared.tree.Bound.{Bound}
 use Rattle.btree.specs.declared.leaf.Met.{Met}
@@ -18,7 +19,7 @@ use Rattle.btree.specs.Walks.{IsReadableLeaf, HasRow, Meets, Begins}
 use Rattle.btree.specs.Layout.{width_of, IsLaidOut}
 use Rattle.btree.specs.Descents.{IsReadable, IsChildFor, Leads}
 
-u16-behind : (at : ℕ) (a b : List ℕ) → 20 ≤ at → drop 20 a ≡ drop 20 b → u16_at at a ≡ u16_at at b
+pub u16-behind : (at : ℕ) (a b : List ℕ) → 20 ≤ at → drop 20 a ≡ drop 20 b → u16_at at a ≡ u16_at at b
 unfolding u16_at
 u16-behind at a b begins same = ap (λ (l : List ℕ). from_be_bytes w16 (take 2 l)) (drop-behind at a b begins same)
 
@@ -26,10 +27,10 @@ module _ (a b : List ℕ) (same : drop 20 a ≡ drop 20 b) where
   pub same_level : level_of a ≡ level_of b
   same_level = byte-behind 21 a b (omega arith) same
 
-  same_count : count_of a ≡ count_of b
+  pub same_count : count_of a ≡ count_of b
   same_count = u16-behind 22 a b (omega arith) same
 
-  same_width : record_len_of a ≡ record_len_of b
+  pub same_width : record_len_of a ≡ record_len_of b
   same_width = u16-behind 32 a b (omega arith) same
 
   pub same_right : right_of a ≡ right_of b
@@ -92,3 +93,6 @@ module _ (a b : List ℕ) (same : drop 20 a ≡ drop 20 b) where
 
   pub pairs_shown : (n i : ℕ) (found : Option Pair) → slice_get (leaf_pairs n a) i ≡ found → slice_get (leaf_pairs n b) i ≡ found
   pairs_shown n i found is = subst (λ rs. slice_get (map (pair_of n) rs) i ≡ found) same_records is
+
+  pub key_shown : (n i : ℕ) (key : List ℕ) → HasKey key (slice_get (leaf_pairs n a) i) → HasKey key (slice_get (leaf_pairs n b) i)
+  key_shown n i key has = subst (λ rs. HasKey key (slice_get (map (pair_of n) rs) i)) same_records has

@@ -3,6 +3,7 @@ use Rattle.std.specs.Prelude.{◌≡◌, ℕ, ◌<◌, Bool, true, false, List, 
 use Rattle.store_api.specs.declared.visits.Visit.{Visit}
 use Rattle.std.specs.List.{slice_get}
 use Rattle.entries.specs.Pairs.{Pair}
+use Rattle.entries.specs.Calls.{HasKey}
 use Rattle.page_format.specs.Words.{level_of, right_of, records_of}
 use Rattle.page_format.specs.Shape.{AreRising}
 use Rattle.law_flat_tree.specs.Levels.{head_or}
@@ -76,3 +77,8 @@ is_found (Err why) = false
 abbrev pub IsRow : Bool → List ℕ → List ℕ → Option Pair → Type 0
 IsRow true key value pair = pair ≡ Some (key, value)
 IsRow false key value pair = pair ≡ None
+
+-- the key that was read is that of the pair, or there is none
+abbrev pub IsNextKey : Bool → List ℕ → Option Pair → Type 0
+IsNextKey true key pair = HasKey key pair
+IsNextKey false key pair = pair ≡ None

@@ -4,10 +4,11 @@
 ghost use Rattle.std.specs.Prelude.{◌≡◌, ◌<◌, ◌≤◌, length, IfOk, IfErr, OnOk, OnErr, MatchBool, Some, vec_capacity};
 ghost use Rattle.std.specs.List.{slice_get};
 ghost use Rattle.store_api.specs.declared.visits.Visit.TheVariants.{Bad};
+ghost use Rattle.entries.specs.Calls.{HasKey};
 ghost use Rattle.law_flat_tree.specs.Pages.{leaf_pairs};
 ghost use Rattle.btree.specs.Walks.{IsReadableLeaf, HasRow, Meets, Begins};
 
-use crate::page::{COUNT, FIELD, LEVEL, first_place, is_laid_out, read_u16, record_at};
+use crate::page::{COUNT, FIELD, LEVEL, first_place, is_laid_out, key_at, read_u16, record_at};
 use crate::tree::{Bound, Tree};
 use mtr::read_u32;
 use store_api::Visit;
@@ -27,7 +28,8 @@ pub struct Spot {
     pub place: u16,
 }
 
-fn is_readable_leaf(bytes: &[u8], tree: Tree) -> bool
+/// Whether the page can be read as a leaf of the tree.
+pub fn is_readable_leaf(bytes: &[u8], tree: Tree) -> bool
     requires { length bytes.now ≡ 4096 }
     ensures { MatchBool result (IsReadableLeaf tree bytes.now) (IsReadableLeaf tree bytes.now → ⊥) }
 {
@@ -108,5 +110,25 @@ pub fn copy_row(
     let (front, back) = record_at(bytes, spot.place).split_at(usize::from(tree.key_len));
     copy_into(front, key);
     copy_into(back, value);
+    Ok(())
+}
+
+/// Puts the key of a record into `key`. It stays where the page is refused.
+pub fn copy_key(bytes: &[u8], tree: Tree, spot: Spot, key: &mut Vec<u8>) -> Result<(), Visit>
+    requires size { length bytes.now ≡ 4096 }
+    requires key { tree.key_len ≤ vec_capacity key.old }
+    ensures key { OnOk result (HasKey key.new.items (slice_get (leaf_pairs tree.key_len bytes.now) spot.place)) }
+    ensures refused { IfErr result (λ why. (why ≡ Bad spot.page 1) × (HasRow tree spot.place bytes.now → ⊥)) }
+    ensures kept { OnErr result (key.new.items ≡ key.old.items) }
+    ensures room { vec_capacity key.old ≤ vec_capacity key.new }
+{
+    let page = spot.page;
+    if !is_readable_leaf(bytes, tree) {
+        return Err(Visit::Bad { page, rule: FIELD });
+    }
+    if spot.place >= read_u16(bytes, COUNT) {
+        return Err(Visit::Bad { page, rule: FIELD });
+    }
+    copy_into(key_at(bytes, tree, spot.place), key);
     Ok(())
 }

@@ -10,7 +10,8 @@ mod tree;
 mod walking;
 
 pub use descent::leaf_of;
-pub use leaf::Spot;
-pub use reading::{following, seek};
+pub use leaf::{Spot, is_readable_leaf};
+pub use page::{first_place, key_at, read_u16};
+pub use reading::{following, next_key, seek};
 pub use tree::{Bound, Tree};
 pub use walking::{find_first, read_row};

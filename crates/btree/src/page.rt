@@ -71,7 +71,7 @@ pub fn record_at(bytes: &[u8], i: u16) -> &[u8]
 }
 
 /// The key of a record, its first bytes.
-fn key_at(bytes: &[u8], tree: Tree, i: u16) -> &[u8]
+pub fn key_at(bytes: &[u8], tree: Tree, i: u16) -> &[u8]
     requires size { length bytes.now ≡ 4096 }
     requires laid_out { IsLaidOut tree bytes.now }
     requires place { i < count_of bytes.now }

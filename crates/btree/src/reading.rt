@@ -6,10 +6,10 @@ ghost use Rattle.mtr.specs.Calls.{GivesUp};
 ghost use Rattle.entries.specs.Pairs.{first_from, first_after};
 ghost use Rattle.btree.specs.Reads.{IsIdle, IsHindered};
 ghost use Rattle.btree.specs.Sound.{IsSoundTree, tree_pairs, first_by};
-ghost use Rattle.btree.specs.Walks.{is_found, IsRow};
+ghost use Rattle.btree.specs.Walks.{is_found, IsRow, IsNextKey};
 
 use crate::tree::{Bound, Tree};
-use crate::walking::{find_first, read_row};
+use crate::walking::{find_first, read_key, read_row};
 use mtr::Mtr;
 use store_api::Visit;
 
@@ -87,4 +87,30 @@ pub fn following<M: Mtr>(
     ensures reason { IfErr result (IsHindered (M.state m.old) (M.state m.new)) }
 {
     first_row(m, tree, Bound::Above, after, key, value)
+}
+
+/// Puts the first key above this one into `into`, and answers whether there is one.
+pub fn next_key<M: Mtr>(
+    m: &mut M,
+    tree: Tree,
+    key: &[u8],
+    into: &mut Vec<u8>,
+) -> Result<bool, Visit>
+    requires idle { IsIdle (M.state m.old) }
+    requires tree { IsTrue (M.state m.old).told → IsSoundTree tree (M.state m.old).standing }
+    requires room { tree.key_len ≤ vec_capacity into.old }
+    ensures next { IfOk result (λ found. IsTrue (M.state m.new).told
+        → IsNextKey found into.new.items (first_after key.now (tree_pairs tree (M.state m.old).standing))) }
+    ensures untouched { is_found result ≡ false → into.new.items ≡ into.old.items }
+    ensures room { vec_capacity into.old ≤ vec_capacity into.new }
+    ensures reads { GivesUp (M.state m.old) (M.state m.new) }
+    ensures reason { IfErr result (IsHindered (M.state m.old) (M.state m.new)) }
+{
+    match find_first(m, tree, Bound::Above, key)? {
+        None => Ok(false),
+        Some(spot) => {
+            read_key(m, tree, spot, into)?;
+            Ok(true)
+        }
+    }
 }

@@ -4,13 +4,14 @@
 ghost use Rattle.std.specs.Prelude.{◌≡◌, ◌≤◌, ℕ, List, IsTrue, IfOk, IfErr, OnOk, OnErr, Some, vec_capacity};
 ghost use Rattle.std.specs.List.{slice_get};
 ghost use Rattle.mtr.specs.Calls.{GivesUp};
+ghost use Rattle.entries.specs.Calls.{HasKey};
 ghost use Rattle.law_flat_tree.specs.Pages.{leaf_pairs};
 ghost use Rattle.btree.specs.Reads.{IsIdle, StopsAt, IsHindered};
 ghost use Rattle.btree.specs.Sound.{IsSoundTree, tree_pairs, first_by};
 ghost use Rattle.btree.specs.Walks.{IsReadableLeaf, HasRow, Meets, Begins, AreRest, Shows, first_in};
 
 use crate::descent::leaf_of;
-use crate::leaf::{Met, Spot, begin, copy_row, meet};
+use crate::leaf::{Met, Spot, begin, copy_key, copy_row, meet};
 use crate::tree::{Bound, Tree};
 use mtr::Mtr;
 use store_api::Visit;
@@ -116,6 +117,23 @@ pub fn read_row<M: Mtr>(
 {
     let bytes = m.bytes(spot.page)?;
     let read = copy_row(bytes, tree, spot, key, value);
+    m.give_up();
+    read
+}
+
+/// Puts the key of a row into `key`. It stays where the row isn't read.
+pub fn read_key<M: Mtr>(m: &mut M, tree: Tree, spot: Spot, key: &mut Vec<u8>) -> Result<(), Visit>
+    requires idle { IsIdle (M.state m.old) }
+    requires key { tree.key_len ≤ vec_capacity key.old }
+    ensures key { OnOk result (IsTrue (M.state m.new).told
+        → HasKey key.new.items (slice_get (leaf_pairs tree.key_len ((M.state m.old).standing spot.page)) spot.place)) }
+    ensures kept { OnErr result (key.new.items ≡ key.old.items) }
+    ensures room { vec_capacity key.old ≤ vec_capacity key.new }
+    ensures reads { GivesUp (M.state m.old) (M.state m.new) }
+    ensures reason { IfErr result (StopsAt spot.page (HasRow tree spot.place) (M.state m.old) (M.state m.new)) }
+{
+    let bytes = m.bytes(spot.page)?;
+    let read = copy_key(bytes, tree, spot, key);
     m.give_up();
     read
 }

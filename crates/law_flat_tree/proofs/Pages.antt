@@ -1,17 +1,18 @@
 -- What an edit of a leaf's records is to its pairs.
 use Rattle.std.proofs.Common.{◌≡◌, ℕ, Bool, true, false, if◌then◌else◌, ◌==◌, slice_index, zero, suc, ◌<◌, ◌≤◌, List, [], ◌∷◌, ◌++◌, length, take, drop}
-use Rattle.std.proofs.Common.{map, slice_index_or, insert, remove, refl, sym, ◌∙◌, ap, subst, arith}
+use Rattle.std.proofs.Common.{map, get_or, set, slice_index_or, insert, remove, refl, sym, ◌∙◌, ap, subst, arith, None}
+use Rattle.std.specs.Prelude.{is_some}
 use Rattle.std.specs.declared.cmp.Ordering.TheVariants.{Less, Equal, Greater}
 use Rattle.std.specs.Ordering.{nat_cmp}
 use Rattle.std.specs.List.{AllByRecursion}
 use Rattle.std.specs.Cmp.Lexicographic.{slice_cmp}
-use Rattle.std.proofs.lemmas.List.{map-append, take-map, take-append-drop}
+use Rattle.std.proofs.lemmas.List.{map-append, map-set, get_or-map, take-map, take-append-drop}
 use Rattle.std.proofs.lemmas.List.Elements.{recursion_from_All}
 use Rattle.std.proofs.Math.Seq.{take-append_seam, drop-append_seam}
-use Rattle.entries.specs.Pairs.{key_cmp, with_pair, without_key}
+use Rattle.entries.specs.Pairs.{Pair, key_cmp, AreRising, value_of, with_pair, without_key}
 use Rattle.entries.specs.Places.{StandsAt, IsGapAt}
 use Rattle.entries.proofs.Order.{key_cmp_is, key_itself, lower_from, higher_from}
-use Rattle.entries.proofs.Edits.{insert_gap, remove_stands}
+use Rattle.entries.proofs.Edits.{insert_gap, set_stands, remove_stands, found_at, value_gap}
 use Rattle.page_format.specs.Words.{low_of, high_of, right_of, level_of, records_of}
 use Rattle.page_format.specs.Found.{IsFound}
 use Rattle.page_format.specs.Changes.{KeepsFields, IsLowerHalf, IsUpperHalf}
@@ -33,14 +34,14 @@ lower key r greater = lower_from (take (length key) r) key (key_cmp_is (take (le
 abbrev pub Below : List ℕ → List ℕ → Type 0
 Below key r = slice_cmp nat_cmp (take (length key) r) key ≡ Less
 
-gap : (key : List ℕ) (rs : List (List ℕ)) (i : ℕ) → AllByRecursion (Below key) (take i rs) → i ≤ length rs
+pub gap : (key : List ℕ) (rs : List (List ℕ)) (i : ℕ) → AllByRecursion (Below key) (take i rs) → i ≤ length rs
     → (i < length rs → slice_cmp nat_cmp (take (length key) (slice_index_or rs i [])) key ≡ Greater) → IsGapAt key (map (pair_of (length key)) rs) i
 gap key [] zero below within here = tt
 gap key [] (suc i) below within here = absurd (omega (arith, within))
 gap key (r ∷ rs) zero below within here = lower key r (here (omega arith))
 gap key (r ∷ rs) (suc i) below within here = (higher key r below.0, gap key rs i below.1 (omega (arith, within)) (λ lt. here (omega (arith, lt))))
 
-stands : (key : List ℕ) (rs : List (List ℕ)) (i : ℕ) → AllByRecursion (Below key) (take i rs) → i < length rs
+pub stands : (key : List ℕ) (rs : List (List ℕ)) (i : ℕ) → AllByRecursion (Below key) (take i rs) → i < length rs
     → take (length key) (slice_index_or rs i []) ≡ key → StandsAt key (map (pair_of (length key)) rs) i
 stands key [] i below within here = absurd (omega (arith, within))
 stands key (r ∷ rs) zero below within here = subst (λ k. key_cmp key k ≡ Equal) (sym here) (key_itself key)
@@ -82,6 +83,33 @@ remove_record old new key i found is =
     ∙ map-remove (pair_of (length key)) (records_of old) i
     ∙ remove_stands key (leaf_pairs (length key) old) i (stands key (records_of old) i
     (recursion_from_All (Below key) (take i (records_of old)) found.0) found.1 found.2)
+
+-- the record that begins with the key gets another value
+pub replace_record : (old new key value : List ℕ) (i : ℕ) → IsFound (records_of old) key (At i)
+    → records_of new ≡ set (records_of old) i (key ++ value) → leaf_pairs (length key) new ≡ with_pair key value (leaf_pairs (length key) old)
+replace_record old new key value i found is =
+    let n = length key in
+    let there : get_or (leaf_pairs n old) i ([], []) ≡ pair_of n (get_or (records_of old) i []) =
+    get_or-map (pair_of n) (records_of old) i [] ([], []) found.1 in
+    let same : (get_or (leaf_pairs n old) i ([], [])).0 ≡ key = ap (λ (pair : Pair). pair.0) there ∙ found.2 in
+    ap (map (pair_of n)) is
+    ∙ map-set (pair_of n) (records_of old) i (key ++ value)
+    ∙ ap (λ p. set (leaf_pairs n old) i p) (pair_spelled key value)
+    ∙ ap (λ k. set (leaf_pairs n old) i (k, value)) (sym same)
+    ∙ set_stands key value (leaf_pairs n old) i ([], []) (stands key (records_of old) i
+    (recursion_from_All (Below key) (take i (records_of old)) found.0) found.1 found.2)
+
+-- the record that begins with the key has its pair
+pub record_there : (bytes key : List ℕ) (i : ℕ) → IsFound (records_of bytes) key (At i) → is_some (value_of key (leaf_pairs (length key) bytes)) ≡ true
+record_there bytes key i found =
+    (found_at key (leaf_pairs (length key) bytes) i (stands key (records_of bytes) i
+    (recursion_from_All (Below key) (take i (records_of bytes)) found.0) found.1 found.2)).there
+
+pub record_absent : (bytes key : List ℕ) (i : ℕ) → IsFound (records_of bytes) key (Before i) → AreRising (leaf_pairs (length key) bytes)
+    → value_of key (leaf_pairs (length key) bytes) ≡ None
+record_absent bytes key i found rising =
+    value_gap key (leaf_pairs (length key) bytes) i rising (gap key (records_of bytes) i
+    (recursion_from_All (Below key) (take i (records_of bytes)) found.0) found.1 found.2)
 
 -- ---- the place in the tree
 

@@ -2,7 +2,8 @@
 use Rattle.std.proofs.Common.{◌≡◌, map, ◌≢◌, ◌⊎◌, inl, inr, ℕ, true, false, eqb, List, [], ◌∷◌, ◌++◌, length, insert, remove, sym, ◌∙◌, ap, subst, arith}
 use Rattle.std.specs.List.{AllByRecursion}
 use Rattle.std.proofs.lemmas.Bool.Decides.{eqb_tells}
-use Rattle.entries.specs.Pairs.{with_pair, without_key}
+use Rattle.std.specs.Prelude.{slice_set, is_some, None}
+use Rattle.entries.specs.Pairs.{Pair, value_of, with_pair, without_key}
 use Rattle.page_format.specs.Words.{level_of, records_of}
 use Rattle.page_format.specs.Found.{IsFound}
 use Rattle.page_format.specs.declared.records.Found.TheVariants.{At, Before}
@@ -14,8 +15,8 @@ use Rattle.law_flat_tree.specs.Descents.{Holds, IsWay, IsAsDeep, AreAllInner, en
 use Rattle.law_flat_tree.specs.Pages.{low_fence, high_fence, pair_of, node_of, leaf_pairs}
 use Rattle.law_flat_tree.specs.Trees.{nodes, pairs_in, levels_from, AreNumbered, IsTree, IsEmptyRoot, all_pairs, ChangesRecords}
 use Rattle.law_flat_tree.proofs.Descents.{way_holds, root_holds}
-use Rattle.law_flat_tree.proofs.Edits.{put_edits, removal_edits}
-use Rattle.law_flat_tree.proofs.Pages.{kept_leaf, put_record, remove_record}
+use Rattle.law_flat_tree.proofs.Edits.{put_edits, removal_edits, value_read}
+use Rattle.law_flat_tree.proofs.Pages.{kept_leaf, put_record, replace_record, remove_record, record_there, record_absent}
 
 pub top_row : (node : ℕ → Node) (root : ℕ) (lows : List (List ℕ)) → AreLevels node (levels_from root lows) → IsRow node First (root ∷ []) Last 0
 top_row node root [] stand = stand
@@ -118,6 +119,46 @@ removes old new root lows key p i tree holds found records changes =
     removal_edits (nodes n old) (pairs_in n old) (pairs_in n new) (leaves_of (levels_from root lows)) key p
     (bottom_row (nodes n old) (root ∷ []) lows tree.levels) tree.leaves holds edited in
     (still_tree n old new root lows p tree (is_leaf n old root lows key p tree holds) changes done.1, done.0)
+
+pub replaces : (old new : ℕ → List ℕ) (root : ℕ) (lows : List (List ℕ)) (key value : List ℕ) (p i : ℕ) → IsTree (length key) old root lows
+    → Holds (nodes (length key) old) (leaves_of (levels_from root lows)) key p
+    → IsFound (records_of (old p)) key (At i) → records_of (new p) ≡ slice_set (records_of (old p)) i (key ++ value) → ChangesRecords p old new
+    → IsTree (length key) new root lows × (all_pairs (length key) new root lows ≡ with_pair key value (all_pairs (length key) old root lows))
+replaces old new root lows key value p i tree holds found records changes =
+    let n = length key in
+    let edited : IsEdited (with_pair key value) p (pairs_in n old) (pairs_in n new) = record {
+      here = replace_record (old p) (new p) key value i found records;
+      others = λ q ne. ap (leaf_pairs n) (changes.others q ne);
+    } in
+    let done =
+    put_edits (nodes n old) (pairs_in n old) (pairs_in n new) (leaves_of (levels_from root lows)) key p
+    (bottom_row (nodes n old) (root ∷ []) lows tree.levels) tree.leaves holds value edited in
+    (still_tree n old new root lows p tree (is_leaf n old root lows key p tree holds) changes done.1, done.0)
+
+-- ---- what the leaf of a key tells
+
+pub leaf_in : (node : ℕ → Node) (held : ℕ → List Pair) (xs ys : List ℕ) (p : ℕ) → AreLeaves node held (xs ++ p ∷ ys) → IsLeaf (node p) (held p)
+leaf_in node held [] ys p leaves = leaves.0
+leaf_in node held (x ∷ xs) ys p leaves = leaf_in node held xs ys p leaves.1
+
+pub held_leaf : (n : ℕ) (pages : ℕ → List ℕ) (root : ℕ) (lows : List (List ℕ)) (key : List ℕ) (p : ℕ) → IsTree n pages root lows
+    → Holds (nodes n pages) (leaves_of (levels_from root lows)) key p → IsLeaf (nodes n pages p) (pairs_in n pages p)
+held_leaf n pages root lows key p tree holds =
+    leaf_in (nodes n pages) (pairs_in n pages) holds.xs holds.ys p (subst (λ l. AreLeaves (nodes n pages) (pairs_in n pages) l) holds.whole tree.leaves)
+
+module _ (pages : ℕ → List ℕ) (root : ℕ) (lows : List (List ℕ)) (key : List ℕ) (p : ℕ) (tree : IsTree (length key) pages root lows)
+    (holds : Holds (nodes (length key) pages) (leaves_of (levels_from root lows)) key p) where
+  told_here : value_of key (all_pairs (length key) pages root lows) ≡ value_of key (leaf_pairs (length key) (pages p))
+  told_here =
+      let n = length key in
+      value_read (nodes n pages) (pairs_in n pages) (pairs_in n pages) (leaves_of (levels_from root lows)) key p
+      (bottom_row (nodes n pages) (root ∷ []) lows tree.levels) tree.leaves holds
+
+  pub key_there : (i : ℕ) → IsFound (records_of (pages p)) key (At i) → is_some (value_of key (all_pairs (length key) pages root lows)) ≡ true
+  key_there i found = ap is_some told_here ∙ record_there (pages p) key i found
+
+  pub key_absent : (i : ℕ) → IsFound (records_of (pages p)) key (Before i) → value_of key (all_pairs (length key) pages root lows) ≡ None
+  key_absent i found = told_here ∙ record_absent (pages p) key i found (held_leaf (length key) pages root lows key p tree holds).rising
 
 -- an empty leaf alone is a tree
 pub empty_tree : (n : ℕ) (pages : ℕ → List ℕ) (root : ℕ) → IsEmptyRoot (pages root) → IsTree n pages root [] × (all_pairs n pages root [] ≡ [])

@@ -9,7 +9,8 @@ mod page_splits;
 mod searches;
 
 pub use leaf_edits::{
-    a_key_is_removed_from_its_leaf, a_pair_is_put_into_its_leaf, an_empty_root_is_a_tree,
+    a_key_is_removed_from_its_leaf, a_leaf_tells_whether_a_key_is_there,
+    a_pair_is_put_into_its_leaf, a_value_is_replaced_in_its_leaf, an_empty_root_is_a_tree,
 };
 pub use levels::{a_merge_keeps_the_tree, a_raise_keeps_the_tree, a_split_keeps_the_tree};
 pub use page_splits::{

@@ -1,0 +1,5 @@
+pub mod Bytes
+pub mod Finding
+pub mod Whole
+pub mod Steps
+pub mod InLeaf

@@ -1,0 +1,61 @@
+use Rattle.std.proofs.Common.{refl, subst}
+use Rattle.std.proofs.lemmas.Result.{err_from_is_err_and}
+use Rattle.btree.proofs.Steps.{asked_one}
+use Rattle.btree_change.specs.Edits.{IsPlace}
+use Rattle.btree_change.proofs.InLeaf.{Finds, leaf_within, leaf_some, not_refused, is_absent, is_removed}
+use Rattle.btree_change.proofs.Steps.{asked_visited, looked_touches, touches_then}
+use Rattle.btree_change.proofs.leaf_changes.remove_in.Goals as goal
+
+pub returns-in_err-i-clause-touches : goal.returns-in_err-i-clause-touches
+returns-in_err-i-clause-touches g c = looked_touches c.args.leaf _ _ (asked_one c.args.leaf _ _ _ c.bytes.follows.holds-at-none)
+
+pub returns-in_err-i-clause-reason : goal.returns-in_err-i-clause-reason
+returns-in_err-i-clause-reason g c =
+    let looked = asked_one c.args.leaf _ _ _ c.bytes.follows.holds-at-none in
+    let p = err_from_is_err_and c.from_residual-in_err-i.result c.from_residual-in_err-i.ensures.1 in
+    rw (p.1, p.2)
+    (not_refused c.args.tree c.args.leaf c.args.key.now c.in_ok-bytes.bytes.now _ _ c.requires.key c.requires.leaf looked c.in_ok-bytes.ensures.shown
+    c.in_err-i.field-0.0 c.in_err-i.ensures.refused)
+
+pub put_edit-requires-clause-dealt_with : goal.put_edit-requires-clause-dealt_with
+put_edit-requires-clause-dealt_with g c = asked_visited c.args.leaf _ _ c.bytes.result _ c.in_ok-bytes.was c.bytes.follows.holds-at-none
+
+pub put_edit-requires-clause-within : goal.put_edit-requires-clause-within
+put_edit-requires-clause-within g c =
+    let looked = asked_one c.args.leaf _ _ _ c.bytes.follows.holds-at-none in
+    leaf_within c.args.tree c.args.leaf c.args.key.now c.in_ok-bytes.bytes.now _ _ c.requires.key c.requires.leaf looked c.in_ok-bytes.ensures.shown
+
+pub put_edit-requires-clause-some : goal.put_edit-requires-clause-some
+put_edit-requires-clause-some g c =
+    let looked = asked_one c.args.leaf _ _ _ c.bytes.follows.holds-at-none in
+    leaf_some c.args.tree c.args.leaf c.args.key.now c.in_ok-bytes.bytes.now _ _ c.requires.key c.requires.leaf looked c.in_ok-bytes.ensures.shown
+
+pub returns-in_err-put_edit-in-At-clause-touches : goal.returns-in_err-put_edit-in-At-clause-touches
+returns-in_err-put_edit-in-At-clause-touches g c =
+    let looked = asked_one c.args.leaf _ _ _ c.bytes.follows.holds-at-none in
+    touches_then c.args.leaf _ _ _ (looked_touches c.args.leaf _ _ looked) c.in_err-put_edit-in-At.ensures.touches
+
+pub returns-in_ok-put_edit-in-At-clause-touches : goal.returns-in_ok-put_edit-in-At-clause-touches
+returns-in_ok-put_edit-in-At-clause-touches g c =
+    let looked = asked_one c.args.leaf _ _ _ c.bytes.follows.holds-at-none in
+    touches_then c.args.leaf _ _ _ (looked_touches c.args.leaf _ _ looked) c.in_ok-put_edit-in-At.ensures.touches
+
+pub returns-in_ok-put_edit-in-At-clause-done : goal.returns-in_ok-put_edit-in-At-clause-done
+returns-in_ok-put_edit-in-At-clause-done g c = λ told.
+    let looked = asked_one c.args.leaf _ _ _ c.bytes.follows.holds-at-none in
+    let found = subst (Finds c.args.tree c.args.key.now c.in_ok-bytes.bytes.now) c.in-At.is c.in_ok-i.ensures.found in
+    let place = subst (IsPlace c.in_ok-bytes.bytes.now) c.in-At.is c.in_ok-i.ensures.within in
+    is_removed c.args.tree c.args.leaf c.args.key.now c.in_ok-bytes.bytes.now _ _ c.requires.key c.requires.leaf looked c.in_ok-bytes.ensures.shown
+    _ told _ c.in_ok-put_edit-in-At.ensures.put c.in-At.i c.removal-edit.result refl
+    found place c.removal-edit.ensures
+
+pub returns-in-Before-clause-touches : goal.returns-in-Before-clause-touches
+returns-in-Before-clause-touches g c = looked_touches c.args.leaf _ _ (asked_one c.args.leaf _ _ _ c.bytes.follows.holds-at-none)
+
+pub returns-in-Before-clause-done : goal.returns-in-Before-clause-done
+returns-in-Before-clause-done g c = λ told.
+    let looked = asked_one c.args.leaf _ _ _ c.bytes.follows.holds-at-none in
+    let none =
+    is_absent c.args.tree c.args.leaf c.args.key.now c.in_ok-bytes.bytes.now _ _ c.requires.key c.requires.leaf looked c.in_ok-bytes.ensures.shown
+    told c.in-Before.field-0 (subst (Finds c.args.tree c.args.key.now c.in_ok-bytes.bytes.now) c.in-Before.is c.in_ok-i.ensures.found) in
+    (none, (looked.same told).seen)

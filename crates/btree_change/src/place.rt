@@ -1,0 +1,54 @@
+//! Where a leaf has a key, and whether it has room for one record more. The page is read where it stands.
+
+ghost use Rattle.std.specs.Prelude.{◌≡◌, ◌+◌, ◌*◌, ◌≤◌, length, take, map, MatchBool, OnOk, IfOk, IfErr};
+ghost use Rattle.store_api.specs.declared.visits.Visit.TheVariants.{Bad};
+ghost use Rattle.page_format.specs.Found.{IsFound};
+ghost use Rattle.page_format.specs.Shape.{AreRising};
+ghost use Rattle.page_format.specs.Words.{count_of, record_len_of, records_of};
+ghost use Rattle.btree.specs.Walks.{IsReadableLeaf};
+ghost use Rattle.btree_change.specs.Edits.{HasRoom, IsPlace};
+
+use crate::edit::{COUNT, WIDTH};
+use btree::{Bound, Tree, first_place, is_readable_leaf, key_at, read_u16};
+use page_format::Found;
+use std::cmp::Ordering;
+use store_api::Visit;
+
+const SIZE: usize = 4096;
+
+/// Where the records begin.
+const RECORDS: usize = 208;
+
+/// The rule that a page breaks by one of its fields.
+const FIELD: u8 = 1;
+
+/// Where the leaf has the key: at a record, or before one.
+pub fn find_in(bytes: &[u8], tree: Tree, page: u32, key: &[u8]) -> Result<Found, Visit>
+    requires size { length bytes.now ≡ 4096 }
+    requires key { length key.now ≡ tree.key_len }
+    ensures readable { OnOk result (IsReadableLeaf tree bytes.now) }
+    ensures found { IfOk result (λ found. AreRising (map (take tree.key_len) (records_of bytes.now)) → IsFound (records_of bytes.now) key.now found) }
+    ensures within { IfOk result (IsPlace bytes.now) }
+    ensures refused { IfErr result (λ why. (why ≡ Bad page 1) × (IsReadableLeaf tree bytes.now → ⊥)) }
+{
+    if !is_readable_leaf(bytes, tree) {
+        return Err(Visit::Bad { page, rule: FIELD });
+    }
+    let place = first_place(bytes, tree, Bound::AtOrAbove, key);
+    if place == read_u16(bytes, COUNT) {
+        return Ok(Found::Before(place));
+    }
+    match key_at(bytes, tree, place).cmp(key) {
+        Ordering::Equal => Ok(Found::At(place)),
+        _ => Ok(Found::Before(place)),
+    }
+}
+
+/// Whether one record more has room on the page.
+pub fn has_room(bytes: &[u8]) -> bool
+    requires { length bytes.now ≡ 4096 }
+    ensures { MatchBool result (HasRoom bytes.now) (HasRoom bytes.now → ⊥) }
+{
+    let count = usize::from(read_u16(bytes, COUNT));
+    RECORDS + (count + 1) * usize::from(read_u16(bytes, WIDTH)) <= SIZE
+}
