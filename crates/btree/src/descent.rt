@@ -19,7 +19,7 @@ const MOST_LEVELS: u8 = 8;
 const WRONG_LEVEL: u8 = 3;
 
 /// Where a page leads for a key.
-fn step_down<M: Mtr>(m: &mut M, tree: Tree, page: u32, key: &[u8]) -> Result<Down, Visit>
+pub fn step_down<M: Mtr>(m: &mut M, tree: Tree, page: u32, key: &[u8]) -> Result<Down, Visit>
     requires { IsIdle (M.state m.old) }
     ensures leads { IfOk result (λ down. IsTrue (M.state m.new).told → Leads tree key.now ((M.state m.old).standing page) down) }
     ensures reads { GivesUp (M.state m.old) (M.state m.new) }

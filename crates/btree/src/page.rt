@@ -119,7 +119,7 @@ pub enum Down {
 }
 
 /// The number of a record's child, behind its key.
-fn child_at(bytes: &[u8], tree: Tree, i: u16) -> u32
+pub fn child_at(bytes: &[u8], tree: Tree, i: u16) -> u32
     requires size { length bytes.now ≡ 4096 }
     requires laid_out { IsLaidOut tree bytes.now }
     requires inner { level_of bytes.now ≢ 0 }

@@ -36,7 +36,7 @@ pub fn begin_of(bytes: &[u8], i: u16) -> usize
 }
 
 /// Writes one more piece behind those that are there, and answers where it ends.
-fn lay(into: &mut [u8], at: usize, piece: &[u8]) -> usize
+pub fn lay(into: &mut [u8], at: usize, piece: &[u8]) -> usize
     requires { at + length piece.now ≤ length into.old }
     ensures end { result ≡ at + length piece.now }
     ensures front { take result into.new ≡ take at into.old ++ piece.now }

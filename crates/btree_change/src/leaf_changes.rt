@@ -25,7 +25,7 @@ pub enum Insertion {
 }
 
 /// Puts an edit on a page that was asked for.
-fn put_edit<M: Mtr>(m: &mut M, page: u32, edit: &Edit) -> Result<(), NoMemory>
+pub fn put_edit<M: Mtr>(m: &mut M, page: u32, edit: &Edit) -> Result<(), NoMemory>
     requires dealt_with { IsTrue (is_in page (M.state m.old).visited) }
     requires within { IsWithin page (M.state m.old) }
     requires some { IsTrue (M.state m.old).told → page ≢ 0 }

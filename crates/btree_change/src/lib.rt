@@ -8,4 +8,6 @@ mod leaf_changes;
 mod place;
 
 pub use changes::{insert, remove, replace};
-pub use leaf_changes::{Insertion, insert_in, remove_in, replace_in};
+pub use edit::{Edit, begin_of, lay};
+pub use leaf_changes::{Insertion, insert_in, put_edit, remove_in, replace_in};
+pub use place::has_room;

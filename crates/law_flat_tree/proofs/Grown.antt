@@ -15,7 +15,7 @@ alike_inner : (old new : ℕ → Node) (xs : List ℕ) → AreAlike old new xs �
 alike_inner old new [] alike inner = tt
 alike_inner old new (x ∷ xs) alike inner = (subst (λ (n : Node). BeginsAt n.low n.entries) (sym alike.0) inner.0, alike_inner old new xs alike.1 inner.1)
 
-alike_all_inner : (old new : ℕ → Node) (levels : List (List ℕ)) → AreLevelsAlike old new levels → AreAllInner old levels → AreAllInner new levels
+pub alike_all_inner : (old new : ℕ → Node) (levels : List (List ℕ)) → AreLevelsAlike old new levels → AreAllInner old levels → AreAllInner new levels
 alike_all_inner old new [] alike inner = tt
 alike_all_inner old new (level ∷ []) alike inner = tt
 alike_all_inner old new (level ∷ lower ∷ levels) alike inner =

@@ -6,7 +6,6 @@ use Rattle.std.proofs.lemmas.Bool.Decides.{eqb_tells}
 use Rattle.std.proofs.lemmas.List.{map-append, take-append-drop}
 use Rattle.entries.specs.Pairs.{Pair}
 use Rattle.page_format.specs.Words.{level_of, low_of, records_of}
-use Rattle.page_format.specs.Changes.{IsLowerHalf, IsUpperHalf}
 use Rattle.page_format.proofs.Edited.{same_byte}
 use Rattle.law_flat_tree.specs.Levels.{Fence, Node, heads, children, AreAlike, IsAbove, Splits, AreLevels, AreLevelsAlike}
 use Rattle.law_flat_tree.specs.Levels.Fence.{First, Key, Last}
@@ -14,7 +13,7 @@ use Rattle.law_flat_tree.specs.Leaves.{IsLeaf, HaveRoom, AreOthers, AreLeaves, p
 use Rattle.law_flat_tree.specs.Descents.{BeginsAt, AreAllInner, leaves_of}
 use Rattle.law_flat_tree.specs.Pages.{low_fence, high_fence, entries_of, pair_of, node_of, leaf_pairs}
 use Rattle.law_flat_tree.specs.Trees.{nodes, pairs_in, levels_from, AreNumbered, IsTree, all_pairs}
-use Rattle.law_flat_tree.specs.PageSplits.{StandsNowhere, IsChildAt, SplitsPage, IsSplitTree}
+use Rattle.law_flat_tree.specs.PageSplits.{StandsNowhere, IsChildAt, IsLowerPart, IsUpperPart, SplitsPage, IsSplitTree}
 use Rattle.law_flat_tree.proofs.Rows.{IsCut, first_of}
 use Rattle.law_flat_tree.proofs.Fences.{others_before, others_behind, others_by_mark}
 use Rattle.law_flat_tree.proofs.Splits.{split_levels}
@@ -98,7 +97,7 @@ not_leaf n low true rs begins = absurd begins
 not_leaf n low false rs begins = refl
 
 -- both halves of an inner page begin with a child
-begin_halves : (n : ℕ) (old lower upper : List ℕ) (i : ℕ) (key : List ℕ) (q : ℕ) → IsLowerHalf old i key q lower → IsUpperHalf old i key q upper → 0 < i
+begin_halves : (n : ℕ) (old lower upper : List ℕ) (i : ℕ) (key : List ℕ) (q : ℕ) → IsLowerPart old i key q lower → IsUpperPart old i key upper → 0 < i
     → i < length (records_of old)
     → BeginsAt (node_of n old).low (node_of n old).entries
     → BeginsAt (node_of n lower).low (node_of n lower).entries × BeginsAt (node_of n upper).low (node_of n upper).entries
@@ -334,7 +333,7 @@ module _ (old new : ℕ → List ℕ) (root : ℕ) (lows tops : List (List ℕ))
     go : ((eqb r u ≡ true) × (r ≡ u)) ⊎ ((eqb r u ≡ false) × (r ≢ u)) → ((eqb r p ≡ true) × (r ≡ p)) ⊎ ((eqb r p ≡ false) × (r ≢ p))
         → level_of (new r) ≡ level_of (old r)
     go (inl same) other = subst (λ x. level_of (new x) ≡ level_of (old x)) (sym same.1) u_same_level
-    go (inr one) (inl same) = subst (λ x. level_of (new x) ≡ level_of (old x)) (sym same.1) splits.lower.same.level
+    go (inr one) (inl same) = subst (λ x. level_of (new x) ≡ level_of (old x)) (sym same.1) splits.lower.level
     go (inr one) (inr other) = ap level_of (splits.others r one.1 other.1 ne)
 
   numbered_on : (levels : List (List ℕ)) → StandsNowhere q levels → AreNumbered old levels → AreNumbered new levels
@@ -348,7 +347,7 @@ module _ (old new : ℕ → List ℕ) (root : ℕ) (lows tops : List (List ℕ))
   with_half : (over : List (List ℕ)) → AreNumbered new (over ++ (cs ++ u ∷ ds) ∷ (xs ++ p ∷ ys) ∷ under)
       → AreNumbered new (over ++ (cs ++ u ∷ ds) ∷ (xs ++ p ∷ q ∷ ys) ∷ under)
   with_half [] numbered' =
-      (numbered'.0, (one_more (λ r. level_of (new r) ≡ length under) xs ys p q (splits.upper.same.level ∙ p_level) numbered'.1.0, numbered'.1.1))
+      (numbered'.0, (one_more (λ r. level_of (new r) ≡ length under) xs ys p q (splits.upper.level ∙ p_level) numbered'.1.0, numbered'.1.1))
   with_half (top ∷ over) numbered' = (
     each_of (λ r. level_of (new r) ≡ length (over ++ (cs ++ u ∷ ds) ∷ (xs ++ p ∷ ys) ∷ under))
         (λ r. level_of (new r) ≡ length (over ++ (cs ++ u ∷ ds) ∷ (xs ++ p ∷ q ∷ ys) ∷ under))

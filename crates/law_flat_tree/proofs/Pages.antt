@@ -15,13 +15,14 @@ use Rattle.entries.proofs.Order.{key_cmp_is, key_itself, lower_from, higher_from
 use Rattle.entries.proofs.Edits.{insert_gap, set_stands, remove_stands, found_at, value_gap}
 use Rattle.page_format.specs.Words.{low_of, high_of, right_of, level_of, records_of}
 use Rattle.page_format.specs.Found.{IsFound}
-use Rattle.page_format.specs.Changes.{KeepsFields, IsLowerHalf, IsUpperHalf}
+use Rattle.page_format.specs.Changes.{KeepsFields}
 use Rattle.page_format.proofs.Edited.{same_byte, middle_byte, middle_part}
 use Rattle.page_format.specs.Words.{u32_at, fence}
 use Rattle.std.specs.Int.{w32, from_be_bytes}
 use Rattle.page_format.specs.declared.records.Found.TheVariants.{At, Before}
 use Rattle.law_flat_tree.specs.Levels.{Fence, AreHalves}
 use Rattle.law_flat_tree.specs.Levels.Fence.{Key}
+use Rattle.law_flat_tree.specs.PageSplits.{IsLowerPart, IsUpperPart}
 use Rattle.law_flat_tree.specs.Pages.{low_fence, high_fence, child_of, entry_of, entries_of, node_of, pair_of, leaf_pairs}
 
 -- a record that begins below the key
@@ -163,12 +164,12 @@ by_level true xs ys zs same = refl
 by_level false xs ys zs same = same
 
 module _ (n : ℕ) (old lower upper : List ℕ) (i : ℕ) (key : List ℕ) (number : ℕ)
-    (below : IsLowerHalf old i key number lower) (above : IsUpperHalf old i key number upper) where
+    (below : IsLowerPart old i key number lower) (above : IsUpperPart old i key upper) where
   pub lower_entries : (node_of n lower).entries ≡ (if level_of old == 0 then [] else entries_of n (low_fence (low_of old)) (take i (records_of old)))
-  lower_entries = λ j. if below.same.level j == 0 then [] else entries_of n (low_fence (below.low j)) (below.records j)
+  lower_entries = λ j. if below.level j == 0 then [] else entries_of n (low_fence (below.low j)) (below.records j)
 
   pub upper_entries : (node_of n upper).entries ≡ (if level_of old == 0 then [] else entries_of n (Key key) (drop i (records_of old)))
-  upper_entries = λ j. if above.same.level j == 0 then [] else entries_of n (low_fence (above.low j)) (above.records j)
+  upper_entries = λ j. if above.level j == 0 then [] else entries_of n (low_fence (above.low j)) (above.records j)
 
   pub halves_of : 0 < i → i < length (records_of old) → key ≡ take n (slice_index_or (records_of old) i [])
       → AreHalves (node_of n old) (node_of n lower) (node_of n upper) number (Key key)

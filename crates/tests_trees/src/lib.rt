@@ -1,8 +1,12 @@
-//! A tree that is laid out by hand, read through the calls of `btree` and compared with the sorted vector that has the same
-//! pairs. There is nothing here but tests.
+//! Trees that are read and changed through the calls of `btree` and `btree_change`, beside the sorted vector that has the
+//! same pairs. There is nothing here but tests.
 #![tactic(auto)]
 
 #[cfg(test)]
-mod reading;
+mod changing;
 #[cfg(test)]
-mod still_pages;
+mod comparing;
+#[cfg(test)]
+mod loose_pages;
+#[cfg(test)]
+mod reading;

@@ -1,78 +1,20 @@
 //! A root over three leaves, the middle one empty: what `seek` and `following` find, beside a sorted vector.
 
-ghost use Rattle.std.specs.Prelude.{◌≡◌, ◌<◌, [], IfOk};
+ghost use Rattle.std.specs.Prelude.{◌≡◌, [], IfOk};
 
-use crate::still_pages::StillPages;
-use btree::{Tree, following, seek};
+use crate::comparing::{agree, in_tree, page_of};
+use crate::loose_pages::LoosePages;
 use entries::{Entries, ListIndex};
 use inno_types::Bytes;
-use std::alloc::{AllocError, Global};
+use std::alloc::Global;
 use std::test::Fail;
-use store_api::{Move, NoMemory, Visit};
-
-/// Keys of two bytes, and values of one.
-const TREE: Tree = Tree {
-    index: 8,
-    root: 3,
-    key_len: 2,
-    value_len: 1,
-};
+use store_api::NoMemory;
 
 /// The second bytes of the keys, of which the first are 1; a value is the key's second byte and 100.
 const KEYS: [u8; 6] = [10, 12, 14, 40, 42, 44];
 
-fn put(page: &mut [u8; 4096], at: usize, bytes: &[u8]) {
-    if at <= 4096 && bytes.len() <= 4096 - at {
-        page[at..at + bytes.len()].copy_from_slice(bytes);
-    }
-}
-
-/// A page of index 8 with these fences, this neighbour, and records of this length.
-fn page_of(level: u8, right: u8, low: u8, high: u8, width: u8, records: &[u8]) -> [u8; 4096]
-    requires { 0 < width }
-{
-    let mut page = [0; 4096];
-    let count = u8::try_from(records.len() / usize::from(width)).unwrap_or(0);
-    put(
-        &mut page,
-        20,
-        &[
-            if level == 0 { 3 } else { 4 },
-            level,
-            0,
-            count,
-            0,
-            0,
-            0,
-            8,
-            0,
-            0,
-            0,
-            right,
-            0,
-            width,
-        ],
-    );
-    put(
-        &mut page,
-        34,
-        &[
-            if low == 0 { 255 } else { 2 },
-            if high == 0 { 255 } else { 2 },
-        ],
-    );
-    if low != 0 {
-        put(&mut page, 36, &[1, low]);
-    }
-    if high != 0 {
-        put(&mut page, 116, &[1, high]);
-    }
-    put(&mut page, 208, records);
-    page
-}
-
-fn laid_out(alloc: Global) -> Result<StillPages, NoMemory>
-    ensures { IfOk result (λ still. still.visited.items ≡ []) }
+fn laid_out(alloc: Global) -> Result<LoosePages, NoMemory>
+    ensures { IfOk result (λ loose. loose.visited.items ≡ []) }
 {
     let mut pages = Vec::with_capacity(alloc, 7)?;
     for _ in 0..3 {
@@ -89,7 +31,7 @@ fn laid_out(alloc: Global) -> Result<StillPages, NoMemory>
     pages.push(page_of(0, 5, 0, 20, 3, &[1, 10, 110, 1, 12, 112, 1, 14, 114]))?;
     pages.push(page_of(0, 6, 20, 40, 3, &[]))?;
     pages.push(page_of(0, 0, 40, 0, 3, &[1, 40, 140, 1, 42, 142, 1, 44, 144]))?;
-    StillPages::new(alloc, pages)
+    LoosePages::new(alloc, pages)
 }
 
 fn listed(alloc: Global) -> Result<ListIndex, Fail> {
@@ -100,67 +42,6 @@ fn listed(alloc: Global) -> Result<ListIndex, Fail> {
         list.insert(1, &row, &value);
     }
     Ok(list)
-}
-
-fn last(bytes: &[u8]) -> u8 {
-    bytes.last().copied().unwrap_or(0)
-}
-
-/// The first row of the list at or above the key, by its last bytes.
-fn in_list(
-    alloc: Global,
-    list: &mut ListIndex,
-    key: &[u8],
-) -> Result<Option<(u8, u8)>, AllocError> {
-    match list.seek(1, &Bytes::from_vec(Vec::from_slice(alloc, key)?)) {
-        Move::At(key, value) => Ok(Some((last(key.as_slice()), last(value.as_slice())))),
-        _ => Ok(None),
-    }
-}
-
-/// The first row of the tree at or above the key, or above it, by its last bytes.
-fn in_tree(
-    alloc: Global,
-    m: &mut StillPages,
-    key: &[u8],
-    above: bool,
-) -> Result<Option<(u8, u8)>, Fail>
-    requires { m.old.visited.items ≡ [] }
-    ensures { m.new.visited.items ≡ [] }
-{
-    let mut row = Vec::with_capacity(alloc, 2)?;
-    let mut value = Vec::with_capacity(alloc, 1)?;
-    let found = if above {
-        following(m, TREE, key, &mut row, &mut value)?
-    } else {
-        seek(m, TREE, key, &mut row, &mut value)?
-    };
-    if found {
-        Ok(Some((last(&row), last(&value))))
-    } else {
-        Ok(None)
-    }
-}
-
-/// Whether the tree has what the list has, at or above each key of two bytes that begins so, and above it.
-fn agree(alloc: Global, m: &mut StillPages, list: &mut ListIndex, first: u8) -> Result<bool, Fail>
-    requires { m.old.visited.items ≡ [] }
-    ensures { m.new.visited.items ≡ [] }
-{
-    for second in 0..=60 {
-        let key = [first, second];
-        let behind = [first, second, 0];
-        if in_tree(alloc, m, &key, false)? != in_list(alloc, list, &key)? {
-            return Ok(false);
-        }
-        if in_tree(alloc, m, &key, true)? != in_list(alloc, list, &behind)? {
-            return Ok(false);
-        }
-        if in_tree(alloc, m, &behind, false)? != in_list(alloc, list, &behind)? {
-            return Ok(false);
-        }
-    }
-    Ok(true)
 }
 
 #[test]

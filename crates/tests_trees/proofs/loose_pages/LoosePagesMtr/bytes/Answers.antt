@@ -1,6 +1,6 @@
 use Rattle.std.proofs.Common.{refl, arith}
 use Rattle.std.proofs.lemmas.Bool.{false≢true}
-use Rattle.tests_trees.proofs.still_pages.StillPagesMtr.bytes.Goals as goal
+use Rattle.tests_trees.proofs.loose_pages.LoosePagesMtr.bytes.Goals as goal
 
 pub returns : goal.returns
 returns c = (
