@@ -1,8 +1,11 @@
 -- The bytes of a page from byte 20 on: what an edit and a stamp leave of them.
-use Rattle.std.proofs.Common.{◌≡◌, ℕ, zero, suc, ◌+◌, ◌-◌, ◌≤◌, List, [], ◌∷◌, ◌++◌, length, take, drop, replicate, refl, sym, ap, ◌∙◌, arith, length-append, length-drop, append_assoc}
+use Rattle.std.proofs.Common.{◌≡◌, ℕ, zero, suc, ◌+◌, ◌-◌, ◌^◌, ◌<◌, ◌≤◌, List, [], ◌∷◌, ◌++◌, length, take, drop, replicate, refl, sym, ap, ◌∙◌, arith, length-append, length-drop, append_assoc}
 use Rattle.std.proofs.lemmas.List.{take_at, drop_at, drop-drop, drop-take, drop-append-le, length-take-le, replicate-append-replicate, drop-replicate}
+use Rattle.std.specs.Int.{w32, w64, from_be_bytes}
+use Rattle.std.proofs.lemmas.Nat.{from_be_bytes-to_be_bytes_4, from_be_bytes-to_be_bytes_8}
 use Rattle.schema_codec.specs.Numbers.{u32_bytes, u64_bytes}
 use Rattle.schema_codec.proofs.Lengths.{length-u32, length-u64}
+use Rattle.page_format.specs.Words.{u32_at, u64_at, number_of, lsn_of}
 use Rattle.mtr.specs.Seen.{with_bytes}
 use Rattle.mini_txn.specs.Edits.{blank}
 use Rattle.mini_txn.specs.View.{body_of, stamped}
@@ -81,6 +84,23 @@ drop-stamped page lsn bytes size =
     let long : length front ≡ 20 =
     omega (arith, length-append (take 8 bytes) (u32_bytes page ++ u64_bytes lsn), length-append (u32_bytes page) (u64_bytes lsn), length-u32 page, length-u64 lsn, length-take-le 8 bytes (omega (arith, size))) in
     ap (drop 20) (stamp_parts page lsn bytes) ∙ drop_at front (drop 20 bytes) 20 long
+
+-- the number and the LSN of stamped bytes
+pub number-stamped : (page lsn : ℕ) (bytes : List ℕ) → 20 ≤ length bytes → page < 2 ^ 32 → number_of (stamped page lsn bytes) ≡ page
+unfolding u32_at u32_bytes
+number-stamped page lsn bytes size fits =
+    let rest : List ℕ = u64_bytes lsn ++ drop 20 bytes in
+    let cut : drop 8 (stamped page lsn bytes) ≡ u32_bytes page ++ rest = drop_at (take 8 bytes) (u32_bytes page ++ rest) 8 (length-take-le 8 bytes (omega (arith, size))) in
+    ap (λ (l : List ℕ). from_be_bytes w32 (take 4 l)) cut ∙ ap (from_be_bytes w32) (take_at (u32_bytes page) rest 4 refl) ∙ from_be_bytes-to_be_bytes_4 page fits
+
+pub lsn-stamped : (page lsn : ℕ) (bytes : List ℕ) → 20 ≤ length bytes → lsn < 2 ^ 64 → lsn_of (stamped page lsn bytes) ≡ lsn
+unfolding u64_at u64_bytes
+lsn-stamped page lsn bytes size fits =
+    let front : List ℕ = take 8 bytes ++ u32_bytes page in
+    let long : length front ≡ 12 = omega (arith, length-append (take 8 bytes) (u32_bytes page), length-u32 page, length-take-le 8 bytes (omega (arith, size))) in
+    let cut : drop 12 (stamped page lsn bytes) ≡ u64_bytes lsn ++ drop 20 bytes =
+    ap (drop 12) (sym (append_assoc (take 8 bytes) (u32_bytes page) (u64_bytes lsn ++ drop 20 bytes))) ∙ drop_at front (u64_bytes lsn ++ drop 20 bytes) 12 long in
+    ap (λ (l : List ℕ). from_be_bytes w64 (take 8 l)) cut ∙ ap (from_be_bytes w64) (take_at (u64_bytes lsn) (drop 20 bytes) 8 refl) ∙ from_be_bytes-to_be_bytes_8 lsn fits
 
 pub length-stamped : (page lsn : ℕ) (bytes : List ℕ) → length bytes ≡ 4096 → length (stamped page lsn bytes) ≡ 4096
 length-stamped page lsn bytes size =

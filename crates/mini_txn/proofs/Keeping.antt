@@ -1,14 +1,14 @@
 -- What a call leaves of the pool's slots.
-use Rattle.std.proofs.Common.{◌≡◌, ◌≢◌, ℕ, ◌+◌, ◌-◌, ◌<◌, ◌≤◌, Bool, true, false, cond, ◌⊎◌, inl, inr, List, [], ◌∷◌, ◌++◌, length, Option, Some, None, refl, sym, ap, subst, ◌∙◌, arith}
+use Rattle.std.proofs.Common.{◌≡◌, ◌≢◌, ℕ, ◌+◌, ◌-◌, ◌<◌, ◌≤◌, Bool, true, false, cond, ◌⊎◌, inl, inr, List, [], length, Option, Some, None, refl, sym, ap, subst, ◌∙◌, arith}
 use Rattle.std.specs.Prelude.{◌==◌, ◌&&◌, option_map, slice_set, slice_index_or, is_some, MatchOption}
 use Rattle.std.specs.List.{swap}
 use Rattle.std.specs.Option.{option_map_or}
 use Rattle.std.proofs.lemmas.Bool.{cases_eq, cases_lt, eqb-true, eqb-false}
-use Rattle.std.proofs.lemmas.List.{set-set, length-set, get_or-set_same, get_or-set_other, get_or_past, set_past}
+use Rattle.std.proofs.lemmas.List.{length-set, get_or-set_same, get_or-set_other, get_or_past}
 use Rattle.std.proofs.lemmas.List.Edits.{swap_is, length-swap}
 use Rattle.buffer_pool.specs.declared.frame.Content.{Content}
 use Rattle.buffer_pool.specs.declared.frame.Content.TheVariants.{Empty, New, Clean, Dirty}
-use Rattle.buffer_pool.specs.Frames.{FrameView, PoolView, slot_of, is_pooled, is_standing, bytes_of, fixes_of, holds_page, is_page, is_kept, is_written, is_idle, is_idle_at, next_idle, at_slot, with_used, moved, marked, content_after, fixed, unfixed, changed}
+use Rattle.buffer_pool.specs.Frames.{FrameView, PoolView, slot_of, is_pooled, is_standing, fixes_of, holds_page, is_page, is_kept, is_written, is_idle, is_idle_at, next_idle, at_slot, with_used, moved, marked, content_after, fixed, unfixed}
 use Rattle.buffer_pool.proofs.Orders.{last_where_passes}
 use Rattle.buffer_pool.proofs.SlotEdits.{idle_within}
 use Rattle.mini_txn.specs.Edits.{blank}

@@ -1,21 +1,21 @@
 -- What each call makes of the mini-transaction is what the trait asks of it.
-use Rattle.std.proofs.Common.{◌≡◌, ◌≢◌, ℕ, ◌+◌, ◌-◌, ◌<◌, ◌≤◌, Bool, true, false, cond, ◌⊎◌, inl, inr, List, [], ◌∷◌, ◌++◌, length, drop, replicate, Option, Some, None, IfSome, Bor, not, refl, sym, ap, subst, ◌∙◌, arith}
+use Rattle.std.proofs.Common.{◌≡◌, ◌≢◌, ℕ, ◌+◌, ◌<◌, ◌≤◌, Bool, true, false, cond, ◌⊎◌, inl, inr, List, [], ◌∷◌, ◌++◌, length, drop, Option, Some, None, IfSome, Bor, not, refl, sym, ap, subst, ◌∙◌, arith}
 use Rattle.std.specs.Prelude.{◌==◌, ◌||◌, is_some}
 use Rattle.std.specs.Option.{option_map_or, option_copied}
-use Rattle.std.proofs.lemmas.Bool.{cases_eq, eq-eqb, eqb-true, leb-true, le-leb}
+use Rattle.std.proofs.lemmas.Bool.{cases_eq, eq-eqb, eqb-true}
 use Rattle.page_format.specs.Words.{u32_at}
 use Rattle.log_format.specs.declared.group.Record.{Record}
 use Rattle.log_format.specs.declared.group.Record.TheVariants.{Put, Fresh}
 use Rattle.redo_log.specs.View.{LogView}
-use Rattle.buffer_pool.specs.Frames.{FrameView, PoolView, slot_of, is_pooled, is_standing, bytes_of, next_idle}
-use Rattle.mtr.specs.Seen.{MtrState, is_in, visit, IsWithin, IsShown, with_bytes}
-use Rattle.mtr.specs.Calls.{Keeps, Goes, SeesAt, Makes, Puts, Commits, fault_after}
+use Rattle.buffer_pool.specs.Frames.{PoolView, slot_of, is_pooled, is_standing, bytes_of, next_idle}
+use Rattle.mtr.specs.Seen.{is_in, visit, IsShown, with_bytes}
+use Rattle.mtr.specs.Calls.{Makes, Puts, Commits}
 use Rattle.mtr.proofs.Behind.{u32-behind}
 use Rattle.mtr.proofs.Counted.{none_counted}
 use Rattle.mini_txn.specs.declared.dealt.Entry.{Entry}
 use Rattle.mini_txn.specs.Dealt.{copy_of, pages_of, HasCopy}
-use Rattle.mini_txn.specs.Edits.{blank, edited, edited_by, spare_of}
-use Rattle.mini_txn.specs.View.{MiniView, body_of, standing_in, seen_in, fault_in, state_of, shows, IsReadable, AreFramed, AreTold, IsMini, KeepsPages, TakesFrame, Places, Writes, Blanks}
+use Rattle.mini_txn.specs.Edits.{blank, edited, spare_of}
+use Rattle.mini_txn.specs.View.{MiniView, body_of, standing_in, seen_in, fault_in, state_of, shows, IsReadable, AreFramed, IsMini, IsStamped, IsPut, KeepsPages, Places, Writes, Blanks}
 use Rattle.mini_txn.proofs.Bodies.{length-body, drop-body, body-written, body-blank, blank_is}
 use Rattle.mini_txn.proofs.Entries.{copied_is_in}
 use Rattle.mini_txn.proofs.Keeping.{stands_holds}
@@ -246,7 +246,7 @@ module _
 -- all stand
 module _
     (pool new_pool : PoolView) (log new_log : LogView) (dealt : List Entry) (records : List Record) (told : Bool)
-    (is : IsMini pool dealt records told) (places : Places pool dealt new_pool []) where
+    (is : IsMini pool dealt records told) (lsn : ℕ) (places : Places lsn pool dealt new_pool []) where
   shown_after : told ≡ true → (q : ℕ) → fault_in new_pool q ≡ cond (is_in q (pages_of dealt)) None (fault_in pool q)
   shown_after tells q =
       let so = is.told_so tells in
@@ -259,6 +259,13 @@ module _
         go (Some bytes) some false known =
             let clash : true ≡ false = sym (copied_is_in q dealt (ap is_some some)) ∙ known in
             absurd cc
+
+  pub commit_puts : told ≡ true → (page : ℕ) → IsPut (mini pool log dealt records told) (mini new_pool new_log [] [] told) lsn page
+  commit_puts tells page = go (places.frames (is.told_so tells).framed page) where
+    go : ((None ≡ copy_of dealt page) × (slot_of new_pool page ≡ slot_of pool page)) ⊎ IsStamped page lsn (slot_of new_pool page)
+        → ((copy_of dealt page ≡ None) × (slot_of new_pool page ≡ slot_of pool page)) ⊎ IsStamped page lsn (slot_of new_pool page)
+    go (inl same) = inl (sym same.0, same.1)
+    go (inr stamped) = inr stamped
 
   pub commit_commits : Commits (state_of (mini pool log dealt records told)) (state_of (mini new_pool new_log [] [] told))
   commit_commits = record {

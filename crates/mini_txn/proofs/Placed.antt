@@ -1,28 +1,43 @@
 -- Copies that are put into the pool: each page is seen there as the copy showed it.
-use Rattle.std.proofs.Common.{◌≡◌, ◌≢◌, ℕ, ◌<◌, Bool, true, false, cond, ◌⊎◌, inl, inr, List, [], ◌∷◌, ◌++◌, length, drop, Option, Some, None, refl, sym, ap, subst, ◌∙◌, arith}
+use Rattle.std.proofs.Common.{◌≡◌, ◌≢◌, ℕ, ◌<◌, Bool, true, false, cond, ◌⊎◌, inl, inr, List, [], ◌∷◌, ◌++◌, drop, Option, Some, None, refl, sym, ap, subst, ◌∙◌}
 use Rattle.std.specs.Prelude.{◌==◌, ◌||◌, option_map, is_some}
 use Rattle.std.specs.Option.{option_map_or}
 use Rattle.std.proofs.lemmas.Bool.{cases_eq, eq-eqb, eqb-true}
 use Rattle.std.proofs.lemmas.List.{length-set}
-use Rattle.buffer_pool.specs.declared.frame.Content.TheVariants.{Dirty}
+use Rattle.page_format.specs.Words.{number_of, lsn_of}
 use Rattle.buffer_pool.specs.Frames.{FrameView, PoolView, slot_of, is_pooled, is_standing, at_slot, changed}
 use Rattle.mini_txn.specs.declared.dealt.Entry.{Entry}
 use Rattle.mini_txn.specs.Dealt.{first_of, own_copy, copy_of}
-use Rattle.mini_txn.specs.View.{body_of, standing_in, seen_in, IsResident, AreFramed, shows, stamped, Places}
-use Rattle.mini_txn.proofs.Bodies.{body-same, drop-stamped}
+use Rattle.mini_txn.specs.View.{body_of, standing_in, seen_in, IsResident, AreFramed, shows, IsStamped, Places}
+use Rattle.mini_txn.proofs.Bodies.{body-same}
 use Rattle.mini_txn.proofs.Entries.{is_of, copy_of-push, own_apart, own_unread}
 use Rattle.mini_txn.proofs.Keeping.{holds, stands, shown_in, fixes_in, edit_here, edit_elsewhere}
 
-pub places_none : (pool : PoolView) (dealt : List Entry) → IsResident pool → Places pool dealt pool dealt
-places_none pool dealt resident = record { resident = resident; slots = refl; framed = λ h. h; seen = λ h q. refl; shown = λ h q. refl }
+pub places_none : (lsn : ℕ) (pool : PoolView) (dealt : List Entry) → IsResident pool → Places lsn pool dealt pool dealt
+places_none lsn pool dealt resident = record {
+  resident = resident;
+  slots = refl;
+  framed = λ h. h;
+  seen = λ h q. refl;
+  shown = λ h q. refl;
+  frames = λ h q. inl (refl, refl);
+}
 
-pub places_then : (a : PoolView) (x : List Entry) (b : PoolView) (y : List Entry) (c : PoolView) (z : List Entry) → Places a x b y → Places b y c z → Places a x c z
-places_then a x b y c z first next = record {
+frame_then : {copy_a copy_b copy_c : Option (List ℕ)} {slot_a slot_b slot_c : Option FrameView} (page lsn : ℕ)
+    → ((copy_b ≡ copy_a) × (slot_b ≡ slot_a)) ⊎ IsStamped page lsn slot_b → ((copy_c ≡ copy_b) × (slot_c ≡ slot_b)) ⊎ IsStamped page lsn slot_c
+    → ((copy_c ≡ copy_a) × (slot_c ≡ slot_a)) ⊎ IsStamped page lsn slot_c
+frame_then page lsn first (inr next) = inr next
+frame_then page lsn (inl first) (inl next) = inl (next.0 ∙ first.0, next.1 ∙ first.1)
+frame_then page lsn (inr first) (inl next) = inr (subst (IsStamped page lsn) (sym next.1) first)
+
+pub places_then : (lsn : ℕ) (a : PoolView) (x : List Entry) (b : PoolView) (y : List Entry) (c : PoolView) (z : List Entry) → Places lsn a x b y → Places lsn b y c z → Places lsn a x c z
+places_then lsn a x b y c z first next = record {
   resident = next.resident;
   slots = next.slots ∙ first.slots;
   framed = λ h. next.framed (first.framed h);
   seen = λ h q. next.seen (first.framed h) q ∙ first.seen h q;
   shown = λ h q. next.shown (first.framed h) q ∙ first.shown h q;
+  frames = λ h q. frame_then q lsn (first.frames h q) (next.frames (first.framed h) q);
 }
 
 apart_of : (e : Entry) (q : ℕ) → q ≢ e.page → is_of q e ≡ false
@@ -36,8 +51,8 @@ own_here e copied =
     ap (λ b. cond b (cond e.copied (Some e.bytes) None) None) (eq-eqb e.page e.page refl) ∙ ap (λ b. cond b (Some e.bytes) None) copied
 
 -- without a copy of the last entry nothing is to be put
-pub unread_places : (pool : PoolView) (front : List Entry) (e : Entry) → IsResident pool → e.copied ≡ false → Places pool (front ++ e ∷ []) pool front
-unread_places pool front e resident unread =
+pub unread_places : (lsn : ℕ) (pool : PoolView) (front : List Entry) (e : Entry) → IsResident pool → e.copied ≡ false → Places lsn pool (front ++ e ∷ []) pool front
+unread_places lsn pool front e resident unread =
     let same : (q : ℕ) → copy_of front q ≡ copy_of (front ++ e ∷ []) q = λ q. sym (copy_of-push front e q ∙ ap (first_of (copy_of front q)) (own_unread e q unread) ∙ first_none (copy_of front q)) in
     record {
       resident = resident;
@@ -45,6 +60,7 @@ unread_places pool front e resident unread =
       framed = λ h q some. h q (sym (ap is_some (same q)) ∙ some);
       seen = λ h q. ap (λ o. option_map_or body_of o (standing_in pool q)) (same q);
       shown = λ h q. ap (λ o. is_some o || is_standing pool q) (same q);
+      frames = λ h q. inl (same q, refl);
     } where
       first_none : (o : Option (List ℕ)) → first_of o None ≡ o
       first_none None = refl
@@ -59,8 +75,8 @@ first_some None p h = cc
 first_some (Some b) p h = refl
 
 -- where the last copy's page isn't in the pool, the pages aren't told
-pub lost_places : (pool : PoolView) (front : List Entry) (e : Entry) → IsResident pool → e.copied ≡ true → is_pooled pool e.page ≡ false → Places pool (front ++ e ∷ []) pool front
-lost_places pool front e resident copied absent =
+pub lost_places : (lsn : ℕ) (pool : PoolView) (front : List Entry) (e : Entry) → IsResident pool → e.copied ≡ true → is_pooled pool e.page ≡ false → Places lsn pool (front ++ e ∷ []) pool front
+lost_places lsn pool front e resident copied absent =
     let none : AreFramed pool (front ++ e ∷ []) → ⊥ = λ h.
     let some : is_some (copy_of (front ++ e ∷ []) e.page) ≡ true =
     ap is_some (copy_of-push front e e.page ∙ ap (first_of (copy_of front e.page)) (own_here e copied)) ∙ some_first (copy_of front e.page) e.bytes in
@@ -72,6 +88,7 @@ lost_places pool front e resident copied absent =
       framed = λ h. absurd (none h);
       seen = λ h q. absurd (none h);
       shown = λ h q. absurd (none h);
+      frames = λ h q. absurd (none h);
     }
 
 changed_held : (slot : Option FrameView) (bytes : List ℕ) → (holds slot ≡ true → 0 < fixes_in slot) → holds slot ≡ true → (holds (option_map (changed bytes) slot) ≡ true) × (0 < fixes_in (option_map (changed bytes) slot))
@@ -82,10 +99,14 @@ changed_shown : (slot : Option FrameView) (bytes : List ℕ) → holds slot ≡ 
 changed_shown None bytes there = absurd cc
 changed_shown (Some frame) bytes there = (refl, refl)
 
+changed_stamped : (slot : Option FrameView) (bytes : List ℕ) (page lsn : ℕ) → holds slot ≡ true → number_of bytes ≡ page → lsn_of bytes ≡ lsn → IsStamped page lsn (option_map (changed bytes) slot)
+changed_stamped None bytes page lsn there number stamp = absurd cc
+changed_stamped (Some frame) bytes page lsn there number stamp = (refl, number, stamp)
+
 -- the last copy is put into the pool
-pub last_places : (pool : PoolView) (front : List Entry) (e : Entry) (bytes : List ℕ) → IsResident pool → e.copied ≡ true → is_pooled pool e.page ≡ true → drop 20 bytes ≡ drop 20 e.bytes
-    → Places pool (front ++ e ∷ []) (at_slot e.page (changed bytes) pool) front
-last_places pool front e bytes resident copied there same =
+pub last_places : (lsn : ℕ) (pool : PoolView) (front : List Entry) (e : Entry) (bytes : List ℕ) → IsResident pool → e.copied ≡ true → is_pooled pool e.page ≡ true → number_of bytes ≡ e.page → lsn_of bytes ≡ lsn → drop 20 bytes ≡ drop 20 e.bytes
+    → Places lsn pool (front ++ e ∷ []) (at_slot e.page (changed bytes) pool) front
+last_places lsn pool front e bytes resident copied there number stamp same =
     let new = at_slot e.page (changed bytes) pool in
     let here = edit_here pool.slots e.page (changed bytes) in
     let elsewhere : (q : ℕ) → q ≢ e.page → slot_of new q ≡ slot_of pool q = λ q apart. edit_elsewhere pool.slots e.page q (option_map (changed bytes) (slot_of pool e.page)) apart in
@@ -116,6 +137,10 @@ last_places pool front e bytes resident copied there same =
         | inl is ↦ subst (λ (n : ℕ). shows new front n ≡ shows pool (front ++ e ∷ []) n) (sym is)
             (shown_here (copy_of front e.page) (is_standing new e.page) (is_standing pool e.page) (ap stands here ∙ shown.0) ∙ ap (λ o. is_some o || is_standing pool e.page) (sym copy_here))
         | inr apart ↦ ap (λ o. is_some o || is_standing new q) (sym (copy_elsewhere q apart)) ∙ ap (λ (b : Bool). is_some (copy_of (front ++ e ∷ []) q) || b) (ap stands (elsewhere q apart))
+      ];
+      frames = λ h q. elim (cases_eq q e.page) [
+        | inl is ↦ inr (subst (λ (n : ℕ). IsStamped n lsn (slot_of new n)) (sym is) (subst (IsStamped e.page lsn) (sym here) (changed_stamped (slot_of pool e.page) bytes e.page lsn there number stamp)))
+        | inr apart ↦ inl (sym (copy_elsewhere q apart), elsewhere q apart)
       ];
     } where
       first_none : (o : Option (List ℕ)) → first_of o None ≡ o

@@ -1,5 +1,5 @@
 -- The pages that a mini-transaction deals with, in this order, and its copies of those that it has put.
-use Rattle.std.specs.Prelude.{◌≡◌, ◌≢◌, ℕ, ◌==◌, Bool, List, [], ◌∷◌, map, Option, Some, None, if◌then◌else◌}
+use Rattle.std.specs.Prelude.{◌≡◌, ◌≢◌, ℕ, ◌==◌, List, [], ◌∷◌, map, Option, Some, None, if◌then◌else◌}
 use Rattle.mini_txn.specs.declared.dealt.Entry.{Entry}
 use Rattle.mtr.specs.Seen.{visit}
 

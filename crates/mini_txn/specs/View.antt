@@ -1,11 +1,12 @@
 -- What contracts see of a mini-transaction, and what the pages are to it.
-use Rattle.std.specs.Prelude.{◌≡◌, ◌≢◌, ℕ, ◌+◌, ◌<◌, ◌≤◌, Bool, true, false, ◌||◌, if◌then◌else◌, List, [], length, take, drop, ◌++◌, replicate, Option, Some, None, is_some, IsTrue}
+use Rattle.std.specs.Prelude.{◌≡◌, ◌≢◌, ◌⊎◌, ℕ, ◌<◌, ◌≤◌, Bool, true, ◌||◌, if◌then◌else◌, List, [], length, take, drop, ◌++◌, replicate, Option, Some, None, is_some, IsTrue}
 use Rattle.std.specs.Option.{option_map_or}
 use Rattle.schema_codec.specs.Numbers.{u32_bytes, u64_bytes}
-use Rattle.page_format.specs.Words.{u32_at}
+use Rattle.page_format.specs.Words.{u32_at, number_of, lsn_of}
 use Rattle.log_format.specs.declared.group.Record.{Record}
 use Rattle.redo_log.specs.View.{LogView}
-use Rattle.buffer_pool.specs.Frames.{PoolView, slot_of, is_pooled, is_standing, bytes_of, fixes_of, next_idle}
+use Rattle.buffer_pool.specs.declared.frame.Content.TheVariants.{Dirty}
+use Rattle.buffer_pool.specs.Frames.{FrameView, PoolView, slot_of, is_pooled, is_standing, bytes_of, fixes_of, next_idle}
 use Rattle.mtr.specs.Seen.{MtrState, is_in, visit, with_bytes}
 use Rattle.mini_txn.specs.declared.dealt.Entry.{Entry}
 use Rattle.mini_txn.specs.Dealt.{copy_of, pages_of}
@@ -100,17 +101,23 @@ pub record TakesFrame (page : ℕ) (old new : PoolView) : Type 0 where
   pub pooled : (other : ℕ) → is_pooled old other ≡ true → is_pooled new other ≡ true
   pub here : page < length old.slots → is_some (next_idle old) ≡ true → is_pooled new page ≡ true
 
+-- the frame holds the page as the group of that LSN has left it
+abbrev pub IsStamped : ℕ → ℕ → Option FrameView → Type 0
+IsStamped page lsn None = ⊥
+IsStamped page lsn (Some frame) = (frame.content ≡ Dirty) × (number_of frame.bytes ≡ page) × (lsn_of frame.bytes ≡ lsn)
+
 -- a page that has a copy, or stands
 abbrev pub shows : PoolView → List Entry → ℕ → Bool
 shows pool dealt page = is_some (copy_of dealt page) || is_standing pool page
 
--- Some copies stand in the pool now, and each page is seen as before.
-pub record Places (old_pool : PoolView) (old : List Entry) (new_pool : PoolView) (new : List Entry) : Type 0 where
+-- Some copies stand in the pool now, with that LSN, and each page is seen as before.
+pub record Places (lsn : ℕ) (old_pool : PoolView) (old : List Entry) (new_pool : PoolView) (new : List Entry) : Type 0 where
   pub resident : IsResident new_pool
   pub slots : length new_pool.slots ≡ length old_pool.slots
   pub framed : AreFramed old_pool old → AreFramed new_pool new
   pub seen : AreFramed old_pool old → (page : ℕ) → seen_in new_pool new page ≡ seen_in old_pool old page
   pub shown : AreFramed old_pool old → (page : ℕ) → shows new_pool new page ≡ shows old_pool old page
+  pub frames : AreFramed old_pool old → (page : ℕ) → ((copy_of new page ≡ copy_of old page) × (slot_of new_pool page ≡ slot_of old_pool page)) ⊎ IsStamped page lsn (slot_of new_pool page)
 
 -- a page's bytes with its number and the LSN of the group that changed it
 abbrev pub stamped : ℕ → ℕ → List ℕ → List ℕ
@@ -133,6 +140,18 @@ pub record Blanks (page : ℕ) (old_pool : PoolView) (old : List Entry) (new_poo
   pub here : copy_of new page ≡ Some blank
   pub elsewhere : (other : ℕ) → other ≢ page → copy_of new other ≡ copy_of old other
 
+-- A page without a copy has its frame as before, and one with a copy has it in its frame, with the LSN of the group.
+abbrev pub IsPut : MiniView → MiniView → ℕ → ℕ → Type 0
+IsPut old new lsn page = ((copy_of old.dealt page ≡ None) × (slot_of new.pool page ≡ slot_of old.pool page)) ⊎ IsStamped page lsn (slot_of new.pool page)
+
+-- A page was looked at: nothing is copied, and nothing else has changed but the list of the pages dealt with.
+pub record IsRead (old new : MiniView) : Type 0 where
+  pub copies : (page : ℕ) → copy_of new.dealt page ≡ copy_of old.dealt page
+  pub pool_is : new.pool ≡ old.pool
+  pub log_is : new.log ≡ old.log
+  pub records_are : new.records ≡ old.records
+  pub told_is : new.told ≡ old.told
+
 -- ---- the beginning
 
 -- Nothing was put yet. The pages stand as in the pool, and are told if page 0 counts no more than the pool may hold.
@@ -143,3 +162,9 @@ pub record Begins (pool : PoolView) (log : LogView) (m : MiniView) : Type 0 wher
   pub dealt_is : m.dealt ≡ []
   pub records_are : m.records ≡ []
   pub told : u32_at 44 (standing_in pool 0) ≤ length pool.slots → IsTrue m.told
+
+-- These are the page's bytes with its number and that LSN.
+pub record IsStampOf (page lsn : ℕ) (bytes placed : List ℕ) : Type 0 where
+  pub number : number_of placed ≡ page
+  pub lsn_is : lsn_of placed ≡ lsn
+  pub behind : drop 20 placed ≡ drop 20 bytes

@@ -1,9 +1,10 @@
 //! What a mini-transaction does to the pool: it takes frames for new pages, puts its copies there, and gives frames back.
 //! None of these calls takes memory, and none gives a page up.
 
-ghost use Rattle.std.specs.Prelude.{◌≡◌, ◌<◌, ◌++◌, ◌∷◌, [], List, drop, length};
+ghost use Rattle.std.specs.Prelude.{◌≡◌, ℕ, ◌<◌, ◌++◌, ◌∷◌, [], List, drop, length};
+ghost use Rattle.buffer_pool.specs.Frames.{fixes_of, at_slot, changed};
 ghost use Rattle.mini_txn.specs.declared.dealt.Entry.{Entry as EntryValue};
-ghost use Rattle.mini_txn.specs.View.{IsResident, FixesPage, KeepsPages, TakesFrame, Places, stamped};
+ghost use Rattle.mini_txn.specs.View.{IsResident, FixesPage, KeepsPages, TakesFrame, Places, IsStampOf, stamped};
 
 use crate::PAGE;
 use crate::dealt::{Dealt, Entry};
@@ -43,6 +44,7 @@ pub fn take_frame(pool: &mut Pool, page: u32)
 fn with_stamp(bytes: &[u8; PAGE], page: u32, lsn: u64) -> [u8; PAGE]
     ensures stamped { result ≡ stamped page lsn bytes.now }
     ensures behind { drop 20 result ≡ drop 20 bytes.now }
+    ensures size { length bytes.now ≡ 4096 }
 {
     let p = page.to_be_bytes();
     let l = lsn.to_be_bytes();
@@ -54,20 +56,29 @@ fn with_stamp(bytes: &[u8; PAGE], page: u32, lsn: u64) -> [u8; PAGE]
     changed
 }
 
+/// Puts a page into its frame, with its number and an LSN.
+fn place(pool: &mut Pool, page: u32, bytes: &[u8; PAGE], lsn: u64)
+    requires { 0 < fixes_of pool.old page }
+    ensures { (placed : List ℕ) × IsStampOf page lsn bytes.now placed × (pool.new ≡ at_slot page (changed placed) pool.old) }
+{
+    let placed = with_stamp(bytes, page, lsn);
+    pool.change(page, &placed);
+}
+
 /// Puts the copy of an entry into the pool, if there is one, with the LSN of its group.
 fn place_entry(pool: &mut Pool, entry: &Entry, lsn: u64)
     requires { IsResident pool.old }
-    ensures { (front : List EntryValue) → Places pool.old (front ++ entry.now ∷ []) pool.new front }
+    ensures { (front : List EntryValue) → Places lsn pool.old (front ++ entry.now ∷ []) pool.new front }
 {
     if entry.copied && pool.is_pooled(entry.page) {
-        pool.change(entry.page, &with_stamp(&entry.bytes, entry.page, lsn));
+        place(pool, entry.page, &entry.bytes, lsn);
     }
 }
 
 /// Puts all copies into the pool, with the LSN of their group.
 pub fn place_copies(pool: &mut Pool, dealt: &mut Dealt, lsn: u64)
     requires { IsResident pool.old }
-    ensures places { Places pool.old dealt.old pool.new dealt.new }
+    ensures places { Places lsn pool.old dealt.old pool.new dealt.new }
     ensures emptied { dealt.new ≡ [] }
 {
     while dealt.len() > 0 {

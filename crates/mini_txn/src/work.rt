@@ -1,8 +1,9 @@
 //! What is under way: the pool and the log, the pages that are dealt with, and the records that stand.
 //! `MiniTxn` alone calls this, and gives it the form of the trait.
 
-ghost use Rattle.std.specs.Prelude.{◌≡◌, ◌≢◌, ℕ, ◌+◌, ◌<◌, ◌≤◌, ◌↔◌, [], true, false, length, None, is_some, IsTrue, IsOk, IfOk, OnOk, OnErr, Err, Ok};
+ghost use Rattle.std.specs.Prelude.{◌≡◌, ◌≢◌, ℕ, ◌+◌, ◌<◌, ◌≤◌, ◌↔◌, [], ◌∷◌, ◌++◌, true, false, length, None, is_some, IsTrue, IsOk, IfOk, OnOk, OnErr, Err, Ok};
 ghost use Rattle.page_format.specs.Words.{u32_at};
+ghost use Rattle.log_format.specs.declared.group.Record.TheVariants.{Put, Fresh};
 ghost use Rattle.redo_log.specs.View.{room_of};
 ghost use Rattle.store_api.specs.declared.visits.FreshBad.TheVariants.{Again as FreshAgain, NoMemory as NoFreshMemory};
 ghost use Rattle.store_api.specs.declared.visits.Visit.TheVariants.{Again as VisitAgain};
@@ -11,7 +12,7 @@ ghost use Rattle.mtr.specs.Calls.{Asks, Makes, Puts, Commits, GivesUp};
 ghost use Rattle.mini_txn.specs.Dealt.{pages_of};
 ghost use Rattle.mini_txn.specs.Edits.{edited};
 ghost use Rattle.mini_txn.specs.Grouped.{IsGrouped};
-ghost use Rattle.mini_txn.specs.View.{body_of, standing_in, seen_in, state_of, IsResident, IsReadable, Begins, Writes, Blanks};
+ghost use Rattle.mini_txn.specs.View.{body_of, standing_in, seen_in, state_of, IsResident, IsReadable, IsRead, IsPut, Begins, Writes, Blanks};
 
 use crate::PAGE;
 use crate::dealt::Dealt;
@@ -153,6 +154,7 @@ impl Work {
         ensures reached { OnOk result (IsTrue (is_in page (pages_of self.new.dealt))) }
         ensures dealt_with { IsTrue (is_in page (pages_of self.old.dealt)) → IsOk result }
         ensures shut { IsShut page (state_of self.old) → result ≡ Err VisitAgain }
+        ensures read { IsRead self.old self.new }
     {
         if self.dealt.contains(page) || self.pool.is_standing(page) {
             self.dealt.visit(page);
@@ -182,6 +184,9 @@ impl Work {
         ensures shut { IsShut page (state_of self.old) → result ≡ Err FreshAgain }
         ensures again { result ≡ Err FreshAgain → IsShut page (state_of self.old) }
         ensures memory { result ≡ Err NoFreshMemory → (state_of self.old).spare < 5 }
+        ensures records { OnOk result (self.new.records ≡ self.old.records ++ Fresh page ∷ []) }
+        ensures log { self.new.log ≡ self.old.log }
+        ensures err { OnErr result (self.new ≡ self.old) }
     {
         if !self.dealt.contains(page) && !self.pool.is_pooled(page) && !self.pool.has_idle() {
             return Err(FreshBad::Again);
@@ -202,6 +207,10 @@ impl Work {
         ensures put { OnOk result (Puts page at bytes.now (state_of self.old) (state_of self.new)) }
         ensures refused { OnErr result (state_of self.new ≡ state_of self.old) }
         ensures memory { OnErr result ((state_of self.old).spare < length bytes.now + 9) }
+        ensures records { OnOk result (self.new.records ≡ self.old.records ++ Put page at bytes.now ∷ []) }
+        ensures pool { self.new.pool ≡ self.old.pool }
+        ensures log { self.new.log ≡ self.old.log }
+        ensures err { OnErr result (self.new ≡ self.old) }
     {
         if self.edits.spare() < bytes.len() + 9 {
             return Err(NoMemory);
@@ -217,6 +226,7 @@ impl Work {
         ensures committed { OnOk result (Commits (state_of self.old) (state_of self.new)) }
         ensures grouped { OnOk result (IsGrouped self.old.records self.old.log self.new.log) }
         ensures edits { (page : ℕ) → seen_in self.old.pool self.old.dealt page ≡ edited page self.old.records (standing_in self.old.pool page) }
+        ensures frames { OnOk result (IsTrue self.old.told → (lsn page : ℕ) → lsn + 1 ≡ self.new.log.next → IsPut self.old self.new lsn page) }
         ensures ends { OnOk result (self.new.records ≡ []) }
         ensures suffices { room_of self.old.records ≤ self.old.log.spare → IsOk result }
         ensures err { OnErr result (self.new ≡ self.old) }

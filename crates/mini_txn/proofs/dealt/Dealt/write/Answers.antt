@@ -1,4 +1,4 @@
-use Rattle.std.proofs.Common.{◌≡◌, ap, sym, subst, ◌∙◌, List, take, refl, Some, IfSome, Option, ℕ}
+use Rattle.std.proofs.Common.{ap, sym, subst, ◌∙◌, List, take, refl, IfSome, Option, ℕ}
 use Rattle.std.specs.Prelude.{position, is_some}
 use Rattle.std.specs.Vec.{with_item}
 use Rattle.mtr.specs.Seen.{with_bytes}

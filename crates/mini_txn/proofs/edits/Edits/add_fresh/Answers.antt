@@ -1,5 +1,5 @@
-use Rattle.std.proofs.Common.{arith, refl, sym, subst}
-use Rattle.std.specs.Prelude.{◌≤◌, ◌<◌, ◌^◌, vec_capacity}
+use Rattle.std.proofs.Common.{arith}
+use Rattle.std.specs.Prelude.{◌≤◌, vec_capacity}
 use Rattle.log_format.specs.declared.group.Record.TheVariants.{Fresh}
 use Rattle.mini_txn.proofs.Kept.{one_more, length-fresh}
 use Rattle.mini_txn.proofs.edits.Edits.add_fresh.Goals as goal

@@ -1,5 +1,5 @@
-use Rattle.std.proofs.Common.{arith, refl, sym, subst, length}
-use Rattle.std.specs.Prelude.{◌≤◌, ◌<◌, ◌+◌, vec_capacity}
+use Rattle.std.proofs.Common.{arith, length}
+use Rattle.std.specs.Prelude.{◌≤◌, ◌+◌, vec_capacity}
 use Rattle.log_format.specs.declared.group.Record.TheVariants.{Put}
 use Rattle.mini_txn.proofs.Kept.{one_more, length-put}
 use Rattle.mini_txn.proofs.edits.Edits.add_put.Goals as goal
