@@ -1,3 +1,3 @@
-mod Orders
-mod Places
-mod SlotEdits
+pub mod Orders
+pub mod Places
+pub mod SlotEdits

@@ -40,6 +40,13 @@ is_changed New = false
 is_changed Clean = false
 is_changed Dirty = true
 
+-- the bytes are a page that somebody has written
+abbrev pub is_written : Content → Bool
+is_written Empty = false
+is_written New = false
+is_written Clean = true
+is_written Dirty = true
+
 -- it can be given to another page: nobody has fixed it, and nothing is lost with it
 abbrev pub is_idle : FrameView → Bool
 is_idle frame = frame.fixes == 0 && is_kept frame.content
@@ -54,6 +61,10 @@ is_pooled pool page = option_map_or holds_page (slot_of pool page) false
 -- it was changed, and the disk doesn't have it so
 abbrev pub is_dirty : PoolView → ℕ → Bool
 is_dirty pool page = option_map_or (λ frame. is_changed frame.content) (slot_of pool page) false
+
+-- the page is in the pool, and isn't a new one that nobody has written yet
+abbrev pub is_standing : PoolView → ℕ → Bool
+is_standing pool page = option_map_or (λ frame. is_written frame.content) (slot_of pool page) false
 
 abbrev pub bytes_of : PoolView → ℕ → List ℕ
 bytes_of pool page = option_map_or (λ frame. frame.bytes) (slot_of pool page) []

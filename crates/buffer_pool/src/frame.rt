@@ -3,7 +3,7 @@
 
 ghost use Rattle.std.specs.Prelude.{◌≡◌, ◌-◌, ◌^◌, ◌<◌, length, IfOk};
 ghost use Rattle.page_format.specs.Words.{lsn_of};
-ghost use Rattle.buffer_pool.specs.Frames.{is_idle, is_changed, holds_page, fixed, unfixed, changed, placed};
+ghost use Rattle.buffer_pool.specs.Frames.{is_idle, is_changed, is_written, holds_page, fixed, unfixed, changed, placed};
 ghost use Rattle.buffer_pool.specs.declared.frame.Content.TheVariants.{Empty};
 
 use std::alloc::Global;
@@ -70,6 +70,13 @@ impl Frame {
         ensures { result ≡ is_changed self.now.content }
     {
         self.content == Content::Dirty
+    }
+
+    /// Whether it holds a page that somebody has written.
+    pub fn is_written(&self) -> bool
+        ensures { result ≡ is_written self.now.content }
+    {
+        matches!(self.content, Content::Clean | Content::Dirty)
     }
 
     pub fn fixes(&self) -> u32

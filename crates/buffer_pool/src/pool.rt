@@ -2,7 +2,7 @@
 //! Mini-transactions fix and change pages; who writes pages out tells the pool that they are placed.
 
 ghost use Rattle.std.specs.Prelude.{◌≡◌, ◌⊎◌, ◌-◌, ◌^◌, ◌<◌, ◌≤◌, length, replicate, is_some, true, false, IsTrue, IsOk, IfOk, IfErr, OnOk, OnErr, Err, Some, None, MatchOption};
-ghost use Rattle.buffer_pool.specs.Frames.{HasOneMore, slot_of, is_pooled, is_dirty, bytes_of, fixes_of, at_slot, fixed, unfixed, changed, placed, next_idle, with_used, moved};
+ghost use Rattle.buffer_pool.specs.Frames.{HasOneMore, slot_of, is_pooled, is_dirty, is_standing, bytes_of, fixes_of, at_slot, fixed, unfixed, changed, placed, next_idle, with_used, moved};
 ghost use Rattle.buffer_pool.specs.Fixing.{IsBrought, IsFixBad, Looks};
 ghost use Rattle.buffer_pool.specs.declared.frame.Content.TheVariants.{New};
 ghost use Rattle.buffer_pool.specs.declared.fixing.FixBad.TheVariants.{Again as FixAgain};
@@ -92,6 +92,23 @@ impl Pool {
         }
     }
 
+    /// Whether the page is in the pool, and isn't a new one that nobody has written yet.
+    pub fn is_standing(&self, page: u32) -> bool
+        ensures { result ≡ is_standing self.now page }
+    {
+        match frame_at(&self.slots, page) {
+            Some(frame) => frame.is_written(),
+            None => false,
+        }
+    }
+
+    /// Whether there is a frame for a page that isn't in the pool.
+    pub fn has_idle(&self) -> bool
+        ensures { result ≡ is_some (next_idle self.now) }
+    {
+        last_idle(&self.order, &self.slots).is_some()
+    }
+
     /// How often the page is fixed.
     pub fn fixes(&self, page: u32) -> u32
         ensures { result ≡ fixes_of self.now page }
@@ -115,7 +132,7 @@ impl Pool {
     }
 
     /// Fixes a page that is in the pool.
-    fn hold(&mut self, page: u32)
+    pub fn hold(&mut self, page: u32)
         requires within { page < length self.old.slots }
         requires there { IsTrue (is_pooled self.old page) }
         requires few { fixes_of self.old page < 2 ^ 32 - 1 }

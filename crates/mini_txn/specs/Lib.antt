@@ -1,0 +1,4 @@
+pub mod Dealt
+pub mod Edits
+pub mod Grouped
+pub mod View
