@@ -1,13 +1,15 @@
 -- What each step leaves of the files' promise, and what a commit's acknowledgement is to the callers of the engine.
-use Rattle.std.proofs.Common.{◌≡◌, ◌≢◌, ℕ, ◌+◌, ◌≤◌, Bool, true, false, List, [], ◌∷◌, refl, sym, ap, subst, ◌∙◌, cond, arith}
+use Rattle.std.proofs.Common.{◌≡◌, ℕ, Bool, true, false, Option, Some, List, [], ◌∷◌, refl, sym, ap, subst, ◌∙◌, cond, arith}
 use Rattle.std.proofs.lemmas.Bool.Decides.{nat_tests}
 use Rattle.std.specs.Prelude.{Result, Ok, Err, OnOk, OnErr}
 use Rattle.inno_types.specs.declared.reply.Cause.{Cause}
 use Rattle.inno_types.specs.declared.reply.Cause.TheVariants.{Disk}
 use Rattle.inno_types.specs.declared.reply.Item.{Item}
+use Rattle.inno_types.specs.declared.reply.Item.TheVariants as items
 use Rattle.inno_types.specs.declared.reply.Reply.TheVariants as replies
 use Rattle.inno_model.specs.declared.event.Event.{Event}
 use Rattle.inno_model.specs.declared.event.Event.TheVariants as events
+use Rattle.inno_model.specs.Past.{under_way}
 use Rattle.sql_history.specs.Counts.{has_stopped}
 use Rattle.store_api.specs.Past.{Past}
 use Rattle.store_api.specs.declared.answers.Progress.{Progress}
@@ -17,41 +19,85 @@ use Rattle.law_crashes.proofs.Keeps.{keeps_entry}
 use Rattle.turn_board.specs.declared.Phase.{Phase}
 use Rattle.turn_board.specs.declared.Phase.TheVariants.{Idle, Busy, Leaving, Left}
 use Rattle.session_engine.specs.Calls.{Acknowledges}
+use Rattle.session_engine.specs.Places.{IsExact, HasExactPlaces}
 use Rattle.stopped_sessions.specs.Seats.{State as StoppedState, phase_at, halted, ended}
 use Rattle.stopped_sessions.specs.Calls.{is_at_work, Starts as StoppedStarts, SameState as StoppedSameState, StepsBy as StoppedStepsBy}
 use Rattle.logged_sessions.specs.State.{State as LoggedState}
 use Rattle.durable_engine.specs.State.{running_state}
 use Rattle.durable_engine.specs.Calls.{StepsOn, GoesOn, StopsBy}
 
-module _ (root now : Past) where
-  keeps_halted : (cause : Cause) (past : List Event) (b : Bool) → KeepsSince root now past → KeepsSince root now (cond b past (events.Stopped cause ∷ past))
-  keeps_halted cause past true keeps = keeps
-  keeps_halted cause past false keeps = keeps_entry root now (events.Stopped cause) past refl keeps
+-- what the entries of an engine that stops, or has stopped, leave as it was
+module _ (P : List Event → Type 0) (stops : (cause : Cause) (past : List Event) → P past → P (events.Stopped cause ∷ past))
+    (ends : (s j : ℕ) (past : List Event) → P past → P (events.Ended s j replies.Stopped ∷ past))
+    (starts : (s j : ℕ) (item : Item) (past : List Event) → P past → P (events.Started s j item ∷ past)) where
+  left_halted : (cause : Cause) (past : List Event) (b : Bool) → P past → P (cond b past (events.Stopped cause ∷ past))
+  left_halted cause past true holds = holds
+  left_halted cause past false holds = stops cause past holds
 
-  keeps_ended : (s j : ℕ) (phase : Phase) (past : List Event) → KeepsSince root now past → KeepsSince root now (ended s j phase past)
-  keeps_ended s j Busy past keeps = keeps_entry root now (events.Ended s j replies.Stopped) past refl keeps
-  keeps_ended s j Idle past keeps = keeps
-  keeps_ended s j Leaving past keeps = keeps
-  keeps_ended s j Left past keeps = keeps
+  left_ended : (s j : ℕ) (phase : Phase) (past : List Event) → P past → P (ended s j phase past)
+  left_ended s j Busy past holds = ends s j past holds
+  left_ended s j Idle past holds = holds
+  left_ended s j Leaving past holds = holds
+  left_ended s j Left past holds = holds
+
+  left_stepped : (s : ℕ) (answer : Progress) (old new : StoppedState) → StoppedStepsBy s answer old new → P old.past → P new.past
+  left_stepped s (progress.Stopped cause) old new steps holds =
+      subst P (sym steps.1.past_is)
+      (left_ended s _ (phase_at old.seats s) (halted old.cause old.past) (left_halted old.cause old.past (has_stopped old.past) holds))
+  left_stepped s progress.NoMemory old new steps holds = subst P (sym steps.past_stays) holds
+  left_stepped s other old new steps holds = elim steps [ ]
+
+  left_started : {X Y : Type 0} (result : Result X Y) (s : ℕ) (item : Item) (old new : StoppedState) → OnOk result (StoppedStarts s item old new)
+      → OnErr result (StoppedSameState old new) → P old.past → P new.past
+  left_started (Ok x) s item old new ok err holds = subst P (sym ok.past_is) (starts s _ item old.past holds)
+  left_started (Err x) s item old new ok err holds = subst P (sym err.past_stays) holds
+
+  left_stopping : (s : ℕ) (answer : Progress) (old : LoggedState) (new : StoppedState) → StopsBy s answer old new → P old.sessions.lists.past → P new.past
+  left_stopping s answer old new stops_by holds =
+      left_stepped s answer stops_by.before new stops_by.steps (subst (λ (st : StoppedState). P st.past) (sym stops_by.taken) holds)
+
+-- what a crash leaves of the files
+module _ (root now : Past) where
+  crash_stops : (cause : Cause) (past : List Event) → KeepsSince root now past → KeepsSince root now (events.Stopped cause ∷ past)
+  crash_stops cause past keeps = keeps_entry root now (events.Stopped cause) past refl keeps
+
+  crash_ends : (s j : ℕ) (past : List Event) → KeepsSince root now past → KeepsSince root now (events.Ended s j replies.Stopped ∷ past)
+  crash_ends s j past keeps = keeps_entry root now (events.Ended s j replies.Stopped) past refl keeps
+
+  crash_starts : (s j : ℕ) (item : Item) (past : List Event) → KeepsSince root now past → KeepsSince root now (events.Started s j item ∷ past)
+  crash_starts s j item past keeps = keeps_entry root now (events.Started s j item) past refl keeps
 
   pub stopped_keeps : (s : ℕ) (answer : Progress) (old new : StoppedState) → StoppedStepsBy s answer old new → KeepsSince root now old.past
       → KeepsSince root now new.past
-  stopped_keeps s (progress.Stopped cause) old new steps keeps =
-      subst (KeepsSince root now) (sym steps.1.past_is)
-      (keeps_ended s _ (phase_at old.seats s) (halted old.cause old.past) (keeps_halted old.cause old.past (has_stopped old.past) keeps))
-  stopped_keeps s progress.NoMemory old new steps keeps = subst (KeepsSince root now) (sym steps.past_stays) keeps
-  stopped_keeps s other old new steps keeps = elim steps [ ]
+  stopped_keeps = left_stepped (KeepsSince root now) crash_stops crash_ends crash_starts
 
   pub started_keeps : {X Y : Type 0} (result : Result X Y) (s : ℕ) (item : Item) (old new : StoppedState) → OnOk result (StoppedStarts s item old new)
       → OnErr result (StoppedSameState old new) → KeepsSince root now old.past → KeepsSince root now new.past
-  started_keeps (Ok x) s item old new ok err keeps =
-      subst (KeepsSince root now) (sym ok.past_is) (keeps_entry root now _ old.past refl keeps)
-  started_keeps (Err x) s item old new ok err keeps = subst (KeepsSince root now) (sym err.past_stays) keeps
+  started_keeps = left_started (KeepsSince root now) crash_stops crash_ends crash_starts
 
   pub stop_keeps : (s : ℕ) (answer : Progress) (old : LoggedState) (new : StoppedState) → StopsBy s answer old new
       → KeepsSince root now old.sessions.lists.past → KeepsSince root now new.past
-  stop_keeps s answer old new stops keeps =
-      stopped_keeps s answer stops.before new stops.steps (subst (λ (st : StoppedState). KeepsSince root now st.past) (sym stops.taken) keeps)
+  stop_keeps = left_stopping (KeepsSince root now) crash_stops crash_ends crash_starts
+
+-- the places of syntax errors
+exact_stop : (item : Option Item) → IsExact item replies.Stopped
+exact_stop (Some (items.Sql text)) = tt
+exact_stop item = tt
+
+exact_ends : (s j : ℕ) (past : List Event) → HasExactPlaces past → HasExactPlaces (events.Ended s j replies.Stopped ∷ past)
+exact_ends s j past exact = (exact_stop (under_way s past), exact)
+
+pub stopped_exact : (s : ℕ) (answer : Progress) (old new : StoppedState) → StoppedStepsBy s answer old new → HasExactPlaces old.past
+    → HasExactPlaces new.past
+stopped_exact = left_stepped HasExactPlaces (λ cause past exact. exact) exact_ends (λ s j item past exact. exact)
+
+pub started_exact : {X Y : Type 0} (result : Result X Y) (s : ℕ) (item : Item) (old new : StoppedState) → OnOk result (StoppedStarts s item old new)
+    → OnErr result (StoppedSameState old new) → HasExactPlaces old.past → HasExactPlaces new.past
+started_exact = left_started HasExactPlaces (λ cause past exact. exact) exact_ends (λ s j item past exact. exact)
+
+pub stop_exact : (s : ℕ) (answer : Progress) (old : LoggedState) (new : StoppedState) → StopsBy s answer old new
+    → HasExactPlaces old.sessions.lists.past → HasExactPlaces new.past
+stop_exact = left_stopping HasExactPlaces (λ cause past exact. exact) exact_ends (λ s j item past exact. exact)
 
 pub stopped_cause : (s : ℕ) (answer : Progress) (old new : StoppedState) → StoppedStepsBy s answer old new → new.cause ≡ old.cause
 stopped_cause s (progress.Stopped cause) old new steps = steps.1.cause_stays

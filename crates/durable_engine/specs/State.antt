@@ -9,6 +9,7 @@ use Rattle.store_api.specs.Causes.{Rose}
 use Rattle.turn_board.specs.declared.Phase.TheVariants.{Idle}
 use Rattle.law_crashes.specs.Since.{KeepsSince}
 use Rattle.commit_log.specs.View.{IsLogging}
+use Rattle.session_engine.specs.Places.{HasExactPlaces}
 use Rattle.session_engine.specs.Seats.{State as Sessions, state_code as sessions_code, seat_at, owes}
 use Rattle.stopped_sessions.specs.declared.seats.Seat.{Seat}
 use Rattle.stopped_sessions.specs.contracts.seats.Seat as of_seat
@@ -47,14 +48,14 @@ state_of disk (Running s) = running_state disk s
 state_of disk (Stopped s) = stopped_state disk s
 state_of disk Changing = record { disk = disk; names = []; past = []; seats = []; running = None }
 
--- The log and the disk stand for the history of sessions that run. A stopped engine keeps what its files held; its disk has
--- failed since the mount.
+-- The log and the disk stand for the history of sessions that run. A stopped engine keeps what its files held, and the places of
+-- the syntax errors that were answered; its disk has failed since the mount.
 abbrev pub IsKeptRunning : Past → Past → LoggedState → Type 0
 IsKeptRunning root now s = IsLogging root now s.sessions.lists.past s.log × (root.faults ≤ now.faults)
 
 abbrev pub IsKept : {L : Type 0} → Past → Past → Core L → Type 0
 IsKept root now (Running s) = IsKeptRunning root now s
-IsKept root now (Stopped s) = KeepsSince root now s.past × Rose root.faults now.faults × (s.cause ≡ Disk)
+IsKept root now (Stopped s) = KeepsSince root now s.past × Rose root.faults now.faults × (s.cause ≡ Disk) × HasExactPlaces s.past
 IsKept root now Changing = ⊥
 
 abbrev pub IsJoined : {D : Type 0} → ℕ → State D → Type 0

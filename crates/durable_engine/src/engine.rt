@@ -55,6 +55,7 @@ impl<D: Disk, R: Root, L: SharedLists> DurableEngine<D, R, L> {
     ghost use Rattle.durable_engine.specs.State.{IsJoined, IsIdle, IsWorking, owes_ack};
     ghost use Rattle.durable_engine.specs.Calls.{Joins, Starts, StepsBy, Leaves, SameState};
     ghost use Rattle.session_engine.specs.Calls.{GivesUpInVain};
+    ghost use Rattle.session_engine.specs.Places.{HasExactPlaces};
     ghost use Rattle.durable_engine.specs.Going.{Nears};
     ghost use Rattle.durable_engine.specs.Whole.{HoldsAll};
 
@@ -76,12 +77,14 @@ impl<D: Disk, R: Root, L: SharedLists> DurableEngine<D, R, L> {
         }
     }
 
-    /// What has happened, which is legal. Whatever a crash left of the files since the mount holds the first so many of its
-    /// commits, with all that were acknowledged by then. Only a disk that has failed stops the engine.
+    /// What has happened, which is legal. An item whose text is no statement has named its first bad byte. Whatever a crash left
+    /// of the files since the mount holds the first so many of its commits, with all that were acknowledged by then. Only a disk
+    /// that has failed stops the engine.
     pub fn history(&self) -> &History
         ensures names { result.now.names ≡ self.now.names }
         ensures past { result.now.past ≡ self.now.past }
         ensures legal { IsLegal Spells self.now.past }
+        ensures exact { HasExactPlaces self.now.past }
         ensures stopped { has_stopped self.now.past ≡ true → Rose R.root.faults (D.past self.now.disk).faults }
         ensures crash { KeepsSince R.root (D.past self.now.disk) self.now.past }
     {
@@ -192,6 +195,7 @@ impl<D: Disk, R: Root, L: SharedLists> DurableEngine<D, R, L> {
         ensures names { result.1.names ≡ self.names }
         ensures past { result.1.past ≡ self.past }
         ensures legal { IsLegal Spells self.past }
+        ensures exact { HasExactPlaces self.past }
         ensures stopped { has_stopped self.past ≡ true → Rose R.root.faults (D.past result.0).faults }
         ensures failed { IfErr result.2 (λ cause. (cause ≡ Cause.Disk) × Rose R.root.faults (D.past result.0).faults) }
         ensures crash { KeepsSince R.root (D.past result.0) self.past }

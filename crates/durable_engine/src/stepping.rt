@@ -2,6 +2,7 @@
 
 ghost use Rattle.std.specs.Prelude.{◌≡◌, ◌<◌, length, true, IfSome, OnOk, OnErr};
 ghost use Rattle.session_engine.specs.Calls.{GivesUpInVain};
+ghost use Rattle.session_engine.specs.Places.{HasExactPlaces};
 ghost use Rattle.store_api.specs.Past.{Past};
 ghost use Rattle.commit_log.specs.View.{IsLogging};
 ghost use Rattle.stopped_sessions.specs.Seats.{phase_at};
@@ -79,6 +80,7 @@ fn stop<L: SharedLists>(sessions: LoggedSessions<L>, s: u32) -> (StoppedSessions
     requires working { is_at_work (phase_at sessions.seats s) ≡ true }
     ensures stops { StopsBy s result.1 sessions result.0 }
     ensures kept { (root now : Past) → KeepsSince root now sessions.sessions.lists.past → KeepsSince root now result.0.past }
+    ensures exact { HasExactPlaces result.0.past }
 {
     let (history, seats) = sessions.into_parts();
     let mut stopped = StoppedSessions::new(history, seats, Cause::Disk);
@@ -93,6 +95,7 @@ fn step_stopped(sessions: &mut StoppedSessions, s: u32) -> Progress
     ensures steps { StoppedStepsBy s result sessions.old sessions.new }
     ensures cause { sessions.new.cause ≡ sessions.old.cause }
     ensures kept { (root now : Past) → KeepsSince root now sessions.old.past → KeepsSince root now sessions.new.past }
+    ensures exact { HasExactPlaces sessions.old.past → HasExactPlaces sessions.new.past }
 {
     sessions.step(s)
 }
@@ -109,6 +112,7 @@ pub(crate) fn start_stopped(
     ensures err { OnErr result (StoppedSameState sessions.old sessions.new) }
     ensures cause { sessions.new.cause ≡ sessions.old.cause }
     ensures kept { (root now : Past) → KeepsSince root now sessions.old.past → KeepsSince root now sessions.new.past }
+    ensures exact { HasExactPlaces sessions.old.past → HasExactPlaces sessions.new.past }
 {
     sessions.start(s, item)
 }

@@ -19,7 +19,7 @@ use Rattle.turn_board.specs.declared.Phase.TheVariants as phases
 use Rattle.commit_records.specs.Room.{IsLoggable}
 use Rattle.commit_log.specs.View.{CommitView}
 use Rattle.session_engine.specs.declared.seats.Seat.{Seat as StatementSeat}
-use Rattle.session_engine.specs.declared.seats.Seat.TheVariants.{Idle, Busy, Signalling, Leaving, Left}
+use Rattle.session_engine.specs.declared.seats.Seat.TheVariants.{Idle, Busy, Refused, Signalling, Leaving, Left}
 use Rattle.session_engine.specs.declared.seats.SignalItem.{SignalItem}
 use Rattle.session_engine.specs.declared.seats.SignalItem.TheVariants.{Gives, Awaits}
 use Rattle.session_engine.specs.Seats.{State as Sessions, seat_at, phase_of, HasAsked, SeatAgrees, AreSeats}
@@ -45,7 +45,8 @@ signals_off s (Awaits wait) past asked = ((items.Await wait.name, asked.0.asked)
 breaks_off : (lists : Lists) (s : ℕ) (seat : StatementSeat) → IsLegal Spells lists.past → SeatAgrees lists s seat → PhaseAgrees lists.past s (phase_of seat)
 breaks_off lists s Idle legal agrees = (agrees.0.rests, agrees.1)
 breaks_off lists s (Busy statement) legal agrees =
-    (some_item (under_way s lists.past) (has_item lists s statement agrees), of_statements lists s statement legal agrees)
+    (some_item (under_way s lists.past) (has_item lists s statement agrees.0), of_statements lists s statement legal agrees.0)
+breaks_off lists s (Refused at) legal agrees = ((items.Sql agrees.text, agrees.started.item), of_nothing s lists.past agrees.started.nothing)
 breaks_off lists s (Signalling item) legal agrees =
     signals_off s item lists.past agrees.0
 breaks_off lists s Leaving legal agrees = agrees.may.rests

@@ -60,6 +60,7 @@ impl<L: SharedLists> LoggedSessions<L> {
     ghost use Rattle.session_engine.specs.Seats.{seat_at, owes};
     ghost use Rattle.session_engine.specs.Calls.{Joins, Starts, StepsBy, Acknowledges, GivesUpInVain, Leaves, SameState};
     ghost use Rattle.session_engine.specs.Going.{Nears};
+    ghost use Rattle.session_engine.specs.Places.{HasExactPlaces};
     ghost use Rattle.logged_sessions.specs.State.{IsJoined, IsIdle, IsWorking};
 
     /// Sessions of lists that nobody has joined, with a log of which nobody has a part.
@@ -75,11 +76,12 @@ impl<L: SharedLists> LoggedSessions<L> {
         }
     }
 
-    /// What has happened, which is legal.
+    /// What has happened, which is legal. An item whose text is no statement has named its first bad byte.
     pub fn history(&self) -> &History
         ensures names { result.now.names ≡ self.now.sessions.lists.names }
         ensures past { result.now.past ≡ self.now.sessions.lists.past }
         ensures legal { IsLegal Spells self.now.sessions.lists.past }
+        ensures exact { HasExactPlaces self.now.sessions.lists.past }
         ensures runs { has_stopped self.now.sessions.lists.past ≡ false }
     {
         self.sessions.history()
@@ -237,6 +239,7 @@ impl<L: SharedLists> LoggedSessions<L> {
         ensures past { result.0.past ≡ self.sessions.lists.past }
         ensures phases { result.1.items ≡ self.seats }
         ensures legal { IsLegal Spells self.sessions.lists.past }
+        ensures exact { HasExactPlaces self.sessions.lists.past }
         ensures opened { self.sessions.lists.past ≢ [] }
         ensures paid { owes_commit self.sessions.lists.past ≡ None }
         ensures runs { has_stopped self.sessions.lists.past ≡ false }

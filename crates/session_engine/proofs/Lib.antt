@@ -1,5 +1,6 @@
 mod Signals
 mod Signalled
+mod Places
 pub mod Others
 pub mod Seating
 mod Leaving

@@ -5,10 +5,14 @@ use Rattle.std.specs.List.{AllByRecursion}
 use Rattle.inno_types.specs.declared.reply.Item.{Item}
 use Rattle.inno_types.specs.declared.reply.Item.TheVariants as items
 use Rattle.inno_types.specs.declared.reply.Item.TheVariants.{Sql}
+use Rattle.inno_types.specs.declared.stmt.Stmt.{Stmt}
 use Rattle.inno_model.specs.declared.event.Event.{Event}
 use Rattle.inno_model.specs.declared.event.Event.TheVariants as events
 use Rattle.inno_model.specs.Past.{is_of, under_way, of_item, own, IsClosed}
 use Rattle.inno_model.proofs.Untouched.{untouched}
+use Rattle.sql_grammar.specs.Grammar.{Spells}
+use Rattle.sql_prefix.specs.declared.parser.ParseBad.TheVariants.{Syntax}
+use Rattle.sql_prefix.specs.Refused.{IsRefusedAt}
 use Rattle.sql_history.specs.Legal.{is_leaving}
 use Rattle.law_past_agreement.specs.Order.{IsOfRow}
 use Rattle.shared_lists.specs.Tasks as tasks
@@ -30,12 +34,12 @@ use Rattle.write_statement.proofs.Others.{stays as write_runs}
 use Rattle.statement.specs.declared.under_way.Statement.{Statement}
 use Rattle.statement.specs.declared.under_way.Statement.TheVariants as statements
 use Rattle.session_engine.specs.declared.seats.Seat.{Seat}
-use Rattle.session_engine.specs.declared.seats.Seat.TheVariants.{Idle, Busy, Signalling, Leaving, Left}
-use Rattle.statement.specs.Running.{HasOnlyStarted, IsReadFrom, IsRunning}
+use Rattle.session_engine.specs.declared.seats.Seat.TheVariants.{Idle, Busy, Refused, Signalling, Leaving, Left}
+use Rattle.statement.specs.Running.{HasOnlyStarted, IsRunning}
 use Rattle.session_engine.specs.declared.seats.SignalItem.{SignalItem}
 use Rattle.session_engine.specs.declared.seats.SignalItem.TheVariants.{Gives, Awaits}
 use Rattle.session_engine.specs.Signals.{HasOnlyAsked, HasSeenNone}
-use Rattle.session_engine.specs.Seats.{MayGoOut, IsGoingOut, HasAsked, SeatAgrees}
+use Rattle.session_engine.specs.Seats.{IsSpelled, IsUnread, MayGoOut, IsGoingOut, HasAsked, SeatAgrees}
 use Rattle.session_engine.proofs.Signals.{seen_on}
 
 leaving_same : (e : Event) (h : List Event) (s : ℕ) → is_of s e ≡ false → is_leaving s (e ∷ h) ≡ is_leaving s h
@@ -58,6 +62,19 @@ module _ (old new : Lists) (t s : ℕ) (differ : t ≢ s) (adding : AddingOne t 
         rows_alone = subst (AllByRecursion IsOfRow) (sym same.own_is)
             before.rows_alone;
       })
+
+  spelled_on : IsSpelled s old.past → IsSpelled s new.past
+  spelled_on = by_past (IsSpelled s) (λ e other before.
+      (before.0, (before.1.0, (untouched e old.past s other).item ∙ before.1.1, before.1.2)))
+
+  unread_on : (at : ℕ) → IsUnread s at old → IsUnread s at new
+  unread_on at unread =
+      record {
+        text = unread.text;
+        started = started_on unread.text unread.started;
+        refused = unread.refused;
+        idle = same_task ∙ unread.idle;
+      }
 
   out_on : MayGoOut s old.past → MayGoOut s new.past
   out_on = by_past (MayGoOut s) (λ e other before.
@@ -114,7 +131,9 @@ stays_by_one : (old new : Lists) (t s : ℕ) → t ≢ s → AddingOne t old new
     → (seat : Seat) → SeatAgrees old s seat → SeatAgrees new s seat
 stays_by_one old new t s differ adding keeps same_task Idle agrees =
     (out_on old new t s differ adding same_task agrees.0, stays_on old new t s differ adding same_task agrees.1, same_task ∙ agrees.2)
-stays_by_one old new t s differ adding keeps same_task (Busy statement) agrees = runs_on old new t s differ adding same_task keeps statement agrees
+stays_by_one old new t s differ adding keeps same_task (Busy statement) agrees =
+    (runs_on old new t s differ adding same_task keeps statement agrees.0, spelled_on old new t s differ adding same_task agrees.1)
+stays_by_one old new t s differ adding keeps same_task (Refused at) agrees = unread_on old new t s differ adding same_task at agrees
 stays_by_one old new t s differ adding keeps same_task (Signalling item) agrees = (asked_on old new t s differ adding same_task item agrees.0, same_task ∙ agrees.1)
 stays_by_one old new t s differ adding keeps same_task Leaving agrees = going_on old new t s differ adding same_task agrees
 stays_by_one old new t s differ adding keeps same_task Left agrees =
@@ -162,11 +181,20 @@ has_item state s statements.Failed runs none = (let x = runs.1.item in cc)
 only_started : (s j : ℕ) (text : List ℕ) (h : List Event) → HasRowsAlone s h → HasOnlyStarted s text (events.Started s j (Sql text) ∷ h)
 only_started s j text h rows = record { item = grind (arith, nat_tests); nothing = grind (arith, nat_tests); rows_alone = rows }
 
--- an item that has just started
-pub read_runs : (old new : Lists) (s j : ℕ) (text : List ℕ) (statement : Statement) → HasRowsAlone s old.past → task_of s old ≡ tasks.Idle
-    → Adds (events.Started s j (Sql text)) s old new → IsReadFrom text statement → IsRunning new s statement
-read_runs old new s j text (statements.Unread at) rows idle adds reads =
-    (text, subst (HasOnlyStarted s text) (sym adds.past_is) (only_started s j text old.past rows), reads, adds.task_is ∙ idle)
-read_runs old new s j text (statements.Asked stmt) rows idle adds reads =
-    (text, subst (HasOnlyStarted s text) (sym adds.past_is) (only_started s j text old.past rows), reads, adds.task_is ∙ idle)
-read_runs old new s j text other rows idle adds reads = elim reads [ ]
+-- an item that has just started, whose text is a statement
+pub asked_runs : (old new : Lists) (s j : ℕ) (text : List ℕ) (stmt : Stmt) → HasRowsAlone s old.past → task_of s old ≡ tasks.Idle
+    → Adds (events.Started s j (Sql text)) s old new → Spells text stmt → IsRunning new s (statements.Asked stmt) × IsSpelled s new.past
+asked_runs old new s j text stmt rows idle adds spells =
+    let started : HasOnlyStarted s text new.past = subst (HasOnlyStarted s text) (sym adds.past_is) (only_started s j text old.past rows) in
+    ((text, started, spells, adds.task_is ∙ idle), (stmt, (text, started.item, spells)))
+
+-- one whose text is none
+pub unread_waits : (old new : Lists) (s j at : ℕ) (text : List ℕ) → HasRowsAlone s old.past → task_of s old ≡ tasks.Idle
+    → Adds (events.Started s j (Sql text)) s old new → IsRefusedAt text (Syntax at) → IsUnread s at new
+unread_waits old new s j at text rows idle adds refused =
+    record {
+      text = text;
+      started = subst (HasOnlyStarted s text) (sym adds.past_is) (only_started s j text old.past rows);
+      refused = refused;
+      idle = adds.task_is ∙ idle;
+    }

@@ -10,6 +10,7 @@ use Rattle.inno_types.specs.declared.reply.Item.TheVariants as items
 use Rattle.inno_types.specs.declared.reply.Item.TheVariants.{Sql}
 use Rattle.inno_types.specs.declared.reply.Reply.TheVariants as replies
 use Rattle.inno_types.specs.declared.reply.Reply.{Reply}
+use Rattle.inno_types.specs.declared.reply.SqlError.TheVariants as errors
 use Rattle.inno_db.specs.Database.{Database}
 use Rattle.inno_model.specs.declared.event.Event.{Event}
 use Rattle.inno_model.specs.declared.event.Event.TheVariants as events
@@ -28,19 +29,21 @@ use Rattle.sql_lists.proofs.Moving.{adding_none, adding_one, moves_none, moves_s
 use Rattle.sql_lists.specs.Going.{Nears as StatementNears}
 use Rattle.statement.specs.declared.under_way.Statement.{Statement}
 use Rattle.session_engine.specs.declared.seats.Seat.{Seat}
-use Rattle.session_engine.specs.declared.seats.Seat.TheVariants.{Idle, Busy, Signalling, Leaving, Left}
+use Rattle.session_engine.specs.declared.seats.Seat.TheVariants.{Idle, Busy, Refused, Signalling, Leaving, Left}
 use Rattle.session_engine.specs.declared.seats.SignalItem.{SignalItem}
 use Rattle.session_engine.specs.declared.seats.SignalItem.TheVariants.{Gives, Awaits}
-use Rattle.statement.specs.Running.{IsRunning, IsReadFrom, owes_ack, acked}
+use Rattle.statement.specs.Running.{IsRunning, owes_ack, acked}
 use Rattle.statement.proofs.Acked.{goes_on_acked, acked_nears}
 use Rattle.statement.proofs.Rooms.{runs_without_room}
-use Rattle.session_engine.specs.Seats.{seat_at, is_working, MayGoOut, IsGoingOut, HasAsked, IsSeatOf, SeatAgrees, AreSeats, owes, phase_of, without_room}
-use Rattle.session_engine.specs.Calls.{AreFirst, SameLists, Joins, Starts, SameState, OthersStay, KeepsItems, TellsOne, GoesOn, StepsOn, Settled, GoesOut, HasGiven, EndsSignal, Signals, StepsBy, Acknowledges, GivesUp, WaitsInVain, GivesUpInVain, WaitsOn}
+use Rattle.session_engine.specs.Seats.{seat_at, is_working, IsSpelled, IsUnread, MayGoOut, IsGoingOut, HasAsked, IsSeatOf, SeatAgrees, AreSeats, owes, phase_of, without_room}
+use Rattle.session_engine.specs.Calls.{AreFirst, SameLists, Joins, Starts, SameState, OthersStay, KeepsItems, TellsOne, GoesOn, StepsOn, Settled, Refuses, GoesOut, HasGiven, EndsSignal, Signals, StepsBy, Acknowledges, GivesUp, WaitsInVain, GivesUpInVain, WaitsOn}
 use Rattle.statement.specs.Going.{statement_to_go}
 use Rattle.session_engine.specs.Going.{Nears, NearsEnding}
+use Rattle.session_engine.specs.Places.{IsExact, HasExactPlaces}
 use Rattle.session_engine.specs.Signals.{AreSpent, HasOnlyAsked}
+use Rattle.session_engine.proofs.Places.{entries_exact, item_before, spelled_still, spelled_exact, refused_exact, signals_exact}
 use Rattle.session_engine.proofs.Signals.{spent_on, spent_all, spent_signal, seen_first}
-use Rattle.session_engine.proofs.Others.{seat_stays, has_item, read_runs}
+use Rattle.session_engine.proofs.Others.{seat_stays, has_item, asked_runs, unread_waits}
 
 -- ---- seats
 
@@ -62,17 +65,19 @@ others_set seats s seat u apart = get_or-set_other seats s u seat Idle apart
 pub owing_is : (seat : Seat) → owes seat ≡ true → ((statement : Statement) → seat ≡ Busy statement → ⊥) → ⊥
 owing_is Idle owed other = false≢true owed
 owing_is (Busy statement) owed other = other statement refl
+owing_is (Refused at) owed other = false≢true owed
 owing_is (Signalling item) owed other = false≢true owed
 owing_is Leaving owed other = false≢true owed
 owing_is Left owed other = false≢true owed
 
 pub leaving_is : (seat : Seat) → is_working seat ≡ true → ((statement : Statement) → seat ≡ Busy statement → ⊥)
-    → ((item : SignalItem) → seat ≡ Signalling item → ⊥) → seat ≡ Leaving
-leaving_is Idle works other signal = absurd (false≢true works)
-leaving_is (Busy statement) works other signal = absurd (other statement refl)
-leaving_is (Signalling item) works other signal = absurd (signal item refl)
-leaving_is Leaving works other signal = refl
-leaving_is Left works other signal = absurd (false≢true works)
+    → ((at : ℕ) → seat ≡ Refused at → ⊥) → ((item : SignalItem) → seat ≡ Signalling item → ⊥) → seat ≡ Leaving
+leaving_is Idle works other read signal = absurd (false≢true works)
+leaving_is (Busy statement) works other read signal = absurd (other statement refl)
+leaving_is (Refused at) works other read signal = absurd (read at refl)
+leaving_is (Signalling item) works other read signal = absurd (signal item refl)
+leaving_is Leaving works other read signal = refl
+leaving_is Left works other read signal = absurd (false≢true works)
 
 -- ---- one session moves
 
@@ -160,8 +165,8 @@ moved old new t s moves differ seat agrees =
 
 -- one session moves, and takes another seat
 pub seats_kept : (old new : Lists) (seats : List Seat) (s : ℕ) (seat : Seat) → AreSeats old seats → s < length old.names → SessionMoves s old new
-    → SeatAgrees new s seat → AreSeats new (set seats s seat)
-seats_kept old new seats s seat are joined moves agrees =
+    → SeatAgrees new s seat → HasExactPlaces new.past → AreSeats new (set seats s seat)
+seats_kept old new seats s seat are joined moves agrees exact =
     record {
       enough = rw (moves.names_stay, length-set seats s seat) are.enough;
       each = λ u.
@@ -172,6 +177,7 @@ seats_kept old new seats s seat are joined moves agrees =
                 (moved old new s u moves differ.1 (get_or seats u Idle) (are.each u))
           ];
       spent = moves.spends are.spent;
+      exact = exact;
     }
 
 -- ---- an engine that is opened
@@ -185,6 +191,7 @@ first_seats db lists first idle =
           let nothing : own u lists.past ≡ [] = ap (own u) first.past in
           (record { rests = rests; rows_alone = subst (AllByRecursion IsOfRow) (sym nothing) tt }, ap (is_leaving u) first.past, idle u);
       spent = subst AreSpent (sym first.past) (λ name. omega arith);
+      exact = subst HasExactPlaces (sym first.past) tt;
     }
 
 pub are_first : (db : Database) (all : AllLists) (lists : Lists) → IsFirst all → all.state.past ≡ events.Opened db ∷ [] → lists ≡ all.state → AreFirst db lists
@@ -209,6 +216,7 @@ module _ (old new : Lists) (past-is : new.past ≡ old.past) (writer-is : new.wr
         enough = rw (names-are, length-append old.names (name ∷ []), length-append seats (Idle ∷ [])) (omega (arith, are.enough));
         each = λ u. subst (SeatAgrees new u) (sym (joined_seat seats u)) (seat_kept u (get_or seats u Idle) (are.each u));
         spent = subst AreSpent (sym past-is) are.spent;
+        exact = subst HasExactPlaces (sym past-is) are.exact;
       }
 
   -- a seat too many waits for its session
@@ -218,6 +226,7 @@ module _ (old new : Lists) (past-is : new.past ≡ old.past) (writer-is : new.wr
         enough = rw (names-are, length-append seats (Idle ∷ [])) (omega (arith, are.enough));
         each = λ u. subst (SeatAgrees new u) (sym (joined_seat seats u)) (seat_kept u (get_or seats u Idle) (are.each u));
         spent = subst AreSpent (sym past-is) are.spent;
+        exact = subst HasExactPlaces (sym past-is) are.exact;
       }
 
 pub joined_seats : (seats : List Seat) (u : ℕ) → seat_at (seats ++ Idle ∷ []) u ≡ seat_at seats u
@@ -243,6 +252,7 @@ seats_same old new seats s stays are =
       enough = rw same.names_stay are.enough;
       each = λ u. seat_kept old new same.past_stays same.writer_stays same.tasks_stay u (get_or seats u Idle) (are.each u);
       spent = subst AreSpent (sym same.past_stays) are.spent;
+      exact = subst HasExactPlaces (sym same.past_stays) are.exact;
     }
 
 -- ---- an item that starts
@@ -257,7 +267,10 @@ only_asked s j item h rows = record { asked = grind (arith, nat_tests); nothing 
 starts_seated : (old new : Lists) (s : ℕ) (item : Item) (seat : Seat) → SeatAgrees old s Idle → Adds (events.Started s (started s old.past + 1) item) s old new
     → IsSeatOf item seat → SeatAgrees new s seat
 starts_seated old new s (Sql text) (Busy statement) rests adds reads =
-    read_runs old new s (started s old.past + 1) text statement rests.0.rows_alone rests.2 adds reads
+    subst (λ (x : Statement). SeatAgrees new s (Busy x)) (sym reads.1)
+    (asked_runs old new s (started s old.past + 1) text reads.0 rests.0.rows_alone rests.2 adds reads.2)
+starts_seated old new s (Sql text) (Refused at) rests adds reads =
+    unread_waits old new s (started s old.past + 1) at text rests.0.rows_alone rests.2 adds reads
 starts_seated old new s (Sql text) Idle rests adds reads = absurd reads
 starts_seated old new s (Sql text) (Signalling item) rests adds reads = absurd reads
 starts_seated old new s (Sql text) Leaving rests adds reads = absurd reads
@@ -283,7 +296,7 @@ seats_started old new seats s item seat are joined idle adds reads =
     let e : Event = events.Started s (started s old.past + 1) item in
     let moves : Moves s old new = moves_adds s e old new (starts_of s (started s old.past + 1) item) refl (λ x. absurd (false≢true x)) adds in
     seats_kept old new seats s seat are joined (of_statement s old new moves)
-    (starts_seated old new s item seat (subst (SeatAgrees old s) idle (are.each s)) adds reads)
+    (starts_seated old new s item seat (subst (SeatAgrees old s) idle (are.each s)) adds reads) (subst HasExactPlaces (sym adds.past_is) are.exact)
 
 -- ---- a step
 
@@ -336,11 +349,6 @@ all_rise : (es h : List Event) (s : ℕ) → started s h ≤ started s (es ++ h)
 all_rise [] h s = omega arith
 all_rise (e ∷ es) h s = omega (arith, all_rise es h s, started_rise e (es ++ h) s)
 
-item_before : (e : Event) (h : List Event) (s : ℕ) → KeepsItems e → under_way s (e ∷ h) ≡ under_way s h
-item_before (events.Started t j item) h s keeps = absurd keeps
-item_before (events.Ended t j reply) h s keeps = absurd keeps
-item_before e h s keeps = refl
-
 -- an entry of a statement is its session's
 own_entry : (s : ℕ) (e : Event) → IsNoOthers s e → is_apart e ≡ false → is_of s e ≡ true
 own_entry s (events.Signal name) mine apart = absurd (false≢true (sym apart))
@@ -375,6 +383,18 @@ goes_on old new s moves count item =
       unacked = moves.unacked;
     }
 
+-- it leaves the places of syntax errors exact, and its item as it was
+goes_exact : (s : ℕ) (old new : List Event) → GoesOn s old new → HasExactPlaces old → HasExactPlaces new
+goes_exact s old new goes exact = subst HasExactPlaces (sym goes.past_is) (entries_exact s goes.entries old goes.each exact)
+
+goes_spelled : (s : ℕ) (old new : List Event) → GoesOn s old new → IsSpelled s old → IsSpelled s new
+goes_spelled s old new goes spelled = subst (IsSpelled s) (sym goes.past_is) (spelled_still s goes.entries old goes.each spelled)
+
+-- an item ends, with such a place
+ended_exact : (s j : ℕ) (reply : Reply) (past new : List Event) → new ≡ events.Ended s j reply ∷ past → IsExact (under_way s past) reply
+    → HasExactPlaces past → HasExactPlaces new
+ended_exact s j reply past new is place exact = subst HasExactPlaces (sym is) (place, exact)
+
 module _ (old new : Lists) (seats : List Seat) (s : ℕ) (are : AreSeats old seats) (joined : s < length old.names) where
   within : s < length seats
   within = omega (arith, joined, are.enough)
@@ -383,8 +403,14 @@ module _ (old new : Lists) (seats : List Seat) (s : ℕ) (are : AreSeats old sea
   twice : (seat : Seat) → set (set seats s Idle) s seat ≡ set seats s seat
   twice seat = set_again seats s Idle seat
 
-  kept : (seat : Seat) → SessionMoves s old new → SeatAgrees new s seat → AreSeats new (set (set seats s Idle) s seat)
-  kept seat moves agrees = subst (AreSeats new) (sym (twice seat)) (seats_kept old new seats s seat are joined moves agrees)
+  kept : (seat : Seat) → SessionMoves s old new → SeatAgrees new s seat → HasExactPlaces new.past → AreSeats new (set (set seats s Idle) s seat)
+  kept seat moves agrees exact = subst (AreSeats new) (sym (twice seat)) (seats_kept old new seats s seat are joined moves agrees exact)
+
+  exact_still : new.past ≡ old.past → HasExactPlaces new.past
+  exact_still same = subst HasExactPlaces (sym same) are.exact
+
+  spelled_as : new.past ≡ old.past → IsSpelled s old.past → IsSpelled s new.past
+  spelled_as same spelled = subst (IsSpelled s) (sym same) spelled
 
   is_at : (seat : Seat) → seat_at (set (set seats s Idle) s seat) s ≡ seat
   is_at seat = ap (λ xs. get_or xs s Idle) (twice seat) ∙ get_or-set_same seats s seat Idle within
@@ -401,16 +427,25 @@ module _ (old new : Lists) (seats : List Seat) (s : ℕ) (are : AreSeats old sea
             ap (λ xs. get_or xs u Idle) (twice seat) ∙ others_set seats s seat u apart;
       }
 
-  pub step_keeps : (statement : Statement) (adv : Advance) (seat : Seat) (answer : Progress) → Steps IsRunning s old new statement adv
-      → Settled statement adv seat answer → AreSeats new (set (set seats s Idle) s seat)
-  step_keeps statement advance.Went seat answer steps settled = kept seat (of_statement s old new steps.0) (subst (SeatAgrees new s) (sym settled.0) steps.1)
-  step_keeps statement (advance.Waiting by blockers) seat answer steps settled =
-      kept seat (of_statement s old new (moves_stays s old new steps.0)) (subst (SeatAgrees new s) (sym settled.0) steps.1)
-  step_keeps statement advance.NoMemory seat answer steps settled =
-      kept seat (of_statement s old new steps.0) (subst (SeatAgrees new s) (sym settled.0) steps.1)
-  step_keeps statement (advance.Done reply) seat answer steps settled =
+  -- the seat was that of a statement
+  pub spelled_at : (statement : Statement) → seat_at seats s ≡ Busy statement → IsSpelled s old.past
+  spelled_at statement was = (subst (SeatAgrees old s) was (are.each s)).1
+
+  pub step_keeps : IsSpelled s old.past → (statement : Statement) (adv : Advance) (seat : Seat) (answer : Progress)
+      → Steps IsRunning s old new statement adv → Settled statement adv seat answer → AreSeats new (set (set seats s Idle) s seat)
+  step_keeps spelled statement advance.Went seat answer steps settled =
+      let goes : GoesOn s old.past new.past = goes_on old new s steps.0 steps.2 (has_item new s statement steps.1) in
+      kept seat (of_statement s old new steps.0)
+      (subst (SeatAgrees new s) (sym settled.0) (steps.1, goes_spelled s old.past new.past goes spelled)) (goes_exact s old.past new.past goes are.exact)
+  step_keeps spelled statement (advance.Waiting by blockers) seat answer steps settled =
+      kept seat (of_statement s old new (moves_stays s old new steps.0))
+      (subst (SeatAgrees new s) (sym settled.0) (steps.1, spelled_as steps.0.past_is spelled)) (exact_still steps.0.past_is)
+  step_keeps spelled statement advance.NoMemory seat answer steps settled =
+      kept seat (of_statement s old new steps.0) (subst (SeatAgrees new s) (sym settled.0) (steps.1, spelled_as steps.2 spelled)) (exact_still steps.2)
+  step_keeps spelled statement (advance.Done reply) seat answer steps settled =
       kept seat (of_statement s old new steps.0)
       (subst (SeatAgrees new s) (sym settled.0) (ended_item new s (started s old.past) reply old.past steps.1 steps.2 steps.3))
+      (ended_exact s (started s old.past) reply old.past new.past steps.1 (spelled_exact s reply old.past spelled) are.exact)
 
   pub step_does : (statement : Statement) (adv : Advance) (seat : Seat) (answer : Progress)
       → Steps IsRunning s old new statement adv → Settled statement adv seat answer
@@ -452,11 +487,14 @@ module _ (old new : Lists) (seats : List Seat) (s : ℕ) (are : AreSeats old sea
 
   module _ (moment : ℕ) (statement : Statement) (owed : owes_ack statement ≡ true) (was : seat_at seats s ≡ Busy statement)
       (adds : Adds (events.Acked s moment) s old new) where
-    runs : IsRunning old s statement
+    runs : IsRunning old s statement × IsSpelled s old.past
     runs = subst (SeatAgrees old s) was (are.each s)
 
     pub acked_keeps : AreSeats new (set (set seats s Idle) s (Busy (acked statement)))
-    acked_keeps = kept (Busy (acked statement)) (of_acknowledgement s moment old new adds) (goes_on_acked statement owed old new s moment runs adds)
+    acked_keeps =
+        kept (Busy (acked statement)) (of_acknowledgement s moment old new adds)
+        (goes_on_acked statement owed old new s moment runs.0 adds, subst (IsSpelled s) (sym adds.past_is) runs.1)
+        (subst HasExactPlaces (sym adds.past_is) are.exact)
 
     pub acked_does : Acknowledges s moment (record { lists = old; seats = seats })
         (record { lists = new; seats = set (set seats s Idle) s (Busy (acked statement)) })
@@ -473,6 +511,40 @@ module _ (old new : Lists) (seats : List Seat) (s : ℕ) (are : AreSeats old sea
     acked_nears_it =
         step_nears statement (acked statement) advance.Went (Busy (acked statement)) progress.Went was (acked_nears statement owed old new s) (refl, refl)
 
+  -- ---- a step of an item whose text is no statement
+
+  module _ (at : ℕ) (was : seat_at seats s ≡ Refused at) where
+    pub unread : IsUnread s at old
+    unread = subst (SeatAgrees old s) was (are.each s)
+
+    refusal : Reply
+    refusal = replies.Fail (errors.Syntax at)
+
+    module _ (seat : Seat) (answer : Progress) (does : Refuses s at old new seat answer) where
+      refused_moves : SessionMoves s old new
+      unfolding refusal
+      refused_moves =
+          of_statement s old new
+          (moves_adds s (events.Ended s (started s old.past) refusal) old new (ended_mine s (started s old.past) refusal) refl (λ x. absurd (false≢true x))
+          does.ends)
+
+      pub refused_keeps : AreSeats new (set (set seats s Idle) s seat)
+      unfolding refusal
+      refused_keeps =
+          kept seat refused_moves
+          (subst (SeatAgrees new s) (sym does.seat_is)
+          (ended_item new s (started s old.past) refusal old.past does.ends.past_is unread.started.rows_alone (does.ends.task_is ∙ unread.idle)))
+          (ended_exact s (started s old.past) refusal old.past new.past does.ends.past_is
+          (refused_exact s at unread.text old.past unread.started.item unread.refused) are.exact)
+
+      pub refused_does : StepsBy s answer (record { lists = old; seats = seats }) (record { lists = new; seats = set (set seats s Idle) s seat })
+      unfolding refusal
+      refused_does =
+          rw does.answer_is (steps_on seat refused_moves, inl ((old.past, inl refl, does.ends.past_is), is_at seat ∙ does.seat_is))
+
+      pub refused_nears : Nears s answer (record { lists = old; seats = seats }) (record { lists = new; seats = set (set seats s Idle) s seat })
+      refused_nears = rw does.answer_is tt
+
   -- ---- a step of an item of a signal
 
   module _ (now : ℕ) (item : SignalItem) (was : seat_at seats s ≡ Signalling item) where
@@ -486,13 +558,18 @@ module _ (old new : Lists) (seats : List Seat) (s : ℕ) (are : AreSeats old sea
 
     pub signals_keep : (seat : Seat) (answer : Progress) → Signals s now item old new seat answer → AreSeats new (set (set seats s Idle) s seat)
     signals_keep seat (progress.Done reply) does =
+        let ends = does.0.ends in
+        let exact = signals_exact s item reply old.past ends.0 asked.0 ends.1 are.exact in
         kept seat (of_signal s reply old new does.0) (subst (SeatAgrees new s) (sym does.1) (ended_seat reply does.0))
+        (ended_exact s (started s old.past) reply ends.0 new.past ends.2 exact.0 exact.1)
     signals_keep seat progress.NotYet does =
         kept seat (of_nothing s old new (lists_same old new does.0))
         (subst (SeatAgrees new s) (sym does.2.3) (subst (λ l. HasAsked s does.2.0 l.past × (task_of s l ≡ tasks.Idle)) (sym does.0) (does.2.1, asked.1)))
+        (exact_still (ap (λ l. l.past) does.0))
     signals_keep seat progress.NoMemory does =
         kept seat (of_nothing s old new does.0)
         (subst (SeatAgrees new s) (sym does.1) (subst (HasAsked s item) (sym does.0.past_stays) asked.0, does.0.tasks_stay s ∙ asked.1))
+        (exact_still does.0.past_stays)
     signals_keep seat other does = elim does [ ]
 
     pub signals_do : (seat : Seat) (answer : Progress) → Signals s now item old new seat answer
@@ -530,12 +607,14 @@ module _ (old new : Lists) (seats : List Seat) (s : ℕ) (are : AreSeats old sea
     may_go = subst (SeatAgrees old s) leaving (are.each s)
 
     pub out_keeps : (seat : Seat) (answer : Progress) → GoesOut s old new seat answer → AreSeats new (set (set seats s Idle) s seat)
-    out_keeps seat progress.Went goes = kept seat (of_statement s old new goes.0) (subst (SeatAgrees new s) (sym goes.3) goes.2)
-    out_keeps seat progress.NoMemory goes = kept seat (of_statement s old new goes.0) (subst (SeatAgrees new s) (sym goes.3) goes.2)
+    out_keeps seat progress.Went goes =
+        kept seat (of_statement s old new goes.0) (subst (SeatAgrees new s) (sym goes.3) goes.2) (goes_exact s old.past new.past goes.1 are.exact)
+    out_keeps seat progress.NoMemory goes =
+        kept seat (of_statement s old new goes.0) (subst (SeatAgrees new s) (sym goes.3) goes.2) (exact_still goes.1)
     out_keeps seat (progress.Done reply) goes =
         kept seat (of_statement s old new (moves_is old new s goes.1))
         (subst (SeatAgrees new s) (sym goes.4) (subst (λ l. (under_way s l.past ≡ None) × IsClosed s l.past × (task_of s l ≡ tasks.Idle)) (sym goes.1)
-        (may_go.may.rests, goes.2, goes.3)))
+        (may_go.may.rests, goes.2, goes.3))) (exact_still (ap (λ l. l.past) goes.1))
     out_keeps seat other goes = elim goes [ ]
 
     pub out_does : (seat : Seat) (answer : Progress) → GoesOut s old new seat answer
@@ -580,7 +659,8 @@ module _ (old new : Lists) (past-is : new.past ≡ old.past) (writer-is : new.wr
 
 without_room_agrees : (lists : Lists) (s : ℕ) (seat : Seat) → SeatAgrees lists s seat → SeatAgrees lists s (without_room seat)
 without_room_agrees lists s Idle agrees = agrees
-without_room_agrees lists s (Busy statement) agrees = runs_without_room lists s statement agrees
+without_room_agrees lists s (Busy statement) agrees = (runs_without_room lists s statement agrees.0, agrees.1)
+without_room_agrees lists s (Refused at) agrees = agrees
 without_room_agrees lists s (Signalling item) agrees = agrees
 without_room_agrees lists s Leaving agrees = agrees
 without_room_agrees lists s Left agrees = agrees
@@ -589,7 +669,7 @@ module _ (lists : Lists) (seats : List Seat) (s : ℕ) (are : AreSeats lists sea
   pub given_up_keeps : AreSeats lists (set (set seats s Idle) s (without_room (seat_at seats s)))
   given_up_keeps =
       kept lists lists seats s are joined (without_room (seat_at seats s)) (of_statement s lists lists (moves_none s lists))
-      (without_room_agrees lists s (seat_at seats s) (are.each s))
+      (without_room_agrees lists s (seat_at seats s) (are.each s)) are.exact
 
   pub gives_up : GivesUp s (record { lists = lists; seats = seats })
       (record { lists = lists; seats = set (set seats s Idle) s (without_room (seat_at seats s)) })

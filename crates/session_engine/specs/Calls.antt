@@ -4,7 +4,8 @@ use Rattle.std.specs.List.{AllByRecursion}
 use Rattle.inno_types.specs.declared.reply.Item.{Item}
 use Rattle.inno_types.specs.declared.reply.Item.TheVariants as items
 use Rattle.inno_types.specs.declared.reply.Reply.{Reply}
-use Rattle.inno_types.specs.declared.reply.Reply.TheVariants.{Done, NotSignalled}
+use Rattle.inno_types.specs.declared.reply.Reply.TheVariants.{Done, Fail, NotSignalled}
+use Rattle.inno_types.specs.declared.reply.SqlError.TheVariants.{Syntax}
 use Rattle.inno_db.specs.Database.{Database}
 use Rattle.inno_model.specs.declared.event.Event.{Event}
 use Rattle.inno_model.specs.declared.event.Event.TheVariants.{Opened, Started, Changed, Ended, Acked, Signal}
@@ -114,6 +115,12 @@ Settled statement advance.Went seat answer = (seat ≡ seats.Busy statement) × 
 Settled statement (advance.Waiting by blockers) seat answer = (seat ≡ seats.Busy statement) × (answer ≡ progress.Waiting blockers)
 Settled statement advance.NoMemory seat answer = (seat ≡ seats.Busy statement) × (answer ≡ progress.NoMemory)
 Settled statement (advance.Done reply) seat answer = (seat ≡ seats.Idle) × (answer ≡ progress.Done reply)
+
+-- the step ends an item whose text is no statement, with the place where it goes wrong
+pub record Refuses (s at : ℕ) (old new : Lists) (seat : Seat) (answer : Progress) : Type 0 where
+  pub ends : Adds (Ended s (started s old.past) (Fail (Syntax at))) s old new
+  pub seat_is : seat ≡ seats.Idle
+  pub answer_is : answer ≡ progress.Done (Fail (Syntax at))
 
 -- the step ends an item that gives a signal or awaits one
 pub record EndsSignal (s : ℕ) (reply : Reply) (old new : Lists) : Type 0 where

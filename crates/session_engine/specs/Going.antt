@@ -15,6 +15,7 @@ use Rattle.session_engine.specs.Seats.{State, seat_at}
 abbrev pub seat_to_go : ℕ → Lists → Seat → List ℕ
 seat_to_go s lists seats.Idle = 0 ∷ left 0 0 0 0
 seat_to_go s lists (seats.Busy statement) = statement_to_go s lists statement
+seat_to_go s lists (seats.Refused at) = 0 ∷ left 0 0 0 0
 seat_to_go s lists (seats.Signalling item) = 0 ∷ left 0 0 0 0
 seat_to_go s lists seats.Leaving = 0 ∷ to_roll_back s lists
 seat_to_go s lists seats.Left = 0 ∷ left 0 0 0 0

@@ -1,3 +1,4 @@
+pub mod Places
 pub mod Signals
 pub mod Seats
 pub mod Calls

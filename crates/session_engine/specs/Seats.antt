@@ -3,20 +3,27 @@ use Rattle.std.specs.Prelude.{◌≡◌, ℕ, ◌<◌, ◌≤◌, Bool, true, fa
 use Rattle.std.specs.Coded.{Coded, code_by, coded×, coded_list}
 use Rattle.inno_types.specs.declared.reply.Item.{Item}
 use Rattle.inno_types.specs.declared.reply.Item.TheVariants as items
+use Rattle.inno_types.specs.declared.stmt.Stmt.{Stmt}
 use Rattle.inno_model.specs.declared.event.Event.{Event}
 use Rattle.inno_model.specs.Past.{under_way, own, IsClosed}
+use Rattle.sql_grammar.specs.Grammar.{Spells}
+use Rattle.sql_prefix.specs.declared.parser.ParseBad.TheVariants.{Syntax}
+use Rattle.sql_prefix.specs.Refused.{IsRefusedAt}
+use Rattle.sql_history.specs.Items.{Asks}
 use Rattle.sql_history.specs.Legal.{is_leaving}
 use Rattle.shared_lists.specs.Tasks as tasks
 use Rattle.shared_lists.specs.State.{State as Lists, state_code as lists_code, task_of}
 use Rattle.sql_lists.specs.Steps.{HasRowsAlone}
 use Rattle.transaction_statements.specs.Running.{TakesBackTo}
-use Rattle.statement.specs.Running.{IsReadFrom, IsRunning, owes_ack, wants_room as statement_wants_room, without_room as statement_without_room}
+use Rattle.statement.specs.declared.under_way.Statement.TheVariants.{Asked}
+use Rattle.statement.specs.Running.{HasOnlyStarted, IsRunning, owes_ack, wants_room as statement_wants_room, without_room as statement_without_room}
 use Rattle.turn_board.specs.declared.Phase.{Phase}
 use Rattle.turn_board.specs.declared.Phase.TheVariants as phases
 use Rattle.session_engine.specs.declared.seats.Seat.{Seat}
-use Rattle.session_engine.specs.declared.seats.Seat.TheVariants.{Idle, Busy, Signalling, Leaving, Left}
+use Rattle.session_engine.specs.declared.seats.Seat.TheVariants.{Idle, Busy, Refused, Signalling, Leaving, Left}
 use Rattle.session_engine.specs.declared.seats.SignalItem.{SignalItem}
 use Rattle.session_engine.specs.declared.seats.SignalItem.TheVariants.{Gives, Awaits}
+use Rattle.session_engine.specs.Places.{HasExactPlaces}
 use Rattle.session_engine.specs.Signals.{AreSpent, HasOnlyAsked, HasSeenNone}
 use Rattle.session_engine.specs.contracts.seats.Seat as of_seat
 
@@ -38,6 +45,7 @@ seat_at seats s = slice_index_or seats s Idle
 abbrev pub is_working : Seat → Bool
 is_working Idle = false
 is_working (Busy statement) = true
+is_working (Refused at) = true
 is_working (Signalling item) = true
 is_working Leaving = true
 is_working Left = false
@@ -49,6 +57,7 @@ has_left other = false
 abbrev pub phase_of : Seat → Phase
 phase_of Idle = phases.Idle
 phase_of (Busy statement) = phases.Busy
+phase_of (Refused at) = phases.Busy
 phase_of (Signalling item) = phases.Busy
 phase_of Leaving = phases.Leaving
 phase_of Left = phases.Left
@@ -82,6 +91,17 @@ pub record HasEnded (s : ℕ) (state : State) : Type 0 where
   pub rests : under_way s state.lists.past ≡ None
   pub closed : IsClosed s state.lists.past
 
+-- the session's item is a statement
+abbrev pub IsSpelled : ℕ → List Event → Type 0
+IsSpelled s past = (statement : Stmt) × Asks Spells s statement past
+
+-- The session's item has done nothing, and never will: its text is no statement, and goes wrong at this byte.
+pub record IsUnread (s at : ℕ) (lists : Lists) : Type 0 where
+  pub text : List ℕ
+  pub started : HasOnlyStarted s text lists.past
+  pub refused : IsRefusedAt text (Syntax at)
+  pub idle : task_of s lists ≡ tasks.Idle
+
 -- a session without an item, whose open transaction has changes of rows alone
 pub record MayGoOut (s : ℕ) (past : List Event) : Type 0 where
   pub rests : under_way s past ≡ None
@@ -99,7 +119,8 @@ HasAsked s (Awaits wait) past = HasOnlyAsked s (items.Await wait.name) past × H
 
 -- what is seated of an item before its first step
 abbrev pub IsSeatOf : Item → Seat → Type 0
-IsSeatOf (items.Sql text) (Busy statement) = IsReadFrom text statement
+IsSeatOf (items.Sql text) (Busy statement) = (stmt : Stmt) × (statement ≡ Asked stmt) × Spells text stmt
+IsSeatOf (items.Sql text) (Refused at) = IsRefusedAt text (Syntax at)
 IsSeatOf (items.Signal name) seat = seat ≡ Signalling (Gives name)
 IsSeatOf (items.Await name) seat = seat ≡ Signalling (Awaits (record { name = name; seen = 0; since = None }))
 IsSeatOf item other = ⊥
@@ -107,7 +128,8 @@ IsSeatOf item other = ⊥
 -- What is kept of a session is what the past says. One that is idle or gone has nothing under way with rows.
 abbrev pub SeatAgrees : Lists → ℕ → Seat → Type 0
 SeatAgrees lists s Idle = MayGoOut s lists.past × (is_leaving s lists.past ≡ false) × (task_of s lists ≡ tasks.Idle)
-SeatAgrees lists s (Busy statement) = IsRunning lists s statement
+SeatAgrees lists s (Busy statement) = IsRunning lists s statement × IsSpelled s lists.past
+SeatAgrees lists s (Refused at) = IsUnread s at lists
 SeatAgrees lists s (Signalling item) = HasAsked s item lists.past × (task_of s lists ≡ tasks.Idle)
 SeatAgrees lists s Leaving = IsGoingOut s lists
 SeatAgrees lists s Left = (under_way s lists.past ≡ None) × IsClosed s lists.past × (task_of s lists ≡ tasks.Idle)
@@ -117,3 +139,4 @@ pub record AreSeats (lists : Lists) (seats : List Seat) : Type 0 where
   pub enough : length lists.names ≤ length seats
   pub each : (s : ℕ) → SeatAgrees lists s (seat_at seats s)
   pub spent : AreSpent lists.past
+  pub exact : HasExactPlaces lists.past

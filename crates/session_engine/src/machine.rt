@@ -14,7 +14,7 @@ ghost use Rattle.session_engine.specs.Calls.{AreFirst};
 
 use crate::seats::{Seat, Seats};
 use crate::signalling::signal;
-use crate::steps::{go_out, read_item, settled, without_room};
+use crate::steps::{go_out, read_item, refuse, settled, without_room};
 use inno_model::History;
 use inno_types::{Bytes, Item};
 use shared_lists::SharedLists;
@@ -48,6 +48,7 @@ impl<L: SharedLists> SessionEngine<L> {
     ghost use Rattle.session_engine.specs.Seats.{IsJoined, IsIdle, IsWorking, HasEnded, IsSeatOf};
     ghost use Rattle.session_engine.specs.Calls.{Joins, Starts, StepsBy, TellsNone, Acknowledges, GivesUp, GivesUpInVain, WaitsOn, Leaves, SameState};
     ghost use Rattle.session_engine.specs.Going.{Nears};
+    ghost use Rattle.session_engine.specs.Places.{HasExactPlaces};
     ghost use Rattle.session_engine.specs.Seats.{has_left, is_working, owes, phase_of, wants_room, seat_at, AreSeats};
     ghost use Rattle.sql_grammar.specs.Grammar.{Spells};
     ghost use Rattle.sql_history.specs.Legal.{IsLegal, owes_commit};
@@ -66,12 +67,13 @@ impl<L: SharedLists> SessionEngine<L> {
         }
     }
 
-    /// What has happened, which is legal. No device has stopped the engine, and as long as no store keeps pages, no item ends
-    /// with 1114 for want of one.
+    /// What has happened, which is legal. An item whose text is no statement has named its first bad byte. No device has stopped
+    /// the engine, and as long as no store keeps pages, no item ends with 1114 for want of one.
     pub fn history(&self) -> &History
         ensures names { result.now.names ≡ self.now.lists.names }
         ensures past { result.now.past ≡ self.now.lists.past }
         ensures legal { IsLegal Spells self.now.lists.past }
+        ensures exact { HasExactPlaces self.now.lists.past }
         ensures runs { has_stopped self.now.lists.past ≡ false }
         ensures for_pages { list_any ends_for_pages self.now.lists.past ≡ false }
         ensures sound { IsOrdered self.now.lists.past }
@@ -204,6 +206,11 @@ impl<L: SharedLists> SessionEngine<L> {
                 let _ = self.seats.replace(s, seat);
                 progress
             }
+            Seat::Refused { at } => {
+                let (seat, progress) = refuse(s, at, &mut self.lists);
+                let _ = self.seats.replace(s, seat);
+                progress
+            }
             Seat::Signalling(item) => {
                 let (seat, progress) = signal(s, item, now, &mut self.lists);
                 let _ = self.seats.replace(s, seat);
@@ -231,6 +238,7 @@ impl<L: SharedLists> SessionEngine<L> {
         ensures names { result.names ≡ self.lists.names }
         ensures past { result.past ≡ self.lists.past }
         ensures legal { IsLegal Spells self.lists.past }
+        ensures exact { HasExactPlaces self.lists.past }
         ensures runs { has_stopped self.lists.past ≡ false }
         ensures opened { self.lists.past ≢ [] }
         ensures paid { owes_commit self.lists.past ≡ None }

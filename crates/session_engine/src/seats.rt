@@ -14,6 +14,8 @@ use turn_board::Phase;
 pub enum Seat {
     Idle,
     Busy(Statement),
+    /// Its item's text is no statement: it stops being the beginning of one at this byte.
+    Refused { at: u32 },
     /// Its item gives a signal, or awaits one.
     Signalling(SignalItem),
     /// Its open transaction is being rolled back.
@@ -82,7 +84,7 @@ impl Seats {
     {
         match &self.seats[session as usize] {
             Seat::Idle | Seat::Left => false,
-            Seat::Busy(_) | Seat::Signalling(_) | Seat::Leaving => true,
+            Seat::Busy(_) | Seat::Refused { .. } | Seat::Signalling(_) | Seat::Leaving => true,
         }
     }
 
@@ -93,7 +95,8 @@ impl Seats {
     {
         match &self.seats[session as usize] {
             Seat::Busy(statement) => statement.owes_ack(),
-            Seat::Idle | Seat::Signalling(_) | Seat::Leaving | Seat::Left => false,
+            Seat::Idle | Seat::Refused { .. } | Seat::Signalling(_) | Seat::Leaving | Seat::Left =>
+                false,
         }
     }
 
@@ -104,7 +107,8 @@ impl Seats {
     {
         match &self.seats[session as usize] {
             Seat::Busy(statement) => statement.wants_room(),
-            Seat::Idle | Seat::Signalling(_) | Seat::Leaving | Seat::Left => false,
+            Seat::Idle | Seat::Refused { .. } | Seat::Signalling(_) | Seat::Leaving | Seat::Left =>
+                false,
         }
     }
 
@@ -114,7 +118,7 @@ impl Seats {
     {
         match &self.seats[session as usize] {
             Seat::Idle => Phase::Idle,
-            Seat::Busy(_) | Seat::Signalling(_) => Phase::Busy,
+            Seat::Busy(_) | Seat::Refused { .. } | Seat::Signalling(_) => Phase::Busy,
             Seat::Leaving => Phase::Leaving,
             Seat::Left => Phase::Left,
         }

@@ -2,13 +2,12 @@
 
 ghost use Rattle.std.specs.Prelude.{◌≡◌, ◌<◌, length, IfOk};
 ghost use Rattle.inno_model.specs.Past.{own, IsOpen};
-ghost use Rattle.statement.specs.Running.{IsReadFrom};
-ghost use Rattle.session_engine.specs.Calls.{Settled, GoesOut, TellsNone};
-ghost use Rattle.session_engine.specs.Seats.{IsGoingOut, IsSeatOf, without_room};
+ghost use Rattle.session_engine.specs.Calls.{Settled, Refuses, GoesOut, TellsNone};
+ghost use Rattle.session_engine.specs.Seats.{IsGoingOut, IsSeatOf, IsUnread, without_room};
 ghost use Rattle.session_engine.specs.Going.{NearsEnding};
 
 use crate::seats::{Seat, SignalItem, Wait};
-use inno_types::{Item, Reply};
+use inno_types::{Item, Reply, SqlError};
 use shared_lists::{SharedLists, Undone};
 use sql_lists::{Advance, SqlLists};
 use sql_prefix::{ParseBad, parse};
@@ -21,7 +20,7 @@ pub fn read_item(alloc: Global, item: &Item) -> Result<Seat, NoMemory>
     ensures { IfOk result (IsSeatOf item.now) }
 {
     match item {
-        Item::Sql(text) => Ok(Seat::Busy(read(alloc, text.as_slice())?)),
+        Item::Sql(text) => read(alloc, text.as_slice()),
         Item::Signal(name) => Ok(Seat::Signalling(SignalItem::Gives(name.copied()?))),
         Item::Await(name) => Ok(Seat::Signalling(SignalItem::Awaits(Wait {
             name: name.copied()?,
@@ -31,15 +30,28 @@ pub fn read_item(alloc: Global, item: &Item) -> Result<Seat, NoMemory>
     }
 }
 
-/// The statement that a text spells, before its first step.
-fn read(alloc: Global, text: &[u8]) -> Result<Statement, NoMemory>
-    ensures { IfOk result (IsReadFrom text.now) }
+/// The seat of a session whose item is this text: the statement that it spells, or where it goes wrong.
+fn read(alloc: Global, text: &[u8]) -> Result<Seat, NoMemory>
+    ensures { IfOk result (IsSeatOf (Item.Sql text.now)) }
 {
     match parse(alloc, text) {
-        Ok(stmt) => Ok(Statement::Asked(stmt)),
-        Err(ParseBad::Syntax { at }) => Ok(Statement::Unread { at }),
+        Ok(stmt) => Ok(Seat::Busy(Statement::Asked(stmt))),
+        Err(ParseBad::Syntax { at }) => Ok(Seat::Refused { at }),
         Err(ParseBad::NoMemory) => Err(NoMemory),
     }
+}
+
+/// Ends an item whose text is no statement.
+pub fn refuse<L: SharedLists>(s: u32, at: u32, lists: &mut SqlLists<L>) -> (Seat, Progress)
+    requires joined { s < length lists.old.names }
+    requires unread { IsUnread s at lists.old }
+    ensures { Refuses s at lists.old lists.new result.0 result.1 }
+{
+    lists.end(s, Reply::Fail(SqlError::Syntax { at }));
+    (
+        Seat::Idle,
+        Progress::Done(Reply::Fail(SqlError::Syntax { at })),
+    )
 }
 
 /// The seat and the answer that a statement's step comes to.

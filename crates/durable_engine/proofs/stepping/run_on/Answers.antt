@@ -21,4 +21,5 @@ returns-in-Err-clause-kept g c =
       c.stop-stopped.ensures.kept root (g.D.Disk.past c.acknowledge.new.disk) (c.acknowledge.ensures.kept root is.0).durable.keeps,
       omega (arith, is.1, c.in-Err.ensures.cause.failed),
       c.stop-stopped.ensures.stops.cause_is,
+      c.stop-stopped.ensures.exact,
     )

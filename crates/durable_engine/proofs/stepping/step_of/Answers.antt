@@ -9,5 +9,9 @@ returns-in-Running-clause-kept g c =
 pub returns-in-Stopped-clause-kept : goal.returns-in-Stopped-clause-kept
 returns-in-Stopped-clause-kept g c =
     λ root kept.
-    let was = subst (λ core. IsKept root (g.D.Disk.past c.args.disk.now) core) c.in-Stopped.is kept in
-    (c.step_stopped-progress.ensures.kept root (g.D.Disk.past c.args.disk.now) was.0, was.1, c.step_stopped-progress.ensures.cause ∙ was.2)
+    let was = subst (λ core. IsKept root (g.D.Disk.past c.args.disk.now) core) c.in-Stopped.is kept in (
+      c.step_stopped-progress.ensures.kept root (g.D.Disk.past c.args.disk.now) was.0,
+      was.1,
+      c.step_stopped-progress.ensures.cause ∙ was.2,
+      c.step_stopped-progress.ensures.exact was.3,
+    )

@@ -14,5 +14,5 @@ invariant_of-self g c =
       | in-Stopped w ↦
           (let was = subst (λ core. IsKept root now core) w.in-Stopped.is c.self.invariant in
           subst (λ e. IsKept root (g.D.Disk.past e.disk) e.core) (sym w.self-inside-is)
-          (w.start_stopped.ensures.kept root now was.0, was.1, w.start_stopped.ensures.cause ∙ was.2))
+          (w.start_stopped.ensures.kept root now was.0, was.1, w.start_stopped.ensures.cause ∙ was.2, w.start_stopped.ensures.exact was.3))
     ]
