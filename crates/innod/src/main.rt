@@ -1,5 +1,6 @@
 //! Makes the files of a database; or runs scripts of SQL on the storage engine over them, and prints what each session was
-//! answered; or prints the database as SQL. All that it does there is `script_runner::run`.
+//! answered; or prints the database as SQL, or what is counted in it; or prints a generated script, or plays it and prints what
+//! it has done. All that it does there is `script_runner::run`.
 #![tactic(auto)]
 
 use disk_file::{FileDisk, FileSource, StdSink, SystemClock};
@@ -38,7 +39,7 @@ fn main(rt: HostRuntime) -> io::Result<ExitCode> {
     );
     let (fault, status) = (outcome.fault, outcome.status);
     drop(outcome);
-    ended(&rt, fault, status, file, script)
+    ended(&rt, fault, status, file, name_of_script(&words))
 }
 
 /// The program's words. One that is no UTF-8 is an error, of invalid data.
@@ -72,8 +73,16 @@ fn word_at(words: &[String], place: usize) -> &str {
     }
 }
 
+/// What the script is called where a cause names it.
+fn name_of_script(words: &[String]) -> &str {
+    match word_at(words, 1) {
+        "gen" | "load" => "the generated script",
+        _ => word_at(words, 3),
+    }
+}
+
 /// The words as bytes, the disk over the files, and the source over the script. Where no script is named, as for `init` or
-/// `dump`, the source has an empty name, and is never opened.
+/// `dump`, the source has an empty name, and is never opened; nor is either under `gen`, or the source under `load`.
 fn objects<'r>(
     rt: &'r HostRuntime,
     words: &[String],

@@ -1,13 +1,13 @@
 -- A database is given by the rows of its tables, one table after another.
 use Rattle.std.proofs.Common.{◌≡◌, ◌∙◌, ap, sym, subst, refl, ℕ, zero, suc, ◌+◌, ◌<◌, ◌≤◌, Bool, List, [], ◌∷◌, ◌++◌, map, length, get_or, take, true, false}
 use Rattle.std.proofs.Common.{Some, ⊎_elim, T, arith, length-append, append_assoc, append-nil}
-use Rattle.std.specs.Prelude.{filter, ◌==◌, ◌&&◌, nat_lt, slice_get}
+use Rattle.std.specs.Prelude.{reverse, filter, ◌==◌, ◌&&◌, nat_lt, slice_get}
 use Rattle.std.specs.Ordering.{is_lt, ordering_then}
 use Rattle.std.specs.declared.cmp.Ordering.TheVariants.{Greater}
 use Rattle.std.specs.Cmp.{nat_cmp_is}
 use Rattle.std.proofs.lemmas.Bool.Decides.{eqb_tells, leb_tells, nat_tests}
-use Rattle.std.proofs.lemmas.List.{take_more, take_all, length-take}
-use Rattle.std.specs.FinMap.{entries, entries_sorted, from_entries, is_sorted, same_entries_map}
+use Rattle.std.proofs.lemmas.List.{take_more, take_all, length-take, reverse-append}
+use Rattle.std.specs.FinMap.{entries, entries_sorted, from_entries, insert, is_sorted, same_entries_map}
 use Rattle.std.specs.FinMap.Entries.{below_all}
 use Rattle.inno_types.specs.declared.value.Value.{Value}
 use Rattle.inno_types.specs.declared.value.Schema.{Schema}
@@ -15,7 +15,12 @@ use Rattle.inno_db.specs.declared.limits.TheConstants.{MOST_TABLES}
 use Rattle.inno_db.specs.Database.{Database, Place, place_cmp, value_cmp, key_of, key_in, rows_of, placed, all_placed, database_of, IsInOrder}
 use Rattle.inno_db.proofs.Keys.{IsKeyed, AreAtTheirKeys, key_in-at}
 use Rattle.inno_db.proofs.Tables.{entries-from_rising}
-use Rattle.replay.specs.Tables.{tables_below}
+use Rattle.inno_db.specs.Changes.{apply_one}
+use Rattle.inno_db.specs.declared.change.Change.{Change}
+use Rattle.inno_db.specs.declared.change.Change.TheVariants.{Create, Put}
+use Rattle.inno_model.specs.Past.{changed}
+use Rattle.sql_history.proofs.Pasts.{changed_append}
+use Rattle.replay.specs.Tables.{tables_below, puts_below}
 
 abbrev Entry : Type 0
 Entry = Place × List Value
@@ -104,6 +109,69 @@ slice_get_at [] n d h = absurd (omega arith)
 slice_get_at (s ∷ schemas) zero d h = refl
 slice_get_at (s ∷ schemas) (suc n) d h = let less : n < length schemas = omega arith in slice_get_at schemas n d less
 
+-- a table more
+placed_more : (db : Database) (d : Schema) (n : ℕ) → n < length db.schemas
+    → all_placed 0 (take (suc n) db.schemas) (tables_below (suc n) db)
+    ≡ all_placed 0 (take n db.schemas) (tables_below n db) ++ placed n (get_or db.schemas n d) (rows_of n db)
+placed_more db d n less =
+    let schema = get_or db.schemas n d in
+    let taken : length (take n db.schemas) ≡ n = omega (arith, length-take n db.schemas) in
+    let from : 0 + length (take n db.schemas) ≡ n = omega (arith, taken) in
+    let many : length (tables_below n db) ≡ length (take n db.schemas) = as_many n db ∙ sym taken in
+    let one : n + 1 ≡ suc n = omega arith in
+    subst (λ m. all_placed 0 (take m db.schemas) (tables_below (suc n) db)
+    ≡ all_placed 0 (take n db.schemas) (tables_below n db) ++ placed n schema (rows_of n db)) one
+    (ap (λ ss. all_placed 0 ss (tables_below (suc n) db)) (take_more db.schemas n d less)
+    ∙ all_placed_more 0 (take n db.schemas) (tables_below n db) schema (rows_of n db) many
+    ∙ ap (λ m. all_placed 0 (take n db.schemas) (tables_below n db) ++ placed m schema (rows_of n db)) from)
+
+-- ---- the changes that make a database
+
+-- these tables with these rows
+abbrev with_rows : List Schema → List Entry → Database
+with_rows schemas es = record { schemas = schemas; rows = from_entries es }
+
+created : (db : Database) (schemas : List Schema) → changed db (reverse (map Create schemas)) ≡ record { schemas = db.schemas ++ schemas; rows = db.rows }
+created db [] = λ i. record { schemas = sym (append-nil db.schemas) i; rows = db.rows }
+created db (s ∷ schemas) =
+    ap (changed db) (reverse-append (Create s ∷ []) (map Create schemas))
+    ∙ changed_append db (reverse (map Create schemas)) (Create s ∷ [])
+    ∙ created (apply_one db (Create s)) schemas
+    ∙ (λ i. record { schemas = append_assoc db.schemas (s ∷ []) schemas i; rows = db.rows })
+
+rows_put : (schemas : List Schema) (n : ℕ) (schema : Schema) (rows : List (List Value)) (rest : List Entry) → slice_get schemas n ≡ Some schema
+    → changed (with_rows schemas rest) (map (Put n) rows) ≡ with_rows schemas (placed n schema rows ++ rest)
+rows_put schemas n schema [] rest is = refl
+rows_put schemas n schema (r ∷ rows) rest is =
+    ap (λ (d : Database). apply_one d (Put n r)) (rows_put schemas n schema rows rest is)
+    ∙ (λ i. record { schemas = schemas; rows = insert (from_entries (placed n schema rows ++ rest)) (n, key_in-at schemas n schema r is i) r })
+
+tables_put : (db : Database) (d : Schema) (n : ℕ) → n ≤ length db.schemas → (rest : List Entry)
+    → changed (with_rows db.schemas rest) (puts_below n db) ≡ with_rows db.schemas (all_placed 0 (take n db.schemas) (tables_below n db) ++ rest)
+tables_put db d zero le rest = refl
+tables_put db d (suc n) le rest =
+    let less : n < length db.schemas = omega arith in
+    let fewer : n ≤ length db.schemas = omega arith in
+    let schema = get_or db.schemas n d in
+    let here = placed n schema (rows_of n db) in
+    let before = all_placed 0 (take n db.schemas) (tables_below n db) in
+    changed_append (with_rows db.schemas rest) (puts_below n db) (map (Put n) (rows_of n db))
+    ∙ ap (λ (x : Database). changed x (puts_below n db)) (rows_put db.schemas n schema (rows_of n db) rest (slice_get_at db.schemas n d less))
+    ∙ tables_put db d n fewer (here ++ rest)
+    ∙ ap (with_rows db.schemas) (sym (append_assoc before here rest) ∙ ap (λ es. es ++ rest) (sym (placed_more db d n less)))
+
+-- the tables and then the rows of a database make it anew
+pub remade : (db : Database)
+    → changed (changed (database_of [] []) (reverse (map Create db.schemas))) (puts_below (length db.schemas) db)
+    ≡ database_of db.schemas (tables_below (length db.schemas) db)
+remade db =
+    let le : length db.schemas ≤ length db.schemas = omega arith in
+    let all = all_placed 0 db.schemas (tables_below (length db.schemas) db) in
+    ap (λ (x : Database). changed x (puts_below (length db.schemas) db)) (created (database_of [] []) db.schemas)
+    ∙ tables_put db (record { name = []; columns = []; primary = 0; keys = [] }) (length db.schemas) le []
+    ∙ ap (λ ss. with_rows db.schemas (all_placed 0 ss (tables_below (length db.schemas) db) ++ [])) (take_all (length db.schemas) db.schemas le)
+    ∙ ap (with_rows db.schemas) (append-nil all)
+
 module _ (db : Database) (keyed : IsKeyed db) where
   placed_below : (d : Schema) (n : ℕ) → n ≤ length db.schemas → all_placed 0 (take n db.schemas) (tables_below n db) ≡ below n (entries db.rows)
   placed_below d zero le = sym (none_less (entries db.rows))
@@ -115,17 +183,12 @@ module _ (db : Database) (keyed : IsKeyed db) where
       let less : n < length db.schemas = omega arith in
       let fewer : n ≤ length db.schemas = omega arith in
       let schema = get_or db.schemas n d in
-      let taken : length (take n db.schemas) ≡ n = omega (arith, length-take n db.schemas) in
-      let from : 0 + length (take n db.schemas) ≡ n = omega (arith, taken) in
-      let many : length (tables_below n db) ≡ length (take n db.schemas) = as_many n db ∙ sym taken in
       let one : n + 1 ≡ suc n = omega arith in
-      subst (λ m. all_placed 0 (take m db.schemas) (tables_below (suc n) db) ≡ below m (entries db.rows)) one
-      (ap (λ ss. all_placed 0 ss (tables_below (suc n) db)) (take_more db.schemas n d less)
-      ∙ all_placed_more 0 (take n db.schemas) (tables_below n db) schema (rows_of n db) many
-      ∙ ap (λ fs. fs ++ placed (0 + length (take n db.schemas)) schema (rows_of n db)) (placed_below d n fewer)
-      ∙ ap (λ m. below n (entries db.rows) ++ placed m schema (rows_of n db)) from
+      placed_more db d n less
+      ∙ ap (λ fs. fs ++ placed n schema (rows_of n db)) (placed_below d n fewer)
       ∙ ap (λ fs. below n (entries db.rows) ++ fs) (placed_rows db.schemas n schema (entries db.rows) (slice_get_at db.schemas n d less) keyed)
-      ∙ sym (below_more n (entries db.rows) (told (is_sorted place_cmp (entries db.rows)) (entries_sorted db.rows))))
+      ∙ sym (below_more n (entries db.rows) (told (is_sorted place_cmp (entries db.rows)) (entries_sorted db.rows)))
+      ∙ ap (λ m. below m (entries db.rows)) one
 
   placed_all : all_placed 0 db.schemas (tables_below (length db.schemas) db) ≡ entries db.rows
   placed_all =
@@ -146,3 +209,15 @@ module _ (db : Database) (keyed : IsKeyed db) where
       let rows = same_entries_map (from_entries (all_placed 0 db.schemas (tables_below (length db.schemas) db))) db.rows
       (entries-from_rising (all_placed 0 db.schemas (tables_below (length db.schemas) db)) (in_order few).rising ∙ placed_all) in
       λ i. record { schemas = db.schemas; rows = rows i }
+
+-- a database to which first its tables came and then its rows
+pub made_anew : (db empty tables full : Database) (schemas : List Schema) (rows : List (List (List Value))) (creations puts : List Change)
+    → empty ≡ database_of schemas rows → schemas ≡ [] → rows ≡ [] → tables ≡ changed empty creations → creations ≡ reverse (map Create db.schemas)
+    → full ≡ changed tables puts → puts ≡ puts_below (length db.schemas) db → length db.schemas ≤ MOST_TABLES → IsKeyed db → full ≡ db
+made_anew db empty tables full schemas rows creations puts is none no_rows creating created_are all puts_are few keyed =
+    let begun : empty ≡ database_of [] [] = is ∙ ap (λ ss. database_of ss rows) none ∙ ap (database_of []) no_rows in
+    let made : tables ≡ changed (database_of [] []) (reverse (map Create db.schemas)) =
+    creating ∙ ap (λ (d : Database). changed d creations) begun ∙ ap (changed (database_of [] [])) created_are in
+    all ∙ ap (λ (d : Database). changed d puts) made
+    ∙ ap (changed (changed (database_of [] []) (reverse (map Create db.schemas)))) puts_are
+    ∙ remade db ∙ same_db db keyed few

@@ -6,18 +6,11 @@ use Rattle.inno_db.proofs.Keys.{IsKeyed}
 use Rattle.inno_model.specs.declared.event.Event.{Event}
 use Rattle.inno_model.specs.declared.event.Event.TheVariants.{Opened, Begin, Changed, Undone, Committed, RolledBack}
 use Rattle.inno_model.specs.Past.{changed}
-use Rattle.replay.specs.Replay.{CanApplyAll}
 use Rattle.replay.specs.Pending.{changes_of, Becomes}
-
--- what the entry needs
-abbrev pub MayGoOn : Event → Database → List (List Change) → Type 0
-MayGoOn (Opened opened) db pending = IsKeyed opened
-MayGoOn (Committed s) db pending = CanApplyAll db (reverse (changes_of s pending))
-MayGoOn other db pending = Unit {0}
 
 -- A commit makes its session's changes. Of those that were not committed some are taken back, or all.
 abbrev pub GoesOn : Event → Database → List (List Change) → Database → List (List Change) → Type 0
-GoesOn (Opened opened) db pending db' pending' = (db' ≡ opened) × (pending' ≡ pending)
+GoesOn (Opened opened) db pending db' pending' = (IsKeyed opened → db' ≡ opened) × (pending' ≡ pending)
 GoesOn (Begin s txn level) db pending db' pending' = (db' ≡ db) × Becomes s [] pending pending'
 GoesOn (Changed s change) db pending db' pending' = (db' ≡ db) × Becomes s (changes_of s pending ++ change ∷ []) pending pending'
 GoesOn (Undone s keep) db pending db' pending' = (db' ≡ db) × Becomes s (take keep (changes_of s pending)) pending pending'

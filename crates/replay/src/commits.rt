@@ -1,10 +1,12 @@
 //! The replay itself: entry by entry, the oldest first.
 
 ghost use Rattle.std.specs.Prelude.{◌≡◌, reverse, IfOk, OnOk};
-ghost use Rattle.inno_model.specs.Past.{changed, commits, db_after};
-ghost use Rattle.replay.specs.Replay.{CanReplay, CanApplyAll};
-ghost use Rattle.replay.specs.Entries.{MayGoOn, GoesOn};
+ghost use Rattle.inno_db.proofs.Keys.{IsKeyed};
+ghost use Rattle.inno_model.specs.Past.{changed, commits, opening, db_after};
+ghost use Rattle.replay.specs.Replay.{CanReplay, OpensOnce};
+ghost use Rattle.replay.specs.Entries.{GoesOn};
 
+use crate::changes::make_from_back;
 use crate::copies::{copied_change, copied_db};
 use crate::pending::{add_change, keep_changes, take_changes};
 use inno_db::{Change, Db};
@@ -17,6 +19,15 @@ use store_api::NoMemory;
 pub fn committed_db(alloc: Global, history: &History) -> Result<Db, NoMemory>
     requires { CanReplay history.now.past }
     ensures { IfOk result (λ db. db ≡ db_after (commits history.now.past) history.now.past) }
+{
+    replayed_db(alloc, history)
+}
+
+/// The same of a history whose changes were not looked at: one that can't be made is answered as out of memory. The rows at
+/// its opening stand at their keys, or nothing is said.
+pub fn replayed_db(alloc: Global, history: &History) -> Result<Db, NoMemory>
+    requires { OpensOnce history.now.past }
+    ensures { IfOk result (λ db. IsKeyed (opening history.now.past) → db ≡ db_after (commits history.now.past) history.now.past) }
 {
     let mut db = Db::new(Listed::new(alloc), Listed::new(alloc));
     let mut pending = Vec::new(alloc);
@@ -34,7 +45,6 @@ fn replay_entry(
     pending: &mut Vec<Listed<Change>>,
     event: &Event,
 ) -> Result<(), NoMemory>
-    requires { MayGoOn event.now db.old pending.old.items }
     ensures { OnOk result (GoesOn event.now db.old pending.old.items db.new pending.new.items) }
 {
     match event {
@@ -66,13 +76,9 @@ fn replay_entry(
 
 /// Makes the changes, the first of them first.
 fn make_changes(alloc: Global, db: &mut Db, changes: Listed<Change>) -> Result<(), NoMemory>
-    requires { CanApplyAll db.old (reverse changes) }
     ensures { OnOk result (db.new ≡ changed db.old (reverse changes)) }
 {
     let mut left = changes.into_vec();
     left.reverse();
-    while let Some(change) = left.pop() {
-        db.apply(alloc, change)?;
-    }
-    Ok(())
+    make_from_back(alloc, db, left)
 }

@@ -1,44 +1,63 @@
 //! Copies of what stands in a history: the database of its opening, and its changes.
 
-ghost use Rattle.std.specs.Prelude.{◌≡◌, ◌≤◌, IfOk, length};
+ghost use Rattle.std.specs.Prelude.{◌≡◌, ◌≤◌, ◌++◌, map, reverse, IfOk, OnOk, length};
 ghost use Rattle.inno_db.specs.declared.limits.TheConstants.{MOST_TABLES};
+ghost use Rattle.inno_db.specs.declared.change.Change.TheVariants.{Create, Put};
 ghost use Rattle.inno_db.proofs.Keys.{IsKeyed};
-ghost use Rattle.replay.specs.Tables.{tables_below};
+ghost use Rattle.replay.specs.Tables.{puts_below};
 
+use crate::changes::make_from_back;
 use inno_db::{Change, Db};
-use inno_types::{Listed, Rows, Schema, Value};
+use inno_types::{Listed, Rows, Value};
 use std::alloc::Global;
 use store_api::NoMemory;
 
-/// The same database.
+/// The same database, where its rows stand at their keys. It is made by its changes: the tables first, and then each row.
 pub(crate) fn copied_db(alloc: Global, db: &Db) -> Result<Db, NoMemory>
-    requires { IsKeyed db.now }
-    ensures { IfOk result (λ copy. copy ≡ db.now) }
+    ensures { IfOk result (λ copy. IsKeyed db.now → copy ≡ db.now) }
 {
-    let schemas = copied_schemas(alloc, db)?;
-    let tables = copied_tables(alloc, db)?;
-    Ok(Db::new(schemas, tables))
+    let mut copy = Db::new(Listed::new(alloc), Listed::new(alloc));
+    let creations = creations_of(alloc, db)?;
+    make_from_back(alloc, &mut copy, creations)?;
+    let puts = puts_of(alloc, db)?;
+    make_from_back(alloc, &mut copy, puts)?;
+    Ok(copy)
 }
 
-fn copied_schemas(alloc: Global, db: &Db) -> Result<Listed<Schema>, NoMemory>
-    ensures { IfOk result (λ schemas. (schemas ≡ db.now.schemas) × (length schemas ≤ MOST_TABLES)) }
+/// The changes that make its tables, the last of them in front.
+fn creations_of(alloc: Global, db: &Db) -> Result<Vec<Change>, NoMemory>
+    ensures { IfOk result (λ changes. changes.items ≡ reverse (map Create db.now.schemas)) }
 {
-    let mut schemas = Vec::new(alloc);
+    let mut changes = Vec::new(alloc);
     for schema in db.schemas().as_slice() {
-        schemas.push(schema.copied()?)?;
+        let schema = schema.copied()?;
+        changes.push(Change::Create { schema })?;
     }
-    Ok(Listed::from_vec(schemas))
+    changes.reverse();
+    Ok(changes)
 }
 
-/// The rows of its tables, in the order of the tables.
-fn copied_tables(alloc: Global, db: &Db) -> Result<Listed<Rows>, NoMemory>
-    ensures { IfOk result (λ tables. tables ≡ tables_below (length db.now.schemas) db.now) }
+/// The changes that put its rows, table by table.
+fn puts_of(alloc: Global, db: &Db) -> Result<Vec<Change>, NoMemory>
+    ensures changes { IfOk result (λ changes. changes.items ≡ puts_below (length db.now.schemas) db.now) }
+    ensures few { length db.now.schemas ≤ MOST_TABLES }
 {
-    let mut tables = Vec::new(alloc);
+    let mut changes = Vec::new(alloc);
     for table in 0..db.schemas().len() {
-        tables.push(db.rows(table).copied()?)?;
+        push_puts(&mut changes, table as u8, db.rows(table))?;
     }
-    Ok(Listed::from_vec(tables))
+    Ok(changes)
+}
+
+/// Adds the changes that put the rows of a table.
+fn push_puts(changes: &mut Vec<Change>, table: u8, rows: &Rows) -> Result<(), NoMemory>
+    ensures { OnOk result (changes.new.items ≡ changes.old.items ++ map (Put table) rows.now) }
+{
+    for row in rows.as_slice() {
+        let row = row.copied()?;
+        changes.push(Change::Put { table, row })?;
+    }
+    Ok(())
 }
 
 /// The same change.

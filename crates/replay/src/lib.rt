@@ -2,8 +2,9 @@
 //! It reads a history and makes changes of a database in memory; nothing here meets an engine.
 #![tactic(auto)]
 
+mod changes;
 mod commits;
 mod copies;
 mod pending;
 
-pub use commits::committed_db;
+pub use commits::{committed_db, replayed_db};

@@ -1,3 +1,4 @@
 pub mod Fronts
+pub mod Limits
 mod Sent
 pub mod Telling

@@ -8,6 +8,11 @@ use Rattle.inno_model.specs.declared.event.Event.TheVariants as events
 use Rattle.sql_history.specs.Counts.{has_stopped}
 use Rattle.run_outcome.specs.declared.outcome.Fault.{Fault}
 use Rattle.run_outcome.specs.declared.outcome.Fault.TheVariants.{Nothing, OutputWrite, DiskFault, NoMemory}
+use Rattle.inno_model.specs.Recorded.{Recorded}
+use Rattle.inno_model.specs.Text.{text}
+use Rattle.run_outcome.specs.declared.reports.Report.{Report}
+use Rattle.run_outcome.specs.declared.reports.Report.TheVariants.{Transcript, Totals}
+use Rattle.run_outcome.specs.Reports.{IsReported, IsReportedWhole, totals_text}
 use Rattle.run_outcome.specs.Streams.{AppendsFront}
 use Rattle.run_outcome.specs.Faults.{told, stops, IsOutputFault, IsPlayedFault, IsPrinted}
 
@@ -72,3 +77,19 @@ told_output false true Nothing is t = cc
 told_output false false Nothing is t = cc
 told_output failed sufficed OutputWrite is t = refl
 told_output failed sufficed other is t = absurd is
+
+-- ---- whatever is printed
+
+pub told_reported : (report : Report) (failed sufficed : Bool) (printed : Fault) (old new : Option (List ℕ)) (history : Recorded) → IsOutputFault printed
+    → IsReported report printed old new history → IsReported report (told failed sufficed printed) old new history
+told_reported Transcript failed sufficed printed old new history is p = told_printed failed sufficed printed old new (text history) is p
+told_reported (Totals asked) failed sufficed printed old new history is p =
+    λ keyed. told_printed failed sufficed printed old new (totals_text asked history) is (p keyed)
+
+pub told_reported_whole : (report : Report) (failed sufficed : Bool) (printed : Fault) (old new : Option (List ℕ)) (history : Recorded)
+    → IsOutputFault printed → IsReported report printed old new history → (printed ≡ OutputWrite → ⊥)
+    → told failed sufficed printed ≡ DiskFault → IsReportedWhole report old new history
+told_reported_whole Transcript failed sufficed printed old new history is p unlike t =
+    told_whole failed sufficed printed old new (text history) is p unlike t
+told_reported_whole (Totals asked) failed sufficed printed old new history is p unlike t =
+    λ mounted keyed. told_whole failed sufficed printed old new (totals_text asked history) is (p keyed) unlike t

@@ -60,7 +60,7 @@ file_text file (mount.TooLarge rows) = file ++ (codes ": too many rows: " ++ dec
 
 abbrev pub cause_text : List ℕ → List ℕ → Fault → List ℕ
 cause_text file script Nothing = []
-cause_text file script Usage = codes "usage: innod init FILE, innod run FILE SCRIPT, innod play FILE SCRIPT, or innod dump FILE"
+cause_text file script Usage = codes "usage: innod init, dump or check FILE, innod run or play FILE SCRIPT, innod gen NUMBER SESSIONS TXNS, or innod load FILE NUMBER SESSIONS TXNS"
 cause_text file script (ScriptBad line) = script_bad_text script line
 cause_text file script ScriptRead = script ++ codes ": cannot be read"
 cause_text file script OutputWrite = codes "standard output: cannot be written"

@@ -11,11 +11,14 @@ use Rattle.script.specs.declared.script.ScriptBad.TheVariants.{Line, Limit as Li
 use Rattle.script.specs.Script.{IsRefused}
 use Rattle.run_outcome.specs.declared.outcome.Fault.{Fault}
 use Rattle.run_outcome.specs.declared.outcome.Fault.TheVariants.{Nothing, Usage, ScriptBad, ScriptRead, OutputWrite, DiskFault, File, Limit, NoMemory}
+use Rattle.run_outcome.specs.declared.words.Way.{Way}
+use Rattle.run_outcome.specs.declared.words.Way.TheVariants.{InTurn, OnThreads}
 use Rattle.run_outcome.specs.Streams.{AppendsFront}
 
--- The engine takes statements alone so far. So a directive about a signal or a tick is a bad line.
-abbrev pub allowed : Directives
-allowed = record { signals = true; ticks = false }
+-- Under `run` time passes by the clock, so a tick is a bad line there.
+abbrev pub allowed : Way → Directives
+allowed InTurn = record { signals = true; ticks = true }
+allowed OnThreads = record { signals = true; ticks = false }
 
 abbrev pub status_of : Fault → ℕ
 status_of Nothing = 0
@@ -82,7 +85,7 @@ IsPrinted NoMemory old new text = (new ≡ old) ⊎ Appends old new text
 IsPrinted other old new text = new ≡ old
 
 -- why the bytes of the source are no script
-abbrev pub Refuses : Fault → List ℕ → Type 0
-Refuses (ScriptBad line) bytes = IsRefused allowed bytes (Line line)
-Refuses (Limit what found most) bytes = IsRefused allowed bytes (LimitPassed what found most)
-Refuses other bytes = Unit {0}
+abbrev pub Refuses : Way → Fault → List ℕ → Type 0
+Refuses way (ScriptBad line) bytes = IsRefused (allowed way) bytes (Line line)
+Refuses way (Limit what found most) bytes = IsRefused (allowed way) bytes (LimitPassed what found most)
+Refuses way other bytes = Unit {0}

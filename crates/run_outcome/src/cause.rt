@@ -34,7 +34,7 @@ pub fn cause_line(
 }
 
 const USAGE: &str =
-    "usage: innod init FILE, innod run FILE SCRIPT, innod play FILE SCRIPT, or innod dump FILE";
+    "usage: innod init, dump or check FILE, innod run or play FILE SCRIPT, innod gen NUMBER SESSIONS TXNS, or innod load FILE NUMBER SESSIONS TXNS";
 
 fn script_bad_line(alloc: Global, script: &str, line: u32) -> Result<String, AllocError>
     ensures { IfOk result (λ text. string_bytes text ≡ spelled.script_bad_text script.now line) }

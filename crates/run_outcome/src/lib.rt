@@ -3,15 +3,19 @@
 #![tactic(auto)]
 
 mod cause;
+mod generated;
 mod input;
 mod outcome;
 mod output;
+mod reports;
+mod shown;
 mod words;
 
 pub use cause::cause_line;
+pub use generated::{generate_input, print_generated};
 pub use input::{ReadBad, read_all};
-pub use outcome::{
-    Fault, Outcome, fault_of, finish, has_stopped, print_dump, read_input, without_engine,
-};
+pub use outcome::{Fault, Outcome, fault_of, finish, has_stopped, read_input, without_engine};
 pub use output::write_all;
-pub use words::{dumps, is_command, makes};
+pub use reports::Report;
+pub use shown::{Shown, print_shown};
+pub use words::{Asked, Command, Way, command_of};

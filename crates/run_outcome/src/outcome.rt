@@ -3,22 +3,21 @@
 ghost use Rattle.std.specs.Prelude.{◌≡◌, [], IfOk, IfErr, IfSome, IsTrue, false};
 ghost use Rattle.std.specs.List.{list_any};
 ghost use Rattle.store_api.specs.Causes.{Rose};
-ghost use Rattle.std.specs.Io.KnownBytes.{Appends};
-ghost use Rattle.inno_model.specs.Text.{text};
 ghost use Rattle.sql_history.specs.Counts as counts;
 ghost use Rattle.script.specs.Script.{Spells, IsPlayable};
-ghost use Rattle.sql_dump.specs.Dump as dump;
+ghost use Rattle.replay.specs.Replay.{OpensOnce};
+ghost use Rattle.run_outcome.specs.Reports.{IsReported, IsReportedWhole};
 ghost use Rattle.run_outcome.specs.Faults.{allowed, status_of, fault_of, told, IsInputFault, IsOutputFault, IsPlayedFault, IsPrinted, Refuses, answers_no_memory, stops};
 
 use crate::input::{ReadBad, read_all};
 use crate::output::write_all;
-use inno_db::Db;
+use crate::reports::{Report, print_report};
+use crate::words::Way;
 use inno_model::{Event, History};
 use inno_types::Reply;
-use script::{Directives, Script, ScriptBad, read_script, transcript};
-use sql_dump::dump_text;
+use script::{Directives, Script, ScriptBad, read_script};
 use std::alloc::Global;
-use store_api::{Failed, MountBad, NoMemory, Sink, Source};
+use store_api::{Failed, MountBad, Sink, Source};
 
 /// Why a run is no full success.
 #[derive(Clone, Copy, Debug, PartialEq, Eq)]
@@ -78,12 +77,28 @@ pub fn without_engine<D>(alloc: Global, disk: D, fault: Fault) -> Outcome<D>
     }
 }
 
-/// Reads the script, all of the source.
-pub fn read_input<S: Source>(alloc: Global, source: &mut S) -> Result<Script, Fault>
-    ensures script { IfOk result (λ script. IfSome (S.left source.old) (λ bytes. Spells allowed bytes script)) }
-    ensures playable { IfOk result (IsPlayable allowed) }
+/// Which directives a script may have that is played so.
+fn allowed(way: Way) -> Directives
+    ensures { result ≡ allowed way }
+{
+    match way {
+        Way::InTurn => Directives {
+            signals: true,
+            ticks: true,
+        },
+        Way::OnThreads => Directives {
+            signals: true,
+            ticks: false,
+        },
+    }
+}
+
+/// Reads the script, all of the source, as one that is to be played so.
+pub fn read_input<S: Source>(alloc: Global, source: &mut S, way: Way) -> Result<Script, Fault>
+    ensures script { IfOk result (λ script. IfSome (S.left source.old) (λ bytes. Spells (allowed way) bytes script)) }
+    ensures playable { IfOk result (IsPlayable (allowed way)) }
     ensures read { result ≡ Err Fault.ScriptRead → Rose (S.faults source.old) (S.faults source.new) }
-    ensures judged { IfErr result (λ fault. IfSome (S.left source.old) (Refuses fault)) }
+    ensures judged { IfErr result (λ fault. IfSome (S.left source.old) (Refuses way fault)) }
     ensures causes { IfErr result IsInputFault }
 {
     let bytes = match read_all(alloc, source) {
@@ -91,11 +106,7 @@ pub fn read_input<S: Source>(alloc: Global, source: &mut S) -> Result<Script, Fa
         Err(ReadBad::Failed) => return Err(Fault::ScriptRead),
         Err(ReadBad::NoMemory) => return Err(Fault::NoMemory),
     };
-    let allowed = Directives {
-        signals: true,
-        ticks: false,
-    };
-    match read_script(alloc, bytes.as_slice(), allowed) {
+    match read_script(alloc, bytes.as_slice(), allowed(way)) {
         Ok(script) => Ok(script),
         Err(ScriptBad::Line { line }) => Err(Fault::ScriptBad { line }),
         Err(ScriptBad::Limit { what, found, most }) => Err(Fault::Limit { what, found, most }),
@@ -127,12 +138,15 @@ pub fn finish<D, K: Sink>(
     history: History,
     failed: bool,
     sufficed: bool,
+    report: Report,
     out: &mut K,
 ) -> Outcome<D>
+    requires { OpensOnce history.past }
     ensures disk { result.disk ≡ disk }
     ensures history { result.history ≡ history }
-    ensures printed { IsPrinted result.fault (K.taken out.old) (K.taken out.new) (text history) }
-    ensures whole { result.fault ≡ Fault.DiskFault → (Rose (K.faults out.old) (K.faults out.new) → ⊥) → Appends (K.taken out.old) (K.taken out.new) (text history) }
+    ensures printed { IsReported report result.fault (K.taken out.old) (K.taken out.new) history }
+    ensures whole { result.fault ≡ Fault.DiskFault → (Rose (K.faults out.old) (K.faults out.new) → ⊥)
+        → IsReportedWhole report (K.taken out.old) (K.taken out.new) history }
     ensures failed { result.fault ≡ Fault.DiskFault → IsTrue failed }
     ensures sufficed { result.fault ≡ Fault.Nothing → IsTrue sufficed }
     ensures served { result.fault ≡ Fault.Nothing → failed ≡ false }
@@ -140,7 +154,7 @@ pub fn finish<D, K: Sink>(
     ensures output_write { result.fault ≡ Fault.OutputWrite → Rose (K.faults out.old) (K.faults out.new) }
     ensures causes { IsPlayedFault result.fault }
 {
-    let printed = print(alloc, &history, out);
+    let printed = print_report(alloc, &history, report, out);
     let replied = !has_lacked_memory(&history);
     let fault = told_fault(failed, sufficed && replied, printed);
     Outcome {
@@ -208,31 +222,7 @@ fn told_fault(failed: bool, sufficed: bool, printed: Fault) -> Fault
     }
 }
 
-/// Prints the text of a history.
-fn print<K: Sink>(alloc: Global, history: &History, out: &mut K) -> Fault
-    ensures printed { IsPrinted result (K.taken out.old) (K.taken out.new) (text history.now) }
-    ensures output_write { result ≡ Fault.OutputWrite → Rose (K.faults out.old) (K.faults out.new) }
-    ensures causes { IsOutputFault result }
-{
-    match transcript(alloc, history) {
-        Ok(bytes) => print_bytes(bytes.as_slice(), out),
-        Err(NoMemory) => Fault::NoMemory,
-    }
-}
-
-/// Prints a database as SQL, whose statements make it anew.
-pub fn print_dump<K: Sink>(alloc: Global, db: &Db, out: &mut K) -> Fault
-    ensures printed { IsPrinted result (K.taken out.old) (K.taken out.new) (dump.text_of db.now) }
-    ensures output_write { result ≡ Fault.OutputWrite → Rose (K.faults out.old) (K.faults out.new) }
-    ensures causes { IsOutputFault result }
-{
-    match dump_text(alloc, db) {
-        Ok(bytes) => print_bytes(bytes.as_slice(), out),
-        Err(NoMemory) => Fault::NoMemory,
-    }
-}
-
-fn print_bytes<K: Sink>(bytes: &[u8], out: &mut K) -> Fault
+pub(crate) fn print_bytes<K: Sink>(bytes: &[u8], out: &mut K) -> Fault
     ensures printed { IsPrinted result (K.taken out.old) (K.taken out.new) bytes.now }
     ensures output_write { result ≡ Fault.OutputWrite → Rose (K.faults out.old) (K.faults out.new) }
     ensures causes { IsOutputFault result }

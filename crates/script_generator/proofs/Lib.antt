@@ -1,2 +1,3 @@
 pub mod Appended
+pub mod Playable
 pub mod Steps

@@ -1,8 +1,7 @@
 -- One account, session or transfer more.
-use Rattle.std.proofs.Common.{◌≡◌, refl, ℕ, ◌+◌, List, [], ◌∷◌, ◌++◌, add-one}
+use Rattle.std.proofs.Common.{◌≡◌, refl, ℕ, ◌+◌, [], ◌∷◌, ◌++◌, add-one}
 use Rattle.std.specs.Prelude.{codes}
 use Rattle.std.specs.Fmt.{decimal}
-use Rattle.script.specs.declared.script.ScriptItem.{ScriptItem}
 use Rattle.script_generator.specs.Generated.{more_accounts, names_to, session_items, after_transfers, all_sessions, after_sessions}
 use Rattle.script_generator.specs.Transfers.{after_transfer, drawn, transaction}
 

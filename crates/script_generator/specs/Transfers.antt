@@ -1,5 +1,5 @@
 -- A transfer between two of sixteen accounts: how it is drawn, and its statements. Words are drawn by SplitMix64.
-use Rattle.std.specs.Prelude.{ℕ, ◌+◌, ◌*◌, ◌%◌, List, [], ◌∷◌, ◌++◌, ◌==◌, nat_lt, if◌then◌else◌, codes}
+use Rattle.std.specs.Prelude.{ℕ, ◌+◌, ◌%◌, List, [], ◌∷◌, ◌++◌, ◌==◌, nat_lt, if◌then◌else◌, codes}
 use Rattle.std.specs.Fmt.{decimal}
 use Rattle.inno_types.specs.declared.reply.Item.TheVariants.{Sql}
 use Rattle.script.specs.declared.script.ScriptItem.{ScriptItem}

@@ -30,7 +30,7 @@ pub fn generate(
     transfers: u32,
 ) -> Result<Script, ScriptBad>
     ensures script { IfOk result (λ script. (script ≡ spelled.generated number sessions transfers) × (spelled.passed sessions transfers ≡ None)) }
-    ensures limit { IfErr result (λ bad. (bad ≡ NoMemory) ⊎ (spelled.passed sessions transfers ≡ Some bad)) }
+    ensures limit { IfErr result (λ bad. (spelled.passed sessions transfers ≡ Some bad) ⊎ ((bad ≡ NoMemory) × (spelled.passed sessions transfers ≡ None))) }
 {
     if let Some(bad) = passed(sessions, transfers) {
         return Err(bad);

@@ -1,5 +1,5 @@
 -- What each fault says of the disk and of the source, by where it came.
-use Rattle.std.proofs.Common.{◌≡◌, ◌⊎◌, ℕ, Bool, true, false, Option, None, Some, List, [], ◌++◌, take, refl, sym, ap, subst, ◌∙◌, inl, inr}
+use Rattle.std.proofs.Common.{◌≡◌, ◌⊎◌, ℕ, Bool, true, false, Option, None, Some, List, [], ◌++◌, take, refl, sym, ap, subst, ◌∙◌, inl, inr, ⊎_elim}
 use Rattle.std.specs.Prelude.{IfSome, IfOk, Result, Ok, Err, is_err}
 use Rattle.std.specs.List.{list_any}
 use Rattle.store_api.specs.declared.answers.MountBad.{MountBad}
@@ -19,8 +19,10 @@ use Rattle.script.specs.Script.{Spells, IsScript}
 use Rattle.script.specs.declared.script.Script.{Script}
 use Rattle.run_outcome.specs.declared.outcome.Fault.{Fault}
 use Rattle.run_outcome.specs.declared.outcome.Fault.TheVariants.{Nothing, Usage, ScriptBad, ScriptRead, OutputWrite, DiskFault, File, Limit, NoMemory}
+use Rattle.run_outcome.specs.declared.words.Way.{Way}
 use Rattle.run_outcome.specs.Faults.{allowed, status_of, fault_of, IsInputFault, IsPlayedFault, IsPrinted, Refuses, answers_no_memory}
-use Rattle.script_runner.specs.Run.{IsMountFault, IsMakeFault, IsBeforeDisk, SparesFiles, Judges}
+use Rattle.run_outcome.specs.Words.{NoScript, NoDump, NoCheck, NoLoad}
+use Rattle.script_runner.specs.Run.{PlaysSessions, ShowsFiles, IsMountFault, IsMakeFault, IsBeforeDisk, SparesFiles, Judges}
 use Rattle.run_outcome.proofs.Telling.{all_is_front}
 
 -- ---- a history without entries
@@ -103,17 +105,17 @@ mount_met old new (ScriptBad line) is before = is
 mount_met old new ScriptRead is before = is
 mount_met old new other is before = before
 
-judged_as : (old new : Past) (f : Fault) (bytes : List ℕ) → IsMountFault old new f → IsScript allowed bytes → Judges f bytes
-judged_as old new Nothing bytes is script = script
-judged_as old new OutputWrite bytes is script = script
-judged_as old new (ScriptBad line) bytes is script = absurd is
-judged_as old new (Limit what found most) bytes is script = inl is.0
-judged_as old new other bytes is script = tt
+judged_as : (way : Way) (old new : Past) (f : Fault) (bytes : List ℕ) → IsMountFault old new f → IsScript (allowed way) bytes → Judges way f bytes
+judged_as way old new Nothing bytes is script = script
+judged_as way old new OutputWrite bytes is script = script
+judged_as way old new (ScriptBad line) bytes is script = absurd is
+judged_as way old new (Limit what found most) bytes is script = inl is.0
+judged_as way old new other bytes is script = tt
 
-pub judged : (old new : Past) (f : Fault) (left : Option (List ℕ)) (script : Script) → IsMountFault old new f
-    → IfSome left (λ bytes. Spells allowed bytes script) → IfSome left (Judges f)
-judged old new f None script is spells = tt
-judged old new f (Some bytes) script is spells = judged_as old new f bytes is (script, spells)
+pub judged : (way : Way) (old new : Past) (f : Fault) (left : Option (List ℕ)) (script : Script) → IsMountFault old new f
+    → IfSome left (λ bytes. Spells (allowed way) bytes script) → IfSome left (Judges way f)
+judged way old new f None script is spells = tt
+judged way old new f (Some bytes) script is spells = judged_as way old new f bytes is (script, spells)
 
 pub mount_ends : (old new : Past) (f : Fault) → IsMountFault old new f → (f ≡ OutputWrite → ⊥) → (Rose old.faults new.faults → ⊥) → SparesFiles f
     → (status_of f ≡ 0) ⊎ (status_of f ≡ 8)
@@ -169,34 +171,43 @@ make_ends old new other is disk files = absurd is
 
 -- ---- a script that could not be read
 
-refused_as : (f : Fault) (bytes : List ℕ) → IsInputFault f → Refuses f bytes → Judges f bytes
-refused_as (ScriptBad line) bytes is p = p
-refused_as ScriptRead bytes is p = tt
-refused_as (Limit what found most) bytes is p = inr p
-refused_as NoMemory bytes is p = tt
-refused_as other bytes is p = absurd is
+refused_as : (way : Way) (f : Fault) (bytes : List ℕ) → IsInputFault f → Refuses way f bytes → Judges way f bytes
+refused_as way (ScriptBad line) bytes is p = p
+refused_as way ScriptRead bytes is p = tt
+refused_as way (Limit what found most) bytes is p = inr p
+refused_as way NoMemory bytes is p = tt
+refused_as way other bytes is p = absurd is
 
-pub judged_refused : (f : Fault) (left : Option (List ℕ)) → IsInputFault f → IfSome left (Refuses f) → IfSome left (Judges f)
-judged_refused f None is p = tt
-judged_refused f (Some bytes) is p = refused_as f bytes is p
+pub judged_refused : (way : Way) (f : Fault) (left : Option (List ℕ)) → IsInputFault f → IfSome left (Refuses way f) → IfSome left (Judges way f)
+judged_refused way f None is p = tt
+judged_refused way f (Some bytes) is p = refused_as way f bytes is p
 
 -- bytes that are a script pass no limit
-pub no_limit : (f : Fault) (left : Option (List ℕ)) (bytes : List ℕ) (what found most : ℕ) → IfSome left (Refuses f) → left ≡ Some bytes
-    → IsScript allowed bytes → f ≡ Limit what found most → ⊥
-no_limit f left bytes what found most p is script u =
-    (subst (λ (g : Fault). Refuses g bytes) u (subst (λ (o : Option (List ℕ)). IfSome o (Refuses f)) is p)).1 script
+pub no_limit : (way : Way) (f : Fault) (left : Option (List ℕ)) (bytes : List ℕ) (what found most : ℕ) → IfSome left (Refuses way f) → left ≡ Some bytes
+    → IsScript (allowed way) bytes → f ≡ Limit what found most → ⊥
+no_limit way f left bytes what found most p is script u =
+    (subst (λ (g : Fault). Refuses way g bytes) u (subst (λ (o : Option (List ℕ)). IfSome o (Refuses way f)) is p)).1 script
 
-pub input_ends : (f : Fault) (left : Option (List ℕ)) (bytes : List ℕ) → IsInputFault f → IfSome left (Refuses f) → left ≡ Some bytes
-    → IsScript allowed bytes → (f ≡ ScriptRead → ⊥) → (status_of f ≡ 0) ⊎ (status_of f ≡ 8)
-input_ends NoMemory left bytes is p at script read = inr refl
-input_ends ScriptRead left bytes is p at script read = absurd (read refl)
-input_ends (ScriptBad line) left bytes is p at script read =
-    absurd ((subst (λ (o : Option (List ℕ)). IfSome o (Refuses (ScriptBad line))) at p).1 script)
-input_ends (Limit what found most) left bytes is p at script read = absurd (no_limit (Limit what found most) left bytes what found most p at script refl)
-input_ends other left bytes is p at script read = absurd is
+pub input_ends : (way : Way) (f : Fault) (left : Option (List ℕ)) (bytes : List ℕ) → IsInputFault f → IfSome left (Refuses way f) → left ≡ Some bytes
+    → IsScript (allowed way) bytes → (f ≡ ScriptRead → ⊥) → (status_of f ≡ 0) ⊎ (status_of f ≡ 8)
+input_ends way NoMemory left bytes is p at script read = inr refl
+input_ends way ScriptRead left bytes is p at script read = absurd (read refl)
+input_ends way (ScriptBad line) left bytes is p at script read =
+    absurd ((subst (λ (o : Option (List ℕ)). IfSome o (Refuses way (ScriptBad line))) at p).1 script)
+input_ends way (Limit what found most) left bytes is p at script read = absurd (no_limit way (Limit what found most) left bytes what found most p at script refl)
+input_ends way other left bytes is p at script read = absurd is
 
 pub input_not_file : (f : Fault) (bad : MountBad) → IsInputFault f → f ≡ File bad → ⊥
 input_not_file f bad is u = subst IsInputFault u is
 
 pub input_not_disk : (f : Fault) → IsInputFault f → f ≡ DiskFault → ⊥
 input_not_disk f is u = subst IsInputFault u is
+
+-- ---- words that ask for something else
+
+pub not_shown : (words : List (List ℕ)) → NoDump words → NoCheck words → ShowsFiles words → ⊥
+not_shown words dump check shows = ⊎_elim dump check shows
+
+pub not_played : (words : List (List ℕ)) → NoScript words → NoLoad words → PlaysSessions words → ⊥
+not_played words script load plays = ⊎_elim script load plays
+

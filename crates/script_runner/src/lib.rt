@@ -1,5 +1,5 @@
-//! The program's top call (`run`): makes the files of a database, plays a script on an engine over them, or prints the
-//! database. Whoever has the files, the clock and the output hands them in.
+//! The program's top call (`run`): makes the files of a database, plays a script on an engine over them, prints the database or
+//! what is counted in it, or prints a generated script. Whoever has the files, the clock and the output hands them in.
 #![tactic(auto)]
 
 mod program;

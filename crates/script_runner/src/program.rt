@@ -18,21 +18,27 @@ ghost use Rattle.file_zero.specs.Making.{AreEmpty, AreNew, AreBeingMade, IsPageA
 ghost use Rattle.file_zero.specs.Refused.{IsRefused, HasTooMany};
 ghost use Rattle.durable_engine.specs.Whole.{HoldsAll};
 ghost use Rattle.script.specs.Script.{IsScript, IsPlayable};
-ghost use Rattle.run_outcome.specs.Words.{IsCommand, IsScriptCommand, IsInitCommand, IsDumpCommand};
+ghost use Rattle.script_generator.specs.Generated.{passed};
+ghost use Rattle.run_outcome.specs.Words.{IsCommand, IsScriptCommand, IsInitCommand, IsDumpCommand, IsCheckCommand, IsGenCommand, IsLoadCommand, NoLoad, asked_in, way_in};
+ghost use Rattle.run_outcome.specs.Shown.{shown_text, counts_text};
+ghost use Rattle.run_outcome.specs.Reports.{IsReported, IsReportedWhole};
+ghost use Rattle.run_outcome.specs.Generating.{generated_text, IsGenerateFault};
 ghost use Rattle.sql_dump.specs.Dump.{text_of as dump_of};
 ghost use Rattle.run_outcome.specs.Faults.{allowed, fault_of, IsPlayedFault, IsPrinted, answers_no_memory};
 ghost use Rattle.script_play.specs.Sessions.{AreNamed, FollowsScript, HasPlayed, HasAnswered};
 ghost use Rattle.engine.specs.Opened.{IsOpened};
-ghost use Rattle.script_runner.specs.Run.{IsBeforeDisk, SparesFiles, Judges, Follows, Plays, KeepsFiles, IsMountFault, IsMakeFault};
+ghost use Rattle.script_runner.specs.Run.{IsBeforeDisk, SparesFiles, Judges, Follows, Plays, KeepsFiles, script_of};
+ghost use Rattle.script_runner.specs.Run.{IsMountFault, IsMakeFault, IsMadeUp, IsLoadFault};
+ghost use Rattle.script_runner.specs.Run.{PrintsHistory, PlaysSessions, ShowsFiles};
 
-use crate::ways::{Way, play_script, way_of};
+use crate::ways::play_script;
 use durable_engine::{DurableEngine, Root};
 use engine::mount;
 use file_zero::init;
 use inno_types::Bytes;
 use run_outcome::{
-    Fault, Outcome, dumps, fault_of, finish, has_stopped, is_command, makes, print_dump,
-    read_input, without_engine,
+    Asked, Command, Fault, Outcome, Report, Shown, Way, command_of, fault_of, finish,
+    generate_input, has_stopped, print_generated, print_shown, read_input, without_engine,
 };
 use script::Script;
 use shared_lists::SharedLists;
@@ -44,7 +50,8 @@ use std::time::Clock as Timer;
 use store_api::{Clock, Disk, Gate, Sink, Source};
 
 /// Makes the files of a database; or reads the script, plays it on an engine over the files, and prints what the sessions were
-/// answered; or prints the database as SQL.
+/// answered; or prints the database as SQL, or what is counted in it; or prints a generated script, or plays it and prints what
+/// it has done.
 pub fn run<D, S, K, C, G, R>(
     rt: &R,
     alloc: Global,
@@ -64,8 +71,9 @@ where
     R: Threads + Wait + Timer + Sync,
     // What was printed is the text of a legal history, all of it where the disk failed, unless the sink did.
     ensures legal { IsLegal Spells result.history.past }
-    ensures printed { (IsDumpCommand words.now → ⊥) → IsPrinted result.fault (K.taken out.old) (K.taken out.new) (text result.history) }
-    ensures whole { result.fault ≡ Fault.DiskFault → (Rose (K.faults out.old) (K.faults out.new) → ⊥) → Appends (K.taken out.old) (K.taken out.new) (text result.history) }
+    ensures printed { PrintsHistory words.now → IsPrinted result.fault (K.taken out.old) (K.taken out.new) (text result.history) }
+    ensures whole { PrintsHistory words.now → result.fault ≡ Fault.DiskFault → (Rose (K.faults out.old) (K.faults out.new) → ⊥)
+        → Appends (K.taken out.old) (K.taken out.new) (text result.history) }
 
     // Only a disk that has failed stops the engine, which is told; and no store keeps pages so far, so none was wanting.
     ensures stopped { counts.has_stopped result.history.past ≡ true → Rose (D.past disk).faults (D.past result.disk).faults }
@@ -77,7 +85,8 @@ where
     ensures crash { (IsInitCommand words.now → ⊥) → KeepsFiles (D.past disk) (D.past result.disk) result.history.past }
 
     // Where no fault came, whatever a crash leaves from now on holds every commit of the history.
-    ensures durable { IsScriptCommand words.now → result.fault ≡ Fault.Nothing → HoldsAll (D.past disk) (D.past result.disk) result.history.past }
+    ensures durable { PlaysSessions words.now → result.fault ≡ Fault.Nothing
+        → HoldsAll (D.past disk) (D.past result.disk) result.history.past }
 
     // Files that are made stand for a database without tables. While they are, a crash leaves no page 0, or such files.
     ensures init { IsInitCommand words.now → result.history.past ≡ [] }
@@ -86,46 +95,193 @@ where
     ensures made { IsInitCommand words.now → result.fault ≡ Fault.Nothing → Now IsPageAlone (D.past result.disk) }
     ensures new { IsInitCommand words.now → result.fault ≡ Fault.Nothing → Now IsAtRest (D.past disk) → Now AreNew (D.past result.disk) }
 
-    // A dump is the text of the database that the files stand for, whose history is empty.
-    ensures dumped { (db : Database) → IsDumpCommand words.now → Files (D.past disk) (D.past result.disk) db → IsPrinted result.fault (K.taken out.old) (K.taken out.new) (dump_of db) }
+    // A dump is the text of the database that the files stand for, whose history is empty; and a check counts in it.
+    ensures dumped { (db : Database) → IsDumpCommand words.now → Files (D.past disk) (D.past result.disk) db
+        → IsPrinted result.fault (K.taken out.old) (K.taken out.new) (dump_of db) }
     ensures dump { IsDumpCommand words.now → result.history.past ≡ [] }
+    ensures checked { (db : Database) → IsCheckCommand words.now → Files (D.past disk) (D.past result.disk) db
+        → IsPrinted result.fault (K.taken out.old) (K.taken out.new) (counts_text db) }
+    ensures check { IsCheckCommand words.now → result.history.past ≡ [] }
+    ensures shown_fault { IsCommand words.now → ShowsFiles words.now → IsMountFault (D.past disk) (D.past result.disk) result.fault }
 
-    // The sessions of the history are the script's, and do what it says.
-    ensures follows { IfSome (S.left script.old) (λ bytes. Follows bytes result.history.names result.history.past) }
-    ensures played { IsScriptCommand words.now → result.fault ≡ Fault.Nothing → IfSome (S.left script.old) (λ bytes. Plays bytes result.history.names result.history.past) }
+    // A generated script is the one that the numbers define, unless it passes a limit. Neither the disk nor the source is met.
+    ensures generated { IsCommand words.now → IsGenCommand words.now
+        → IsPrinted result.fault (K.taken out.old) (K.taken out.new) (generated_text (asked_in 2 words.now)) }
+    ensures limited { IsCommand words.now → IsGenCommand words.now
+        → IsGenerateFault (passed (asked_in 2 words.now).sessions (asked_in 2 words.now).transfers) result.fault }
+    ensures unplayed { IsGenCommand words.now → result.history.past ≡ [] }
+    ensures gen_disk { IsGenCommand words.now → result.disk ≡ disk }
+    ensures gen_source { IsGenCommand words.now → script.new ≡ script.old }
+
+    // A load plays the generated script, each session on a thread, and prints what it has done.
+    ensures loaded { IsCommand words.now → IsLoadCommand words.now
+        → IsReported (Report.Totals (asked_in 3 words.now)) result.fault (K.taken out.old) (K.taken out.new) result.history }
+    ensures load_whole { IsCommand words.now → IsLoadCommand words.now → result.fault ≡ Fault.DiskFault
+        → (Rose (K.faults out.old) (K.faults out.new) → ⊥)
+        → IsReportedWhole (Report.Totals (asked_in 3 words.now)) (K.taken out.old) (K.taken out.new) result.history }
+    ensures load_named { IsCommand words.now → IsLoadCommand words.now → AreNamed (script_of (asked_in 3 words.now)) result.history.names }
+    ensures load_follows { IsCommand words.now → IsLoadCommand words.now
+        → FollowsScript (script_of (asked_in 3 words.now)).items result.history.past }
+    ensures load_played { IsCommand words.now → IsLoadCommand words.now → result.fault ≡ Fault.Nothing
+        → HasPlayed (script_of (asked_in 3 words.now)) result.history.names result.history.past
+        × HasAnswered (script_of (asked_in 3 words.now)) result.history.past }
+    ensures load_fault { IsCommand words.now → IsLoadCommand words.now
+        → IsLoadFault (passed (asked_in 3 words.now).sessions (asked_in 3 words.now).transfers) (D.past disk) (D.past result.disk) result.fault }
+    ensures load_source { IsLoadCommand words.now → script.new ≡ script.old }
+
+    // The sessions of the history are the script's, and do what it says, in which a tick may stand where they play in turn.
+    ensures follows { NoLoad words.now
+        → IfSome (S.left script.old) (λ bytes. Follows (way_in words.now) bytes result.history.names result.history.past) }
+    ensures played { IsScriptCommand words.now → result.fault ≡ Fault.Nothing
+        → IfSome (S.left script.old) (λ bytes. Plays (way_in words.now) bytes result.history.names result.history.past) }
 
     // Where none came, no session was answered that memory was lacking.
     ensures replied { result.fault ≡ Fault.Nothing → list_any answers_no_memory result.history.past ≡ false }
 
     // Each fault has its cause.
     ensures usage { (result.fault ≡ Fault.Usage) ↔ (IsCommand words.now → ⊥) }
-    ensures judged { IsScriptCommand words.now → IfSome (S.left script.old) (Judges result.fault) }
+    ensures judged { IsScriptCommand words.now → IfSome (S.left script.old) (Judges (way_in words.now) result.fault) }
     ensures script_read { result.fault ≡ Fault.ScriptRead → Rose (S.faults script.old) (S.faults script.new) }
     ensures output_write { result.fault ≡ Fault.OutputWrite → Rose (K.faults out.old) (K.faults out.new) }
     ensures disk_fault { result.fault ≡ Fault.DiskFault → Rose (D.past disk).faults (D.past result.disk).faults }
-    ensures refused { (bad : MountBadValue) → (IsInitCommand words.now → ⊥) → result.fault ≡ Fault.File bad → IsRefused (D.past disk) (D.past result.disk) bad }
-    ensures too_large { (bytes : List ℕ) (rows most : ℕ) → S.left script.old ≡ Some bytes → IsScript allowed bytes → result.fault ≡ Fault.Limit 5 rows most → (most ≡ 1000000) × Now (HasTooMany rows) (D.past result.disk) }
+    ensures refused { (bad : MountBadValue) → (IsInitCommand words.now → ⊥) → result.fault ≡ Fault.File bad
+        → IsRefused (D.past disk) (D.past result.disk) bad }
+    ensures too_large { (bytes : List ℕ) (rows most : ℕ) → IsScriptCommand words.now → S.left script.old ≡ Some bytes
+        → IsScript (allowed (way_in words.now)) bytes
+        → result.fault ≡ Fault.Limit 5 rows most → (most ≡ 1000000) × Now (HasTooMany rows) (D.past result.disk) }
     ensures before_disk { IsBeforeDisk result.fault → result.disk ≡ disk }
-    ensures complete { (bytes : List ℕ) → IsCommand words.now → S.left script.old ≡ Some bytes → IsScript allowed bytes
+    ensures complete { (bytes : List ℕ) → IsCommand words.now → IsScriptCommand words.now → S.left script.old ≡ Some bytes
+        → IsScript (allowed (way_in words.now)) bytes
         → (Rose (S.faults script.old) (S.faults script.new) → ⊥) → (Rose (K.faults out.old) (K.faults out.new) → ⊥)
         → (Rose (D.past disk).faults (D.past result.disk).faults → ⊥) → SparesFiles result.fault → (result.status ≡ 0) ⊎ (result.status ≡ 8) }
 {
-    if !is_command(words) {
-        return untouched(alloc, disk, Fault::Usage);
+    match command_of(words) {
+        Command::Unknown => untouched(alloc, disk, Fault::Usage),
+        Command::Init => make(alloc, disk),
+        Command::Dump => show(alloc, disk, Shown::Sql, out),
+        Command::Check => show(alloc, disk, Shown::Counts, out),
+        Command::Gen(asked) => make_up(alloc, disk, asked, out),
+        Command::Load(asked) => { load::<D, K, C, G, R>(rt, alloc, asked, disk, out, clock, gate) }
+        Command::Script(way) => {
+            play_source::<D, S, K, C, G, R>(rt, alloc, script, disk, out, clock, gate, way)
+        }
     }
-    if makes(words) {
-        return make(alloc, disk);
-    }
-    if dumps(words) {
-        return dump(alloc, disk, out);
-    }
-    match read_input(alloc, script) {
+}
+
+/// Reads the script, plays it on an engine over the files, and prints what the sessions were answered.
+fn play_source<D, S, K, C, G, R>(
+    rt: &R,
+    alloc: Global,
+    script: &mut S,
+    disk: D,
+    out: &mut K,
+    clock: &C,
+    gate: &G,
+    way: Way,
+) -> Outcome<D>
+where
+    D: Disk + Send,
+    S: Source,
+    K: Sink,
+    C: Clock + Sync,
+    G: Gate + Sync,
+    R: Threads + Wait + Timer + Sync,
+    ensures legal { IsLegal Spells result.history.past }
+    ensures printed { IsPrinted result.fault (K.taken out.old) (K.taken out.new) (text result.history) }
+    ensures whole { result.fault ≡ Fault.DiskFault → (Rose (K.faults out.old) (K.faults out.new) → ⊥)
+        → Appends (K.taken out.old) (K.taken out.new) (text result.history) }
+    ensures stopped { counts.has_stopped result.history.past ≡ true → Rose (D.past disk).faults (D.past result.disk).faults }
+    ensures served { result.fault ≡ Fault.Nothing → counts.has_stopped result.history.past ≡ false }
+    ensures for_pages { list_any ends_for_pages result.history.past ≡ false }
+    ensures crash { KeepsFiles (D.past disk) (D.past result.disk) result.history.past }
+    ensures durable { result.fault ≡ Fault.Nothing → HoldsAll (D.past disk) (D.past result.disk) result.history.past }
+    ensures follows { IfSome (S.left script.old) (λ bytes. Follows way bytes result.history.names result.history.past) }
+    ensures played { result.fault ≡ Fault.Nothing
+        → IfSome (S.left script.old) (λ bytes. Plays way bytes result.history.names result.history.past) }
+    ensures replied { result.fault ≡ Fault.Nothing → list_any answers_no_memory result.history.past ≡ false }
+    ensures usage { result.fault ≡ Fault.Usage → ⊥ }
+    ensures judged { IfSome (S.left script.old) (Judges way result.fault) }
+    ensures script_read { result.fault ≡ Fault.ScriptRead → Rose (S.faults script.old) (S.faults script.new) }
+    ensures output_write { result.fault ≡ Fault.OutputWrite → Rose (K.faults out.old) (K.faults out.new) }
+    ensures disk_fault { result.fault ≡ Fault.DiskFault → Rose (D.past disk).faults (D.past result.disk).faults }
+    ensures refused { (bad : MountBadValue) → result.fault ≡ Fault.File bad → IsRefused (D.past disk) (D.past result.disk) bad }
+    ensures too_large { (bytes : List ℕ) (rows most : ℕ) → S.left script.old ≡ Some bytes → IsScript (allowed way) bytes
+        → result.fault ≡ Fault.Limit 5 rows most → (most ≡ 1000000) × Now (HasTooMany rows) (D.past result.disk) }
+    ensures before_disk { IsBeforeDisk result.fault → result.disk ≡ disk }
+    ensures complete { (bytes : List ℕ) → S.left script.old ≡ Some bytes → IsScript (allowed way) bytes
+        → (Rose (S.faults script.old) (S.faults script.new) → ⊥) → (Rose (K.faults out.old) (K.faults out.new) → ⊥)
+        → (Rose (D.past disk).faults (D.past result.disk).faults → ⊥) → SparesFiles result.fault → (result.status ≡ 0) ⊎ (result.status ≡ 8) }
+{
+    match read_input(alloc, script, way) {
         Ok(script) => {
-            let way = way_of(words);
-            serve::<D, Brand, K, C, G, R>(rt, alloc, &script, disk, out, clock, gate, way)
+            let report = Report::Transcript;
+            serve::<D, Brand, K, C, G, R>(rt, alloc, &script, disk, out, clock, gate, way, report)
         }
         Err(fault) => untouched(alloc, disk, fault),
     }
+}
+
+/// Plays a generated script on an engine over the files, each session on a thread, and prints what it has done.
+fn load<D, K, C, G, R>(
+    rt: &R,
+    alloc: Global,
+    asked: Asked,
+    disk: D,
+    out: &mut K,
+    clock: &C,
+    gate: &G,
+) -> Outcome<D>
+where
+    D: Disk + Send,
+    K: Sink,
+    C: Clock + Sync,
+    G: Gate + Sync,
+    R: Threads + Wait + Timer + Sync,
+    ensures legal { IsLegal Spells result.history.past }
+    ensures printed { IsReported (Report.Totals asked) result.fault (K.taken out.old) (K.taken out.new) result.history }
+    ensures whole { result.fault ≡ Fault.DiskFault → (Rose (K.faults out.old) (K.faults out.new) → ⊥)
+        → IsReportedWhole (Report.Totals asked) (K.taken out.old) (K.taken out.new) result.history }
+    ensures stopped { counts.has_stopped result.history.past ≡ true → Rose (D.past disk).faults (D.past result.disk).faults }
+    ensures served { result.fault ≡ Fault.Nothing → counts.has_stopped result.history.past ≡ false }
+    ensures for_pages { list_any ends_for_pages result.history.past ≡ false }
+    ensures crash { KeepsFiles (D.past disk) (D.past result.disk) result.history.past }
+    ensures durable { result.fault ≡ Fault.Nothing → HoldsAll (D.past disk) (D.past result.disk) result.history.past }
+    ensures named { AreNamed (script_of asked) result.history.names }
+    ensures follows { FollowsScript (script_of asked).items result.history.past }
+    ensures played { result.fault ≡ Fault.Nothing → HasPlayed (script_of asked) result.history.names result.history.past
+        × HasAnswered (script_of asked) result.history.past }
+    ensures replied { result.fault ≡ Fault.Nothing → list_any answers_no_memory result.history.past ≡ false }
+    ensures output_write { result.fault ≡ Fault.OutputWrite → Rose (K.faults out.old) (K.faults out.new) }
+    ensures causes { IsLoadFault (passed asked.sessions asked.transfers) (D.past disk) (D.past result.disk) result.fault }
+    ensures usage { result.fault ≡ Fault.Usage → ⊥ }
+    ensures script_read { result.fault ≡ Fault.ScriptRead → ⊥ }
+    ensures disk_fault { result.fault ≡ Fault.DiskFault → Rose (D.past disk).faults (D.past result.disk).faults }
+    ensures refused { (bad : MountBadValue) → result.fault ≡ Fault.File bad → IsRefused (D.past disk) (D.past result.disk) bad }
+    ensures before_disk { IsBeforeDisk result.fault → result.disk ≡ disk }
+{
+    match generate_input(alloc, asked) {
+        Ok(script) => {
+            let way = Way::OnThreads;
+            let report = Report::Totals(asked);
+            serve::<D, Brand, K, C, G, R>(rt, alloc, &script, disk, out, clock, gate, way, report)
+        }
+        Err(fault) => untouched(alloc, disk, fault),
+    }
+}
+
+/// Prints a generated script. No disk is met.
+fn make_up<D: Disk, K: Sink>(alloc: Global, disk: D, asked: Asked, out: &mut K) -> Outcome<D>
+    ensures names { result.history.names ≡ [] }
+    ensures empty { result.history.past ≡ [] }
+    ensures disk { result.disk ≡ disk }
+    ensures left { LeavesFiles (D.past disk) (D.past result.disk) }
+    ensures printed { IsPrinted result.fault (K.taken out.old) (K.taken out.new) (generated_text asked) }
+    ensures limited { IsGenerateFault (passed asked.sessions asked.transfers) result.fault }
+    ensures kind { IsMadeUp result.fault }
+    ensures output_write { result.fault ≡ Fault.OutputWrite → Rose (K.faults out.old) (K.faults out.new) }
+{
+    let fault = print_generated(alloc, asked, out);
+    untouched(alloc, disk, fault)
 }
 
 /// Ends a run that met no disk: its files stand for what they stood for.
@@ -156,11 +312,12 @@ fn make<D: Disk>(alloc: Global, disk: D) -> Outcome<D>
     }
 }
 
-/// Prints the database that the files stand for. No session runs, so there is no history.
-fn dump<D: Disk, K: Sink>(alloc: Global, disk: D, out: &mut K) -> Outcome<D>
+/// Prints what is to be shown of the database that the files stand for. No session runs, so there is no history.
+fn show<D: Disk, K: Sink>(alloc: Global, disk: D, shown: Shown, out: &mut K) -> Outcome<D>
     ensures names { result.history.names ≡ [] }
     ensures empty { result.history.past ≡ [] }
-    ensures printed { (db : Database) → Files (D.past disk) (D.past result.disk) db → IsPrinted result.fault (K.taken out.old) (K.taken out.new) (dump_of db) }
+    ensures printed { (db : Database) → Files (D.past disk) (D.past result.disk) db
+        → IsPrinted result.fault (K.taken out.old) (K.taken out.new) (shown_text shown db) }
     ensures quiet { result.fault ≡ Fault.DiskFault → K.taken out.new ≡ K.taken out.old }
     ensures crash { LeavesFiles (D.past disk) (D.past result.disk) }
     ensures output_write { result.fault ≡ Fault.OutputWrite → Rose (K.faults out.old) (K.faults out.new) }
@@ -169,7 +326,7 @@ fn dump<D: Disk, K: Sink>(alloc: Global, disk: D, out: &mut K) -> Outcome<D>
     let mut disk = disk;
     match file_zero::mount(alloc, &mut disk) {
         Ok(files) => {
-            let fault = print_dump(alloc, &files.db, out);
+            let fault = print_shown(alloc, &files.db, shown, out);
             drop(files);
             without_engine(alloc, disk, fault)
         }
@@ -177,7 +334,7 @@ fn dump<D: Disk, K: Sink>(alloc: Global, disk: D, out: &mut K) -> Outcome<D>
     }
 }
 
-/// Plays a script on an engine over the files of the disk, and prints the history.
+/// Plays a script on an engine over the files of the disk, and prints what is asked for of the history.
 #[tactic(auto, using(crate::proofs::Causing::fault_told))]
 fn serve<D, B, K, C, G, R>(
     rt: &R,
@@ -188,6 +345,7 @@ fn serve<D, B, K, C, G, R>(
     clock: &C,
     gate: &G,
     way: Way,
+    report: Report,
 ) -> Outcome<D>
 where
     D: Disk + Send,
@@ -197,10 +355,11 @@ where
     G: Gate + Sync,
     R: Threads + Wait + Timer + Sync,
     requires root { D.past disk ≡ B.root }
-    requires playable { IsPlayable allowed script.now }
+    requires playable { IsPlayable (allowed way) script.now }
     ensures legal { IsLegal Spells result.history.past }
-    ensures printed { IsPrinted result.fault (K.taken out.old) (K.taken out.new) (text result.history) }
-    ensures whole { result.fault ≡ Fault.DiskFault → (Rose (K.faults out.old) (K.faults out.new) → ⊥) → Appends (K.taken out.old) (K.taken out.new) (text result.history) }
+    ensures printed { IsReported report result.fault (K.taken out.old) (K.taken out.new) result.history }
+    ensures whole { result.fault ≡ Fault.DiskFault → (Rose (K.faults out.old) (K.faults out.new) → ⊥)
+        → IsReportedWhole report (K.taken out.old) (K.taken out.new) result.history }
     ensures stopped { counts.has_stopped result.history.past ≡ true → Rose (D.past disk).faults (D.past result.disk).faults }
     ensures served { result.fault ≡ Fault.Nothing → counts.has_stopped result.history.past ≡ false }
     ensures crash { KeepsFiles (D.past disk) (D.past result.disk) result.history.past }
@@ -214,12 +373,12 @@ where
     ensures causes { IsMountFault (D.past disk) (D.past result.disk) result.fault }
 {
     match mount::<D, B>(alloc, disk) {
-        Ok(engine) => play_on(rt, alloc, engine, script, out, clock, gate, way),
+        Ok(engine) => play_on(rt, alloc, engine, script, out, clock, gate, way, report),
         Err((disk, bad)) => without_engine(alloc, disk, fault_of(bad)),
     }
 }
 
-/// Plays a script on an engine that nobody has joined, closes it, and prints the history.
+/// Plays a script on an engine that nobody has joined, closes it, and prints what is asked for of the history.
 fn play_on<D, B, L, K, C, G, R>(
     rt: &R,
     alloc: Global,
@@ -229,6 +388,7 @@ fn play_on<D, B, L, K, C, G, R>(
     clock: &C,
     gate: &G,
     way: Way,
+    report: Report,
 ) -> Outcome<D>
 where
     D: Disk + Send,
@@ -238,11 +398,12 @@ where
     C: Clock + Sync,
     G: Gate + Sync,
     R: Threads + Wait + Timer + Sync,
-    requires playable { IsPlayable allowed script.now }
+    requires playable { IsPlayable (allowed way) script.now }
     requires opened { IsOpened engine }
     ensures legal { IsLegal Spells result.history.past }
-    ensures printed { IsPrinted result.fault (K.taken out.old) (K.taken out.new) (text result.history) }
-    ensures whole { result.fault ≡ Fault.DiskFault → (Rose (K.faults out.old) (K.faults out.new) → ⊥) → Appends (K.taken out.old) (K.taken out.new) (text result.history) }
+    ensures printed { IsReported report result.fault (K.taken out.old) (K.taken out.new) result.history }
+    ensures whole { result.fault ≡ Fault.DiskFault → (Rose (K.faults out.old) (K.faults out.new) → ⊥)
+        → IsReportedWhole report (K.taken out.old) (K.taken out.new) result.history }
     ensures stopped { counts.has_stopped result.history.past ≡ true → Rose B.root.faults (D.past result.disk).faults }
     ensures served { result.fault ≡ Fault.Nothing → counts.has_stopped result.history.past ≡ false }
     ensures crash { KeepsFiles B.root (D.past result.disk) result.history.past }
@@ -260,5 +421,5 @@ where
     let (disk, history, ended) = engine.close();
     let stopped = has_stopped(&history);
     let failed = stopped || ended.is_err();
-    finish(alloc, disk, history, failed, sufficed, out)
+    finish(alloc, disk, history, failed, sufficed, report, out)
 }

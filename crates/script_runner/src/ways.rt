@@ -5,11 +5,12 @@ ghost use Rattle.std.specs.Prelude.{◌≡◌, IsTrue};
 ghost use Rattle.engine.specs.Opened.{IsOpened};
 ghost use Rattle.script.specs.Script.{IsPlayable};
 ghost use Rattle.run_outcome.specs.Faults.{allowed};
+ghost use Rattle.run_outcome.specs.declared.words.Way.TheVariants.{InTurn, OnThreads};
 ghost use Rattle.script_play.specs.Sessions.{AreNamed, FollowsScript, HasPlayed, AllRest};
 
 use crate::seats::Seats;
 use durable_engine::{DurableEngine, Root};
-use inno_types::Bytes;
+use run_outcome::Way;
 use script::Script;
 use script_play::play;
 use script_threads::play_on_threads;
@@ -20,21 +21,6 @@ use std::sync::Wait;
 use std::thread::Threads;
 use std::time::Clock as Timer;
 use store_api::{Clock, Disk, Gate};
-
-/// How the sessions of a script play.
-#[derive(Clone, Copy, Debug, PartialEq, Eq)]
-pub enum Way {
-    InTurn,
-    OnThreads,
-}
-
-/// Under `run` each session has a thread.
-pub fn way_of(words: &[Bytes]) -> Way {
-    match words.get(1) {
-        Some(word) if word.as_slice() == "run".as_bytes() => Way::OnThreads,
-        _ => Way::InTurn,
-    }
-}
 
 /// Plays a script on an engine that was opened, and says whether all of it was played.
 pub fn play_script<D, B, L, C, G, R>(
@@ -54,7 +40,7 @@ where
     G: Gate + Sync,
     R: Threads + Wait + Timer + Sync,
     requires opened { IsOpened engine }
-    requires playable { IsPlayable allowed script.now }
+    requires playable { IsPlayable (allowed way) script.now }
     ensures named { AreNamed script.now result.0.names }
     ensures follows { FollowsScript script.now.items result.0.past }
     ensures played { IsTrue result.1 → HasPlayed script.now result.0.names result.0.past }
@@ -72,7 +58,7 @@ fn in_turn<D: Disk, B: Root, L: SharedLists>(
     script: &Script,
 ) -> (DurableEngine<D, B, L>, bool)
     requires opened { IsOpened engine }
-    requires playable { IsPlayable allowed script.now }
+    requires playable { IsPlayable (allowed InTurn) script.now }
     ensures named { AreNamed script.now result.0.names }
     ensures follows { FollowsScript script.now.items result.0.past }
     ensures played { IsTrue result.1 → HasPlayed script.now result.0.names result.0.past }
@@ -100,7 +86,7 @@ where
     G: Gate + Sync,
     R: Threads + Wait + Timer + Sync,
     requires opened { IsOpened engine }
-    requires playable { IsPlayable allowed script.now }
+    requires playable { IsPlayable (allowed OnThreads) script.now }
     ensures named { AreNamed script.now result.0.names }
     ensures follows { FollowsScript script.now.items result.0.past }
     ensures played { IsTrue result.1 → HasPlayed script.now result.0.names result.0.past }

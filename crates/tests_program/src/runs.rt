@@ -22,14 +22,6 @@ fn words(alloc: Global, words: &[&str]) -> Result<Vec<Bytes>, AllocError> {
     Ok(all)
 }
 
-/// The words, with a byte more in the last one.
-fn with_last_byte(mut words: Vec<Bytes>, byte: u8) -> Result<Vec<Bytes>, AllocError> {
-    if let Some(word) = words.last_mut() {
-        word.push(byte)?;
-    }
-    Ok(words)
-}
-
 fn numbers(alloc: Global, number: u64) -> Result<Ids, AllocError> {
     Ok(Listed::from_vec(Vec::from_slice(alloc, &[number])?))
 }
@@ -145,6 +137,11 @@ fn prints_what_sessions_were_answered(rt: HostRuntime) -> Result<(), Fail> {
             "run",
             "@session a\n@await go\n@session b\n@signal go\n",
             "@session a\n1> OK\n@session b\n1> OK\n",
+        ),
+        ran(
+            "play",
+            "@session a\n@await go\n@tick 49\n@session b\n@signal go\n@session a\n@await by\n@tick 50\n@session b\n@signal by\n",
+            "@session a\n1> OK\n2> NOT SIGNALLED\n@session b\n1> OK\n2> OK\n",
         ),
         ran(
             "run",
@@ -307,91 +304,5 @@ fn what_was_committed_outlives_the_run(rt: HostRuntime) -> Result<(), Fail> {
     assert_eq!(rt; fault, Fault::Nothing);
     assert_eq!(rt; status, 0);
     assert_eq!(rt; sink.taken().as_slice(), second.printed.as_bytes());
-    Ok(())
-}
-
-/// What the program prints of the database that a disk holds, and the disk.
-fn dumped<R: Threads + Wait + Timer + Sync>(
-    rt: &R,
-    alloc: Global,
-    disk: MemDisk,
-) -> Result<(Fault, MemSink, MemDisk), NoMemory> {
-    let mut source = MemSource::new(alloc, Listed::new(alloc), Listed::new(alloc))?;
-    let mut sink = MemSink::new(alloc, Listed::new(alloc))?;
-    let words = words(alloc, &["innod", "dump", "f"])?;
-    let clock = FixedClock { now: 0 };
-    let outcome = run(
-        rt,
-        alloc,
-        &words,
-        &mut source,
-        disk,
-        &mut sink,
-        &clock,
-        &OpenGate,
-    );
-    Ok((outcome.fault, sink, outcome.disk))
-}
-
-const DUMP: &str =
-    "CREATE TABLE `t` (`id` BIGINT NOT NULL, `a` BIGINT, PRIMARY KEY (`id`), KEY `ka` (`a`));\nINSERT INTO `t` VALUES (1,10);\nINSERT INTO `t` VALUES (2,NULL);\n";
-
-#[test]
-fn a_dump_makes_the_database_anew(rt: HostRuntime) -> Result<(), Fail> {
-    let first = ran(
-        "run",
-        "CREATE TABLE t (id BIGINT, a BIGINT, PRIMARY KEY (id), KEY ka (a));\n@session a\nINSERT INTO t VALUES (1,10),(2,NULL);\nBEGIN;\nINSERT INTO t VALUES (3,30);\n",
-        "@session setup\n1> OK\n@session a\n1> OK 2\n2> OK\n3> OK 1\n",
-    );
-    let again = ran("run", DUMP, "@session setup\n1> OK\n2> OK 1\n3> OK 1\n");
-    for case in &[first, again] {
-        let (made, disk) = new_files(&rt, rt.alloc())?;
-        assert_eq!(rt; made, Fault::Nothing);
-        let (fault, status, sink, disk) = result_on(&rt, rt.alloc(), disk, case)?;
-        let (dump_fault, dump, disk) = dumped(&rt, rt.alloc(), disk)?;
-        drop(disk);
-        assert_eq!(rt; fault, Fault::Nothing);
-        assert_eq!(rt; status, 0);
-        assert_eq!(rt; sink.taken().as_slice(), case.printed.as_bytes());
-        assert_eq!(rt; dump_fault, Fault::Nothing);
-        assert_eq!(rt; dump.taken().as_slice(), DUMP.as_bytes());
-    }
-    Ok(())
-}
-
-#[test]
-fn other_words_are_no_command(rt: HostRuntime) -> Result<(), Fail> {
-    let alloc = rt.alloc();
-    let all = [
-        words(alloc, &["innod", "run", "f"])?,
-        words(alloc, &["innod", "runs", "f", "s"])?,
-        words(alloc, &["innod", "run", "-f", "s"])?,
-        words(alloc, &["innod", "play", "f", ""])?,
-        words(alloc, &["innod", "play", "f", "s", "t"])?,
-        words(alloc, &["innod", "init", "f", "s"])?,
-        words(alloc, &["innod", "init", ""])?,
-        words(alloc, &["innod", "dump", "-f"])?,
-        words(alloc, &["innod", "--help"])?,
-        words(alloc, &[])?,
-        with_last_byte(words(alloc, &["innod", "play", "f", "s"])?, 0xFF)?,
-    ];
-    for words in &all {
-        let disk = MemDisk::new(alloc, Listed::new(alloc))?;
-        let mut source = MemSource::new(alloc, Listed::new(alloc), Listed::new(alloc))?;
-        let mut sink = MemSink::new(alloc, Listed::new(alloc))?;
-        let clock = FixedClock { now: 0 };
-        let outcome = run(
-            &rt,
-            alloc,
-            words,
-            &mut source,
-            disk,
-            &mut sink,
-            &clock,
-            &OpenGate,
-        );
-        assert_eq!(rt; outcome.fault, Fault::Usage);
-        assert_eq!(rt; outcome.status, 1);
-    }
     Ok(())
 }

@@ -1,24 +1,10 @@
-use Rattle.std.proofs.Common.{take, reverse, sym, subst}
-use Rattle.replay.proofs.Going.{IsReplayed, next_past, can_here, may_go_on, goes_on}
+use Rattle.std.proofs.Common.{◌≡◌}
+use Rattle.inno_db.proofs.Keys.{IsKeyed}
+use Rattle.inno_model.specs.Past.{opening, commits, db_after}
+use Rattle.replay.proofs.Going.{given}
 use Rattle.replay.proofs.commits.committed_db.Goals as goal
 
-pub replay_entry-requires : goal.replay_entry-requires
-replay_entry-requires c =
-    let entries = c.events-event-items.result.now in
-    let i = c.loop-event.event-index in
-    may_go_on c.event-item.result (reverse (take i entries)) c.loop-event.db c.loop-event.pending.items
-    (can_here entries c.args.history.now.past i c.event-item.result c.loop-event-test.true c.event-item.is c.loop-event.invariant.1 c.requires)
-    c.loop-event.invariant.0
-
-pub loop-event-preserved : goal.loop-event-preserved
-loop-event-preserved c =
-    let entries = c.events-event-items.result.now in
-    let i = c.loop-event.event-index in
-    let e = c.event-item.result in
-    let can = can_here entries c.args.history.now.past i e c.loop-event-test.true c.event-item.is c.loop-event.invariant.1 c.requires in
-    let next = goes_on e (reverse (take i entries)) c.loop-event.db c.replay_entry.new.db c.loop-event.pending.items
-    c.replay_entry.new.pending.items can c.loop-event.invariant.0 c.in_ok-replay_entry.ensures in (
-      subst (λ past. IsReplayed past c.replay_entry.new.db c.replay_entry.new.pending.items)
-          (sym (next_past entries i e c.loop-event-test.true c.event-item.is)) next,
-      c.loop-event.invariant.1,
-    )
+pub returns : goal.returns
+returns c =
+    let past = c.args.history.now.past in
+    given c.replayed_db.result (IsKeyed (opening past)) (λ db. db ≡ db_after (commits past) past) c.replayed_db.ensures c.requires.keyed

@@ -1,4 +1,4 @@
-use Rattle.std.proofs.Common.{◌≡◌, ◌∙◌, sym, ap, ℕ, ◌+◌, List, ◌++◌}
+use Rattle.std.proofs.Common.{◌∙◌, sym, ap, List, ◌++◌}
 use Rattle.std.proofs.lemmas.List.{append-nil}
 use Rattle.script.specs.declared.script.ScriptItem.{ScriptItem}
 use Rattle.script_generator.specs.declared.transfer.Transfer.{Transfer}

@@ -7,6 +7,7 @@ use Rattle.script_runner.specs.Run.{KeepsFiles}
 use Rattle.script_play.proofs.Answering.{all_answered}
 use Rattle.script_runner.proofs.Untouched.{keeps_files}
 use Rattle.script_runner.proofs.Causing.{where_no_err}
+use Rattle.script_runner.proofs.Reporting.{opens_once}
 use Rattle.script_runner.proofs.program.play_on.Goals.{then-stopped, else-stopped}
 use Rattle.script_runner.proofs.program.play_on.Goals as goal
 
@@ -43,3 +44,6 @@ pub returns-clause-named : goal.returns-clause-named
 returns-clause-named g c =
     let names-is = ap (λ (h : Recorded). h.names) c.finish.ensures.history ∙ c.close-disk.ensures.names in
     subst (AreNamed c.args.script.now) (sym names-is) c.play_script-engine.ensures.named
+
+pub finish-requires : goal.finish-requires
+finish-requires g c = rw c.close-disk.ensures.past (opens_once c.play_script-engine.result.0.past c.close-disk.ensures.legal)

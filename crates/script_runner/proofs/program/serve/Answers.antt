@@ -3,6 +3,7 @@ use Rattle.inno_model.specs.Text.{items}
 use Rattle.script_play.proofs.Places.{follows_nothing}
 use Rattle.script_play.proofs.Places.{nobody_named}
 use Rattle.script_runner.proofs.Causing.{mount_fault}
+use Rattle.script_runner.proofs.Reporting.{refused_reported, refused_whole}
 use Rattle.script_runner.proofs.program.serve.Goals as goal
 
 pub returns-in-Err-clause-follows : goal.returns-in-Err-clause-follows
@@ -16,3 +17,14 @@ returns-in-Err-clause-causes g c =
 
 pub returns-in-Err-clause-named : goal.returns-in-Err-clause-named
 returns-in-Err-clause-named g c = nobody_named c.args.script.now c.without_engine.result.history.names c.without_engine.ensures.names
+
+pub returns-in-Err-clause-printed : goal.returns-in-Err-clause-printed
+returns-in-Err-clause-printed g c =
+    rw c.without_engine.ensures.fault
+    (rw c.fault_of.ensures
+    (refused_reported c.args.report c.in-Err.bad (g.K.Sink.taken c.args.out.now) c.without_engine.result.history c.without_engine.ensures.names))
+
+pub returns-in-Err-clause-whole : goal.returns-in-Err-clause-whole
+returns-in-Err-clause-whole g c = λ fault fails.
+    refused_whole c.args.report (g.K.Sink.taken c.args.out.now) c.without_engine.result.history c.without_engine.ensures.names
+    c.without_engine.ensures.past

@@ -1,0 +1,78 @@
+-- What comes of a generated script: a limit of its own, or what comes of one that was read.
+use Rattle.std.proofs.Common.{◌≡◌, ℕ, ◌≤◌, Bool, true, false, if◌then◌else◌, Option, None, Some, List, refl, sym, subst, inl, arith}
+use Rattle.store_api.specs.declared.answers.MountBad.{MountBad}
+use Rattle.store_api.specs.Past.{Past}
+use Rattle.inno_model.specs.Recorded.{Recorded}
+use Rattle.script.specs.declared.script.ScriptBad.{ScriptBad}
+use Rattle.script.specs.declared.script.ScriptBad.TheVariants as bad
+use Rattle.script.specs.Reading.{over, most_sessions, most_items}
+use Rattle.script_generator.specs.Generated.{passed}
+use Rattle.run_outcome.specs.declared.words.Asked.{Asked}
+use Rattle.run_outcome.specs.declared.outcome.Fault.{Fault}
+use Rattle.run_outcome.specs.declared.outcome.Fault.TheVariants.{Nothing, Usage, ScriptBad as BadScript, ScriptRead, OutputWrite, DiskFault, File, Limit, NoMemory}
+use Rattle.run_outcome.specs.declared.reports.Report.TheVariants.{Totals}
+use Rattle.run_outcome.specs.Faults.{IsInputFault, IsOutputFault, IsPrinted}
+use Rattle.run_outcome.specs.Generating.{IsGenerateFault, script_fault}
+use Rattle.run_outcome.specs.Reports.{IsReported, totals_text}
+use Rattle.script_runner.specs.Run.{IsMountFault, IsMadeUp, IsLoadFault}
+
+-- a limit of the script, and not of the rows in the files
+abbrev IsOfScript : Option ScriptBad → Type 0
+IsOfScript None = Unit {0}
+IsOfScript (Some (bad.Limit what found most)) = what ≤ 2
+IsOfScript (Some other) = ⊥
+
+one_of : (first second : Bool)
+    → IsOfScript (if first then Some (over 1 most_sessions) else (if second then Some (over 2 most_items) else None))
+one_of true second = omega arith
+one_of false true = omega arith
+one_of false false = tt
+
+made_output : (f : Fault) → IsOutputFault f → IsMadeUp f
+made_output Nothing is = tt
+made_output OutputWrite is = tt
+made_output NoMemory is = tt
+made_output other is = absurd is
+
+made_by : (limit : Option ScriptBad) (f : Fault) → IsOfScript limit → IsGenerateFault limit f → IsMadeUp f
+made_by None f few is = made_output f is
+made_by (Some (bad.Limit what found most)) f few is = subst IsMadeUp (sym is) few
+made_by (Some other) f few is = absurd few
+
+pub made_up : (sessions transfers : ℕ) (f : Fault) → IsGenerateFault (passed sessions transfers) f → IsMadeUp f
+made_up sessions transfers f is = made_by (passed sessions transfers) f (one_of _ _) is
+
+pub made_not_usage : (f : Fault) → IsMadeUp f → f ≡ Usage → ⊥
+made_not_usage f is u = subst IsMadeUp u is
+
+pub made_not_read : (f : Fault) → IsMadeUp f → f ≡ ScriptRead → ⊥
+made_not_read f is u = subst IsMadeUp u is
+
+pub made_not_disk : (f : Fault) → IsMadeUp f → f ≡ DiskFault → ⊥
+made_not_disk f is u = subst IsMadeUp u is
+
+pub made_not_file : (f : Fault) (bad : MountBad) → IsMadeUp f → f ≡ File bad → ⊥
+made_not_file f bad is u = subst IsMadeUp u is
+
+-- ---- a script that was not made is not played
+
+mount_output : (old new : Past) (f : Fault) → IsOutputFault f → IsMountFault old new f
+mount_output old new Nothing is = tt
+mount_output old new OutputWrite is = tt
+mount_output old new NoMemory is = tt
+mount_output old new other is = absurd is
+
+pub load_refused : (limit : Option ScriptBad) (old new : Past) (f : Fault) → IsGenerateFault limit f → IsLoadFault limit old new f
+load_refused None old new f is = mount_output old new f is
+load_refused (Some why) old new f is = is
+
+input_printed : (f : Fault) (known : Option (List ℕ)) (bytes : List ℕ) → IsInputFault f → IsPrinted f known known bytes
+input_printed (BadScript line) known bytes is = refl
+input_printed ScriptRead known bytes is = refl
+input_printed (Limit what found most) known bytes is = refl
+input_printed NoMemory known bytes is = inl refl
+input_printed other known bytes is = absurd is
+
+pub load_unprinted : (asked : Asked) (f : Fault) (known : Option (List ℕ)) (history : Recorded) → IsInputFault f
+    → IsReported (Totals asked) f known known history
+load_unprinted asked f known history is = λ keyed. input_printed f known (totals_text asked history) is

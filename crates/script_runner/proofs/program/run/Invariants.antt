@@ -1,5 +1,0 @@
-use Rattle.script_runner.proofs.program.run.Given as goal
-
--- the past of the disk as it is handed in
-abbrev pub ghosts-serve : goal.ghosts-serve
-ghosts-serve g a = record { root = g.D.Disk.past a.disk }
