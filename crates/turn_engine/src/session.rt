@@ -236,10 +236,11 @@ fn answer<E: Turns, C: Clock, R: Wait + Timer>(
     ensures len { len.new ≡ length pass.new.me.0.mine.seen.past }
     ensures went { Went s pass.old.me.0.mine.seen pass.new.me.0.mine.seen (Ended s (started s pass.old.me.0.mine.seen.past) result ∷ []) Idle }
 {
+    let mut waits: u32 = 0;
     for _ in rt.forever() {
         match step_turn(rt, gate, pass, len, s, clock.now()) {
             Stepped::Over(reply) => return reply,
-            Stepped::GoesOn(pause) => rest(rt, pause),
+            Stepped::GoesOn(pause) => waits = rest(rt, pause, waits),
         }
     }
     unreachable!()
@@ -255,20 +256,28 @@ fn end<E: Turns, R: Wait + Timer>(rt: &R, gate: &Gate<E>, pass: &mut Pass<E>, le
     ensures len { len.new ≡ length pass.new.me.0.mine.seen.past }
     ensures went { Went s pass.old.me.0.mine.seen pass.new.me.0.mine.seen [] Left }
 {
+    let mut waits: u32 = 0;
     for _ in rt.forever() {
         match step_turn(rt, gate, pass, len, s, 0) {
             Stepped::Over(_) => return,
-            Stepped::GoesOn(pause) => rest(rt, pause),
+            Stepped::GoesOn(pause) => waits = rest(rt, pause, waits),
         }
     }
 }
 
-/// Stays away from the turn.
-fn rest<R: Timer>(rt: &R, pause: Pause) {
+/// Stays away from the turn, and counts how often it had to wait in succession: for a millisecond at first, and the longer the
+/// oftener, up to eight, so that many that wait leave the turn to those who don't.
+fn rest<R: Timer>(rt: &R, pause: Pause, waits: u32) -> u32 {
     match pause {
-        Pause::No => {}
-        Pause::Short => thread::yield_now(),
-        Pause::Long => thread::sleep(rt, Duration::from_millis(1)),
+        Pause::No => 0,
+        Pause::Short => {
+            thread::yield_now();
+            0
+        }
+        Pause::Long => {
+            thread::sleep(rt, Duration::from_millis(1 << waits.min(3)));
+            waits.saturating_add(1)
+        }
     }
 }
 
