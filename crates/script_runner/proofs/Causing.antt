@@ -210,4 +210,3 @@ not_shown words dump check shows = ⊎_elim dump check shows
 
 pub not_played : (words : List (List ℕ)) → NoScript words → NoLoad words → PlaysSessions words → ⊥
 not_played words script load plays = ⊎_elim script load plays
-

@@ -9,6 +9,7 @@ ghost use Rattle.store_api.specs.Causes.{Rose};
 ghost use Rattle.store_api.specs.Past.{Now, Meanwhile};
 ghost use Rattle.sql_grammar.specs.Grammar.{Spells};
 ghost use Rattle.sql_history.specs.Legal.{IsLegal};
+ghost use Rattle.session_engine.specs.Places.{HasExactPlaces};
 ghost use Rattle.sql_history.specs.Counts as counts;
 ghost use Rattle.inno_model.specs.Text.{text};
 ghost use Rattle.law_page_errors.specs.Space.{ends_for_pages};
@@ -69,8 +70,10 @@ where
     C: Clock + Sync,
     G: Gate + Sync,
     R: Threads + Wait + Timer + Sync,
-    // What was printed is the text of a legal history, all of it where the disk failed, unless the sink did.
+    // What was printed is the text of a legal history, all of it where the disk failed, unless the sink did. Where a text is no
+    // statement, its reply names the first bad byte.
     ensures legal { IsLegal Spells result.history.past }
+    ensures exact { HasExactPlaces result.history.past }
     ensures printed { PrintsHistory words.now → IsPrinted result.fault (K.taken out.old) (K.taken out.new) (text result.history) }
     ensures whole { PrintsHistory words.now → result.fault ≡ Fault.DiskFault → (Rose (K.faults out.old) (K.faults out.new) → ⊥)
         → Appends (K.taken out.old) (K.taken out.new) (text result.history) }
@@ -187,6 +190,7 @@ where
     G: Gate + Sync,
     R: Threads + Wait + Timer + Sync,
     ensures legal { IsLegal Spells result.history.past }
+    ensures exact { HasExactPlaces result.history.past }
     ensures printed { IsPrinted result.fault (K.taken out.old) (K.taken out.new) (text result.history) }
     ensures whole { result.fault ≡ Fault.DiskFault → (Rose (K.faults out.old) (K.faults out.new) → ⊥)
         → Appends (K.taken out.old) (K.taken out.new) (text result.history) }
@@ -238,6 +242,7 @@ where
     G: Gate + Sync,
     R: Threads + Wait + Timer + Sync,
     ensures legal { IsLegal Spells result.history.past }
+    ensures exact { HasExactPlaces result.history.past }
     ensures printed { IsReported (Report.Totals asked) result.fault (K.taken out.old) (K.taken out.new) result.history }
     ensures whole { result.fault ≡ Fault.DiskFault → (Rose (K.faults out.old) (K.faults out.new) → ⊥)
         → IsReportedWhole (Report.Totals asked) (K.taken out.old) (K.taken out.new) result.history }
@@ -357,6 +362,7 @@ where
     requires root { D.past disk ≡ B.root }
     requires playable { IsPlayable (allowed way) script.now }
     ensures legal { IsLegal Spells result.history.past }
+    ensures exact { HasExactPlaces result.history.past }
     ensures printed { IsReported report result.fault (K.taken out.old) (K.taken out.new) result.history }
     ensures whole { result.fault ≡ Fault.DiskFault → (Rose (K.faults out.old) (K.faults out.new) → ⊥)
         → IsReportedWhole report (K.taken out.old) (K.taken out.new) result.history }
@@ -401,6 +407,7 @@ where
     requires playable { IsPlayable (allowed way) script.now }
     requires opened { IsOpened engine }
     ensures legal { IsLegal Spells result.history.past }
+    ensures exact { HasExactPlaces result.history.past }
     ensures printed { IsReported report result.fault (K.taken out.old) (K.taken out.new) result.history }
     ensures whole { result.fault ≡ Fault.DiskFault → (Rose (K.faults out.old) (K.faults out.new) → ⊥)
         → IsReportedWhole report (K.taken out.old) (K.taken out.new) result.history }
