@@ -13,7 +13,7 @@ use Rattle.sql_history.specs.Counts.{last_moment}
 use Rattle.shared_lists.specs.State.{State as Lists}
 use Rattle.sql_lists.specs.Steps.{is_apart}
 use Rattle.session_engine.specs.declared.seats.Seat.{Seat}
-use Rattle.session_engine.specs.declared.seats.Seat.TheVariants.{Idle, Busy, Signalling, Leaving, Left}
+use Rattle.session_engine.specs.declared.seats.Seat.TheVariants.{Idle, Busy, Refused, Signalling, Leaving, Left}
 use Rattle.session_engine.specs.Seats.{State, seat_at, is_working, has_left, IsJoined, IsIdle}
 use Rattle.session_engine.specs.Calls.{AreFirst, Joins, Starts, SameState, Acknowledges, EndsBy, GoesOn, HasGiven, StepsBy}
 use Rattle.tests_engine.specs.Alone.{IsAlone}
@@ -21,6 +21,7 @@ use Rattle.tests_engine.specs.Alone.{IsAlone}
 idle_seat : (seat : Seat) → is_working seat ≡ false → has_left seat ≡ false → seat ≡ Idle
 idle_seat Idle rests stays = refl
 idle_seat (Busy statement) rests stays = absurd (cc)
+idle_seat (Refused at) rests stays = absurd (cc)
 idle_seat (Signalling item) rests stays = absurd (cc)
 idle_seat Leaving rests stays = absurd (cc)
 idle_seat Left rests stays = absurd (cc)
