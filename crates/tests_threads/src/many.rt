@@ -80,15 +80,15 @@ fn table(alloc: Global, rows: u8) -> Result<String, AllocError> {
     Ok(script)
 }
 
-/// Sixty-four sessions of two hundred items, each of which reads its own row and adds 1 to it at every twentieth item.
+/// Sixty-four sessions of two hundred items: each adds 1 to its own row, reads it, and commits what is already committed.
 fn counting(alloc: Global) -> Result<String, AllocError> {
     let mut script = table(alloc, 64)?;
     for step in 0..12_800_u32 {
         let own = step % 64;
-        let text = if step / 64 % 20 == 0 {
-            format!(in alloc; "@session s{own}\nUPDATE t SET a = a + 1 WHERE id = {own};\n")?
-        } else {
-            format!(in alloc; "@session s{own}\nSELECT a FROM t WHERE id = {own};\n")?
+        let text = match step / 64 {
+            0 => format!(in alloc; "@session s{own}\nUPDATE t SET a = a + 1 WHERE id = {own};\n")?,
+            100 => format!(in alloc; "@session s{own}\nSELECT a FROM t WHERE id = {own};\n")?,
+            _ => format!(in alloc; "@session s{own}\nCOMMIT;\n")?,
         };
         script.push_str(text.as_str())?;
     }
@@ -132,7 +132,7 @@ fn leaves<R: Threads + Wait + Timer + Sync>(
 #[test]
 fn many_sessions_come_to_their_end(rt: HostRuntime) -> Result<(), Fail> {
     let script = counting(rt.alloc())?;
-    let query = "@session q\nSELECT id FROM t WHERE a < 110;\n";
+    let query = "@session q\nSELECT id FROM t WHERE a < 101;\n";
     let told = "@session q\n1> ROWS 0\n";
     assert!(rt; leaves(&rt, rt.alloc(), script.as_str(), 65 + 12_800, query, told)?);
     Ok(())

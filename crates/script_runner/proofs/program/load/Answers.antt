@@ -8,6 +8,7 @@ use Rattle.script_play.proofs.Places.{follows_nothing, nobody_named}
 use Rattle.script_runner.specs.Run.{IsLoadFault, script_of}
 use Rattle.script_runner.proofs.Causing.{not_usage, not_read, input_not_usage}
 use Rattle.script_runner.proofs.Loading.{made_up, made_not_read, load_refused, load_unprinted}
+use Rattle.session_engine.specs.Places.{HasExactPlaces}
 use Rattle.script_runner.proofs.program.load.Goals as goal
 
 pub returns-in-Ok-clause-for_pages : goal.returns-in-Ok-clause-for_pages
@@ -68,3 +69,6 @@ pub returns-in-Err-clause-script_read : goal.returns-in-Err-clause-script_read
 returns-in-Err-clause-script_read g c = λ is.
     made_not_read c.in-Err.fault (made_up c.args.asked.sessions c.args.asked.transfers c.in-Err.fault c.in-Err.ensures.causes)
     (sym c.untouched.ensures.fault ∙ is)
+
+pub returns-in-Err-clause-exact : goal.returns-in-Err-clause-exact
+returns-in-Err-clause-exact g c = subst HasExactPlaces (sym c.untouched.ensures.past) tt

@@ -1,8 +1,9 @@
-use Rattle.std.proofs.Common.{sym, ap, ◌∙◌}
+use Rattle.std.proofs.Common.{sym, ap, subst, ◌∙◌}
 use Rattle.inno_model.specs.Text.{items}
 use Rattle.law_page_errors.proofs.Ended.{none_for_pages}
 use Rattle.script_runner.proofs.Following.{nothing_follows, spelled_follows, spelled_plays}
 use Rattle.script_runner.proofs.Causing.{not_usage, input_not_usage, judged, judged_refused, no_limit}
+use Rattle.session_engine.specs.Places.{HasExactPlaces}
 use Rattle.script_runner.proofs.program.play_source.Goals as goal
 
 pub returns-in-Err-clause-follows : goal.returns-in-Err-clause-follows
@@ -48,3 +49,6 @@ returns-in-Ok-clause-usage g c =
 
 pub returns-in-Err-clause-usage : goal.returns-in-Err-clause-usage
 returns-in-Err-clause-usage g c = λ is. input_not_usage c.in-Err.fault c.in-Err.ensures.causes (sym c.untouched.ensures.fault ∙ is)
+
+pub returns-in-Err-clause-exact : goal.returns-in-Err-clause-exact
+returns-in-Err-clause-exact g c = subst HasExactPlaces (sym c.untouched.ensures.past) tt

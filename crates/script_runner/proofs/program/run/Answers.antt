@@ -14,6 +14,7 @@ use Rattle.script.specs.Script.{IsScript}
 use Rattle.script_runner.specs.Run.{Follows, Plays, IsLoadFault, script_of}
 use Rattle.script_runner.proofs.Following.{nothing_follows}
 use Rattle.script_runner.proofs.Causing.{no_text, appends_none, make_printed}
+use Rattle.session_engine.specs.Places.{HasExactPlaces}
 use Rattle.script_runner.proofs.program.run.Goals as goal
 
 pub returns-in-Unknown-clause-follows : goal.returns-in-Unknown-clause-follows
@@ -122,3 +123,18 @@ pub returns-in-Script-clause-too_large : goal.returns-in-Script-clause-too_large
 returns-in-Script-clause-too_large g c = λ bytes rows most plays left script fault.
     c.play_source.ensures.too_large bytes rows most left
     (subst (λ (way : Way). IsScript (allowed way) bytes) (sym c.in-Script.ensures.tells.2) script) fault
+
+pub returns-in-Unknown-clause-exact : goal.returns-in-Unknown-clause-exact
+returns-in-Unknown-clause-exact g c = subst HasExactPlaces (sym c.untouched.ensures.past) tt
+
+pub returns-in-Init-clause-exact : goal.returns-in-Init-clause-exact
+returns-in-Init-clause-exact g c = subst HasExactPlaces (sym c.make.ensures.empty) tt
+
+pub returns-in-Dump-clause-exact : goal.returns-in-Dump-clause-exact
+returns-in-Dump-clause-exact g c = subst HasExactPlaces (sym c.show.ensures.empty) tt
+
+pub returns-in-Check-clause-exact : goal.returns-in-Check-clause-exact
+returns-in-Check-clause-exact g c = subst HasExactPlaces (sym c.show-in-Check.ensures.empty) tt
+
+pub returns-in-Gen-clause-exact : goal.returns-in-Gen-clause-exact
+returns-in-Gen-clause-exact g c = subst HasExactPlaces (sym c.make_up.ensures.empty) tt

@@ -1,9 +1,10 @@
-use Rattle.std.proofs.Common.{ap}
+use Rattle.std.proofs.Common.{ap, subst, sym}
 use Rattle.inno_model.specs.Text.{items}
 use Rattle.script_play.proofs.Places.{follows_nothing}
 use Rattle.script_play.proofs.Places.{nobody_named}
 use Rattle.script_runner.proofs.Causing.{mount_fault}
 use Rattle.script_runner.proofs.Reporting.{refused_reported, refused_whole}
+use Rattle.session_engine.specs.Places.{HasExactPlaces}
 use Rattle.script_runner.proofs.program.serve.Goals as goal
 
 pub returns-in-Err-clause-follows : goal.returns-in-Err-clause-follows
@@ -28,3 +29,6 @@ pub returns-in-Err-clause-whole : goal.returns-in-Err-clause-whole
 returns-in-Err-clause-whole g c = λ fault fails.
     refused_whole c.args.report (g.K.Sink.taken c.args.out.now) c.without_engine.result.history c.without_engine.ensures.names
     c.without_engine.ensures.past
+
+pub returns-in-Err-clause-exact : goal.returns-in-Err-clause-exact
+returns-in-Err-clause-exact g c = subst HasExactPlaces (sym c.without_engine.ensures.past) tt
