@@ -1,0 +1,4 @@
+pub mod Laid
+pub mod LeafSplit
+pub mod Passing
+pub mod Placing
