@@ -1,11 +1,11 @@
 -- Pages of which pieces were written over, one after another: the two halves of a split.
-use Rattle.std.proofs.Common.{◌≡◌, ℕ, ◌+◌, ◌-◌, ◌*◌, ◌<◌, ◌≤◌, ◌^◌, List, [], ◌∷◌, ◌++◌, length, take, drop, inl, inr, refl, sym, ap, subst, ◌∙◌}
+use Rattle.std.proofs.Common.{◌≡◌, ℕ, ◌+◌, ◌-◌, ◌*◌, ◌<◌, ◌≤◌, ◌^◌, List, [], ◌∷◌, ◌++◌, length, take, drop, inl, inr, refl, sym, ap, ◌∙◌}
 use Rattle.std.proofs.Common.{append_assoc, length-append, arith}
 use Rattle.std.specs.Prelude.{replicate}
 use Rattle.std.specs.Int.{w16, w32, to_be_bytes}
 use Rattle.std.proofs.lemmas.List.{take_at, drop_at, drop-drop, length-take-le, length-drop, length-replicate, take-replicate}
-use Rattle.page_format.specs.Words.{count_of, record_len_of, records_of}
-use Rattle.page_format.specs.Changes.{KeepsFields, IsLowerHalf, IsUpperHalf}
+use Rattle.page_format.specs.Words.{count_of, record_len_of}
+use Rattle.page_format.specs.Changes.{IsLowerHalf, IsUpperHalf}
 use Rattle.page_format.specs.Shape.{HasTreeFields}
 use Rattle.page_format.proofs.Edited.{ordered, first_records, last_records}
 use Rattle.page_format.proofs.Headed.{Fenced, fenced, low_set, high_set, number_over, tree_over}

@@ -1,16 +1,14 @@
 -- A leaf of a placed tree that is split, with the record in its parent.
-use Rattle.std.proofs.Common.{◌≡◌, ◌≢◌, ℕ, zero, suc, ◌+◌, ◌*◌, ◌^◌, ◌<◌, ◌≤◌, true, false, Bool, if◌then◌else◌, ◌==◌, List, [], ◌∷◌, ◌++◌}
-use Rattle.std.proofs.Common.{length, take, drop, map, get_or, slice_index_or, insert, Some, refl, sym, ◌∙◌, ap, subst, arith}
+use Rattle.std.proofs.Common.{◌≡◌, ℕ, zero, suc, ◌<◌, true, List, [], ◌∷◌, ◌++◌}
+use Rattle.std.proofs.Common.{length, take, drop, map, get_or, insert, refl, sym, ◌∙◌, ap, subst, arith}
 use Rattle.std.specs.declared.cmp.Ordering.{Ordering}
 use Rattle.std.specs.declared.cmp.Ordering.TheVariants.{Less, Equal, Greater}
 use Rattle.std.specs.Ordering.{is_le}
 use Rattle.std.specs.Int.{w32, from_be_bytes}
-use Rattle.std.specs.List.{AllByRecursion}
 use Rattle.std.proofs.lemmas.Bool.{false≢true}
-use Rattle.std.proofs.lemmas.List.{take-map, length-take-le}
+use Rattle.std.proofs.lemmas.List.{take-map}
 use Rattle.entries.specs.Pairs.{key_cmp}
 use Rattle.entries.proofs.Order.{key_cmp_is, same_key, below_all}
-use Rattle.page_format.specs.Words.{level_of, low_of, records_of}
 use Rattle.page_format.specs.Shape.{AreRising}
 use Rattle.page_format.specs.Words.{u32_at, index_of}
 use Rattle.page_format.specs.Changes.{KeepsFields}
@@ -18,7 +16,6 @@ use Rattle.page_format.proofs.Edited.{middle_part}
 use Rattle.page_format.proofs.Pieces.{AreWide}
 use Rattle.page_format.proofs.Orders.{rising_take, rising_drop}
 use Rattle.law_flat_tree.specs.Levels.{Fence}
-use Rattle.law_flat_tree.specs.Descents.{BeginsAt}
 use Rattle.law_flat_tree.specs.Pages.{child_of, entry_of, entries_of}
 use Rattle.law_tree_changes.specs.Splits.{later}
 

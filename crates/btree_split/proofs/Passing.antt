@@ -1,5 +1,5 @@
 -- How far a descent has come, and the page that it has come from.
-use Rattle.std.proofs.Common.{◌≡◌, ℕ, zero, suc, ◌+◌, List, [], ◌∷◌, ◌++◌, length, Option, None, Some, refl, sym, ◌∙◌, ap, subst, arith}
+use Rattle.std.proofs.Common.{◌≡◌, ℕ, ◌+◌, List, [], ◌∷◌, ◌++◌, length, Option, None, Some, refl, sym, ◌∙◌, ap, subst, arith}
 use Rattle.page_format.specs.Words.{level_of}
 use Rattle.std.specs.List.{AllByRecursion}
 use Rattle.law_flat_tree.specs.Trees.{AreNumbered}
@@ -9,7 +9,7 @@ use Rattle.law_flat_tree.proofs.Rows.{rest_of}
 use Rattle.btree.specs.declared.tree.Tree.{Tree}
 use Rattle.btree.specs.Sound.{lows_of, levels_of, IsSoundTree}
 use Rattle.btree.proofs.Standing.{Reached}
-use Rattle.btree_split.specs.Placed.{IsParent, IsParentFor}
+use Rattle.btree_split.specs.Placed.{IsParentFor}
 
 -- The page was reached one level above.
 pub record CameFrom (tree : Tree) (pages : ℕ → List ℕ) (key : List ℕ) (n page : ℕ) : Type 0 where

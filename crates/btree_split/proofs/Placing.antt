@@ -1,5 +1,5 @@
 -- A placed tree of which a leaf was split is placed, and one of the halves holds the key.
-use Rattle.std.proofs.Common.{◌≡◌, ◌≢◌, ℕ, suc, ◌+◌, ◌/◌, ◌%◌, ◌^◌, ◌<◌, ◌≤◌, true, false, Bool, if◌then◌else◌, ◌==◌, List, [], ◌∷◌, ◌++◌}
+use Rattle.std.proofs.Common.{◌≡◌, ◌≢◌, ℕ, suc, ◌+◌, ◌/◌, ◌%◌, ◌<◌, ◌≤◌, true, false, Bool, if◌then◌else◌, ◌==◌, List, [], ◌∷◌, ◌++◌}
 use Rattle.std.proofs.Common.{length, take, drop, map, get_or, insert, refl, sym, ◌∙◌, ap, subst, append_assoc, arith}
 use Rattle.std.specs.declared.cmp.Ordering.TheVariants.{Less}
 use Rattle.std.specs.Int.{w32, to_be_bytes, bit_at}
@@ -8,17 +8,16 @@ use Rattle.std.specs.Prelude.{slice_index}
 use Rattle.std.specs.List.{AllByRecursion}
 use Rattle.std.proofs.lemmas.List.{length-take-le}
 use Rattle.entries.specs.Pairs.{Pair, key_cmp}
-use Rattle.page_format.specs.Words.{u32_at, level_of, index_of, record_len_of, low_of, high_of, records_of}
-use Rattle.page_format.specs.Shape.{HasTreeFields, AreRising}
+use Rattle.page_format.specs.Words.{u32_at, level_of, record_len_of, low_of, records_of}
+use Rattle.page_format.specs.Shape.{AreRising}
 use Rattle.page_format.proofs.Edited.{same_byte, same_width, body_of}
 use Rattle.std.proofs.Math.Seq.{take-append_seam}
 use Rattle.law_flat_tree.specs.Levels.{Fence, IsAbove, AreLevels, children}
-use Rattle.law_flat_tree.specs.Levels.Fence.{Key}
 use Rattle.law_flat_tree.specs.Leaves.{IsLeaf, IsFrom, IsUnder, AreLeaves}
-use Rattle.law_flat_tree.specs.Descents.{BeginsAt, AreInner, AreAllInner, Holds, leaves_of}
+use Rattle.law_flat_tree.specs.Descents.{BeginsAt, AreInner, AreAllInner, leaves_of}
 use Rattle.law_flat_tree.specs.Pages.{low_fence, high_fence, child_of, entries_of, pair_of, leaf_pairs}
-use Rattle.law_flat_tree.specs.PageSplits.{StandsNowhere, IsChildAt, IsLowerPart, IsUpperPart, SplitsPage, IsSplitTree}
-use Rattle.law_flat_tree.specs.Trees.{IsTree, nodes, pairs_in, levels_from, AreNumbered}
+use Rattle.law_flat_tree.specs.PageSplits.{IsChildAt, SplitsPage, IsSplitTree}
+use Rattle.law_flat_tree.specs.Trees.{IsTree, nodes, pairs_in, AreNumbered}
 use Rattle.law_flat_tree.proofs.Apart.{with_both, behind_of, numbers_from}
 use Rattle.law_flat_tree.proofs.Descents.{child_place}
 use Rattle.law_flat_tree.proofs.Grown.{leaves_last}
@@ -29,8 +28,7 @@ use Rattle.law_flat_tree.proofs.Rows.{IsCut}
 use Rattle.law_flat_tree.proofs.Trees.{leaf_in}
 use Rattle.btree.specs.declared.tree.Tree.{Tree}
 use Rattle.btree.specs.Layout.{width_of}
-use Rattle.btree.specs.Sound.{lows_of, levels_of, IsTreePage, IsSoundTree, HoldsKey, tree_pairs}
-use Rattle.btree_change.specs.Trees.{IsWholeTree}
+use Rattle.btree.specs.Sound.{lows_of, levels_of, IsTreePage, IsSoundTree, HoldsKey}
 use Rattle.space_map.specs.Map.{byte_of, mark_of}
 use Rattle.law_tree_changes.specs.Splits.{IsSoundSplit, later}
 use Rattle.law_tree_changes.proofs.Splitting.{of_all, with_page, sound_split, split}
@@ -153,8 +151,8 @@ module _ (tree : Tree) (old : ℕ → List ℕ) (key0 : List ℕ) (u : ℕ) (pla
         some = halves.some;
         within = halves.within;
         key_is = halves.key_is ∙ ap (λ k. take k (get_or (records_of (old p)) i [])) (sym halves.long);
-        lower = halves.lower;
-        upper = halves.upper;
+        lower = halves.lower.part;
+        upper = halves.upper.part;
         fits = halves.fits;
         kept = halves.parent_kept;
         parent = halves.parent_records ∙ ap (λ k. insert (records_of (old u)) (suc k) (key ++ to_be_bytes w32 q)) (sym front);
@@ -213,20 +211,20 @@ module _ (tree : Tree) (old : ℕ → List ℕ) (key0 : List ℕ) (u : ℕ) (pla
       new_p = record {
         some = leaf_page.some;
         within = leaf_page.within;
-        fields = halves.lower_fields;
-        index = halves.lower_index ∙ leaf_page.index;
-        width = halves.lower_width ∙ leaf_page.width ∙ ap (width_of tree) (sym halves.lower.level);
-        rising = subst (λ rs. AreRising (map (take n) rs)) (sym halves.lower.records) (take_rise n i (records_of (old p)) leaf_page.rising);
+        fields = halves.lower.fields;
+        index = halves.lower.index ∙ leaf_page.index;
+        width = halves.lower.width ∙ leaf_page.width ∙ ap (width_of tree) (sym halves.lower.part.level);
+        rising = subst (λ rs. AreRising (map (take n) rs)) (sym halves.lower.part.records) (take_rise n i (records_of (old p)) leaf_page.rising);
       }
 
       new_q : IsTreePage tree new q
       new_q = record {
         some = λ none. omega (arith, none, taken.beyond);
         within = taken.small;
-        fields = halves.upper_fields;
-        index = halves.upper_index ∙ leaf_page.index;
-        width = halves.upper_width ∙ leaf_page.width ∙ ap (width_of tree) (sym halves.upper.level);
-        rising = subst (λ rs. AreRising (map (take n) rs)) (sym halves.upper.records) (drop_rise n i (records_of (old p)) leaf_page.rising);
+        fields = halves.upper.fields;
+        index = halves.upper.index ∙ leaf_page.index;
+        width = halves.upper.width ∙ leaf_page.width ∙ ap (width_of tree) (sym halves.upper.part.level);
+        rising = subst (λ rs. AreRising (map (take n) rs)) (sym halves.upper.part.records) (drop_rise n i (records_of (old p)) leaf_page.rising);
       }
 
       pub done : IsSoundSplit tree old new parent.tops (parent.holds.xs ++ u ∷ parent.holds.ys) parent.lower [] p q
@@ -262,12 +260,12 @@ module _ (tree : Tree) (old : ℕ → List ℕ) (key0 : List ℕ) (u : ℕ) (pla
           (λ r not_u. of_all (λ s. s ≢ u → Q s) p (λ _ is was. record {
             beyond = was.beyond;
             used = mark_same p is.within ∙ was.used;
-            first = λ inner. absurd (inner (halves.lower.level ∙ leaf_level));
+            first = λ inner. absurd (inner (halves.lower.part.level ∙ leaf_level));
           })
           (λ s not_p not_u'. of_all (λ t. t ≢ u → t ≢ p → Q t) q (λ _ _ is was. record {
             beyond = taken.beyond;
             used = mark_same q taken.small ∙ taken.used;
-            first = λ inner. absurd (inner (halves.upper.level ∙ leaf_level));
+            first = λ inner. absurd (inner (halves.upper.part.level ∙ leaf_level));
           })
           (λ t not_q not_u'' not_p' is was. record {
             beyond = was.beyond;
@@ -302,7 +300,7 @@ module _ (tree : Tree) (old : ℕ → List ℕ) (key0 : List ℕ) (u : ℕ) (pla
                 (with_page (IsPlacedPage n new) parent.tops upper done.xs done.ys [] p q (record {
                   beyond = taken.beyond;
                   used = mark_same q taken.small ∙ taken.used;
-                  first = λ inner. absurd (inner (halves.upper.level ∙ leaf_level));
+                  first = λ inner. absurd (inner (halves.upper.part.level ∙ leaf_level));
                 }) both);
           }
 
@@ -316,8 +314,8 @@ module _ (tree : Tree) (old : ℕ → List ℕ) (key0 : List ℕ) (u : ℕ) (pla
         xs = done.xs;
         ys = q ∷ done.ys;
         whole = new_leaves;
-        from = subst (λ low. IsFrom (low_fence low) key0) (sym halves.lower.low) held.from;
-        under = subst (λ high. IsUnder (high_fence high) key0) (sym halves.lower.high) less;
+        from = subst (λ low. IsFrom (low_fence low) key0) (sym halves.lower.part.low) held.from;
+        under = subst (λ high. IsUnder (high_fence high) key0) (sym halves.lower.part.high) less;
       }
 
       pub upper_holds : HoldsKey tree old key0 p → is_le (key_cmp key key0) ≡ true → HoldsKey tree new key0 q
@@ -325,6 +323,6 @@ module _ (tree : Tree) (old : ℕ → List ℕ) (key0 : List ℕ) (u : ℕ) (pla
         xs = done.xs ++ p ∷ [];
         ys = done.ys;
         whole = new_leaves ∙ sym (append_assoc done.xs (p ∷ []) (q ∷ done.ys));
-        from = subst (λ low. IsFrom (low_fence low) key0) (sym halves.upper.low) le;
-        under = subst (λ high. IsUnder (high_fence high) key0) (sym halves.upper.high) held.under;
+        from = subst (λ low. IsFrom (low_fence low) key0) (sym halves.upper.part.low) le;
+        under = subst (λ high. IsUnder (high_fence high) key0) (sym halves.upper.part.high) held.under;
       }

@@ -22,6 +22,19 @@ pub record IsTakenFor (tree : Tree) (pages : ℕ → List ℕ) (q : ℕ) : Type 
   pub counted : q < u32_at 44 (pages 0)
   pub used : mark_of pages q ≡ 1
 
+-- What a page is that got the lower half of another page's bytes, and one that got the upper half.
+pub record IsLowerPut (old : List ℕ) (i : ℕ) (key : List ℕ) (number : ℕ) (new : List ℕ) : Type 0 where
+  pub fields : HasTreeFields new
+  pub index : index_of new ≡ index_of old
+  pub width : record_len_of new ≡ record_len_of old
+  pub part : IsLowerPart old i key number new
+
+pub record IsUpperPut (old : List ℕ) (i : ℕ) (key new : List ℕ) : Type 0 where
+  pub fields : HasTreeFields new
+  pub index : index_of new ≡ index_of old
+  pub width : record_len_of new ≡ record_len_of old
+  pub part : IsUpperPart old i key new
+
 -- Leaf p is cut at its i-th record, which begins with the key, page q gets what lies from there on, and the parent u gets a
 -- record for page q behind its j-th; no other page changes.
 pub record SplitsLeaf (tree : Tree) (key : List ℕ) (i j u p q : ℕ) (old new : ℕ → List ℕ) : Type 0 where
@@ -30,14 +43,8 @@ pub record SplitsLeaf (tree : Tree) (key : List ℕ) (i j u p q : ℕ) (old new 
   pub some : 0 < i
   pub within : i < length (records_of (old p))
   pub key_is : key ≡ take tree.key_len (slice_index_or (records_of (old p)) i [])
-  pub lower_fields : HasTreeFields (new p)
-  pub lower_index : index_of (new p) ≡ index_of (old p)
-  pub lower_width : record_len_of (new p) ≡ record_len_of (old p)
-  pub lower : IsLowerPart (old p) i key q (new p)
-  pub upper_fields : HasTreeFields (new q)
-  pub upper_index : index_of (new q) ≡ index_of (old p)
-  pub upper_width : record_len_of (new q) ≡ record_len_of (old p)
-  pub upper : IsUpperPart (old p) i key (new q)
+  pub lower : IsLowerPut (old p) i key q (new p)
+  pub upper : IsUpperPut (old p) i key (new q)
   pub fits : q < 2 ^ 32
   pub parent_fields : HasTreeFields (new u)
   pub parent_records : records_of (new u) ≡ insert (records_of (old u)) (suc j) (key ++ to_be_bytes w32 q)

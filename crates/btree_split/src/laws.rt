@@ -1,15 +1,16 @@
-//! A leaf of a placed tree that is split: the law that calls above are to be proved by. Its function has an empty body, and
+//! A leaf of a placed tree that is split: the laws that calls above are to be proved by. Each function has an empty body, and
 //! nothing calls it.
 
-ghost use Rattle.std.specs.Prelude.{◌≡◌, ℕ, ◌<◌, List, length, true};
+ghost use Rattle.std.specs.Prelude.{◌≡◌, ℕ, ◌<◌, List, length, drop, true};
 ghost use Rattle.std.specs.declared.cmp.Ordering.TheVariants.{Less};
 ghost use Rattle.std.specs.Ordering.{is_le};
 ghost use Rattle.entries.specs.Pairs.{key_cmp};
+ghost use Rattle.page_format.specs.Changes.{IsLowerHalf, IsUpperHalf};
 ghost use Rattle.page_format.specs.Words.{records_of};
 ghost use Rattle.btree.specs.declared.tree.Tree.{Tree};
 ghost use Rattle.btree.specs.Sound.{HoldsKey, tree_pairs};
 ghost use Rattle.btree_split.specs.Placed.{IsPlacedTree, IsParent};
-ghost use Rattle.btree_split.specs.Halves.{leaf_under, IsTakenFor, SplitsLeaf};
+ghost use Rattle.btree_split.specs.Halves.{leaf_under, IsTakenFor, IsLowerPut, IsUpperPut, SplitsLeaf};
 
 /// A leaf is cut, a page that was taken gets its upper half, and the parent names that page. The tree is placed still, with
 /// the same pairs, and a key that the leaf held is held by the half on its side of the cut.
@@ -30,4 +31,12 @@ pub fn a_leaf_of_a_placed_tree_is_split()
         → SplitsLeaf tree key i j u (leaf_under tree.key_len old u j) q old new
         → HoldsKey tree old sought (leaf_under tree.key_len old u j) → is_le (key_cmp key sought) ≡ true
         → HoldsKey tree new sought q }
+{}
+
+/// Halves are laid out from bytes that show a page, and put from byte 20 on: what stands before it is no tree's.
+pub fn halves_are_put()
+    ensures lower { (bytes page image new key : List ℕ) (i number : ℕ) → drop 20 bytes ≡ drop 20 page → drop 20 new ≡ drop 20 image
+        → IsLowerHalf bytes i key number image → IsLowerPut page i key number new }
+    ensures upper { (bytes page image new key : List ℕ) (i number : ℕ) → drop 20 bytes ≡ drop 20 page → drop 20 new ≡ drop 20 image
+        → IsUpperHalf bytes i key number image → IsUpperPut page i key new }
 {}
