@@ -1,3 +1,4 @@
 pub mod Alike
+pub mod Raising
 pub mod Splitting
 pub mod Tails

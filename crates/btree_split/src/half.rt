@@ -1,0 +1,76 @@
+//! The two halves of a page that is split, each laid out from the page's bytes. Nothing here asks for a page.
+
+ghost use Rattle.std.specs.Prelude.{◌≡◌, ◌+◌, ◌*◌, ◌≤◌, length};
+ghost use Rattle.page_format.specs.Changes.{IsLowerHalf, IsUpperHalf};
+ghost use Rattle.page_format.specs.Shape.{HasTreeFields};
+ghost use Rattle.page_format.specs.Words.{count_of, record_len_of};
+
+use btree::read_u16;
+use btree_change::{begin_of, lay};
+
+const SIZE: usize = 4096;
+
+/// Where the records begin.
+const RECORDS: usize = 208;
+
+const NUMBER: usize = 8;
+
+const COUNT: usize = 22;
+
+const RIGHT: usize = 28;
+
+const LOW_LEN: usize = 34;
+
+const HIGH_LEN: usize = 35;
+
+const LOW: usize = 36;
+
+const HIGH: usize = 116;
+
+/// How many bytes a fence has room for.
+const FENCE: usize = 80;
+
+/// The page with its records before a place, below the key and left of the page of that number.
+pub fn lower_half(bytes: &[u8], i: u16, key: &[u8], number: u32) -> [u8; 4096]
+    requires size { length bytes.now ≡ 4096 }
+    requires place { i ≤ count_of bytes.now }
+    requires inside { 208 + count_of bytes.now * record_len_of bytes.now ≤ 4096 }
+    requires key { length key.now ≤ 80 }
+    ensures { HasTreeFields bytes.now → IsLowerHalf bytes.now i key.now number result }
+{
+    let zeros = [0; SIZE];
+    let mut half = [0; SIZE];
+    half.copy_from_slice(bytes);
+    let at = begin_of(bytes, i);
+    let end = begin_of(bytes, read_u16(bytes, COUNT));
+    lay(&mut half, at, &zeros[..end - at]);
+    lay(&mut half, COUNT, &i.to_be_bytes());
+    lay(&mut half, HIGH_LEN, &[key.len() as u8]);
+    let behind = lay(&mut half, HIGH, key);
+    lay(&mut half, behind, &zeros[..FENCE - key.len()]);
+    lay(&mut half, RIGHT, &number.to_be_bytes());
+    half
+}
+
+/// The page of that number, with the records from a place on, from the key on.
+pub fn upper_half(bytes: &[u8], i: u16, key: &[u8], number: u32) -> [u8; 4096]
+    requires size { length bytes.now ≡ 4096 }
+    requires place { i ≤ count_of bytes.now }
+    requires inside { 208 + count_of bytes.now * record_len_of bytes.now ≤ 4096 }
+    requires key { length key.now ≤ 80 }
+    ensures { HasTreeFields bytes.now → IsUpperHalf bytes.now i key.now number result }
+{
+    let zeros = [0; SIZE];
+    let mut half = [0; SIZE];
+    half.copy_from_slice(bytes);
+    let count = read_u16(bytes, COUNT);
+    let at = begin_of(bytes, i);
+    let moved = lay(&mut half, RECORDS, &bytes[at..begin_of(bytes, count)]);
+    lay(&mut half, moved, &zeros[..at - RECORDS]);
+    lay(&mut half, COUNT, &(count - i).to_be_bytes());
+    lay(&mut half, LOW_LEN, &[key.len() as u8]);
+    let behind = lay(&mut half, LOW, key);
+    lay(&mut half, behind, &zeros[..FENCE - key.len()]);
+    lay(&mut half, NUMBER, &number.to_be_bytes());
+    half
+}
