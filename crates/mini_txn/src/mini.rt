@@ -59,6 +59,14 @@ impl MiniTxn {
         self.work.log()
     }
 
+    /// The pool and the log, without the puts of the mini-transaction under way. The pages of the pool stay fixed.
+    pub fn into_parts(self) -> (Pool, Log)
+        ensures pool { result.0 ≡ self.pool }
+        ensures log { result.1 ≡ self.log }
+    {
+        self.work.into_parts()
+    }
+
     /// Deals with a page, if it can be read. It copies nothing. `bytes` is this and `shown`.
     pub fn reach(&mut self, page: u32) -> Result<(), Visit>
         requires { length (visit page (pages_of self.old.dealt)) ≤ 24 }

@@ -146,6 +146,23 @@ impl Work {
         &self.log
     }
 
+    /// The pool and the log, without what is under way.
+    pub fn into_parts(self) -> (Pool, Log)
+        ensures pool { result.0 ≡ self.pool }
+        ensures log { result.1 ≡ self.log }
+    {
+        let Work {
+            pool,
+            log,
+            dealt,
+            edits,
+            told: _,
+        } = self;
+        drop(dealt);
+        drop(edits);
+        (pool, log)
+    }
+
     /// Deals with a page, if it can be read.
     pub fn reach(&mut self, page: u32) -> Result<(), Visit>
         requires { length (visit page (pages_of self.old.dealt)) ≤ 24 }
