@@ -159,7 +159,8 @@ fn puts_stand_at_once_with_one_group(rt: HostRuntime) -> Result<(), Fail> {
     assert_eq!(rt; before, [3, 9, 4]);
     assert_eq!(rt; after, [0x0807, 1, 4]);
     assert_eq!(rt; seen, [0x0807, 1, 4]);
-    assert!(rt; are_three_puts(&groups.ok_or("no groups")?));
+    let groups = groups.ok_or("no groups")?;
+    assert!(rt; are_three_puts(&groups));
     Ok(())
 }
 
