@@ -201,3 +201,37 @@ fn a_refused_commit_changes_nothing(rt: HostRuntime) -> Result<(), Fail> {
     assert_eq!(rt; seen, 3);
     Ok(())
 }
+
+/// Makes page 30, which nobody has written, or answers that there is no such page.
+fn make(m: &mut MiniTxn) -> Result<(), Fail> {
+    m.give_up();
+    if capacity(m)? > 30 && m.fresh(30).is_ok() {
+        Ok(())
+    } else {
+        Err("no page 30")?
+    }
+}
+
+/// What page 30 shows at first, once it was made and given up, and once it was made for good. Whether it is in the pool
+/// before that.
+fn made(m: &mut MiniTxn) -> Result<([Result<u32, Visit>; 3], bool), Fail> {
+    let first = shown(m, 30);
+    make(m)?;
+    let given_up = shown(m, 30);
+    let is_pooled = m.pool().is_pooled(30);
+    make(m)?;
+    m.commit()?;
+    Ok(([first, given_up, shown(m, 30)], is_pooled))
+}
+
+#[test]
+fn a_new_page_stands_once_committed(rt: HostRuntime) -> Result<(), Fail> {
+    let mut m = mini_txn(&rt, rt.alloc(), Log::new(rt.alloc(), 1, 0, 1)?)?;
+    let found = made(&mut m);
+    drop(m);
+    let (seen, is_pooled) = found?;
+    let unwritten = Err(Visit::Bad { page: 30, rule: 0 });
+    assert_eq!(rt; seen, [unwritten, unwritten, Ok(0)]);
+    assert!(rt; !is_pooled);
+    Ok(())
+}
