@@ -9,6 +9,7 @@ use Rattle.std.proofs.lemmas.List.{length-set, get_or-set_same, get_or-set_other
 use Rattle.std.proofs.lemmas.List.Edits.{swap_is, length-swap}
 use Rattle.buffer_pool.specs.declared.frame.Content.{Content}
 use Rattle.buffer_pool.specs.declared.frame.Content.TheVariants.{Empty, New, Clean, Dirty}
+use Rattle.buffer_pool.specs.Frames.{HasOneMore}
 use Rattle.buffer_pool.specs.Frames.{FrameView, PoolView, slot_of, is_pooled, is_standing, fixes_of, holds_page, is_page, is_kept, is_written, is_idle}
 use Rattle.buffer_pool.specs.Frames.{is_idle_at, next_idle, at_slot, with_used, moved, marked, content_after, fixed, unfixed}
 use Rattle.buffer_pool.proofs.Orders.{last_where_passes}
@@ -321,3 +322,44 @@ frame_if_any pool page frame new result resident within absent there fresh held 
     here = λ below some. let clash : true ≡ false = sym some ∙ ap is_some is in absurd cc;
   })
   go (Some from) is taken = subst (TakesFrame page pool) (sym taken.1) (frame_taken pool from page frame resident within absent is there fresh held)
+
+-- an empty frame more
+pub frame_added : (page : ℕ) (pool new : PoolView) → page < length pool.slots → is_some (slot_of pool page) ≡ false → IsResident pool → HasOneMore page pool new
+    → KeepsPages pool new × ((q : ℕ) → is_pooled pool q ≡ true → is_pooled new q ≡ true)
+frame_added page pool new within bare resident more = subst (λ (p : PoolView). KeepsPages pool p
+    × ((q : ℕ) → is_pooled pool q ≡ true → is_pooled p q ≡ true)) (sym more.new_is) (
+      keeps_by pool now (length-set pool.slots page (Some more.frame))
+          (λ q. elim (cases_eq q page) [
+            | inl same ↦ subst (λ (n : ℕ). IsHeld (slot_of now n)) (sym same) (subst IsHeld (sym here) empty_held)
+            | inr apart ↦ subst IsHeld (sym (elsewhere q apart)) (resident q)
+          ])
+          (λ q. elim (cases_eq q page) [
+            | inl same ↦ subst (λ (n : ℕ). IsAlike (slot_of pool n) (slot_of now n)) (sym same)
+                (subst (IsAlike (slot_of pool page)) (sym here)
+                (alike_none (slot_of pool page) (Some more.frame) (bare_stands (slot_of pool page) (none_holds (slot_of pool page) bare))
+                (ap is_written more.content)))
+            | inr apart ↦ alike_same (slot_of pool q) (slot_of now q) (elsewhere q apart)
+          ]),
+      λ q was. elim (cases_eq q page) [
+        | inl same ↦
+            let there : holds (slot_of pool page) ≡ true = subst (λ (n : ℕ). is_pooled pool n ≡ true) same was in
+            let clash : true ≡ false = sym there ∙ none_holds (slot_of pool page) bare in
+            absurd cc
+        | inr apart ↦ ap holds (elsewhere q apart) ∙ was
+      ],
+    ) where
+      now : PoolView
+      now = record { slots = slice_set pool.slots page (Some more.frame); order = pool.order }
+
+      here : slot_of now page ≡ Some more.frame
+      here = at_same pool.slots page (Some more.frame) within
+
+      elsewhere : (q : ℕ) → q ≢ page → slot_of now q ≡ slot_of pool q
+      elsewhere q apart = edit_elsewhere pool.slots page q (Some more.frame) apart
+
+      none_holds : (slot : Option FrameView) → is_some slot ≡ false → holds slot ≡ false
+      none_holds None h = refl
+      none_holds (Some frame) h = cc
+
+      empty_held : IsHeld (Some more.frame)
+      empty_held there = let clash : true ≡ false = sym there ∙ ap is_page more.content in absurd cc

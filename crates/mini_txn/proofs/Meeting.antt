@@ -306,3 +306,23 @@ pub a_copy : (found : Option (Bor (List ℕ))) (none : Bool) (copy : Option (Lis
     → (bytes : List ℕ) × (copy ≡ Some bytes) × (length bytes ≡ 4096)
 a_copy None none copy is some h size = let clash : false ≡ true = some ∙ ap not h in absurd cc
 a_copy (Some bytes) none copy is some h size = (bytes.now, sym is, size)
+
+-- ---- the pool keeps its pages
+
+pub kept_mini : (pool new : PoolView) (dealt : List Entry) (records : List Record) (told : Bool) → IsMini pool dealt records told → KeepsPages pool new
+    → ((q : ℕ) → is_pooled pool q ≡ true → is_pooled new q ≡ true) → IsMini new dealt records told
+kept_mini pool new dealt records told is keeps pooled =
+    let seen : (q : ℕ) → seen_in new dealt q ≡ seen_in pool dealt q = λ q. ap (λ (l : List ℕ). option_map_or body_of (copy_of dealt q) l) (keeps.pages q) in
+    record {
+      resident = keeps.resident;
+      readable = λ q known none. keeps.standing q ∙ is.readable q known none;
+      edits = λ q. seen q ∙ is.edits q ∙ ap (edited q records) (sym (keeps.pages q));
+      told_so = λ tells.
+          let so = is.told_so tells in
+          let long = keeps.slots in
+          record {
+            framed = λ q some. pooled q (so.framed q some);
+            seen = subst (λ (l : List ℕ). u32_at 44 l ≤ length new.slots) (sym (seen 0)) (omega (arith, so.seen, long));
+            standing = subst (λ (l : List ℕ). u32_at 44 l ≤ length new.slots) (sym (keeps.pages 0)) (omega (arith, so.standing, long));
+          };
+    }
