@@ -1,5 +1,6 @@
 -- The bytes of a page from byte 20 on: what an edit and a stamp leave of them.
-use Rattle.std.proofs.Common.{◌≡◌, ℕ, zero, suc, ◌+◌, ◌-◌, ◌^◌, ◌<◌, ◌≤◌, List, [], ◌∷◌, ◌++◌, length, take, drop, replicate, refl, sym, ap, ◌∙◌, arith, length-append, length-drop, append_assoc}
+use Rattle.std.proofs.Common.{◌≡◌, ℕ, zero, suc, ◌+◌, ◌-◌, ◌^◌, ◌<◌, ◌≤◌, List, [], ◌∷◌, ◌++◌, length, take, drop, replicate, refl, sym, ap, ◌∙◌, arith}
+use Rattle.std.proofs.Common.{length-append, length-drop, append_assoc}
 use Rattle.std.proofs.lemmas.List.{take_at, drop_at, drop-drop, drop-take, drop-append-le, length-take-le, replicate-append-replicate, drop-replicate}
 use Rattle.std.specs.Int.{w32, w64, from_be_bytes}
 use Rattle.std.proofs.lemmas.Nat.{from_be_bytes-to_be_bytes_4, from_be_bytes-to_be_bytes_8}
@@ -45,7 +46,8 @@ body-written at piece bytes begins ends =
     let place : 20 + (at - 20) ≡ at = omega arith in
     let over : 20 + (at + length piece - 20) ≡ at + length piece = omega (arith, begins) in
     let cut : drop 20 (take at bytes) ≡ take (at - 20) (drop 20 bytes) = ap (λ (n : ℕ). drop 20 (take n bytes)) (sym place) ∙ drop-take 20 (at - 20) bytes in
-    let left : drop 20 (take at bytes ++ behind) ≡ take (at - 20) (drop 20 bytes) ++ behind = drop-append-le 20 (take at bytes) behind long ∙ ap (λ (l : List ℕ). l ++ behind) cut in
+    let left : drop 20 (take at bytes ++ behind) ≡ take (at - 20) (drop 20 bytes) ++ behind = drop-append-le 20 (take at bytes) behind long
+    ∙ ap (λ (l : List ℕ). l ++ behind) cut in
     let front : take at (body_of bytes) ≡ replicate 20 0 ++ take (at - 20) (drop 20 bytes) = take_behind (replicate 20 0) (drop 20 bytes) at begins in
     let back : drop (at + length piece) (body_of bytes) ≡ drop (at + length piece) bytes =
     drop_behind (replicate 20 0) (drop 20 bytes) (at + length piece) (omega (arith, begins))
@@ -82,7 +84,15 @@ pub drop-stamped : (page lsn : ℕ) (bytes : List ℕ) → 20 ≤ length bytes �
 drop-stamped page lsn bytes size =
     let front : List ℕ = take 8 bytes ++ (u32_bytes page ++ u64_bytes lsn) in
     let long : length front ≡ 20 =
-    omega (arith, length-append (take 8 bytes) (u32_bytes page ++ u64_bytes lsn), length-append (u32_bytes page) (u64_bytes lsn), length-u32 page, length-u64 lsn, length-take-le 8 bytes (omega (arith, size))) in
+    omega (
+      arith,
+      length-append (take 8 bytes) (u32_bytes page ++ u64_bytes lsn),
+      length-append (u32_bytes page)
+          (u64_bytes lsn),
+      length-u32 page,
+      length-u64 lsn,
+      length-take-le 8 bytes (omega (arith, size)),
+    ) in
     ap (drop 20) (stamp_parts page lsn bytes) ∙ drop_at front (drop 20 bytes) 20 long
 
 -- the number and the LSN of stamped bytes
@@ -90,17 +100,27 @@ pub number-stamped : (page lsn : ℕ) (bytes : List ℕ) → 20 ≤ length bytes
 unfolding u32_at u32_bytes
 number-stamped page lsn bytes size fits =
     let rest : List ℕ = u64_bytes lsn ++ drop 20 bytes in
-    let cut : drop 8 (stamped page lsn bytes) ≡ u32_bytes page ++ rest = drop_at (take 8 bytes) (u32_bytes page ++ rest) 8 (length-take-le 8 bytes (omega (arith, size))) in
-    ap (λ (l : List ℕ). from_be_bytes w32 (take 4 l)) cut ∙ ap (from_be_bytes w32) (take_at (u32_bytes page) rest 4 refl) ∙ from_be_bytes-to_be_bytes_4 page fits
+    let cut : drop 8 (stamped page lsn bytes) ≡ u32_bytes page ++ rest = drop_at (take 8 bytes) (u32_bytes page ++ rest) 8
+    (length-take-le 8 bytes (omega (arith, size))) in
+    ap (λ (l : List ℕ). from_be_bytes w32 (take 4 l)) cut ∙ ap (from_be_bytes w32) (take_at (u32_bytes page) rest 4 refl)
+    ∙ from_be_bytes-to_be_bytes_4 page fits
 
 pub lsn-stamped : (page lsn : ℕ) (bytes : List ℕ) → 20 ≤ length bytes → lsn < 2 ^ 64 → lsn_of (stamped page lsn bytes) ≡ lsn
 unfolding u64_at u64_bytes
 lsn-stamped page lsn bytes size fits =
     let front : List ℕ = take 8 bytes ++ u32_bytes page in
-    let long : length front ≡ 12 = omega (arith, length-append (take 8 bytes) (u32_bytes page), length-u32 page, length-take-le 8 bytes (omega (arith, size))) in
+    let long : length front ≡ 12 = omega (
+      arith,
+      length-append (take 8 bytes) (u32_bytes page),
+      length-u32 page,
+      length-take-le 8 bytes
+          (omega (arith, size)),
+    ) in
     let cut : drop 12 (stamped page lsn bytes) ≡ u64_bytes lsn ++ drop 20 bytes =
-    ap (drop 12) (sym (append_assoc (take 8 bytes) (u32_bytes page) (u64_bytes lsn ++ drop 20 bytes))) ∙ drop_at front (u64_bytes lsn ++ drop 20 bytes) 12 long in
-    ap (λ (l : List ℕ). from_be_bytes w64 (take 8 l)) cut ∙ ap (from_be_bytes w64) (take_at (u64_bytes lsn) (drop 20 bytes) 8 refl) ∙ from_be_bytes-to_be_bytes_8 lsn fits
+    ap (drop 12) (sym (append_assoc (take 8 bytes) (u32_bytes page) (u64_bytes lsn ++ drop 20 bytes)))
+    ∙ drop_at front (u64_bytes lsn ++ drop 20 bytes) 12 long in
+    ap (λ (l : List ℕ). from_be_bytes w64 (take 8 l)) cut ∙ ap (from_be_bytes w64) (take_at (u64_bytes lsn) (drop 20 bytes) 8 refl)
+    ∙ from_be_bytes-to_be_bytes_8 lsn fits
 
 pub length-stamped : (page lsn : ℕ) (bytes : List ℕ) → length bytes ≡ 4096 → length (stamped page lsn bytes) ≡ 4096
 length-stamped page lsn bytes size =

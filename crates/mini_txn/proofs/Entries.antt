@@ -1,5 +1,6 @@
 -- Copies in a list of entries: where one is found, and what a change of an entry leaves.
-use Rattle.std.proofs.Common.{◌≡◌, ℕ, zero, suc, ◌+◌, ◌<◌, Bool, true, false, cond, List, [], ◌∷◌, ◌++◌, length, Option, Some, None, refl, sym, ap, subst, ◌∙◌, arith, get_or, set, take, length-take}
+use Rattle.std.proofs.Common.{◌≡◌, ℕ, zero, suc, ◌+◌, ◌<◌, Bool, true, false, cond, List, [], ◌∷◌, ◌++◌, length, Option, Some, None, refl, sym, ap, subst}
+use Rattle.std.proofs.Common.{◌∙◌, arith, get_or, set, take, length-take}
 use Rattle.std.specs.Prelude.{◌==◌, ◌&&◌, ◌||◌, ◌≤◌, position, is_some, nat_lt}
 use Rattle.std.specs.List.{list_any, position_or_len}
 use Rattle.std.proofs.lemmas.Bool.{ltb-false, eqb-true, eq-eqb}
@@ -26,7 +27,8 @@ first-assoc (Some x) b c = refl
 
 pub copy_of-append : (es fs : List Entry) (page : ℕ) → copy_of (es ++ fs) page ≡ first_of (copy_of es page) (copy_of fs page)
 copy_of-append [] fs page = refl
-copy_of-append (e ∷ es) fs page = ap (first_of (own_copy e page)) (copy_of-append es fs page) ∙ sym (first-assoc (own_copy e page) (copy_of es page) (copy_of fs page))
+copy_of-append (e ∷ es) fs page = ap (first_of (own_copy e page)) (copy_of-append es fs page)
+    ∙ sym (first-assoc (own_copy e page) (copy_of es page) (copy_of fs page))
 
 pub copy_of-push : (es : List Entry) (e : Entry) (page : ℕ) → copy_of (es ++ e ∷ []) page ≡ first_of (copy_of es page) (own_copy e page)
 copy_of-push es e page = copy_of-append es (e ∷ []) page ∙ ap (first_of (copy_of es page)) (first-none (own_copy e page))
@@ -57,7 +59,8 @@ own_unread e page h = go (e.page == page) where
 -- ---- at a position
 
 -- the copy that is found first
-pub copy_found : (page : ℕ) (es : List Entry) (i : ℕ) (d : Entry) → i < length es → is_copy_of page (get_or es i d) ≡ true → ((k : ℕ) → k < i → is_copy_of page (get_or es k d) ≡ false)
+pub copy_found : (page : ℕ) (es : List Entry) (i : ℕ) (d : Entry) → i < length es → is_copy_of page (get_or es i d) ≡ true
+    → ((k : ℕ) → k < i → is_copy_of page (get_or es k d) ≡ false)
     → copy_of es page ≡ Some (get_or es i d).bytes
 copy_found page [] i d within here before = absurd (omega (arith, within))
 copy_found page (e ∷ es) zero d within here before = ap (λ o. first_of o (copy_of es page)) (own_at e page here)
@@ -75,7 +78,8 @@ copy_none page (e ∷ es) h = go (is_copy_of page e) refl h (copy_none page es) 
   go false is k ih = ap (λ o. first_of o (copy_of es page)) (own_none e page is) ∙ ih k
 
 -- an entry is changed to one with a copy of the page
-pub copy-set : (page : ℕ) (es : List Entry) (i : ℕ) (d e : Entry) → i < length es → is_copy_of page e ≡ true → ((k : ℕ) → k < i → own_copy (get_or es k d) page ≡ None)
+pub copy-set : (page : ℕ) (es : List Entry) (i : ℕ) (d e : Entry) → i < length es → is_copy_of page e ≡ true
+    → ((k : ℕ) → k < i → own_copy (get_or es k d) page ≡ None)
     → copy_of (set es i e) page ≡ Some e.bytes
 copy-set page [] i d e within is before = absurd (omega (arith, within))
 copy-set page (f ∷ es) zero d e within is before = ap (λ o. first_of o (copy_of es page)) (own_at e page is)
@@ -84,7 +88,8 @@ copy-set page (f ∷ es) (suc i) d e within is before =
     ap (λ o. first_of o (copy_of (set es i e) page)) (before 0 zeroth)
     ∙ copy-set page es i d e (omega (arith, within)) is (λ k below. before (suc k) (omega (arith, below)))
 
-pub copy-set_other : (page : ℕ) (es : List Entry) (i : ℕ) (d e : Entry) → own_copy e page ≡ own_copy (get_or es i d) page → copy_of (set es i e) page ≡ copy_of es page
+pub copy-set_other : (page : ℕ) (es : List Entry) (i : ℕ) (d e : Entry) → own_copy e page ≡ own_copy (get_or es i d) page → copy_of (set es i e) page
+    ≡ copy_of es page
 copy-set_other page [] i d e same = refl
 copy-set_other page (f ∷ es) zero d e same = ap (λ o. first_of o (copy_of es page)) same
 copy-set_other page (f ∷ es) (suc i) d e same = ap (first_of (own_copy f page)) (copy-set_other page es i d e same)
@@ -104,7 +109,8 @@ pages-set (f ∷ es) (suc i) d e same = ap (λ ps. f.page ∷ ps) (pages-set es 
 pub copied_is_in : (page : ℕ) (es : List Entry) → is_some (copy_of es page) ≡ true → is_in page (pages_of es) ≡ true
 copied_is_in page [] h = cc
 copied_is_in page (e ∷ es) h = go (e.page == page) e.copied h (copied_is_in page es) where
-  go : (b d : Bool) → is_some (first_of (cond b (cond d (Some e.bytes) None) None) (copy_of es page)) ≡ true → (is_some (copy_of es page) ≡ true → is_in page (pages_of es) ≡ true)
+  go : (b d : Bool) → is_some (first_of (cond b (cond d (Some e.bytes) None) None) (copy_of es page)) ≡ true
+      → (is_some (copy_of es page) ≡ true → is_in page (pages_of es) ≡ true)
       → (b || is_in page (pages_of es)) ≡ true
   go true d k ih = refl
   go false d k ih = ih k
@@ -169,7 +175,8 @@ both_right true b h = h
 both_right false b h = cc
 
 -- an entry of the page is changed to one with a copy
-changed : (page : ℕ) (es : List Entry) (i : ℕ) (d e : Entry) → i < length es → is_of page (get_or es i d) ≡ true → ((k : ℕ) → k < i → own_copy (get_or es k d) page ≡ None)
+changed : (page : ℕ) (es : List Entry) (i : ℕ) (d e : Entry) → i < length es → is_of page (get_or es i d) ≡ true
+    → ((k : ℕ) → k < i → own_copy (get_or es k d) page ≡ None)
     → e.page ≡ (get_or es i d).page → e.copied ≡ true → HasCopy page e.bytes es (set es i e)
 changed page es i d e within here before same copied =
     let old : (get_or es i d).page ≡ page = eqb-true (get_or es i d).page page here in
@@ -185,14 +192,16 @@ changed page es i d e within here before same copied =
     }
 
 -- the page's first entry gets a copy
-pub set_copy : (page : ℕ) (bytes : List ℕ) (items : List Entry) (count i : ℕ) (old e : Entry) → position (is_of page) (take count items) ≡ Some i → old ≡ get_or items i old
+pub set_copy : (page : ℕ) (bytes : List ℕ) (items : List Entry) (count i : ℕ) (old e : Entry) → position (is_of page) (take count items) ≡ Some i
+    → old ≡ get_or items i old
     → e.page ≡ old.page → e.copied ≡ true → e.bytes ≡ bytes → HasCopy page bytes (take count items) (take count (set items i e))
 set_copy page bytes items count i old e place is same copied written =
     let es : List Entry = take count items in
     let found = position-Some (is_of page) es i old place in
     let below : i < count = omega (arith, found.0, length-take count items) in
     let mine : get_or es i old ≡ old = get_or-take count items i old below ∙ sym is in
-    let has = changed page es i old e found.0 found.1 (λ k less. own_apart (get_or es k old) page (found.2 k less)) (same ∙ sym (ap (λ (x : Entry). x.page) mine)) copied in
+    let has = changed page es i old e found.0 found.1 (λ k less. own_apart (get_or es k old) page (found.2 k less)) (same
+    ∙ sym (ap (λ (x : Entry). x.page) mine)) copied in
     subst (λ (l : List ℕ). HasCopy page l es (take count (set items i e))) written (subst (HasCopy page e.bytes es) (sym (take_set count i items e)) has)
 
 -- where no entry is of the page, it isn't dealt with
@@ -202,7 +211,8 @@ none_of page es none known =
     absurd cc
 
 -- the copy that was found
-pub copy_is : (page : ℕ) (items : List Entry) (count i : ℕ) (old : Entry) → position (is_copy_of page) (take count items) ≡ Some i → old ≡ get_or items i old → copy_of (take count items) page ≡ Some old.bytes
+pub copy_is : (page : ℕ) (items : List Entry) (count i : ℕ) (old : Entry) → position (is_copy_of page) (take count items) ≡ Some i → old
+    ≡ get_or items i old → copy_of (take count items) page ≡ Some old.bytes
 copy_is page items count i old place is =
     let es : List Entry = take count items in
     let found = position-Some (is_copy_of page) es i old place in
@@ -214,7 +224,8 @@ pub copy_is_none : (page : ℕ) (es : List Entry) → position (is_copy_of page)
 copy_is_none page es none = copy_none page es (position_none (is_copy_of page) es none)
 
 -- the bytes of the copy that was found are changed
-pub write_copy : (page : ℕ) (bytes : List ℕ) (items : List Entry) (count i : ℕ) (old e : Entry) → position (is_copy_of page) (take count items) ≡ Some i → old ≡ get_or items i old
+pub write_copy : (page : ℕ) (bytes : List ℕ) (items : List Entry) (count i : ℕ) (old e : Entry) → position (is_copy_of page) (take count items)
+    ≡ Some i → old ≡ get_or items i old
     → e.page ≡ old.page → e.copied ≡ old.copied → e.bytes ≡ bytes → HasCopy page bytes (take count items) (take count (set items i e))
 write_copy page bytes items count i old e place is same copied written =
     let es : List Entry = take count items in
@@ -228,7 +239,8 @@ write_copy page bytes items count i old e place is same copied written =
     subst (λ (l : List ℕ). HasCopy page l es (take count (set items i e))) written (subst (HasCopy page e.bytes es) (sym (take_set count i items e)) has)
 
 -- a page is asked for that was not
-pub one_visited : (page : ℕ) (items : List Entry) (count : ℕ) (e : Entry) → count < length items → is_in page (pages_of (take count items)) ≡ false → e.page ≡ page → e.copied ≡ false
+pub one_visited : (page : ℕ) (items : List Entry) (count : ℕ) (e : Entry) → count < length items → is_in page (pages_of (take count items)) ≡ false
+    → e.page ≡ page → e.copied ≡ false
     → IsVisited page (take count items) (take (count + 1) (set items count e))
 one_visited page items count e within unknown is unread =
     let es : List Entry = take count items in

@@ -1,5 +1,6 @@
 -- What a call leaves of the pool's slots.
-use Rattle.std.proofs.Common.{◌≡◌, ◌≢◌, ℕ, ◌+◌, ◌-◌, ◌<◌, ◌≤◌, Bool, true, false, cond, ◌⊎◌, inl, inr, List, [], length, Option, Some, None, refl, sym, ap, subst, ◌∙◌, arith}
+use Rattle.std.proofs.Common.{◌≡◌, ◌≢◌, ℕ, ◌+◌, ◌-◌, ◌<◌, ◌≤◌, Bool, true, false, cond, ◌⊎◌, inl, inr, List, [], length, Option, Some, None, refl, sym, ap}
+use Rattle.std.proofs.Common.{subst, ◌∙◌, arith}
 use Rattle.std.specs.Prelude.{◌==◌, ◌&&◌, option_map, slice_set, slice_index_or, is_some, MatchOption}
 use Rattle.std.specs.List.{swap}
 use Rattle.std.specs.Option.{option_map_or}
@@ -8,7 +9,9 @@ use Rattle.std.proofs.lemmas.List.{length-set, get_or-set_same, get_or-set_other
 use Rattle.std.proofs.lemmas.List.Edits.{swap_is, length-swap}
 use Rattle.buffer_pool.specs.declared.frame.Content.{Content}
 use Rattle.buffer_pool.specs.declared.frame.Content.TheVariants.{Empty, New, Clean, Dirty}
-use Rattle.buffer_pool.specs.Frames.{FrameView, PoolView, slot_of, is_pooled, is_standing, fixes_of, holds_page, is_page, is_kept, is_written, is_idle, is_idle_at, next_idle, at_slot, with_used, moved, marked, content_after, fixed, unfixed}
+use Rattle.buffer_pool.specs.Frames.{HasOneMore}
+use Rattle.buffer_pool.specs.Frames.{FrameView, PoolView, slot_of, is_pooled, is_standing, fixes_of, holds_page, is_page, is_kept, is_written, is_idle}
+use Rattle.buffer_pool.specs.Frames.{is_idle_at, next_idle, at_slot, with_used, moved, marked, content_after, fixed, unfixed}
 use Rattle.buffer_pool.proofs.Orders.{last_where_passes}
 use Rattle.buffer_pool.proofs.SlotEdits.{idle_within}
 use Rattle.mini_txn.specs.Edits.{blank}
@@ -23,16 +26,20 @@ pub at_same : (slots : Slots) (page : ℕ) (slot : Option FrameView) → page < 
 at_same slots page slot within = get_or-set_same slots page slot None within
 
 -- an edit of an absent frame is none
-pub edit_here : (slots : Slots) (page : ℕ) (edit : FrameView → FrameView) → slice_index_or (slice_set slots page (option_map edit (slice_index_or slots page None))) page None ≡ option_map edit (slice_index_or slots page None)
+pub edit_here : (slots : Slots) (page : ℕ) (edit : FrameView → FrameView)
+    → slice_index_or (slice_set slots page (option_map edit (slice_index_or slots page None))) page None ≡ option_map edit (slice_index_or slots page None)
 edit_here slots page edit = go (cases_lt page (length slots)) where
-  go : (page < length slots) ⊎ (length slots ≤ page) → slice_index_or (slice_set slots page (option_map edit (slice_index_or slots page None))) page None ≡ option_map edit (slice_index_or slots page None)
+  go : (page < length slots) ⊎ (length slots ≤ page) → slice_index_or
+      (slice_set slots page (option_map edit (slice_index_or slots page None))) page None ≡ option_map edit (slice_index_or slots page None)
   go (inl within) = at_same slots page (option_map edit (slice_index_or slots page None)) within
   go (inr past) =
       let gone : slice_index_or slots page None ≡ None = get_or_past slots page None past in
-      get_or_past (slice_set slots page (option_map edit (slice_index_or slots page None))) page None (omega (arith, past, length-set slots page (option_map edit (slice_index_or slots page None))))
+      get_or_past (slice_set slots page (option_map edit (slice_index_or slots page None))) page None
+      (omega (arith, past, length-set slots page (option_map edit (slice_index_or slots page None))))
       ∙ sym (ap (option_map edit) gone)
 
-pub edit_elsewhere : (slots : Slots) (page q : ℕ) (slot : Option FrameView) → q ≢ page → slice_index_or (slice_set slots page slot) q None ≡ slice_index_or slots q None
+pub edit_elsewhere : (slots : Slots) (page q : ℕ) (slot : Option FrameView) → q ≢ page → slice_index_or (slice_set slots page slot) q None
+    ≡ slice_index_or slots q None
 edit_elsewhere slots page q slot apart = get_or-set_other slots page q slot None apart
 
 -- ---- what a slot shows
@@ -90,7 +97,8 @@ none_shown slot h = ap (λ b. cond b (body_of (option_map_or (λ (frame : FrameV
 pub alike_none : (old new : Option FrameView) → stands old ≡ false → stands new ≡ false → IsAlike old new
 alike_none old new a b = record { standing = b ∙ sym a; shown = none_shown new b ∙ sym (none_shown old a) }
 
-pub keeps_by : (old new : PoolView) → length new.slots ≡ length old.slots → ((q : ℕ) → IsHeld (slot_of new q)) → ((q : ℕ) → IsAlike (slot_of old q) (slot_of new q)) → KeepsPages old new
+pub keeps_by : (old new : PoolView) → length new.slots ≡ length old.slots → ((q : ℕ) → IsHeld (slot_of new q))
+    → ((q : ℕ) → IsAlike (slot_of old q) (slot_of new q)) → KeepsPages old new
 keeps_by old new long held alike = record { resident = held; slots = long; standing = λ q. (alike q).standing; pages = λ q. (alike q).shown }
 
 pub keeps_none : (pool : PoolView) → IsResident pool → KeepsPages pool pool
@@ -119,7 +127,8 @@ hold_fixes pool page =
     let new = at_slot page fixed pool in
     let here = edit_here pool.slots page fixed in
     let alike : (q : ℕ) → IsAlike (slot_of pool q) (slot_of new q) = λ q. elim (cases_eq q page) [
-      | inl same ↦ subst (λ (n : ℕ). IsAlike (slot_of pool n) (slot_of new n)) (sym same) (subst (IsAlike (slot_of pool page)) (sym here) (fixed_alike (slot_of pool page)))
+      | inl same ↦ subst (λ (n : ℕ). IsAlike (slot_of pool n) (slot_of new n)) (sym same)
+          (subst (IsAlike (slot_of pool page)) (sym here) (fixed_alike (slot_of pool page)))
       | inr apart ↦ alike_same (slot_of pool q) (slot_of new q) (edit_elsewhere pool.slots page q (option_map fixed (slot_of pool page)) apart)
     ] in
     record {
@@ -173,27 +182,33 @@ all_fixed old page new all first = record {
 
 -- ---- giving a frame back
 
-unfixed_new : (frame : FrameView) → holds_page frame ≡ true → is_written frame.content ≡ false → 0 < frame.fixes → IsAlike (Some frame) (Some (unfixed frame)) × IsHeld (Some (unfixed frame))
+unfixed_new : (frame : FrameView) → holds_page frame ≡ true → is_written frame.content ≡ false → 0 < frame.fixes
+    → IsAlike (Some frame) (Some (unfixed frame)) × IsHeld (Some (unfixed frame))
 unfixed_new frame there new fixed = go frame.content there new where
   go : (content : Content) → is_page content ≡ true → is_written content ≡ false
-      → IsAlike (Some (marked content frame.fixes frame)) (Some (marked (content_after content frame.fixes) (frame.fixes - 1) frame)) × IsHeld (Some (marked (content_after content frame.fixes) (frame.fixes - 1) frame))
+      → IsAlike (Some (marked content frame.fixes frame)) (Some (marked (content_after content frame.fixes) (frame.fixes - 1) frame))
+      × IsHeld (Some (marked (content_after content frame.fixes) (frame.fixes - 1) frame))
   go Empty a b = cc
   go Clean a b = cc
   go Dirty a b = cc
   go New a b = last (frame.fixes == 1) refl where
     last : (d : Bool) → (frame.fixes == 1) ≡ d
-        → IsAlike (Some (marked New frame.fixes frame)) (Some (marked (cond d Empty New) (frame.fixes - 1) frame)) × IsHeld (Some (marked (cond d Empty New) (frame.fixes - 1) frame))
+        → IsAlike (Some (marked New frame.fixes frame)) (Some (marked (cond d Empty New) (frame.fixes - 1) frame))
+        × IsHeld (Some (marked (cond d Empty New) (frame.fixes - 1) frame))
     last true is = (record { standing = refl; shown = refl }, λ h. absurd cc)
     last false is =
         let more : frame.fixes ≡ 1 → ⊥ = eqb-false frame.fixes 1 is in
         (record { standing = refl; shown = refl }, λ h. omega (arith, fixed, more))
 
-pub unfixed_alike : (slot : Option FrameView) → holds slot ≡ true → stands slot ≡ false → 0 < fixes_in slot → IsAlike slot (option_map unfixed slot) × IsHeld (option_map unfixed slot)
+pub unfixed_alike : (slot : Option FrameView) → holds slot ≡ true → stands slot ≡ false → 0 < fixes_in slot → IsAlike slot (option_map unfixed slot)
+    × IsHeld (option_map unfixed slot)
 unfixed_alike None there new held = absurd cc
 unfixed_alike (Some frame) there new held = unfixed_new frame there new held
 
 -- one slot is changed
-pub keeps_edit : (pool : PoolView) (page : ℕ) (edit : FrameView → FrameView) → IsResident pool → IsAlike (slot_of pool page) (option_map edit (slot_of pool page)) → IsHeld (option_map edit (slot_of pool page)) → KeepsPages pool (at_slot page edit pool)
+pub keeps_edit : (pool : PoolView) (page : ℕ) (edit : FrameView → FrameView) → IsResident pool
+    → IsAlike (slot_of pool page) (option_map edit (slot_of pool page)) → IsHeld (option_map edit (slot_of pool page))
+    → KeepsPages pool (at_slot page edit pool)
 keeps_edit pool page edit resident alike held =
     let new = at_slot page edit pool in
     let here = edit_here pool.slots page edit in
@@ -233,7 +248,8 @@ module _ (slots : Slots) (from page : ℕ) (slot : Option FrameView) (hf : from 
   pub moved_here : slice_index_or (slice_set (swap slots from page) page slot) page None ≡ slot
   moved_here = get_or-set_same (swap slots from page) page slot None (omega (arith, hp, length-swap slots from page))
 
-  other_is : (q : ℕ) → q ≢ page → slice_index_or (slice_set (swap slots from page) page slot) q None ≡ slice_index_or (slice_set slots from (slice_index_or slots page None)) q None
+  other_is : (q : ℕ) → q ≢ page → slice_index_or (slice_set (swap slots from page) page slot) q None
+      ≡ slice_index_or (slice_set slots from (slice_index_or slots page None)) q None
   other_is q apart =
       get_or-set_other (swap slots from page) page q slot None apart
       ∙ ap (λ (xs : Slots). slice_index_or xs q None) (sym swapped)
@@ -246,7 +262,8 @@ module _ (slots : Slots) (from page : ℕ) (slot : Option FrameView) (hf : from 
   moved_elsewhere q apart from_apart = other_is q apart ∙ get_or-set_other slots from q (slice_index_or slots page None) None from_apart
 
 -- a new page takes the frame that goes next
-pub frame_taken : (pool : PoolView) (from page : ℕ) (frame : FrameView) → IsResident pool → page < length pool.slots → is_pooled pool page ≡ false → next_idle pool ≡ Some from
+pub frame_taken : (pool : PoolView) (from page : ℕ) (frame : FrameView) → IsResident pool → page < length pool.slots → is_pooled pool page ≡ false
+    → next_idle pool ≡ Some from
     → holds_page frame ≡ true → is_written frame.content ≡ false → 0 < frame.fixes → TakesFrame page pool (moved from page frame pool)
 frame_taken pool from page frame resident within absent next there new held =
     let slots = pool.slots in
@@ -261,7 +278,8 @@ frame_taken pool from page frame resident within absent next there new held =
             | inr apart ↦ elim (cases_eq q from) [
               | inl same ↦
                   let apart_from : from ≢ page = λ e. apart (same ∙ e) in
-                  subst (λ (n : ℕ). IsHeld (slot_of (moved from page frame pool) n)) (sym same) (subst IsHeld (sym (moved_from slots from page (Some frame) hf within apart_from)) (resident page))
+                  subst (λ (n : ℕ). IsHeld (slot_of (moved from page frame pool) n)) (sym same)
+                  (subst IsHeld (sym (moved_from slots from page (Some frame) hf within apart_from)) (resident page))
               | inr from_apart ↦ subst IsHeld (sym (moved_elsewhere slots from page (Some frame) hf within q apart from_apart)) (resident q)
             ]
           ])
@@ -274,7 +292,8 @@ frame_taken pool from page frame resident within absent next there new held =
                   subst (λ (n : ℕ). IsAlike (slot_of pool n) (slot_of (moved from page frame pool) n)) (sym same)
                   (subst (IsAlike (slot_of pool from)) (sym (moved_from slots from page (Some frame) hf within apart_from))
                   (alike_none (slot_of pool from) (slot_of pool page) (bare_stands (slot_of pool from) bare) (bare_stands (slot_of pool page) absent)))
-              | inr from_apart ↦ alike_same (slot_of pool q) (slot_of (moved from page frame pool) q) (moved_elsewhere slots from page (Some frame) hf within q apart from_apart)
+              | inr from_apart ↦ alike_same (slot_of pool q) (slot_of (moved from page frame pool) q)
+                  (moved_elsewhere slots from page (Some frame) hf within q apart from_apart)
             ]
           ]);
       pooled = λ q was. elim (cases_eq q page) [
@@ -290,14 +309,57 @@ frame_taken pool from page frame resident within absent next there new held =
       here = λ below some. ap holds here ∙ there;
     }
 
-pub frame_if_any : (pool : PoolView) (page : ℕ) (frame : FrameView) (new : PoolView) (result : Bool) → IsResident pool → page < length pool.slots → is_pooled pool page ≡ false
+pub frame_if_any : (pool : PoolView) (page : ℕ) (frame : FrameView) (new : PoolView) (result : Bool) → IsResident pool → page < length pool.slots
+    → is_pooled pool page ≡ false
     → holds_page frame ≡ true → is_written frame.content ≡ false → 0 < frame.fixes
     → MatchOption (next_idle pool) ((result ≡ false) × (new ≡ pool)) (λ from. (result ≡ true) × (new ≡ moved from page frame pool)) → TakesFrame page pool new
 frame_if_any pool page frame new result resident within absent there fresh held outcome = go (next_idle pool) refl outcome where
-  go : (o : Option ℕ) → next_idle pool ≡ o → MatchOption o ((result ≡ false) × (new ≡ pool)) (λ from. (result ≡ true) × (new ≡ moved from page frame pool)) → TakesFrame page pool new
+  go : (o : Option ℕ) → next_idle pool ≡ o → MatchOption o ((result ≡ false) × (new ≡ pool)) (λ from. (result ≡ true)
+      × (new ≡ moved from page frame pool)) → TakesFrame page pool new
   go None is same = subst (TakesFrame page pool) (sym same.1) (record {
     keeps = keeps_none pool resident;
     pooled = λ q was. was;
     here = λ below some. let clash : true ≡ false = sym some ∙ ap is_some is in absurd cc;
   })
   go (Some from) is taken = subst (TakesFrame page pool) (sym taken.1) (frame_taken pool from page frame resident within absent is there fresh held)
+
+-- an empty frame more
+pub frame_added : (page : ℕ) (pool new : PoolView) → page < length pool.slots → is_some (slot_of pool page) ≡ false → IsResident pool → HasOneMore page pool new
+    → KeepsPages pool new × ((q : ℕ) → is_pooled pool q ≡ true → is_pooled new q ≡ true)
+frame_added page pool new within bare resident more = subst (λ (p : PoolView). KeepsPages pool p
+    × ((q : ℕ) → is_pooled pool q ≡ true → is_pooled p q ≡ true)) (sym more.new_is) (
+      keeps_by pool now (length-set pool.slots page (Some more.frame))
+          (λ q. elim (cases_eq q page) [
+            | inl same ↦ subst (λ (n : ℕ). IsHeld (slot_of now n)) (sym same) (subst IsHeld (sym here) empty_held)
+            | inr apart ↦ subst IsHeld (sym (elsewhere q apart)) (resident q)
+          ])
+          (λ q. elim (cases_eq q page) [
+            | inl same ↦ subst (λ (n : ℕ). IsAlike (slot_of pool n) (slot_of now n)) (sym same)
+                (subst (IsAlike (slot_of pool page)) (sym here)
+                (alike_none (slot_of pool page) (Some more.frame) (bare_stands (slot_of pool page) (none_holds (slot_of pool page) bare))
+                (ap is_written more.content)))
+            | inr apart ↦ alike_same (slot_of pool q) (slot_of now q) (elsewhere q apart)
+          ]),
+      λ q was. elim (cases_eq q page) [
+        | inl same ↦
+            let there : holds (slot_of pool page) ≡ true = subst (λ (n : ℕ). is_pooled pool n ≡ true) same was in
+            let clash : true ≡ false = sym there ∙ none_holds (slot_of pool page) bare in
+            absurd cc
+        | inr apart ↦ ap holds (elsewhere q apart) ∙ was
+      ],
+    ) where
+      now : PoolView
+      now = record { slots = slice_set pool.slots page (Some more.frame); order = pool.order }
+
+      here : slot_of now page ≡ Some more.frame
+      here = at_same pool.slots page (Some more.frame) within
+
+      elsewhere : (q : ℕ) → q ≢ page → slot_of now q ≡ slot_of pool q
+      elsewhere q apart = edit_elsewhere pool.slots page q (Some more.frame) apart
+
+      none_holds : (slot : Option FrameView) → is_some slot ≡ false → holds slot ≡ false
+      none_holds None h = refl
+      none_holds (Some frame) h = cc
+
+      empty_held : IsHeld (Some more.frame)
+      empty_held there = let clash : true ≡ false = sym there ∙ ap is_page more.content in absurd cc

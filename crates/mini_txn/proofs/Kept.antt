@@ -56,7 +56,12 @@ module _ (records : List Record) (count : ℕ) (bytes : List ℕ) (capacity : �
   count_fits = omega (arith, are.number, are.few, are.fits)
 
   pub spelled : IsSpelled records count bytes
-  spelled = record { are = record { count = omega (arith, are.few, are.fits); each = each_record records are.each }; number = are.number; spelled = are.bytes_are }
+  spelled = record {
+    are = record { count = omega (arith, are.few, are.fits); each = each_record records are.each };
+    number = are.number;
+    spelled =
+        are.bytes_are;
+  }
 
   pub spare_is : spare_of records ≡ 131072 - length bytes
   spare_is = ap (λ (l : List ℕ). 131072 - length l) (sym are.bytes_are)
@@ -77,30 +82,35 @@ pub none_kept : (capacity : ℕ) → 131072 ≤ capacity → AreKept [] 0 [] cap
 none_kept capacity room = record { each = tt; bytes_are = refl; number = refl; few = omega arith; fits = omega arith; room = room }
 
 -- another spelling of the same bytes, in other words
-pub same_kept : {records : List Record} {count count' : ℕ} {bytes bytes' : List ℕ} {capacity : ℕ} → count' ≡ count → bytes' ≡ bytes → AreKept records count bytes capacity → AreKept records count' bytes' capacity
+pub same_kept : {records : List Record} {count count' : ℕ} {bytes bytes' : List ℕ} {capacity : ℕ} → count' ≡ count → bytes' ≡ bytes
+    → AreKept records count bytes capacity → AreKept records count' bytes' capacity
 same_kept {records} {count} {count'} {bytes} {bytes'} {capacity} a b are =
     subst (λ (n : ℕ). AreKept records n bytes' capacity) (sym a) (subst (λ (l : List ℕ). AreKept records count l capacity) (sym b) are)
 
 -- ---- what a record more makes of pages and of the spare
 
-pub edited-push : (page : ℕ) (records : List Record) (r : Record) (bytes : List ℕ) → edited page (records ++ r ∷ []) bytes ≡ edited_by page (edited page records bytes) r
+pub edited-push : (page : ℕ) (records : List Record) (r : Record) (bytes : List ℕ) → edited page (records ++ r ∷ []) bytes
+    ≡ edited_by page (edited page records bytes) r
 edited-push page records r bytes = fold-append (edited_by page) bytes records (r ∷ [])
 
-pub spare-push : (records : List Record) (r : Record) (cost : ℕ) → length (record_bytes r) ≡ cost → cost ≤ spare_of records → spare_of (records ++ r ∷ []) + cost ≡ spare_of records
+pub spare-push : (records : List Record) (r : Record) (cost : ℕ) → length (record_bytes r) ≡ cost → cost ≤ spare_of records
+    → spare_of (records ++ r ∷ []) + cost ≡ spare_of records
 spare-push records r cost long enough =
     let all : length (flat_map record_bytes (records ++ r ∷ [])) ≡ length (flat_map record_bytes records) + length (record_bytes r) =
     ap length (bytes-push records r) ∙ length-append (flat_map record_bytes records) (record_bytes r) in
     omega (arith, all, long, enough)
 
 -- the bytes with a record more tell the records with it
-pub one_more : (count : ℕ) (bytes : List ℕ) (capacity : ℕ) (records : List Record) → AreKept (kept count bytes) count bytes capacity → kept count bytes ≡ records
+pub one_more : (count : ℕ) (bytes : List ℕ) (capacity : ℕ) (records : List Record) → AreKept (kept count bytes) count bytes capacity
+    → kept count bytes ≡ records
     → (r : Record) (cost : ℕ) → IsRecord r → length (record_bytes r) ≡ cost → 5 ≤ cost → cost ≤ spare_of records
     → (bytes' : List ℕ) (capacity' : ℕ) → bytes' ≡ bytes ++ record_bytes r → 131072 ≤ capacity'
     → AreKept (kept (count + 1) bytes') (count + 1) bytes' capacity' × (kept (count + 1) bytes' ≡ records ++ r ∷ [])
 one_more count bytes capacity records are tells r cost is long some enough bytes' capacity' items room =
     let mine : AreKept records count bytes capacity = subst (λ (l : List Record). AreKept l count bytes capacity) tells are in
     let fits : length bytes + length (record_bytes r) ≤ 131072 = omega (arith, enough, long, spare_is records count bytes capacity mine, mine.fits) in
-    let more : AreKept (records ++ r ∷ []) (count + 1) bytes' capacity' = same_kept refl items (added records count bytes capacity mine r capacity' is (omega (arith, long, some)) fits room) in
+    let more : AreKept (records ++ r ∷ []) (count + 1) bytes' capacity' = same_kept refl items
+    (added records count bytes capacity mine r capacity' is (omega (arith, long, some)) fits room) in
     (kept_again (records ++ r ∷ []) (count + 1) bytes' capacity' more, kept_is (records ++ r ∷ []) (count + 1) bytes' capacity' more)
 
 -- no bytes tell no records

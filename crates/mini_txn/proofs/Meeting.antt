@@ -1,5 +1,6 @@
 -- What each call makes of the mini-transaction is what the trait asks of it.
-use Rattle.std.proofs.Common.{◌≡◌, ◌≢◌, ℕ, ◌+◌, ◌<◌, ◌≤◌, Bool, true, false, cond, ◌⊎◌, inl, inr, List, [], ◌∷◌, ◌++◌, length, drop, Option, Some, None, IfSome, Bor, not, refl, sym, ap, subst, ◌∙◌, arith}
+use Rattle.std.proofs.Common.{◌≡◌, ◌≢◌, ℕ, ◌+◌, ◌<◌, ◌≤◌, Bool, true, false, cond, ◌⊎◌, inl, inr, List, [], ◌∷◌, ◌++◌, length, drop, Option, Some, None}
+use Rattle.std.proofs.Common.{IfSome, Bor, not, refl, sym, ap, subst, ◌∙◌, arith}
 use Rattle.std.specs.Prelude.{◌==◌, ◌||◌, is_some}
 use Rattle.std.specs.Option.{option_map_or, option_copied}
 use Rattle.std.proofs.lemmas.Bool.{cases_eq, eq-eqb, eqb-true}
@@ -15,7 +16,8 @@ use Rattle.mtr.proofs.Counted.{none_counted}
 use Rattle.mini_txn.specs.declared.dealt.Entry.{Entry}
 use Rattle.mini_txn.specs.Dealt.{copy_of, pages_of, HasCopy}
 use Rattle.mini_txn.specs.Edits.{blank, edited, spare_of}
-use Rattle.mini_txn.specs.View.{MiniView, body_of, standing_in, seen_in, fault_in, state_of, shows, IsReadable, AreFramed, IsMini, IsStamped, IsPut, KeepsPages, Places, Writes, Blanks}
+use Rattle.mini_txn.specs.View.{MiniView, body_of, standing_in, seen_in, fault_in, state_of, shows, IsReadable, AreFramed, IsMini, IsStamped, IsPut}
+use Rattle.mini_txn.specs.View.{KeepsPages, Places, Writes, Blanks}
 use Rattle.mini_txn.proofs.Bodies.{length-body, drop-body, body-written, body-blank, blank_is}
 use Rattle.mini_txn.proofs.Entries.{copied_is_in}
 use Rattle.mini_txn.proofs.Keeping.{stands_holds}
@@ -49,16 +51,20 @@ seen_none pool dealt page is = ap (λ o. option_map_or body_of o (standing_in po
 
 -- ---- writing
 
-pub writes_by : (page at : ℕ) (piece : List ℕ) (pool : PoolView) (old mid new : List Entry) (bytes : List ℕ) → 20 ≤ at → at + length piece ≤ 4096 → length bytes ≡ 4096
+pub writes_by : (page at : ℕ) (piece : List ℕ) (pool : PoolView) (old mid new : List Entry) (bytes : List ℕ) → 20 ≤ at → at + length piece ≤ 4096
+    → length bytes ≡ 4096
     → pages_of mid ≡ pages_of old → ((q : ℕ) → q ≢ page → copy_of mid q ≡ copy_of old q) → copy_of mid page ≡ Some bytes → body_of bytes ≡ seen_in pool old page
-    → (AreFramed pool old → is_pooled pool page ≡ true) → IfSome (copy_of mid page) (λ copy. HasCopy page (with_bytes at piece copy) mid new) → Writes page at piece pool old new
+    → (AreFramed pool old → is_pooled pool page ≡ true) → IfSome (copy_of mid page) (λ copy. HasCopy page (with_bytes at piece copy) mid new)
+    → Writes page at piece pool old new
 writes_by page at piece pool old mid new bytes begins ends size pages others copy body framed outcome =
-    let has : HasCopy page (with_bytes at piece bytes) mid new = subst (λ (o : Option (List ℕ)). IfSome o (λ c. HasCopy page (with_bytes at piece c) mid new)) copy outcome in
+    let has : HasCopy page (with_bytes at piece bytes) mid new = subst
+    (λ (o : Option (List ℕ)). IfSome o (λ c. HasCopy page (with_bytes at piece c) mid new)) copy outcome in
     let elsewhere : (q : ℕ) → q ≢ page → copy_of new q ≡ copy_of old q = λ q ne. has.elsewhere q ne ∙ others q ne in
     record {
       pages = has.pages ∙ pages;
       copied = ap is_some has.here;
-      here = seen_copy pool new page (with_bytes at piece bytes) has.here ∙ body-written at piece bytes begins (omega (arith, ends, size)) ∙ ap (with_bytes at piece) body;
+      here = seen_copy pool new page (with_bytes at piece bytes) has.here ∙ body-written at piece bytes begins (omega (arith, ends, size))
+          ∙ ap (with_bytes at piece) body;
       elsewhere = elsewhere;
       framed = λ h q some. elim (cases_eq q page) [
         | inl same ↦ subst (λ (n : ℕ). is_pooled pool n ≡ true) (sym same) (framed h)
@@ -67,19 +73,23 @@ writes_by page at piece pool old mid new bytes begins ends size pages others cop
     }
 
 -- the first put of a page copies it
-pub writes_first : (page at : ℕ) (piece : List ℕ) (pool : PoolView) (old mid new : List Entry) → 20 ≤ at → at + length piece ≤ 4096 → length (bytes_of pool page) ≡ 4096
+pub writes_first : (page at : ℕ) (piece : List ℕ) (pool : PoolView) (old mid new : List Entry) → 20 ≤ at → at + length piece ≤ 4096
+    → length (bytes_of pool page) ≡ 4096
     → copy_of old page ≡ None → IsReadable pool old page → HasCopy page (bytes_of pool page) old mid
     → IfSome (copy_of mid page) (λ copy. HasCopy page (with_bytes at piece copy) mid new) → Writes page at piece pool old new
 writes_first page at piece pool old mid new begins ends size none readable has outcome =
     let stands : is_standing pool page ≡ true = readable none in
-    writes_by page at piece pool old mid new (bytes_of pool page) begins ends size has.pages has.elsewhere has.here (sym (seen_none pool old page none ∙ one_stands pool page stands))
+    writes_by page at piece pool old mid new (bytes_of pool page) begins ends size has.pages has.elsewhere has.here
+    (sym (seen_none pool old page none ∙ one_stands pool page stands))
     (λ h. stands_holds (slot_of pool page) stands) outcome
 
 -- another one writes over the copy
-pub writes_again : (page at : ℕ) (piece : List ℕ) (pool : PoolView) (old new : List Entry) (bytes : List ℕ) → 20 ≤ at → at + length piece ≤ 4096 → length bytes ≡ 4096
+pub writes_again : (page at : ℕ) (piece : List ℕ) (pool : PoolView) (old new : List Entry) (bytes : List ℕ) → 20 ≤ at → at + length piece ≤ 4096
+    → length bytes ≡ 4096
     → copy_of old page ≡ Some bytes → IfSome (copy_of old page) (λ copy. HasCopy page (with_bytes at piece copy) old new) → Writes page at piece pool old new
 writes_again page at piece pool old new bytes begins ends size copy outcome =
-    writes_by page at piece pool old old new bytes begins ends size refl (λ q ne. refl) copy (sym (seen_copy pool old page bytes copy)) (λ h. h page (ap is_some copy)) outcome
+    writes_by page at piece pool old old new bytes begins ends size refl (λ q ne. refl) copy (sym (seen_copy pool old page bytes copy))
+    (λ h. h page (ap is_some copy)) outcome
 
 -- ---- the state
 
@@ -138,7 +148,8 @@ module _
       | inl same ↦ subst (λ (n : ℕ). seen_in pool new n ≡ edited n (records ++ Put page at piece ∷ []) (standing_in pool n)) (sym same)
           (writes.here ∙ ap (with_bytes at piece) (is.edits page)
           ∙ sym (edited-push page records (Put page at piece) (standing_in pool page)
-          ∙ ap (λ b. cond b (with_bytes at piece (edited page records (standing_in pool page))) (edited page records (standing_in pool page))) (eq-eqb page page refl)))
+          ∙ ap (λ b. cond b (with_bytes at piece (edited page records (standing_in pool page))) (edited page records (standing_in pool page)))
+          (eq-eqb page page refl)))
       | inr ne ↦ seen_other q ne ∙ is.edits q
           ∙ sym (edited-push q records (Put page at piece) (standing_in pool q)
           ∙ ap (λ b. cond b (with_bytes at piece (edited q records (standing_in pool q))) (edited q records (standing_in pool q))) (apart_test page q ne))
@@ -155,7 +166,8 @@ module _
         };
   }
 
-  pub put_puts : length piece + 9 ≤ spare_of records → Puts page at piece (state_of (mini pool log dealt records told)) (state_of (mini pool log new (records ++ Put page at piece ∷ []) now))
+  pub put_puts : length piece + 9 ≤ spare_of records → Puts page at piece (state_of (mini pool log dealt records told))
+      (state_of (mini pool log new (records ++ Put page at piece ∷ []) now))
   put_puts room = record {
     keeps = record { told = was; faults = omega arith; whole = refl };
     stays = λ counts tells good. stays tells (λ zeroth.
@@ -171,13 +183,15 @@ module _
 module _
     (pool new_pool : PoolView) (log : LogView) (dealt new : List Entry) (records : List Record) (told : Bool) (page : ℕ)
     (is : IsMini pool dealt records told) (blanks : Blanks page pool dealt new_pool new)
-    (within : told ≡ true → page < u32_at 44 (seen_in pool dealt 0)) (free : (is_in page (pages_of dealt) ≡ true) ⊎ ((is_pooled pool page ≡ true) ⊎ (is_some (next_idle pool) ≡ true))) where
+    (within : told ≡ true → page < u32_at 44 (seen_in pool dealt 0)) (free : (is_in page (pages_of dealt) ≡ true)
+    ⊎ ((is_pooled pool page ≡ true) ⊎ (is_some (next_idle pool) ≡ true))) where
   keeps : KeepsPages pool new_pool
   keeps = blanks.frame.keeps
 
   made_other : (q : ℕ) → q ≢ page → seen_in new_pool new q ≡ seen_in pool dealt q
   made_other q ne =
-      ap (λ o. option_map_or body_of o (standing_in new_pool q)) (blanks.elsewhere q ne) ∙ ap (λ (l : List ℕ). option_map_or body_of (copy_of dealt q) l) (keeps.pages q)
+      ap (λ o. option_map_or body_of o (standing_in new_pool q)) (blanks.elsewhere q ne)
+      ∙ ap (λ (l : List ℕ). option_map_or body_of (copy_of dealt q) l) (keeps.pages q)
 
   made_here : seen_in new_pool new page ≡ blank
   made_here = seen_copy new_pool new page blank blanks.here ∙ body-blank
@@ -202,7 +216,8 @@ module _
       | inl same ↦
           let clash : Some blank ≡ None = sym blanks.here ∙ subst (λ (n : ℕ). copy_of new n ≡ None) same none in
           absurd cc
-      | inr ne ↦ keeps.standing q ∙ is.readable q (was_in q ne (subst (λ (ps : List ℕ). is_in q ps ≡ true) blanks.pages known)) (sym (blanks.elsewhere q ne) ∙ none)
+      | inr ne ↦ keeps.standing q ∙ is.readable q (was_in q ne (subst (λ (ps : List ℕ). is_in q ps ≡ true) blanks.pages known))
+          (sym (blanks.elsewhere q ne) ∙ none)
     ];
     edits = λ q. elim (cases_eq q page) [
       | inl same ↦ subst (λ (n : ℕ). seen_in new_pool new n ≡ edited n (records ++ Fresh page ∷ []) (standing_in new_pool n)) (sym same)
@@ -221,7 +236,8 @@ module _
             | inr ne ↦ blanks.frame.pooled q (so.framed q (sym (ap is_some (blanks.elsewhere q ne)) ∙ some))
           ];
           seen = elim (cases_eq page 0) [
-            | inl zeroth ↦ subst (λ (n : ℕ). u32_at 44 (seen_in new_pool new n) ≤ length new_pool.slots) zeroth (subst (λ (l : List ℕ). u32_at 44 l ≤ length new_pool.slots) (sym made_here) (blank_counts (length new_pool.slots)))
+            | inl zeroth ↦ subst (λ (n : ℕ). u32_at 44 (seen_in new_pool new n) ≤ length new_pool.slots) zeroth
+                (subst (λ (l : List ℕ). u32_at 44 l ≤ length new_pool.slots) (sym made_here) (blank_counts (length new_pool.slots)))
             | inr ne ↦ subst (λ (l : List ℕ). u32_at 44 l ≤ length new_pool.slots) (sym (made_other 0 (λ e. ne (sym e)))) (omega (arith, so.seen, long))
           ];
           standing = subst (λ (l : List ℕ). u32_at 44 l ≤ length new_pool.slots) (sym (keeps.pages 0)) (omega (arith, so.standing, long));
@@ -252,7 +268,8 @@ module _
       let so = is.told_so tells in
       let now : is_standing new_pool q ≡ shows pool dealt q = places.shown so.framed q in
       ap (λ b. cond b None (Some 0)) now ∙ go (copy_of dealt q) refl (is_in q (pages_of dealt)) refl where
-        go : (o : Option (List ℕ)) → copy_of dealt q ≡ o → (b : Bool) → is_in q (pages_of dealt) ≡ b → cond (is_some o || is_standing pool q) None (Some 0) ≡ cond b None (fault_in pool q)
+        go : (o : Option (List ℕ)) → copy_of dealt q ≡ o → (b : Bool) → is_in q (pages_of dealt) ≡ b
+            → cond (is_some o || is_standing pool q) None (Some 0) ≡ cond b None (fault_in pool q)
         go None none true known = ap (λ d. cond d None (Some 0)) (is.readable q known none)
         go None none false known = refl
         go (Some bytes) some true known = refl
@@ -279,11 +296,33 @@ module _
 
 -- ---- a copy that was asked for
 
-pub no_copy : (found : Option (Bor (List ℕ))) (none : Bool) (copy : Option (List ℕ)) → option_copied found ≡ copy → is_some found ≡ not none → none ≡ true → copy ≡ None
+pub no_copy : (found : Option (Bor (List ℕ))) (none : Bool) (copy : Option (List ℕ)) → option_copied found ≡ copy → is_some found ≡ not none → none
+    ≡ true → copy ≡ None
 no_copy None none copy is some h = sym is
 no_copy (Some bytes) none copy is some h = let clash : true ≡ false = some ∙ ap not h in absurd cc
 
-pub a_copy : (found : Option (Bor (List ℕ))) (none : Bool) (copy : Option (List ℕ)) → option_copied found ≡ copy → is_some found ≡ not none → none ≡ false → IfSome found (λ bytes. length bytes.now ≡ 4096)
+pub a_copy : (found : Option (Bor (List ℕ))) (none : Bool) (copy : Option (List ℕ)) → option_copied found ≡ copy → is_some found ≡ not none → none
+    ≡ false → IfSome found (λ bytes. length bytes.now ≡ 4096)
     → (bytes : List ℕ) × (copy ≡ Some bytes) × (length bytes ≡ 4096)
 a_copy None none copy is some h size = let clash : false ≡ true = some ∙ ap not h in absurd cc
 a_copy (Some bytes) none copy is some h size = (bytes.now, sym is, size)
+
+-- ---- the pool keeps its pages
+
+pub kept_mini : (pool new : PoolView) (dealt : List Entry) (records : List Record) (told : Bool) → IsMini pool dealt records told → KeepsPages pool new
+    → ((q : ℕ) → is_pooled pool q ≡ true → is_pooled new q ≡ true) → IsMini new dealt records told
+kept_mini pool new dealt records told is keeps pooled =
+    let seen : (q : ℕ) → seen_in new dealt q ≡ seen_in pool dealt q = λ q. ap (λ (l : List ℕ). option_map_or body_of (copy_of dealt q) l) (keeps.pages q) in
+    record {
+      resident = keeps.resident;
+      readable = λ q known none. keeps.standing q ∙ is.readable q known none;
+      edits = λ q. seen q ∙ is.edits q ∙ ap (edited q records) (sym (keeps.pages q));
+      told_so = λ tells.
+          let so = is.told_so tells in
+          let long = keeps.slots in
+          record {
+            framed = λ q some. pooled q (so.framed q some);
+            seen = subst (λ (l : List ℕ). u32_at 44 l ≤ length new.slots) (sym (seen 0)) (omega (arith, so.seen, long));
+            standing = subst (λ (l : List ℕ). u32_at 44 l ≤ length new.slots) (sym (keeps.pages 0)) (omega (arith, so.standing, long));
+          };
+    }

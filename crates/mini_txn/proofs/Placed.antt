@@ -1,5 +1,6 @@
 -- Copies that are put into the pool: each page is seen there as the copy showed it.
-use Rattle.std.proofs.Common.{◌≡◌, ◌≢◌, ℕ, ◌<◌, Bool, true, false, cond, ◌⊎◌, inl, inr, List, [], ◌∷◌, ◌++◌, drop, Option, Some, None, refl, sym, ap, subst, ◌∙◌}
+use Rattle.std.proofs.Common.{◌≡◌, ◌≢◌, ℕ, ◌<◌, Bool, true, false, cond, ◌⊎◌, inl, inr, List, [], ◌∷◌, ◌++◌, drop, Option, Some, None, refl, sym, ap}
+use Rattle.std.proofs.Common.{subst, ◌∙◌}
 use Rattle.std.specs.Prelude.{◌==◌, ◌||◌, option_map, is_some}
 use Rattle.std.specs.Option.{option_map_or}
 use Rattle.std.proofs.lemmas.Bool.{cases_eq, eq-eqb, eqb-true}
@@ -30,7 +31,8 @@ frame_then page lsn first (inr next) = inr next
 frame_then page lsn (inl first) (inl next) = inl (next.0 ∙ first.0, next.1 ∙ first.1)
 frame_then page lsn (inr first) (inl next) = inr (subst (IsStamped page lsn) (sym next.1) first)
 
-pub places_then : (lsn : ℕ) (a : PoolView) (x : List Entry) (b : PoolView) (y : List Entry) (c : PoolView) (z : List Entry) → Places lsn a x b y → Places lsn b y c z → Places lsn a x c z
+pub places_then : (lsn : ℕ) (a : PoolView) (x : List Entry) (b : PoolView) (y : List Entry) (c : PoolView) (z : List Entry) → Places lsn a x b y
+    → Places lsn b y c z → Places lsn a x c z
 places_then lsn a x b y c z first next = record {
   resident = next.resident;
   slots = next.slots ∙ first.slots;
@@ -51,9 +53,11 @@ own_here e copied =
     ap (λ b. cond b (cond e.copied (Some e.bytes) None) None) (eq-eqb e.page e.page refl) ∙ ap (λ b. cond b (Some e.bytes) None) copied
 
 -- without a copy of the last entry nothing is to be put
-pub unread_places : (lsn : ℕ) (pool : PoolView) (front : List Entry) (e : Entry) → IsResident pool → e.copied ≡ false → Places lsn pool (front ++ e ∷ []) pool front
+pub unread_places : (lsn : ℕ) (pool : PoolView) (front : List Entry) (e : Entry) → IsResident pool → e.copied ≡ false
+    → Places lsn pool (front ++ e ∷ []) pool front
 unread_places lsn pool front e resident unread =
-    let same : (q : ℕ) → copy_of front q ≡ copy_of (front ++ e ∷ []) q = λ q. sym (copy_of-push front e q ∙ ap (first_of (copy_of front q)) (own_unread e q unread) ∙ first_none (copy_of front q)) in
+    let same : (q : ℕ) → copy_of front q ≡ copy_of (front ++ e ∷ []) q = λ q. sym (copy_of-push front e q
+    ∙ ap (first_of (copy_of front q)) (own_unread e q unread) ∙ first_none (copy_of front q)) in
     record {
       resident = resident;
       slots = refl;
@@ -75,7 +79,8 @@ first_some None p h = cc
 first_some (Some b) p h = refl
 
 -- where the last copy's page isn't in the pool, the pages aren't told
-pub lost_places : (lsn : ℕ) (pool : PoolView) (front : List Entry) (e : Entry) → IsResident pool → e.copied ≡ true → is_pooled pool e.page ≡ false → Places lsn pool (front ++ e ∷ []) pool front
+pub lost_places : (lsn : ℕ) (pool : PoolView) (front : List Entry) (e : Entry) → IsResident pool → e.copied ≡ true → is_pooled pool e.page ≡ false
+    → Places lsn pool (front ++ e ∷ []) pool front
 lost_places lsn pool front e resident copied absent =
     let none : AreFramed pool (front ++ e ∷ []) → ⊥ = λ h.
     let some : is_some (copy_of (front ++ e ∷ []) e.page) ≡ true =
@@ -91,29 +96,36 @@ lost_places lsn pool front e resident copied absent =
       frames = λ h q. absurd (none h);
     }
 
-changed_held : (slot : Option FrameView) (bytes : List ℕ) → (holds slot ≡ true → 0 < fixes_in slot) → holds slot ≡ true → (holds (option_map (changed bytes) slot) ≡ true) × (0 < fixes_in (option_map (changed bytes) slot))
+changed_held : (slot : Option FrameView) (bytes : List ℕ) → (holds slot ≡ true → 0 < fixes_in slot) → holds slot ≡ true
+    → (holds (option_map (changed bytes) slot) ≡ true) × (0 < fixes_in (option_map (changed bytes) slot))
 changed_held None bytes held there = absurd cc
 changed_held (Some frame) bytes held there = (refl, held there)
 
-changed_shown : (slot : Option FrameView) (bytes : List ℕ) → holds slot ≡ true → (stands (option_map (changed bytes) slot) ≡ true) × (shown_in (option_map (changed bytes) slot) ≡ body_of bytes)
+changed_shown : (slot : Option FrameView) (bytes : List ℕ) → holds slot ≡ true → (stands (option_map (changed bytes) slot) ≡ true)
+    × (shown_in (option_map (changed bytes) slot) ≡ body_of bytes)
 changed_shown None bytes there = absurd cc
 changed_shown (Some frame) bytes there = (refl, refl)
 
-changed_stamped : (slot : Option FrameView) (bytes : List ℕ) (page lsn : ℕ) → holds slot ≡ true → number_of bytes ≡ page → lsn_of bytes ≡ lsn → IsStamped page lsn (option_map (changed bytes) slot)
+changed_stamped : (slot : Option FrameView) (bytes : List ℕ) (page lsn : ℕ) → holds slot ≡ true → number_of bytes ≡ page → lsn_of bytes ≡ lsn
+    → IsStamped page lsn (option_map (changed bytes) slot)
 changed_stamped None bytes page lsn there number stamp = absurd cc
 changed_stamped (Some frame) bytes page lsn there number stamp = (refl, number, stamp)
 
 -- the last copy is put into the pool
-pub last_places : (lsn : ℕ) (pool : PoolView) (front : List Entry) (e : Entry) (bytes : List ℕ) → IsResident pool → e.copied ≡ true → is_pooled pool e.page ≡ true → number_of bytes ≡ e.page → lsn_of bytes ≡ lsn → drop 20 bytes ≡ drop 20 e.bytes
+pub last_places : (lsn : ℕ) (pool : PoolView) (front : List Entry) (e : Entry) (bytes : List ℕ) → IsResident pool → e.copied ≡ true
+    → is_pooled pool e.page ≡ true → number_of bytes ≡ e.page → lsn_of bytes ≡ lsn → drop 20 bytes ≡ drop 20 e.bytes
     → Places lsn pool (front ++ e ∷ []) (at_slot e.page (changed bytes) pool) front
 last_places lsn pool front e bytes resident copied there number stamp same =
     let new = at_slot e.page (changed bytes) pool in
     let here = edit_here pool.slots e.page (changed bytes) in
-    let elsewhere : (q : ℕ) → q ≢ e.page → slot_of new q ≡ slot_of pool q = λ q apart. edit_elsewhere pool.slots e.page q (option_map (changed bytes) (slot_of pool e.page)) apart in
+    let elsewhere : (q : ℕ) → q ≢ e.page → slot_of new q ≡ slot_of pool q = λ q apart. edit_elsewhere pool.slots e.page q
+    (option_map (changed bytes) (slot_of pool e.page)) apart in
     let held = changed_held (slot_of pool e.page) bytes (resident e.page) there in
     let shown = changed_shown (slot_of pool e.page) bytes there in
-    let copy_here : copy_of (front ++ e ∷ []) e.page ≡ first_of (copy_of front e.page) (Some e.bytes) = copy_of-push front e e.page ∙ ap (first_of (copy_of front e.page)) (own_here e copied) in
-    let copy_elsewhere : (q : ℕ) → q ≢ e.page → copy_of (front ++ e ∷ []) q ≡ copy_of front q = λ q apart. copy_of-push front e q ∙ ap (first_of (copy_of front q)) (own_apart e q (apart_of e q apart)) ∙ first_none (copy_of front q) in
+    let copy_here : copy_of (front ++ e ∷ []) e.page ≡ first_of (copy_of front e.page) (Some e.bytes) = copy_of-push front e e.page
+    ∙ ap (first_of (copy_of front e.page)) (own_here e copied) in
+    let copy_elsewhere : (q : ℕ) → q ≢ e.page → copy_of (front ++ e ∷ []) q ≡ copy_of front q = λ q apart. copy_of-push front e q
+    ∙ ap (first_of (copy_of front q)) (own_apart e q (apart_of e q apart)) ∙ first_none (copy_of front q) in
     let now_there : is_pooled new e.page ≡ true = ap holds here ∙ held.0 in
     let body : body_of bytes ≡ body_of e.bytes = body-same bytes e.bytes same in
     record {
@@ -130,16 +142,21 @@ last_places lsn pool front e bytes resident copied there number stamp same =
       ];
       seen = λ h q. elim (cases_eq q e.page) [
         | inl is ↦ subst (λ (n : ℕ). seen_in new front n ≡ seen_in pool (front ++ e ∷ []) n) (sym is)
-            (seen_here (copy_of front e.page) (standing_in new e.page) (standing_in pool e.page) (ap shown_in here ∙ shown.1 ∙ body) ∙ ap (λ o. option_map_or body_of o (standing_in pool e.page)) (sym copy_here))
-        | inr apart ↦ ap (λ o. option_map_or body_of o (standing_in new q)) (sym (copy_elsewhere q apart)) ∙ ap (λ (l : List ℕ). option_map_or body_of (copy_of (front ++ e ∷ []) q) l) (ap shown_in (elsewhere q apart))
+            (seen_here (copy_of front e.page) (standing_in new e.page) (standing_in pool e.page) (ap shown_in here ∙ shown.1 ∙ body)
+            ∙ ap (λ o. option_map_or body_of o (standing_in pool e.page)) (sym copy_here))
+        | inr apart ↦ ap (λ o. option_map_or body_of o (standing_in new q)) (sym (copy_elsewhere q apart))
+            ∙ ap (λ (l : List ℕ). option_map_or body_of (copy_of (front ++ e ∷ []) q) l) (ap shown_in (elsewhere q apart))
       ];
       shown = λ h q. elim (cases_eq q e.page) [
         | inl is ↦ subst (λ (n : ℕ). shows new front n ≡ shows pool (front ++ e ∷ []) n) (sym is)
-            (shown_here (copy_of front e.page) (is_standing new e.page) (is_standing pool e.page) (ap stands here ∙ shown.0) ∙ ap (λ o. is_some o || is_standing pool e.page) (sym copy_here))
-        | inr apart ↦ ap (λ o. is_some o || is_standing new q) (sym (copy_elsewhere q apart)) ∙ ap (λ (b : Bool). is_some (copy_of (front ++ e ∷ []) q) || b) (ap stands (elsewhere q apart))
+            (shown_here (copy_of front e.page) (is_standing new e.page) (is_standing pool e.page) (ap stands here ∙ shown.0)
+            ∙ ap (λ o. is_some o || is_standing pool e.page) (sym copy_here))
+        | inr apart ↦ ap (λ o. is_some o || is_standing new q) (sym (copy_elsewhere q apart))
+            ∙ ap (λ (b : Bool). is_some (copy_of (front ++ e ∷ []) q) || b) (ap stands (elsewhere q apart))
       ];
       frames = λ h q. elim (cases_eq q e.page) [
-        | inl is ↦ inr (subst (λ (n : ℕ). IsStamped n lsn (slot_of new n)) (sym is) (subst (IsStamped e.page lsn) (sym here) (changed_stamped (slot_of pool e.page) bytes e.page lsn there number stamp)))
+        | inl is ↦ inr (subst (λ (n : ℕ). IsStamped n lsn (slot_of new n)) (sym is)
+            (subst (IsStamped e.page lsn) (sym here) (changed_stamped (slot_of pool e.page) bytes e.page lsn there number stamp)))
         | inr apart ↦ inl (sym (copy_elsewhere q apart), elsewhere q apart)
       ];
     } where
@@ -147,7 +164,8 @@ last_places lsn pool front e bytes resident copied there number stamp same =
       first_none None = refl
       first_none (Some b) = refl
 
-      seen_here : (o : Option (List ℕ)) (now was : List ℕ) → now ≡ body_of e.bytes → option_map_or body_of o now ≡ option_map_or body_of (first_of o (Some e.bytes)) was
+      seen_here : (o : Option (List ℕ)) (now was : List ℕ) → now ≡ body_of e.bytes → option_map_or body_of o now
+          ≡ option_map_or body_of (first_of o (Some e.bytes)) was
       seen_here None now was is = is
       seen_here (Some b) now was is = refl
 

@@ -1,5 +1,6 @@
 -- What contracts see of a mini-transaction, and what the pages are to it.
-use Rattle.std.specs.Prelude.{◌≡◌, ◌≢◌, ◌⊎◌, ℕ, ◌<◌, ◌≤◌, Bool, true, ◌||◌, if◌then◌else◌, List, [], length, take, drop, ◌++◌, replicate, Option, Some, None, is_some, IsTrue}
+use Rattle.std.specs.Prelude.{◌≡◌, ◌≢◌, ◌⊎◌, ℕ, ◌<◌, ◌≤◌, Bool, true, ◌||◌, if◌then◌else◌, List, [], length, take, drop, ◌++◌, replicate, Option, Some}
+use Rattle.std.specs.Prelude.{None, is_some, IsTrue}
 use Rattle.std.specs.Option.{option_map_or}
 use Rattle.schema_codec.specs.Numbers.{u32_bytes, u64_bytes}
 use Rattle.page_format.specs.Words.{u32_at, number_of, lsn_of}
@@ -117,7 +118,8 @@ pub record Places (lsn : ℕ) (old_pool : PoolView) (old : List Entry) (new_pool
   pub framed : AreFramed old_pool old → AreFramed new_pool new
   pub seen : AreFramed old_pool old → (page : ℕ) → seen_in new_pool new page ≡ seen_in old_pool old page
   pub shown : AreFramed old_pool old → (page : ℕ) → shows new_pool new page ≡ shows old_pool old page
-  pub frames : AreFramed old_pool old → (page : ℕ) → ((copy_of new page ≡ copy_of old page) × (slot_of new_pool page ≡ slot_of old_pool page)) ⊎ IsStamped page lsn (slot_of new_pool page)
+  pub frames : AreFramed old_pool old → (page : ℕ) → ((copy_of new page ≡ copy_of old page) × (slot_of new_pool page ≡ slot_of old_pool page))
+      ⊎ IsStamped page lsn (slot_of new_pool page)
 
 -- a page's bytes with its number and the LSN of the group that changed it
 abbrev pub stamped : ℕ → ℕ → List ℕ → List ℕ

@@ -1,7 +1,8 @@
 //! The pages that a mini-transaction deals with, and room for a copy of each.
 //! All of the room is taken at the beginning, so that no call takes memory later.
 
-ghost use Rattle.std.specs.Prelude.{◌≡◌, ◌+◌, ◌-◌, ◌<◌, ◌≤◌, ◌==◌, ◌&&◌, true, [], ◌∷◌, ◌++◌, length, take, position, is_some, option_copied, IsTrue, IfOk, IfSome};
+ghost use Rattle.std.specs.Prelude.{◌≡◌, ◌+◌, ◌-◌, ◌<◌, ◌≤◌, ◌==◌, ◌&&◌, true, [], ◌∷◌, ◌++◌, length, take};
+ghost use Rattle.std.specs.Prelude.{position, is_some, option_copied, IsTrue, IfOk, IfSome};
 ghost use Rattle.mtr.specs.Seen.{is_in, visit, with_bytes};
 ghost use Rattle.mini_txn.specs.Dealt.{copy_of, pages_of, IsVisited, HasCopy};
 

@@ -1,9 +1,10 @@
 //! The mini-transaction as everybody sees it: the trait `Mtr` over a pool and a log.
 //! It reaches the pool at its commit alone, and the log with it.
 
-ghost use Rattle.std.specs.Prelude.{◌≡◌, ℕ, ◌+◌, ◌<◌, ◌≤◌, [], ◌∷◌, ◌++◌, length, IsTrue, IsOk, IfOk, OnOk, OnErr, Err};
+ghost use Rattle.std.specs.Prelude.{◌≡◌, ℕ, ◌+◌, ◌<◌, ◌≤◌, [], ◌∷◌, ◌++◌, false, length, is_some, IsTrue, IsOk, IfOk, OnOk, OnErr, Err};
 ghost use Rattle.log_format.specs.declared.group.Record.TheVariants.{Put, Fresh};
 ghost use Rattle.redo_log.specs.View.{room_of};
+ghost use Rattle.buffer_pool.specs.Frames.{HasOneMore, slot_of};
 ghost use Rattle.store_api.specs.declared.visits.FreshBad.TheVariants.{Again as FreshAgain, NoMemory as NoFreshMemory};
 ghost use Rattle.store_api.specs.declared.visits.Visit.TheVariants.{Again as VisitAgain};
 ghost use Rattle.mtr.specs.Seen.{is_in, visit, IsShown, IsShut, IsWithin};
@@ -57,6 +58,25 @@ impl MiniTxn {
         ensures { result.now ≡ self.now.log }
     {
         self.work.log()
+    }
+
+    /// One frame more, without a page, in the slot of a page that has none. So there is one for a page that is made.
+    pub fn add_frame(&mut self, alloc: Global, page: u32) -> Result<(), NoMemory>
+        requires within { page < length self.old.pool.slots }
+        requires bare { is_some (slot_of self.old.pool page) ≡ false }
+        ensures ok { OnOk result (HasOneMore page self.old.pool self.new.pool) }
+        ensures rest { record self.new { pool = self.old.pool } ≡ self.old }
+        ensures err { OnErr result (self.new ≡ self.old) }
+    {
+        self.work.add_frame(alloc, page)
+    }
+
+    /// The pool and the log, without the puts of the mini-transaction under way. The pages of the pool stay fixed.
+    pub fn into_parts(self) -> (Pool, Log)
+        ensures pool { result.0 ≡ self.pool }
+        ensures log { result.1 ≡ self.log }
+    {
+        self.work.into_parts()
     }
 
     /// Deals with a page, if it can be read. It copies nothing. `bytes` is this and `shown`.

@@ -1,10 +1,11 @@
 //! What is under way: the pool and the log, the pages that are dealt with, and the records that stand.
 //! `MiniTxn` alone calls this, and gives it the form of the trait.
 
-ghost use Rattle.std.specs.Prelude.{◌≡◌, ◌≢◌, ℕ, ◌+◌, ◌<◌, ◌≤◌, ◌↔◌, [], ◌∷◌, ◌++◌, true, false, length, None, is_some, IsTrue, IsOk, IfOk, OnOk, OnErr, Err, Ok};
+ghost use Rattle.std.specs.Prelude.{◌≡◌, ℕ, ◌+◌, ◌<◌, ◌≤◌, ◌↔◌, [], ◌∷◌, ◌++◌, true, false, length, None, is_some, IsTrue, IsOk, IfOk, OnOk, OnErr, Err, Ok};
 ghost use Rattle.page_format.specs.Words.{u32_at};
 ghost use Rattle.log_format.specs.declared.group.Record.TheVariants.{Put, Fresh};
 ghost use Rattle.redo_log.specs.View.{room_of};
+ghost use Rattle.buffer_pool.specs.Frames.{HasOneMore, slot_of};
 ghost use Rattle.store_api.specs.declared.visits.FreshBad.TheVariants.{Again as FreshAgain, NoMemory as NoFreshMemory};
 ghost use Rattle.store_api.specs.declared.visits.Visit.TheVariants.{Again as VisitAgain};
 ghost use Rattle.mtr.specs.Seen.{is_in, visit, IsShut, IsWithin, IsShown};
@@ -144,6 +145,34 @@ impl Work {
         ensures { result.now ≡ self.now.log }
     {
         &self.log
+    }
+
+    /// The pool and the log, without what is under way.
+    pub fn into_parts(self) -> (Pool, Log)
+        ensures pool { result.0 ≡ self.pool }
+        ensures log { result.1 ≡ self.log }
+    {
+        let Work {
+            pool,
+            log,
+            dealt,
+            edits,
+            told: _,
+        } = self;
+        drop(dealt);
+        drop(edits);
+        (pool, log)
+    }
+
+    /// One frame more, without a page, in the slot of a page that has none.
+    pub fn add_frame(&mut self, alloc: Global, page: u32) -> Result<(), NoMemory>
+        requires within { page < length self.old.pool.slots }
+        requires bare { is_some (slot_of self.old.pool page) ≡ false }
+        ensures ok { OnOk result (HasOneMore page self.old.pool self.new.pool) }
+        ensures rest { record self.new { pool = self.old.pool } ≡ self.old }
+        ensures err { OnErr result (self.new ≡ self.old) }
+    {
+        self.pool.add_frame(alloc, page)
     }
 
     /// Deals with a page, if it can be read.

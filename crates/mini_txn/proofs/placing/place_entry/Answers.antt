@@ -15,6 +15,7 @@ returns-then-is_pooled c = λ front.
 
 pub returns-else-entry : goal.returns-else-entry
 returns-else-entry c = elim c.else-entry.branch [
-  | else-entry-via-then-entry+else-is_pooled w ↦ λ front. lost_places c.args.lsn c.args.pool.now front c.args.entry.now c.requires w.if-entry.true (sym w.is_pooled.ensures ∙ w.if-is_pooled.false)
+  | else-entry-via-then-entry+else-is_pooled w ↦ λ front. lost_places c.args.lsn c.args.pool.now front c.args.entry.now c.requires w.if-entry.true
+      (sym w.is_pooled.ensures ∙ w.if-is_pooled.false)
   | else-entry-via-else-entry w ↦ λ front. unread_places c.args.lsn c.args.pool.now front c.args.entry.now c.requires w.if-entry.false
 ]

@@ -6,7 +6,8 @@ use Rattle.mini_txn.specs.Dealt.{pages_of}
 use Rattle.mini_txn.proofs.work.blank_in.Goals as goal
 
 pub set-requires-clause-dealt_with : goal.set-requires-clause-dealt_with
-set-requires-clause-dealt_with c = subst (λ (ps : List ℕ). is_in c.args.page ps ≡ true) (sym c.visit.ensures.pages) (visited_now c.args.page (pages_of c.args.dealt.now))
+set-requires-clause-dealt_with c = subst (λ (ps : List ℕ). is_in c.args.page ps
+    ≡ true) (sym c.visit.ensures.pages) (visited_now c.args.page (pages_of c.args.dealt.now))
 
 pub returns : goal.returns
 returns c = record {

@@ -16,7 +16,18 @@ returns-then-not-contains c =
     let pages = pages_of now in
     let few = subst (λ (b : Bool). length (cond b pages (pages ++ c.args.page ∷ [])) ≤ 24) unknown c.requires in
     let long : length (take i.count i.entries.items) ≡ length now = ap length c.self.view_is in
-    let count : length (take i.count i.entries.items) ≡ i.count = length-take-le i.count i.entries.items (omega (arith, c.self.invariant.0, c.self.invariant.1)) in
-    let within : i.count < length i.entries.items = omega (arith, few, long, count, length-append pages (c.args.page ∷ []), length-map now (λ (e : Entry). e.page), c.self.invariant.0) in
+    let count : length (take i.count i.entries.items) ≡ i.count = length-take-le i.count i.entries.items
+    (omega (arith, c.self.invariant.0, c.self.invariant.1)) in
+    let within : i.count < length i.entries.items = omega (
+      arith,
+      few,
+      long,
+      count,
+      length-append pages (c.args.page ∷ []),
+      length-map now
+          (λ (e : Entry). e.page),
+      c.self.invariant.0,
+    ) in
     subst (λ (l : List Entry). IsVisited c.args.page l (take (i.count + 1) (with_item i.entries i.count entry).items)) c.self.view_is
-    (one_visited c.args.page i.entries.items i.count entry within (subst (λ (l : List Entry). is_in c.args.page (pages_of l) ≡ false) (sym c.self.view_is) unknown) refl refl)
+    (one_visited c.args.page i.entries.items i.count entry within
+    (subst (λ (l : List Entry). is_in c.args.page (pages_of l) ≡ false) (sym c.self.view_is) unknown) refl refl)

@@ -9,7 +9,8 @@ invariant_of-self c =
     let i = c.self.inside in
     let some : 5 ≤ length c.args.bytes.now + 9 = omega arith in
     (one_more i.count i.bytes.items (vec_capacity i.bytes) c.args.self.now c.self.invariant c.self.view_is
-    (Put c.args.page c.args.at c.args.bytes.now) (length c.args.bytes.now + 9) (c.ranges.page.fits, c.requires.begins, c.requires.ends) (length-put c.args.page c.args.at c.args.bytes.now) some c.requires.room
+    (Put c.args.page c.args.at c.args.bytes.now) (length c.args.bytes.now + 9) (c.ranges.page.fits, c.requires.begins, c.requires.ends)
+    (length-put c.args.page c.args.at c.args.bytes.now) some c.requires.room
     c.put_piece.new.out.items (vec_capacity c.put_piece.new.out) c.put_piece.ensures.items (omega (arith, c.self.invariant.room, c.put_piece.ensures.grows))).0
 
 pub returns : goal.returns
@@ -17,5 +18,6 @@ returns c =
     let i = c.self.inside in
     let some : 5 ≤ length c.args.bytes.now + 9 = omega arith in
     (one_more i.count i.bytes.items (vec_capacity i.bytes) c.args.self.now c.self.invariant c.self.view_is
-    (Put c.args.page c.args.at c.args.bytes.now) (length c.args.bytes.now + 9) (c.ranges.page.fits, c.requires.begins, c.requires.ends) (length-put c.args.page c.args.at c.args.bytes.now) some c.requires.room
+    (Put c.args.page c.args.at c.args.bytes.now) (length c.args.bytes.now + 9) (c.ranges.page.fits, c.requires.begins, c.requires.ends)
+    (length-put c.args.page c.args.at c.args.bytes.now) some c.requires.room
     c.put_piece.new.out.items (vec_capacity c.put_piece.new.out) c.put_piece.ensures.items (omega (arith, c.self.invariant.room, c.put_piece.ensures.grows))).1

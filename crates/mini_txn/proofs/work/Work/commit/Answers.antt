@@ -14,8 +14,10 @@ returns-clause-committed c =
     let places = subst (λ (d : List Entry). Places c.in_ok-lsn.lsn i.pool i.dealt pool d) c.place_copies.ensures.emptied c.place_copies.ensures.places in
     let all = commit_commits i.pool pool i.log log i.dealt i.edits i.told c.self.invariant c.in_ok-lsn.lsn places in
     subst (λ (m : MiniView). Commits (state_of m) (state_of (mini pool log c.place_copies.new.dealt c.clear.new.self i.told))) c.self.view_is
-    (subst (λ (d : List Entry). Commits (state_of (mini i.pool i.log i.dealt i.edits i.told)) (state_of (mini pool log d c.clear.new.self i.told))) (sym c.place_copies.ensures.emptied)
-    (subst (λ (rs : List Record). Commits (state_of (mini i.pool i.log i.dealt i.edits i.told)) (state_of (mini pool log [] rs i.told))) (sym c.clear.ensures) all))
+    (subst (λ (d : List Entry). Commits (state_of (mini i.pool i.log i.dealt i.edits i.told)) (state_of (mini pool log d c.clear.new.self i.told)))
+    (sym c.place_copies.ensures.emptied)
+    (subst (λ (rs : List Record). Commits (state_of (mini i.pool i.log i.dealt i.edits i.told)) (state_of (mini pool log [] rs i.told)))
+    (sym c.clear.ensures) all))
 
 pub returns-clause-frames : goal.returns-clause-frames
 returns-clause-frames c = λ told lsn page newest.
