@@ -1,0 +1,6 @@
+pub mod Afterwards
+pub mod Edits
+pub mod Groups
+pub mod Leading
+pub mod Placement
+pub mod Recovery

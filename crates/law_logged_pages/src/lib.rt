@@ -1,0 +1,14 @@
+//! Laws: pages and the groups of the redo log that bring them on. A page that is found as it was after some of the groups
+//! becomes what it is after all of them; so whatever a crash leaves recovers, as long as no page is placed before its log.
+//! Each function has an empty body: its contract is the law.
+#![tactic(auto)]
+
+mod placing;
+mod recovering;
+mod stages;
+
+pub use placing::{
+    a_batch_keeps, placed_pages_keep, placed_pages_outlast_the_log, placed_pages_stay_placed,
+};
+pub use recovering::an_image_recovers;
+pub use stages::{a_stage_leads_on, a_stage_stays, log_before_page};
