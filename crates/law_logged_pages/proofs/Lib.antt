@@ -1,4 +1,5 @@
 pub mod Afterwards
+pub mod Along
 pub mod Edits
 pub mod Groups
 pub mod Leading

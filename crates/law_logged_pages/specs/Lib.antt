@@ -1,3 +1,4 @@
 pub mod Applied
 pub mod Keeping
+pub mod Readings
 pub mod Stages

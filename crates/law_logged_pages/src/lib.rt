@@ -4,11 +4,13 @@
 #![tactic(auto)]
 
 mod placing;
+mod readings;
 mod recovering;
 mod stages;
 
 pub use placing::{
     a_batch_keeps, placed_pages_keep, placed_pages_outlast_the_log, placed_pages_stay_placed,
 };
+pub use readings::{a_crash_leaves_some_commits, a_flush_reads_on, a_step_reads_on};
 pub use recovering::an_image_recovers;
 pub use stages::{a_stage_leads_on, a_stage_stays, log_before_page};
