@@ -28,14 +28,14 @@ same_itself a = record { size = refl; same = refl }
 
 -- ---- behind byte 8
 
-pub drop_past : (at : ℕ) (a b : List ℕ) → 8 ≤ at → drop 8 a ≡ drop 8 b → drop at a ≡ drop at b
-drop_past at a b begins same =
-    let place : 8 + (at - 8) ≡ at = omega arith in
-    ap (λ (n : ℕ). drop n a) (sym place) ∙ sym (drop-drop (at - 8) 8 a) ∙ ap (drop (at - 8)) same ∙ drop-drop (at - 8) 8 b ∙ ap (λ (n : ℕ). drop n b) place
+pub drop_past : (n at : ℕ) (a b : List ℕ) → n ≤ at → drop n a ≡ drop n b → drop at a ≡ drop at b
+drop_past n at a b begins same =
+    let place : n + (at - n) ≡ at = omega (arith, begins) in
+    ap (λ (m : ℕ). drop m a) (sym place) ∙ sym (drop-drop (at - n) n a) ∙ ap (drop (at - n)) same ∙ drop-drop (at - n) n b ∙ ap (λ (m : ℕ). drop m b) place
 
 pub lsn-same : (a b : List ℕ) → drop 8 a ≡ drop 8 b → lsn_of a ≡ lsn_of b
 unfolding u64_at
-lsn-same a b same = ap (λ (l : List ℕ). from_be_bytes w64 (take 8 l)) (drop_past 12 a b (omega arith) same)
+lsn-same a b same = ap (λ (l : List ℕ). from_be_bytes w64 (take 8 l)) (drop_past 8 12 a b (omega arith) same)
 
 -- ---- a record
 
@@ -50,21 +50,21 @@ length-written at piece a ends =
       ends,
     )
 
-front-written : (at : ℕ) (piece a : List ℕ) → 8 ≤ at → at ≤ length a
-    → drop 8 (with_bytes at piece a) ≡ take (at - 8) (drop 8 a) ++ (piece ++ drop (at + length piece) a)
-front-written at piece a begins within =
-    let place : 8 + (at - 8) ≡ at = omega arith in
-    let long : 8 ≤ length (take at a) = omega (arith, begins, length-take-le at a within) in
-    drop-append-le 8 (take at a) (piece ++ drop (at + length piece) a) long
-    ∙ ap (λ (l : List ℕ). l ++ (piece ++ drop (at + length piece) a)) (ap (λ (n : ℕ). drop 8 (take n a)) (sym place) ∙ drop-take 8 (at - 8) a)
+front-written : (n at : ℕ) (piece a : List ℕ) → n ≤ at → at ≤ length a
+    → drop n (with_bytes at piece a) ≡ take (at - n) (drop n a) ++ (piece ++ drop (at + length piece) a)
+front-written n at piece a begins within =
+    let place : n + (at - n) ≡ at = omega (arith, begins) in
+    let long : n ≤ length (take at a) = omega (arith, begins, length-take-le at a within) in
+    drop-append-le n (take at a) (piece ++ drop (at + length piece) a) long
+    ∙ ap (λ (l : List ℕ). l ++ (piece ++ drop (at + length piece) a)) (ap (λ (m : ℕ). drop n (take m a)) (sym place) ∙ drop-take n (at - n) a)
 
-same-written : (at : ℕ) (piece a b : List ℕ) → 8 ≤ at → at ≤ length a → at ≤ length b → drop 8 a ≡ drop 8 b
-    → drop 8 (with_bytes at piece a) ≡ drop 8 (with_bytes at piece b)
-same-written at piece a b begins in_a in_b same =
-    front-written at piece a begins in_a
-    ∙ ap (λ (l : List ℕ). take (at - 8) l ++ (piece ++ drop (at + length piece) a)) same
-    ∙ ap (λ (l : List ℕ). take (at - 8) (drop 8 b) ++ (piece ++ l)) (drop_past (at + length piece) a b (omega (arith, begins)) same)
-    ∙ sym (front-written at piece b begins in_b)
+same-written : (n at : ℕ) (piece a b : List ℕ) → n ≤ at → at ≤ length a → at ≤ length b → drop n a ≡ drop n b
+    → drop n (with_bytes at piece a) ≡ drop n (with_bytes at piece b)
+same-written n at piece a b begins in_a in_b same =
+    front-written n at piece a begins in_a
+    ∙ ap (λ (l : List ℕ). take (at - n) l ++ (piece ++ drop (at + length piece) a)) same
+    ∙ ap (λ (l : List ℕ). take (at - n) (drop n b) ++ (piece ++ l)) (drop_past n (at + length piece) a b (omega (arith, begins)) same)
+    ∙ sym (front-written n at piece b begins in_b)
 
 pub length-blank : length blank ≡ 4096
 unfolding blank
@@ -83,19 +83,19 @@ length-record page (RowPut table row) a is size = size
 length-record page (RowRemove table key) a is size = size
 length-record page (NewTable schema) a is size = size
 
-same-record : (page : ℕ) (r : Record) (a b : List ℕ) → IsRecord r → length a ≡ 4096 → length b ≡ 4096 → drop 8 a ≡ drop 8 b
-    → drop 8 (edited_by page a r) ≡ drop 8 (edited_by page b r)
-same-record page (Put other at piece) a b is size_a size_b same = go (other == page) where
-  go : (t : Bool) → drop 8 (cond t (with_bytes at piece a) a) ≡ drop 8 (cond t (with_bytes at piece b) b)
-  go true = same-written at piece a b (omega (arith, is.1)) (omega (arith, is.2, size_a)) (omega (arith, is.2, size_b)) same
+same-record : (n page : ℕ) (r : Record) (a b : List ℕ) → n ≤ 20 → IsRecord r → length a ≡ 4096 → length b ≡ 4096 → drop n a ≡ drop n b
+    → drop n (edited_by page a r) ≡ drop n (edited_by page b r)
+same-record n page (Put other at piece) a b early is size_a size_b same = go (other == page) where
+  go : (t : Bool) → drop n (cond t (with_bytes at piece a) a) ≡ drop n (cond t (with_bytes at piece b) b)
+  go true = same-written n at piece a b (omega (arith, early, is.1)) (omega (arith, is.2, size_a)) (omega (arith, is.2, size_b)) same
   go false = same
-same-record page (Fresh other) a b is size_a size_b same = go (other == page) where
-  go : (t : Bool) → drop 8 (cond t blank a) ≡ drop 8 (cond t blank b)
+same-record n page (Fresh other) a b early is size_a size_b same = go (other == page) where
+  go : (t : Bool) → drop n (cond t blank a) ≡ drop n (cond t blank b)
   go true = refl
   go false = same
-same-record page (RowPut table row) a b is size_a size_b same = same
-same-record page (RowRemove table key) a b is size_a size_b same = same
-same-record page (NewTable schema) a b is size_a size_b same = same
+same-record n page (RowPut table row) a b early is size_a size_b same = same
+same-record n page (RowRemove table key) a b early is size_a size_b same = same
+same-record n page (NewTable schema) a b early is size_a size_b same = same
 
 -- ---- records
 
@@ -104,25 +104,25 @@ length-edited page [] a all size = size
 length-edited page (r ∷ rs) a all size =
     length-edited page rs (edited_by page a r) (All-tail IsRecord r rs all) (length-record page r a (All-head IsRecord r rs all) size)
 
-same-edited : (page : ℕ) (rs : List Record) (a b : List ℕ) → All IsRecord rs → length a ≡ 4096 → length b ≡ 4096 → drop 8 a ≡ drop 8 b
-    → drop 8 (edited page rs a) ≡ drop 8 (edited page rs b)
-same-edited page [] a b all size_a size_b same = same
-same-edited page (r ∷ rs) a b all size_a size_b same =
+pub same-edited : (n page : ℕ) (rs : List Record) (a b : List ℕ) → n ≤ 20 → All IsRecord rs → length a ≡ 4096 → length b ≡ 4096 → drop n a ≡ drop n b
+    → drop n (edited page rs a) ≡ drop n (edited page rs b)
+same-edited n page [] a b early all size_a size_b same = same
+same-edited n page (r ∷ rs) a b early all size_a size_b same =
     let is = All-head IsRecord r rs all in
-    same-edited page rs (edited_by page a r) (edited_by page b r) (All-tail IsRecord r rs all) (length-record page r a is size_a)
+    same-edited n page rs (edited_by page a r) (edited_by page b r) early (All-tail IsRecord r rs all) (length-record page r a is size_a)
     (length-record page r b is size_b)
-    (same-record page r a b is size_a size_b same)
+    (same-record n page r a b early is size_a size_b same)
 
 -- ---- a group
 
-front-stamped : (page lsn : ℕ) (a : List ℕ) → length a ≡ 4096 → drop 8 (stamped page lsn a) ≡ u32_bytes page ++ (u64_bytes lsn ++ drop 20 a)
+pub front-stamped : (page lsn : ℕ) (a : List ℕ) → length a ≡ 4096 → drop 8 (stamped page lsn a) ≡ u32_bytes page ++ (u64_bytes lsn ++ drop 20 a)
 front-stamped page lsn a size = drop_at (take 8 a) (u32_bytes page ++ (u64_bytes lsn ++ drop 20 a)) 8 (length-take-le 8 a (omega (arith, size)))
 
 same-stamped : (page lsn : ℕ) (a b : List ℕ) → length a ≡ 4096 → length b ≡ 4096 → drop 8 a ≡ drop 8 b
     → drop 8 (stamped page lsn a) ≡ drop 8 (stamped page lsn b)
 same-stamped page lsn a b size_a size_b same =
     front-stamped page lsn a size_a
-    ∙ ap (λ (l : List ℕ). u32_bytes page ++ (u64_bytes lsn ++ l)) (drop_past 20 a b (omega arith) same)
+    ∙ ap (λ (l : List ℕ). u32_bytes page ++ (u64_bytes lsn ++ l)) (drop_past 8 20 a b (omega arith) same)
     ∙ sym (front-stamped page lsn b size_b)
 
 pub length-group : (page : ℕ) (g : Group) (a : List ℕ) → IsGroup g → length a ≡ 4096 → length (with_group page g a) ≡ 4096
@@ -141,5 +141,5 @@ same-group page g a b is size_a size_b same =
       go : (t : Bool) → drop 8 (cond t (stamped page g.lsn (edited page g.records a)) a) ≡ drop 8 (cond t (stamped page g.lsn (edited page g.records b)) b)
       go true =
           same-stamped page g.lsn (edited page g.records a) (edited page g.records b) (length-edited page g.records a is.each size_a)
-          (length-edited page g.records b is.each size_b) (same-edited page g.records a b is.each size_a size_b same)
+          (length-edited page g.records b is.each size_b) (same-edited 8 page g.records a b (omega arith) is.each size_a size_b same)
       go false = same

@@ -1,5 +1,6 @@
 pub mod Afterwards
 pub mod Along
+pub mod Commits
 pub mod Edits
 pub mod FirstCommitted
 pub mod Groups

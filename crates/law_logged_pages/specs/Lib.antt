@@ -1,4 +1,5 @@
 pub mod Applied
+pub mod Committing
 pub mod HeldRows
 pub mod Keeping
 pub mod Readings

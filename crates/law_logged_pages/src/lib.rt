@@ -3,12 +3,14 @@
 //! Each function has an empty body: its contract is the law.
 #![tactic(auto)]
 
+mod committing;
 mod held_rows;
 mod placing;
 mod readings;
 mod recovering;
 mod stages;
 
+pub use committing::a_commit_makes_the_next_pages;
 pub use held_rows::{a_step_of_held_rows_reads_on, held_rows_outlast_a_crash, held_rows_read};
 pub use placing::{
     a_batch_keeps, placed_pages_keep, placed_pages_outlast_the_log, placed_pages_stay_placed,
