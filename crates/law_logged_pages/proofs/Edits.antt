@@ -70,7 +70,7 @@ pub length-blank : length blank ≡ 4096
 unfolding blank
 length-blank = length-replicate {A = ℕ} 4096 0
 
-length-record : (page : ℕ) (r : Record) (a : List ℕ) → IsRecord r → length a ≡ 4096 → length (edited_by page a r) ≡ 4096
+pub length-record : (page : ℕ) (r : Record) (a : List ℕ) → IsRecord r → length a ≡ 4096 → length (edited_by page a r) ≡ 4096
 length-record page (Put other at piece) a is size = go (other == page) where
   go : (b : Bool) → length (cond b (with_bytes at piece a) a) ≡ 4096
   go true = length-written at piece a (omega (arith, is.2, size)) ∙ size

@@ -7,3 +7,4 @@ pub mod Groups
 pub mod Leading
 pub mod Placement
 pub mod Recovery
+pub mod Spared

@@ -1,5 +1,6 @@
 pub mod Applied
 pub mod Committing
+pub mod Heads
 pub mod HeldRows
 pub mod Keeping
 pub mod Readings

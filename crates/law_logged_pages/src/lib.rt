@@ -4,6 +4,7 @@
 #![tactic(auto)]
 
 mod committing;
+mod heads;
 mod held_rows;
 mod placing;
 mod readings;
@@ -11,6 +12,7 @@ mod recovering;
 mod stages;
 
 pub use committing::a_commit_makes_the_next_pages;
+pub use heads::{an_image_says_its_run, page_0_keeps_its_head};
 pub use held_rows::{a_step_of_held_rows_reads_on, held_rows_outlast_a_crash, held_rows_read};
 pub use placing::{
     a_batch_keeps, placed_pages_keep, placed_pages_outlast_the_log, placed_pages_stay_placed,
