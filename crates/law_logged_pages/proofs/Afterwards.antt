@@ -8,11 +8,35 @@ use Rattle.store_api.specs.Areas.{Write, Contents, State, Puts, WasWhole, piece}
 use Rattle.page_format.specs.Words.{number_of}
 use Rattle.log_format.specs.declared.group.Group.{Group}
 use Rattle.doublewrite.specs.Reading.{IsGoodPage, place_of}
-use Rattle.doublewrite.specs.Batches.{StagedView, IsBatch, IsInBatch, page_at, number_at}
+use Rattle.doublewrite.specs.Batches.{BatchView, StagedView, IsBatch, IsInBatch, page_at, number_at}
 use Rattle.doublewrite.specs.Kept.{HadCopy, Spares, IsSettled, WasPage, IsStaged, HasPlaced}
 use Rattle.law_logged_pages.specs.Stages.{IsStage}
-use Rattle.law_logged_pages.specs.Keeping.{IsRun, IsPlaced, IsLoggedBefore, durable}
+use Rattle.law_logged_pages.specs.Keeping.{IsRun, IsPlaced, IsLoggedBefore, IsOldCopy, durable}
 use Rattle.law_logged_pages.proofs.Placement.{batch_stage}
+
+-- a copy that is there is the batch's, or was there before
+copy_from : (before s : State) (batch : BatchView) → IsStaged before batch s → (page : ℕ) (bytes : List ℕ) → HadCopy page s.double bytes
+    → IsInBatch batch page bytes ⊎ HadCopy page before.double bytes
+copy_from before s batch done page bytes had =
+    let whole : WasWhole (record { seen = done.double; synced = done.double; writes = [] }) (4096 * had.slot) bytes =
+    subst (λ (c : Contents). WasWhole c (4096 * had.slot) bytes) done.double_is had.whole in
+    let stood : take (length bytes) (drop (4096 * had.slot) done.double) ≡ bytes =
+    ⊎_elim
+    (λ (there : take (length bytes) (drop (4096 * had.slot) done.double) ≡ bytes). there)
+    (λ (put : (w : Write) × Contains [] w × Puts (4096 * had.slot) bytes w). absurd (omega (arith, put.1.1)))
+    whole in
+    let stands : piece 4096 had.slot done.double ≡ bytes = ap (λ (n : ℕ). take n (drop (4096 * had.slot) done.double)) (sym had.good.size) ∙ stood in
+    elim (cases_lt had.slot batch.count) [
+      | inl own ↦ inl (record { slot = had.slot; below = own; page = sym (done.copies had.slot own) ∙ stands; number_is = had.good.number_is })
+      | inr past ↦
+          let here : IsGoodPage page (piece 4096 had.slot done.double) = subst (IsGoodPage page) (sym stands) had.good in
+          inr (record {
+            slot = had.slot;
+            below = had.below;
+            good = had.good;
+            whole = subst (WasWhole before.double (4096 * had.slot)) stands (done.others page had.slot past here);
+          })
+    ]
 
 module _ (staged : StagedView) (is : IsBatch staged.batch) where
   -- the batch has the page, or hasn't
@@ -52,31 +76,13 @@ module _ (staged : StagedView) (is : IsBatch staged.batch) where
     settled_in page bytes here = settled_at page here.slot here.below (ap number_of here.page ∙ here.number_is)
 
     module _ (before : State) (done : IsStaged before staged.batch s) where
-      -- a copy that is there was there before, or is the batch's
-      copy_before : (page : ℕ) (bytes : List ℕ) → HadCopy page s.double bytes
-          → ((k : ℕ) → k < staged.batch.count → number_at staged.batch k ≡ page → ⊥) → HadCopy page before.double bytes
+      copy_before : (page : ℕ) (bytes : List ℕ) → HadCopy page s.double bytes → ((k : ℕ) → k < staged.batch.count → number_at staged.batch k ≡ page → ⊥)
+          → HadCopy page before.double bytes
       copy_before page bytes had apart =
-          let whole : WasWhole (record { seen = done.double; synced = done.double; writes = [] }) (4096 * had.slot) bytes =
-          subst (λ (c : Contents). WasWhole c (4096 * had.slot) bytes) done.double_is had.whole in
-          let stood : take (length bytes) (drop (4096 * had.slot) done.double) ≡ bytes =
           ⊎_elim
-          (λ (there : take (length bytes) (drop (4096 * had.slot) done.double) ≡ bytes). there)
-          (λ (put : (w : Write) × Contains [] w × Puts (4096 * had.slot) bytes w). absurd (omega (arith, put.1.1)))
-          whole in
-          let stands : piece 4096 had.slot done.double ≡ bytes = ap (λ (n : ℕ). take n (drop (4096 * had.slot) done.double)) (sym had.good.size) ∙ stood in
-          elim (cases_lt had.slot staged.batch.count) [
-            | inl own ↦
-                let same : number_at staged.batch had.slot ≡ page = ap number_of (sym (done.copies had.slot own) ∙ stands) ∙ had.good.number_is in
-                absurd (apart had.slot own same)
-            | inr past ↦
-                let here : IsGoodPage page (piece 4096 had.slot done.double) = subst (IsGoodPage page) (sym stands) had.good in
-                record {
-                  slot = had.slot;
-                  below = had.below;
-                  good = had.good;
-                  whole = subst (WasWhole before.double (4096 * had.slot)) stands (done.others page had.slot past here);
-                }
-          ]
+          (λ (here : IsInBatch staged.batch page bytes). absurd (apart here.slot here.below (ap number_of here.page ∙ here.number_is)))
+          (λ (there : HadCopy page before.double bytes). there)
+          (copy_from before s staged.batch done page bytes had)
 
       module _ (first flushed : ℕ) (groups : List Group) (base : ℕ → List ℕ) (run : IsRun first groups base) (some : flushed < first + length groups)
           (placed : IsPlaced first flushed groups base before)
@@ -101,5 +107,16 @@ module _ (staged : StagedView) (is : IsBatch staged.batch) where
               (placed.settled page below)
         ]
 
+        copies_now : (page : ℕ) (bytes : List ℕ) → page < 65536 → HadCopy page s.double bytes → IsOldCopy base groups (durable first flushed) page bytes
+        copies_now page bytes below had =
+            ⊎_elim
+            (λ (here : IsInBatch staged.batch page bytes).
+            record {
+              are_bytes = logged.are_bytes page bytes here;
+              once = inl (batch_stage first flushed groups base run some staged.batch logged page bytes here);
+            })
+            (λ (there : HadCopy page before.double bytes). placed.copies page bytes below there)
+            (copy_from before s staged.batch done page bytes had)
+
         pub placed_still : IsPlaced first flushed groups base s
-        placed_still = record { stages = stage_now; settled = settled_now }
+        placed_still = record { stages = stage_now; settled = settled_now; copies = copies_now }

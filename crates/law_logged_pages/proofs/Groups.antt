@@ -188,3 +188,22 @@ module _ (first : ℕ) (groups : List Group) (are : AreGroups first groups) (bas
       ap (λ (l : List Group). page_after page l (base page)) (split count m upto) ∙ after-append page front back (base page)
       ∙ silent page (first + length front) (lsn_of (logical base groups m page)) back (AreGroups-drop first front back both) (omega (arith, below, long))
       (reached_back page (lsn_of (logical base groups m page)) front back reached) (logical base groups count page)
+
+  -- the LSN rises along the groups
+  pub lsn_upto : (j m : ℕ) → j ≤ m → lsn_of (logical base groups j page) ≤ lsn_of (logical base groups m page)
+  lsn_upto j m upto =
+      let front : List Group = take j groups in
+      let back : List Group = drop j (take m groups) in
+      let both : AreGroups first (front ++ back) = subst (AreGroups first) (split j m upto) (AreGroups-take m first groups are) in
+      let whole : logical base groups m page ≡ page_after page back (logical base groups j page) =
+      ap (λ (l : List Group). page_after page l (base page)) (split j m upto) ∙ after-append page front back (base page) in
+      let rest = lsns_rise page (first + length front) back (logical base groups j page) (AreGroups-drop first front back both) (length-logical j) in
+      omega (arith, rest, ap (λ (l : List ℕ). lsn_of l) whole)
+
+  pub lsn_from : (m : ℕ) → lsn_of (base page) ≤ lsn_of (logical base groups m page)
+  lsn_from m = lsns_rise page first (take m groups) (base page) (AreGroups-take m first groups are) is.size
+
+  pub lsn_logical : (j : ℕ) → j ≤ length groups → lsn_of (logical base groups j page) < first + j
+  lsn_logical j some =
+      let below = lsn_of_all page first (take j groups) (base page) (AreGroups-take j first groups are) is.size is.before in
+      omega (arith, below, length-take-le j groups some)

@@ -5,6 +5,7 @@ pub mod Edits
 pub mod FirstCommitted
 pub mod Groups
 pub mod Leading
+pub mod Older
 pub mod Placement
 pub mod Recovery
 pub mod Spared

@@ -2,7 +2,8 @@
 use Rattle.std.proofs.Common.{◌≡◌, ◌⊎◌, inl, inr, ⊎_elim, ℕ, ◌+◌, ◌*◌, ◌<◌, ◌≤◌, Option, Some, None, List, ◌++◌, length, drop, sym, subst, arith, length-take, length-drop}
 use Rattle.std.specs.Prelude.{IsTrue}
 use Rattle.std.proofs.lemmas.List.Elements.{All-weaker}
-use Rattle.store_api.specs.Areas.{Write, Contents, State, Image, MayLeave, Misses, IsImage, IsHonest, IsHonestArea, WasWhole, piece, end_of}
+use Rattle.store_api.specs.Areas.{Write, Contents, State, Image, MayLeave, Misses, IsImage, IsHonest, IsHonestArea, WasWhole, PassesSum, piece, end_of}
+use Rattle.page_format.specs.Words.{lsn_of}
 use Rattle.store_api.proofs.Pieces.{same_part}
 use Rattle.log_format.specs.declared.group.Group.{Group}
 use Rattle.redo_log.specs.Logged.{LeavesPrefix}
@@ -10,8 +11,9 @@ use Rattle.doublewrite.specs.Reading.{IsGoodPage, IsPageIn, place_of}
 use Rattle.doublewrite.specs.Batches.{BatchView, IsInBatch, IsInBatchToo}
 use Rattle.doublewrite.specs.Kept.{HadCopy, Spares, IsSettled, WasPage, IsPageReady, KeepsPages}
 use Rattle.law_logged_pages.specs.Stages.{begins_fresh, records_in, WasOnce, IsUnwritten, IsStage}
-use Rattle.law_logged_pages.specs.Keeping.{IsRun, Keeps, IsPlaced, IsLoggedBefore, AreOlder, durable}
+use Rattle.law_logged_pages.specs.Keeping.{IsRun, Keeps, IsPlaced, IsLoggedBefore, IsOldCopy, durable}
 use Rattle.law_logged_pages.proofs.Leading.{flushed_once, stage_stays}
+use Rattle.law_logged_pages.proofs.Older.{older}
 
 -- ---- pages in an image
 
@@ -75,18 +77,27 @@ module _ (first flushed : ℕ) (groups : List Group) (base : ℕ → List ℕ) (
   -- its pages are stages: log before page
   pub batch_stage : (page : ℕ) (bytes : List ℕ) → IsInBatch batch page bytes → WasOnce base groups (durable first flushed) page bytes
   batch_stage page bytes here =
-      let once = logged.after page bytes here in
       let lsn = logged.log_first page bytes here in
-      flushed_once base first groups (durable first flushed) once.0 page bytes is.each (is.bases page) (omega (arith, some)) (omega (arith, lsn)) once.1
+      flushed_once base first groups (durable first flushed) (length groups) page bytes is.each (is.bases page) (omega (arith, some)) (omega (arith, lsn))
+      (logged.newest page bytes here)
+
+  -- and copies of them are older, or the same
+  batch_older : (s : State) → IsPlaced first flushed groups base s → (page : ℕ) (bytes other : List ℕ) → page < 65536 → IsInBatch batch page bytes
+      → HadCopy page s.double other → (other ≡ bytes) ⊎ (lsn_of other < lsn_of bytes)
+  batch_older s placed page bytes other below here had =
+      let sum : PassesSum bytes = subst PassesSum here.page (logged.is_batch.sealed here.slot here.below) in
+      older first groups base is page bytes (logged.newest page bytes here) sum (logged.are_bytes page bytes here) (durable first flushed) other
+      (omega (arith, some))
+      had.good.size had.good.sum (placed.copies page other below had)
 
   module _ (before : State) (placed : IsPlaced first flushed groups base before) where
-    pub batch_keeps : (run : ℕ) (s : State) → AreOlder batch before → KeepsPages before batch s → LeavesPrefix run first groups flushed before.log
+    pub batch_keeps : (run : ℕ) (s : State) → KeepsPages before batch s → LeavesPrefix run first groups flushed before.log
         → Keeps run first flushed groups base s
-    batch_keeps run s older keeps log = record {
+    batch_keeps run s keeps log = record {
       log = subst (λ (c : Contents). LeavesPrefix run first groups flushed c) (sym keeps.log_is) log;
       pages = λ image left honest page content below found.
           let ready : IsPageReady batch before page =
-          record { settled = placed.settled page below; older = λ bytes other here had. older page bytes other here had } in
+          record { settled = placed.settled page below; older = λ bytes other here had. batch_older before placed page bytes other below here had } in
           of_either page content below (keeps.each image left honest page content ready found);
     } where
       of_either : (page : ℕ) (content : Option (List ℕ)) → page < 65536 → WasPage before page content ⊎ IsInBatchToo batch page content
@@ -110,6 +121,10 @@ outlast first flushed later groups more base before s some upto placed fresh pag
       (λ (none : (bytes : List ℕ) → HadCopy page before.double bytes → ⊥).
       inr (λ bytes had. none bytes (subst (λ (c : Contents). HadCopy page c bytes) double had)))
       (placed.settled page below);
+  copies = λ page bytes below had.
+      let old : IsOldCopy base groups (durable first flushed) page bytes =
+      placed.copies page bytes below (subst (λ (c : Contents). HadCopy page c bytes) double had) in
+      record { are_bytes = old.are_bytes; once = stay_once page bytes old.once };
 } where
   was_page : (page : ℕ) (content : Option (List ℕ)) → WasPage s page content → WasPage before page content
   was_page page (Some bytes) was = (was.0, subst (λ (c : Contents). WasWhole c (4096 * page) bytes) pages was.1)
@@ -123,3 +138,8 @@ outlast first flushed later groups more base before s some upto placed fresh pag
   stay page None stage =
       stage_stays base groups more (durable first flushed) (durable first later) page None (omega (arith, upto)) (omega (arith, some))
       (λ none. fresh page stage) stage
+
+  stay_once : (page : ℕ) (bytes : List ℕ) → WasOnce base groups (durable first flushed) page bytes ⊎ (lsn_of bytes < lsn_of (base page))
+      → WasOnce base (groups ++ more) (durable first later) page bytes ⊎ (lsn_of bytes < lsn_of (base page))
+  stay_once page bytes (inl was) = inl (stay page (Some bytes) was)
+  stay_once page bytes (inr before) = inr before

@@ -1,5 +1,5 @@
 -- What a disk holds of the pages of a run at a moment, and what recovery makes of whatever a crash leaves then.
-use Rattle.std.specs.Prelude.{◌≡◌, ◌⊎◌, ℕ, ◌+◌, ◌-◌, ◌<◌, ◌≤◌, IsTrue, Option, None, List, length, take}
+use Rattle.std.specs.Prelude.{◌⊎◌, ℕ, ◌+◌, ◌-◌, ◌<◌, ◌≤◌, IsTrue, Option, None, List, length, take, slice_index}
 use Rattle.store_api.specs.Areas.{State, Image, IsImage, IsHonest}
 use Rattle.page_format.specs.Words.{lsn_of}
 use Rattle.log_format.specs.declared.group.Group.{Group}
@@ -7,10 +7,10 @@ use Rattle.log_format.specs.Group.{AreGroups}
 use Rattle.log_format.specs.Scan.{IsScan}
 use Rattle.redo_log.specs.Logged.{LeavesPrefix}
 use Rattle.doublewrite.specs.Reading.{IsPageIn}
-use Rattle.doublewrite.specs.Batches.{BatchView, IsInBatch}
+use Rattle.doublewrite.specs.Batches.{BatchView, IsBatch, IsInBatch}
 use Rattle.doublewrite.specs.Kept.{HadCopy, IsSettled, WasPage}
 use Rattle.law_logged_pages.specs.Applied.{page_after, logical}
-use Rattle.law_logged_pages.specs.Stages.{SameButSum, IsBase, begins_fresh, records_in, IsStage, or_zeros}
+use Rattle.law_logged_pages.specs.Stages.{SameButSum, IsBase, begins_fresh, records_in, WasOnce, IsStage, or_zeros}
 
 -- All groups of a run, and the pages as they stood at its beginning.
 pub record IsRun (first : ℕ) (groups : List Group) (base : ℕ → List ℕ) : Type 0 where
@@ -40,17 +40,20 @@ pub record Recovers (run first flushed : ℕ) (groups : List Group) (base : ℕ 
 
 -- ---- where pages are placed
 
--- No batch is under way: each page was good in its place for good, or has no copy. What stands there are stages.
+-- a copy in Double: what the page was after some of the first so many groups, or older than the run's beginning
+pub record IsOldCopy (base : ℕ → List ℕ) (groups : List Group) (count page : ℕ) (bytes : List ℕ) : Type 0 where
+  pub are_bytes : (i : ℕ) → slice_index bytes i < 256
+  pub once : WasOnce base groups count page bytes ⊎ (lsn_of bytes < lsn_of (base page))
+
+-- No batch is under way: each page was good in its place for good, or has no copy. What stands there are stages, and copies are old.
 pub record IsPlaced (first flushed : ℕ) (groups : List Group) (base : ℕ → List ℕ) (s : State) : Type 0 where
   pub stages : (page : ℕ) (content : Option (List ℕ)) → page < 65536 → WasPage s page content → IsStage base groups (durable first flushed) page content
   pub settled : (page : ℕ) → page < 65536 → IsSettled page s.pages ⊎ ((bytes : List ℕ) → HadCopy page s.double bytes → ⊥)
+  pub copies : (page : ℕ) (bytes : List ℕ) → page < 65536 → HadCopy page s.double bytes → IsOldCopy base groups (durable first flushed) page bytes
 
--- The batch's pages are what they were after some groups, and log before page: the last of these that changed them is flushed.
+-- The batch's pages are what they are after all groups, and log before page: the last of these that changed them is flushed.
 pub record IsLoggedBefore (flushed : ℕ) (groups : List Group) (base : ℕ → List ℕ) (batch : BatchView) : Type 0 where
-  pub after : (page : ℕ) (bytes : List ℕ) → IsInBatch batch page bytes → (count : ℕ) × SameButSum bytes (logical base groups count page)
+  pub is_batch : IsBatch batch
+  pub are_bytes : (page : ℕ) (bytes : List ℕ) → IsInBatch batch page bytes → (i : ℕ) → slice_index bytes i < 256
+  pub newest : (page : ℕ) (bytes : List ℕ) → IsInBatch batch page bytes → SameButSum bytes (logical base groups (length groups) page)
   pub log_first : (page : ℕ) (bytes : List ℕ) → IsInBatch batch page bytes → lsn_of bytes ≤ flushed
-
--- copies in Double of the batch's pages are older than the batch's, or the same
-abbrev pub AreOlder : BatchView → State → Type 0
-AreOlder batch s =
-    (page : ℕ) (bytes other : List ℕ) → IsInBatch batch page bytes → HadCopy page s.double other → (other ≡ bytes) ⊎ (lsn_of other < lsn_of bytes)

@@ -1,14 +1,13 @@
 //! Pages that are placed through the doublewrite: log before page is the one side condition.
 
-ghost use Rattle.std.specs.Prelude.{◌≡◌, ◌⊎◌, ℕ, ◌+◌, ◌<◌, ◌≤◌, IsTrue, List, ◌++◌, length};
+ghost use Rattle.std.specs.Prelude.{◌≡◌, ℕ, ◌+◌, ◌<◌, ◌≤◌, IsTrue, List, ◌++◌, length};
 ghost use Rattle.store_api.specs.Areas.{State};
-ghost use Rattle.page_format.specs.Words.{lsn_of};
 ghost use Rattle.log_format.specs.declared.group.Group.{Group as GroupValue};
 ghost use Rattle.redo_log.specs.Logged.{LeavesPrefix};
-ghost use Rattle.doublewrite.specs.Batches.{BatchView, StagedView, IsBatch};
-ghost use Rattle.doublewrite.specs.Kept.{IsPageReady, KeepsPages, IsStaged, HasPlaced};
+ghost use Rattle.doublewrite.specs.Batches.{BatchView, StagedView};
+ghost use Rattle.doublewrite.specs.Kept.{KeepsPages, IsStaged, HasPlaced};
 ghost use Rattle.law_logged_pages.specs.Stages.{begins_fresh, records_in, IsUnwritten};
-ghost use Rattle.law_logged_pages.specs.Keeping.{IsRun, Keeps, IsPlaced, IsLoggedBefore, AreOlder};
+ghost use Rattle.law_logged_pages.specs.Keeping.{IsRun, Keeps, IsPlaced, IsLoggedBefore};
 
 /// While no batch is under way, a crash leaves each page at a stage.
 pub fn placed_pages_keep()
@@ -21,7 +20,7 @@ pub fn placed_pages_keep()
 pub fn a_batch_keeps()
     ensures { (run first flushed : ℕ) (groups : List GroupValue) (base : ℕ → List ℕ) (batch : BatchView) (before s : State)
         → IsRun first groups base → flushed < first + length groups → IsPlaced first flushed groups base before
-        → IsLoggedBefore flushed groups base batch → AreOlder batch before → KeepsPages before batch s
+        → IsLoggedBefore flushed groups base batch → KeepsPages before batch s
         → LeavesPrefix run first groups flushed before.log → Keeps run first flushed groups base s }
 {}
 
@@ -29,8 +28,8 @@ pub fn a_batch_keeps()
 pub fn placed_pages_stay_placed()
     ensures { (first flushed : ℕ) (groups : List GroupValue) (base : ℕ → List ℕ) (staged : StagedView) (before s : State)
         → IsRun first groups base → flushed < first + length groups → IsPlaced first flushed groups base before
-        → IsBatch staged.batch → IsLoggedBefore flushed groups base staged.batch → IsStaged before staged.batch s
-        → HasPlaced staged s → staged.placed ≡ staged.batch.count → IsPlaced first flushed groups base s }
+        → IsLoggedBefore flushed groups base staged.batch → IsStaged before staged.batch s → HasPlaced staged s
+        → staged.placed ≡ staged.batch.count → IsPlaced first flushed groups base s }
 {}
 
 /// The log goes on beside the pages: it is flushed further, and groups are appended, which make a page before they change it.
