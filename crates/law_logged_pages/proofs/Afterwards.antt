@@ -1,5 +1,5 @@
 -- Once a batch is placed and synced, its pages are good in their places for good.
-use Rattle.std.proofs.Common.{◌≡◌, ◌⊎◌, inl, inr, ⊎_elim, ℕ, zero, suc, ◌+◌, ◌*◌, ◌<◌, ◌≤◌, Option, Some, None, List, [], length, take, drop, refl, sym, ap, subst, ◌∙◌, arith, length-drop}
+use Rattle.std.proofs.Common.{◌≡◌, ◌⊎◌, inl, inr, ⊎_elim, ℕ, zero, suc, ◌*◌, ◌<◌, ◌≤◌, Option, Some, None, List, [], length, take, drop, refl, sym, ap, subst, ◌∙◌, arith, length-drop}
 use Rattle.std.specs.Prelude.{All, Contains}
 use Rattle.std.proofs.lemmas.Bool.{cases_lt, cases_eq}
 use Rattle.std.proofs.lemmas.List.{length-take-le}
@@ -11,8 +11,7 @@ use Rattle.doublewrite.specs.Reading.{IsGoodPage, place_of}
 use Rattle.doublewrite.specs.Batches.{BatchView, StagedView, IsBatch, IsInBatch, page_at, number_at}
 use Rattle.doublewrite.specs.Kept.{HadCopy, Spares, IsSettled, WasPage, IsStaged, HasPlaced}
 use Rattle.law_logged_pages.specs.Stages.{IsStage}
-use Rattle.law_logged_pages.specs.Keeping.{IsRun, IsPlaced, IsLoggedBefore, IsOldCopy, durable}
-use Rattle.law_logged_pages.proofs.Placement.{batch_stage}
+use Rattle.law_logged_pages.specs.Keeping.{IsPlaced, IsOldCopy, MayBePlaced, durable}
 
 -- a copy that is there is the batch's, or was there before
 copy_from : (before s : State) (batch : BatchView) → IsStaged before batch s → (page : ℕ) (bytes : List ℕ) → HadCopy page s.double bytes
@@ -84,13 +83,12 @@ module _ (staged : StagedView) (is : IsBatch staged.batch) where
           (λ (there : HadCopy page before.double bytes). there)
           (copy_from before s staged.batch done page bytes had)
 
-      module _ (first flushed : ℕ) (groups : List Group) (base : ℕ → List ℕ) (run : IsRun first groups base) (some : flushed < first + length groups)
-          (placed : IsPlaced first flushed groups base before)
-          (logged : IsLoggedBefore flushed groups base staged.batch) where
+      module _ (first flushed : ℕ) (groups : List Group) (base : ℕ → List ℕ) (placed : IsPlaced first flushed groups base before)
+          (may : MayBePlaced first flushed groups base staged.batch before) where
         stage_now : (page : ℕ) (content : Option (List ℕ)) → page < 65536 → WasPage s page content → IsStage base groups (durable first flushed) page content
         stage_now page (Some bytes) below was =
             ⊎_elim
-            (λ (here : IsInBatch staged.batch page bytes). batch_stage first flushed groups base run some staged.batch logged page bytes here)
+            (λ (here : IsInBatch staged.batch page bytes). may.stages page bytes here)
             (λ (whole : WasWhole before.pages (4096 * page) bytes). placed.stages page (Some bytes) below (was.0, whole))
             (done.held page bytes was.0 was.1)
         stage_now page None below was =
@@ -112,8 +110,8 @@ module _ (staged : StagedView) (is : IsBatch staged.batch) where
             ⊎_elim
             (λ (here : IsInBatch staged.batch page bytes).
             record {
-              are_bytes = logged.are_bytes page bytes here;
-              once = inl (batch_stage first flushed groups base run some staged.batch logged page bytes here);
+              are_bytes = may.are_bytes page bytes here;
+              once = inl (may.stages page bytes here);
             })
             (λ (there : HadCopy page before.double bytes). placed.copies page bytes below there)
             (copy_from before s staged.batch done page bytes had)

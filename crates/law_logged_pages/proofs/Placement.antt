@@ -11,7 +11,7 @@ use Rattle.doublewrite.specs.Reading.{IsGoodPage, IsPageIn, place_of}
 use Rattle.doublewrite.specs.Batches.{BatchView, IsInBatch, IsInBatchToo}
 use Rattle.doublewrite.specs.Kept.{HadCopy, Spares, IsSettled, WasPage, IsPageReady, KeepsPages}
 use Rattle.law_logged_pages.specs.Stages.{begins_fresh, records_in, WasOnce, IsUnwritten, IsStage}
-use Rattle.law_logged_pages.specs.Keeping.{IsRun, Keeps, IsPlaced, IsLoggedBefore, IsOldCopy, durable}
+use Rattle.law_logged_pages.specs.Keeping.{IsRun, Keeps, IsPlaced, IsLoggedBefore, IsOldCopy, MayBePlaced, durable}
 use Rattle.law_logged_pages.proofs.Leading.{flushed_once, stage_stays}
 use Rattle.law_logged_pages.proofs.Older.{older}
 
@@ -71,41 +71,48 @@ module _ (first flushed : ℕ) (groups : List Group) (base : ℕ → List ℕ) (
 
 -- ---- a batch
 
+-- log before page: the batch's pages are stages
 module _ (first flushed : ℕ) (groups : List Group) (base : ℕ → List ℕ) (is : IsRun first groups base) (some : flushed < first + length groups)
     (batch : BatchView)
-    (logged : IsLoggedBefore flushed groups base batch) where
-  -- its pages are stages: log before page
-  pub batch_stage : (page : ℕ) (bytes : List ℕ) → IsInBatch batch page bytes → WasOnce base groups (durable first flushed) page bytes
+    (logged : IsLoggedBefore flushed groups base batch)
+    (before : State)
+    (placed : IsPlaced first flushed groups base before) where
+  batch_stage : (page : ℕ) (bytes : List ℕ) → IsInBatch batch page bytes → WasOnce base groups (durable first flushed) page bytes
   batch_stage page bytes here =
       let lsn = logged.log_first page bytes here in
       flushed_once base first groups (durable first flushed) (length groups) page bytes is.each (is.bases page) (omega (arith, some)) (omega (arith, lsn))
       (logged.newest page bytes here)
 
-  -- and copies of them are older, or the same
-  batch_older : (s : State) → IsPlaced first flushed groups base s → (page : ℕ) (bytes other : List ℕ) → page < 65536 → IsInBatch batch page bytes
-      → HadCopy page s.double other → (other ≡ bytes) ⊎ (lsn_of other < lsn_of bytes)
-  batch_older s placed page bytes other below here had =
+  batch_older : (page : ℕ) (bytes other : List ℕ) → page < 65536 → IsInBatch batch page bytes → HadCopy page before.double other
+      → (other ≡ bytes) ⊎ (lsn_of other < lsn_of bytes)
+  batch_older page bytes other below here had =
       let sum : PassesSum bytes = subst PassesSum here.page (logged.is_batch.sealed here.slot here.below) in
       older first groups base is page bytes (logged.newest page bytes here) sum (logged.are_bytes page bytes here) (durable first flushed) other
       (omega (arith, some))
       had.good.size had.good.sum (placed.copies page other below had)
 
-  module _ (before : State) (placed : IsPlaced first flushed groups base before) where
-    pub batch_keeps : (run : ℕ) (s : State) → KeepsPages before batch s → LeavesPrefix run first groups flushed before.log
-        → Keeps run first flushed groups base s
-    batch_keeps run s keeps log = record {
-      log = subst (λ (c : Contents). LeavesPrefix run first groups flushed c) (sym keeps.log_is) log;
-      pages = λ image left honest page content below found.
-          let ready : IsPageReady batch before page =
-          record { settled = placed.settled page below; older = λ bytes other here had. batch_older before placed page bytes other below here had } in
-          of_either page content below (keeps.each image left honest page content ready found);
-    } where
-      of_either : (page : ℕ) (content : Option (List ℕ)) → page < 65536 → WasPage before page content ⊎ IsInBatchToo batch page content
-          → IsStage base groups (durable first flushed) page content
-      of_either page (Some bytes) below either =
-          ⊎_elim (λ (was : WasPage before page (Some bytes)). placed.stages page (Some bytes) below was)
-          (λ (here : IsInBatch batch page bytes). batch_stage page bytes here) either
-      of_either page None below either = ⊎_elim (λ (was : WasPage before page None). placed.stages page None below was) (λ (none : ⊥). absurd none) either
+  pub may_be_placed : MayBePlaced first flushed groups base batch before
+  may_be_placed = record { is_batch = logged.is_batch; are_bytes = logged.are_bytes; stages = batch_stage; older = batch_older }
+
+module _ (first flushed : ℕ) (groups : List Group) (base : ℕ → List ℕ) (batch : BatchView) (before : State)
+    (placed : IsPlaced first flushed groups base before)
+    (may : MayBePlaced first flushed groups base batch before) where
+  of_either : (page : ℕ) (content : Option (List ℕ)) → page < 65536 → WasPage before page content ⊎ IsInBatchToo batch page content
+      → IsStage base groups (durable first flushed) page content
+  of_either page (Some bytes) below either =
+      ⊎_elim (λ (was : WasPage before page (Some bytes)). placed.stages page (Some bytes) below was)
+      (λ (here : IsInBatch batch page bytes). may.stages page bytes here) either
+  of_either page None below either = ⊎_elim (λ (was : WasPage before page None). placed.stages page None below was) (λ (none : ⊥). absurd none) either
+
+  pub batch_keeps : (run : ℕ) (s : State) → KeepsPages before batch s → LeavesPrefix run first groups flushed before.log
+      → Keeps run first flushed groups base s
+  batch_keeps run s keeps log = record {
+    log = subst (λ (c : Contents). LeavesPrefix run first groups flushed c) (sym keeps.log_is) log;
+    pages = λ image left honest page content below found.
+        let ready : IsPageReady batch before page =
+        record { settled = placed.settled page below; older = λ bytes other here had. may.older page bytes other below here had } in
+        of_either page content below (keeps.each image left honest page content ready found);
+  }
 
 -- ---- the log goes on
 
@@ -143,3 +150,16 @@ outlast first flushed later groups more base before s some upto placed fresh pag
       → WasOnce base (groups ++ more) (durable first later) page bytes ⊎ (lsn_of bytes < lsn_of (base page))
   stay_once page bytes (inl was) = inl (stay page (Some bytes) was)
   stay_once page bytes (inr before) = inr before
+
+pub batch_outlasts : (first flushed later : ℕ) (groups more : List Group) (base : ℕ → List ℕ) (batch : BatchView) (before s : State)
+    → flushed < first + length groups → flushed ≤ later → MayBePlaced first flushed groups base batch before → s.double ≡ before.double
+    → MayBePlaced first later (groups ++ more) base batch s
+batch_outlasts first flushed later groups more base batch before s some upto may double = record {
+  is_batch = may.is_batch;
+  are_bytes = may.are_bytes;
+  stages = λ page bytes here.
+      stage_stays base groups more (durable first flushed) (durable first later) page (Some bytes) (omega (arith, upto)) (omega (arith, some))
+      (λ none. absurd cc)
+      (may.stages page bytes here);
+  older = λ page bytes other below here had. may.older page bytes other below here (subst (λ (c : Contents). HadCopy page c other) double had);
+}

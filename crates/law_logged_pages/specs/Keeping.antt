@@ -1,5 +1,5 @@
 -- What a disk holds of the pages of a run at a moment, and what recovery makes of whatever a crash leaves then.
-use Rattle.std.specs.Prelude.{◌⊎◌, ℕ, ◌+◌, ◌-◌, ◌<◌, ◌≤◌, IsTrue, Option, None, List, length, take, slice_index}
+use Rattle.std.specs.Prelude.{◌≡◌, ◌⊎◌, ℕ, ◌+◌, ◌-◌, ◌<◌, ◌≤◌, IsTrue, Option, None, List, length, take, slice_index}
 use Rattle.store_api.specs.Areas.{State, Image, IsImage, IsHonest}
 use Rattle.page_format.specs.Words.{lsn_of}
 use Rattle.log_format.specs.declared.group.Group.{Group}
@@ -57,3 +57,11 @@ pub record IsLoggedBefore (flushed : ℕ) (groups : List Group) (base : ℕ → 
   pub are_bytes : (page : ℕ) (bytes : List ℕ) → IsInBatch batch page bytes → (i : ℕ) → slice_index bytes i < 256
   pub newest : (page : ℕ) (bytes : List ℕ) → IsInBatch batch page bytes → SameButSum bytes (logical base groups (length groups) page)
   pub log_first : (page : ℕ) (bytes : List ℕ) → IsInBatch batch page bytes → lsn_of bytes ≤ flushed
+
+-- The batch may be placed where the areas stood so: its pages are stages, and copies of them are older, or the same.
+pub record MayBePlaced (first flushed : ℕ) (groups : List Group) (base : ℕ → List ℕ) (batch : BatchView) (before : State) : Type 0 where
+  pub is_batch : IsBatch batch
+  pub are_bytes : (page : ℕ) (bytes : List ℕ) → IsInBatch batch page bytes → (i : ℕ) → slice_index bytes i < 256
+  pub stages : (page : ℕ) (bytes : List ℕ) → IsInBatch batch page bytes → WasOnce base groups (durable first flushed) page bytes
+  pub older : (page : ℕ) (bytes other : List ℕ) → page < 65536 → IsInBatch batch page bytes → HadCopy page before.double other
+      → (other ≡ bytes) ⊎ (lsn_of other < lsn_of bytes)

@@ -7,7 +7,7 @@ ghost use Rattle.redo_log.specs.Logged.{LeavesPrefix};
 ghost use Rattle.doublewrite.specs.Batches.{BatchView, StagedView};
 ghost use Rattle.doublewrite.specs.Kept.{KeepsPages, IsStaged, HasPlaced};
 ghost use Rattle.law_logged_pages.specs.Stages.{begins_fresh, records_in, IsUnwritten};
-ghost use Rattle.law_logged_pages.specs.Keeping.{IsRun, Keeps, IsPlaced, IsLoggedBefore};
+ghost use Rattle.law_logged_pages.specs.Keeping.{IsRun, Keeps, IsPlaced, IsLoggedBefore, MayBePlaced};
 
 /// While no batch is under way, a crash leaves each page at a stage.
 pub fn placed_pages_keep()
@@ -16,20 +16,26 @@ pub fn placed_pages_keep()
         → Keeps run first flushed groups base s }
 {}
 
-/// At each moment of a batch too, if the groups that changed its pages were flushed before it.
+/// Log before page: a batch may be placed whose pages are as all groups have left them, if those that changed them are flushed.
+pub fn a_logged_batch_may_be_placed()
+    ensures { (first flushed : ℕ) (groups : List GroupValue) (base : ℕ → List ℕ) (batch : BatchView) (before : State)
+        → IsRun first groups base → flushed < first + length groups → IsPlaced first flushed groups base before
+        → IsLoggedBefore flushed groups base batch → MayBePlaced first flushed groups base batch before }
+{}
+
+/// At each moment while it is staged and placed, a crash leaves each page at a stage.
 pub fn a_batch_keeps()
     ensures { (run first flushed : ℕ) (groups : List GroupValue) (base : ℕ → List ℕ) (batch : BatchView) (before s : State)
-        → IsRun first groups base → flushed < first + length groups → IsPlaced first flushed groups base before
-        → IsLoggedBefore flushed groups base batch → KeepsPages before batch s
+        → IsPlaced first flushed groups base before → MayBePlaced first flushed groups base batch before → KeepsPages before batch s
         → LeavesPrefix run first groups flushed before.log → Keeps run first flushed groups base s }
 {}
 
 /// Once all pages of the batch are in their places and synced, no batch is under way.
 pub fn placed_pages_stay_placed()
     ensures { (first flushed : ℕ) (groups : List GroupValue) (base : ℕ → List ℕ) (staged : StagedView) (before s : State)
-        → IsRun first groups base → flushed < first + length groups → IsPlaced first flushed groups base before
-        → IsLoggedBefore flushed groups base staged.batch → IsStaged before staged.batch s → HasPlaced staged s
-        → staged.placed ≡ staged.batch.count → IsPlaced first flushed groups base s }
+        → IsPlaced first flushed groups base before → MayBePlaced first flushed groups base staged.batch before
+        → IsStaged before staged.batch s → HasPlaced staged s → staged.placed ≡ staged.batch.count
+        → IsPlaced first flushed groups base s }
 {}
 
 /// The log goes on beside the pages: it is flushed further, and groups are appended, which make a page before they change it.
@@ -38,4 +44,11 @@ pub fn placed_pages_outlast_the_log()
         → flushed < first + length groups → flushed ≤ later → IsPlaced first flushed groups base before
         → ((page : ℕ) → IsUnwritten base groups page → IsTrue (begins_fresh page (records_in (groups ++ more))))
         → s.pages ≡ before.pages → s.double ≡ before.double → IsPlaced first later (groups ++ more) base s }
+{}
+
+/// Also while a batch is under way, whose pages may be changed meanwhile.
+pub fn a_batch_outlasts_the_log()
+    ensures { (first flushed later : ℕ) (groups more : List GroupValue) (base : ℕ → List ℕ) (batch : BatchView) (before s : State)
+        → flushed < first + length groups → flushed ≤ later → MayBePlaced first flushed groups base batch before
+        → s.double ≡ before.double → MayBePlaced first later (groups ++ more) base batch s }
 {}
