@@ -1,13 +1,12 @@
 -- A page that a commit has left is the next one that its groups make.
-use Rattle.std.proofs.Common.{◌≡◌, inl, inr, ℕ, ◌+◌, ◌<◌, Bool, true, false, cond, List, [], ◌∷◌, ◌++◌, length, take, drop, get_or, refl, sym, ap, subst, ◌∙◌, arith, length-append, length-drop, take-append-drop}
+use Rattle.std.proofs.Common.{◌≡◌, inl, inr, ℕ, ◌+◌, ◌<◌, Bool, true, false, cond, List, [], ◌∷◌, ◌++◌, length, take, drop, refl, sym, ap, subst, ◌∙◌, arith, length-append, length-drop, take-append-drop}
 use Rattle.std.specs.Prelude.{◌==◌, ◌&&◌, ◌||◌, IsTrue, nat_lt, fold}
 use Rattle.std.specs.List.{list_any}
 use Rattle.std.specs.Int.{w32, w64, to_be_bytes}
 use Rattle.std.proofs.lemmas.Bool.Decides.{nat_tests}
-use Rattle.std.proofs.lemmas.List.{take_all, drop-drop, length-take-le, get_or-drop}
+use Rattle.std.proofs.lemmas.List.{take_all, drop-drop, length-take-le}
 use Rattle.std.proofs.lemmas.Nat.{be_bytes_4, be_bytes_8}
 use Rattle.schema_codec.specs.Numbers.{u32_bytes, u64_bytes}
-use Rattle.schema_codec.proofs.Fields.{IsBytes-take}
 use Rattle.page_format.specs.Words.{u32_at, u64_at, number_of, lsn_of}
 use Rattle.log_format.specs.declared.group.Group.{Group}
 use Rattle.log_format.specs.declared.group.Record.{Record}
@@ -19,9 +18,9 @@ use Rattle.mini_txn.specs.Edits.{blank, edited_by, edited}
 use Rattle.mini_txn.specs.View.{body_of, stamped}
 use Rattle.mini_txn.proofs.Bodies.{length-body, drop-body, length-stamped}
 use Rattle.law_logged_pages.specs.Applied.{is_of, names, with_group, page_after, logical}
-use Rattle.law_logged_pages.specs.Stages.{SameButSum, IsBase, begins_fresh}
+use Rattle.law_logged_pages.specs.Stages.{AreBytes, SameButSum, IsBase, begins_fresh}
 use Rattle.law_logged_pages.specs.Committing.{IsCommitted, MayBe}
-use Rattle.law_logged_pages.proofs.Edits.{drop_past, same-edited, length-edited, front-stamped}
+use Rattle.law_logged_pages.proofs.Edits.{bytes_within, drop_past, same-edited, length-edited, front-stamped}
 use Rattle.law_logged_pages.proofs.Groups.{after-append, length-after, lsn_of_all}
 
 -- ---- a group that makes the page
@@ -48,19 +47,16 @@ edited-fresh page (NewTable schema ∷ rs) a b fresh named = edited-fresh page r
 
 -- ---- number and LSN in a page's bytes
 
-bytes_from : (n : ℕ) (bytes : List ℕ) → ((i : ℕ) → get_or bytes i 0 < 256) → (i : ℕ) → get_or (drop n bytes) i 0 < 256
-bytes_from n bytes fits i = rw get_or-drop (fits (n + i))
-
-spelled : (page lsn : ℕ) (new : List ℕ) → length new ≡ 4096 → ((i : ℕ) → get_or new i 0 < 256) → number_of new ≡ page → lsn_of new ≡ lsn
+spelled : (page lsn : ℕ) (new : List ℕ) → length new ≡ 4096 → AreBytes 20 new → number_of new ≡ page → lsn_of new ≡ lsn
     → drop 8 new ≡ u32_bytes page ++ (u64_bytes lsn ++ drop 20 new)
 unfolding u32_at u64_at u32_bytes u64_bytes
 spelled page lsn new size fits number is_lsn =
     let four : take 4 (drop 8 new) ≡ to_be_bytes w32 page =
     sym (be_bytes_4 (take 4 (drop 8 new)) page (length-take-le 4 (drop 8 new) (omega (arith, length-drop 8 new, size)))
-    (IsBytes-take 4 (drop 8 new) (bytes_from 8 new fits)) (sym number)) in
+    (bytes_within 8 4 new (λ i below. fits i (omega (arith, below)))) (sym number)) in
     let eight : take 8 (drop 12 new) ≡ to_be_bytes w64 lsn =
     sym (be_bytes_8 (take 8 (drop 12 new)) lsn (length-take-le 8 (drop 12 new) (omega (arith, length-drop 12 new, size)))
-    (IsBytes-take 8 (drop 12 new) (bytes_from 12 new fits)) (sym is_lsn)) in
+    (bytes_within 12 8 new fits) (sym is_lsn)) in
     let rest : drop 12 new ≡ to_be_bytes w64 lsn ++ drop 20 new =
     sym (take-append-drop 8 (drop 12 new)) ∙ ap (λ (l : List ℕ). l ++ drop 8 (drop 12 new)) eight ∙ ap (λ (l : List ℕ). to_be_bytes w64 lsn ++ l)
     (drop-drop 8 12 new) in

@@ -1,7 +1,8 @@
 -- What a group makes of a page doesn't hang on the page's sum.
-use Rattle.std.proofs.Common.{◌≡◌, ℕ, ◌+◌, ◌-◌, ◌≤◌, Bool, true, false, cond, List, [], ◌∷◌, ◌++◌, length, take, drop, refl, sym, ap, ◌∙◌, arith, length-append, length-drop}
+use Rattle.std.proofs.Common.{◌≡◌, ◌⊎◌, inl, inr, ℕ, ◌+◌, ◌-◌, ◌<◌, ◌≤◌, Bool, true, false, cond, List, [], ◌∷◌, ◌++◌, length, take, drop, get_or, refl, sym, ap, ◌∙◌, arith, length-append, length-take, length-drop}
 use Rattle.std.specs.Prelude.{◌==◌, ◌&&◌, All, nat_lt}
-use Rattle.std.proofs.lemmas.List.{drop_at, drop-drop, drop-take, drop-append-le, length-take-le, length-replicate}
+use Rattle.std.proofs.lemmas.Bool.{cases_lt}
+use Rattle.std.proofs.lemmas.List.{get_or-take, get_or-drop, get_or_past, drop_at, drop-drop, drop-take, drop-append-le, length-take-le, length-replicate}
 use Rattle.std.proofs.lemmas.List.Elements.{All-head, All-tail}
 use Rattle.std.specs.Int.{w64, from_be_bytes}
 use Rattle.schema_codec.specs.Numbers.{u32_bytes, u64_bytes}
@@ -15,7 +16,7 @@ use Rattle.mini_txn.specs.Edits.{blank, edited_by, edited}
 use Rattle.mini_txn.specs.View.{stamped}
 use Rattle.mini_txn.proofs.Bodies.{length-stamped}
 use Rattle.law_logged_pages.specs.Applied.{names, with_group}
-use Rattle.law_logged_pages.specs.Stages.{SameButSum}
+use Rattle.law_logged_pages.specs.Stages.{AreBytes, SameButSum}
 
 pub same_sym : (a b : List ℕ) → SameButSum a b → SameButSum b a
 same_sym a b is = record { size = sym is.size; same = sym is.same }
@@ -25,6 +26,20 @@ same_along a b c one other = record { size = one.size ∙ other.size; same = one
 
 pub same_itself : (a : List ℕ) → SameButSum a a
 same_itself a = record { size = refl; same = refl }
+
+-- ---- bytes
+
+-- so are those of a part of them
+pub bytes_within : (n m : ℕ) (bytes : List ℕ) → AreBytes (n + m) bytes → (i : ℕ) → get_or (take m (drop n bytes)) i 0 < 256
+bytes_within n m bytes are i = go (cases_lt i m) where
+  go : (i < m) ⊎ (m ≤ i) → get_or (take m (drop n bytes)) i 0 < 256
+  go (inl below) =
+      let here : get_or (take m (drop n bytes)) i 0 ≡ get_or bytes (n + i) 0 = get_or-take m (drop n bytes) i 0 below ∙ get_or-drop n bytes i 0 in
+      let byte = are (n + i) (omega (arith, below)) in
+      omega (arith, here, byte)
+  go (inr past) =
+      let none : get_or (take m (drop n bytes)) i 0 ≡ 0 = get_or_past (take m (drop n bytes)) i 0 (omega (arith, past, length-take m (drop n bytes))) in
+      omega (arith, none)
 
 -- ---- behind byte 8
 

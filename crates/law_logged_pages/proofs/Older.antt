@@ -1,34 +1,33 @@
 -- Copies that are old are older than a page's newest content, or the same.
-use Rattle.std.proofs.Common.{◌≡◌, ◌⊎◌, inl, inr, ℕ, ◌<◌, ◌≤◌, List, ◌++◌, length, take, drop, get_or, refl, sym, ap, subst, ◌∙◌, arith, take-append-drop}
+use Rattle.std.proofs.Common.{◌≡◌, ◌⊎◌, inl, inr, ℕ, ◌<◌, ◌≤◌, List, ◌++◌, length, take, drop, refl, sym, ap, subst, ◌∙◌, arith, take-append-drop}
 use Rattle.std.specs.Int.{w64, to_be_bytes, from_be_bytes}
 use Rattle.std.proofs.lemmas.Bool.{cases_lt}
 use Rattle.std.proofs.lemmas.List.{length-take-le}
 use Rattle.std.proofs.lemmas.Nat.{be_bytes_8}
-use Rattle.schema_codec.proofs.Fields.{IsBytes-take}
 use Rattle.store_api.specs.Areas.{PassesSum}
 use Rattle.page_format.specs.Words.{lsn_of}
 use Rattle.log_format.specs.declared.group.Group.{Group}
 use Rattle.law_logged_pages.specs.Applied.{logical}
-use Rattle.law_logged_pages.specs.Stages.{SameButSum, WasOnce}
+use Rattle.law_logged_pages.specs.Stages.{AreBytes, SameButSum, WasOnce}
 use Rattle.law_logged_pages.specs.Keeping.{IsRun, IsOldCopy}
-use Rattle.law_logged_pages.proofs.Edits.{same_sym, same_along, lsn-same}
+use Rattle.law_logged_pages.proofs.Edits.{same_sym, same_along, bytes_within, lsn-same}
 use Rattle.law_logged_pages.proofs.Groups.{length-logical, not_past, lsn_from, lsn_logical}
 
 -- two pages that pass their sums, and differ in them at most, are one
-same_sums : (a b : List ℕ) → length a ≡ 4096 → length b ≡ 4096 → ((i : ℕ) → get_or a i 0 < 256) → ((i : ℕ) → get_or b i 0 < 256)
+same_sums : (a b : List ℕ) → length a ≡ 4096 → length b ≡ 4096 → AreBytes 8 a → AreBytes 8 b
     → PassesSum a → PassesSum b → SameButSum a b → a ≡ b
 same_sums a b size_a size_b bytes_a bytes_b sum_a sum_b is =
     let same : drop 8 a ≡ drop 8 b = is.same in
     let sums : from_be_bytes w64 (take 8 a) ≡ from_be_bytes w64 (take 8 b) = cc in
     let front_a : to_be_bytes w64 (from_be_bytes w64 (take 8 a)) ≡ take 8 a =
-    be_bytes_8 (take 8 a) (from_be_bytes w64 (take 8 a)) (length-take-le 8 a (omega (arith, size_a))) (IsBytes-take 8 a bytes_a) refl in
+    be_bytes_8 (take 8 a) (from_be_bytes w64 (take 8 a)) (length-take-le 8 a (omega (arith, size_a))) (bytes_within 0 8 a bytes_a) refl in
     let front_b : to_be_bytes w64 (from_be_bytes w64 (take 8 b)) ≡ take 8 b =
-    be_bytes_8 (take 8 b) (from_be_bytes w64 (take 8 b)) (length-take-le 8 b (omega (arith, size_b))) (IsBytes-take 8 b bytes_b) refl in
+    be_bytes_8 (take 8 b) (from_be_bytes w64 (take 8 b)) (length-take-le 8 b (omega (arith, size_b))) (bytes_within 0 8 b bytes_b) refl in
     let front : take 8 a ≡ take 8 b = sym front_a ∙ ap (to_be_bytes w64) sums ∙ front_b in
     sym (take-append-drop 8 a) ∙ ap (λ (l : List ℕ). l ++ drop 8 a) front ∙ ap (λ (l : List ℕ). take 8 b ++ l) same ∙ take-append-drop 8 b
 
 module _ (first : ℕ) (groups : List Group) (base : ℕ → List ℕ) (run : IsRun first groups base) (page : ℕ) (bytes : List ℕ)
-    (newest : SameButSum bytes (logical base groups (length groups) page)) (sum : PassesSum bytes) (are_bytes : (i : ℕ) → get_or bytes i 0 < 256) where
+    (newest : SameButSum bytes (logical base groups (length groups) page)) (sum : PassesSum bytes) (are_bytes : AreBytes 8 bytes) where
   lsn_is : lsn_of bytes ≡ lsn_of (logical base groups (length groups) page)
   lsn_is = lsn-same bytes (logical base groups (length groups) page) newest.same
 

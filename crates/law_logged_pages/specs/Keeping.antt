@@ -1,5 +1,5 @@
 -- What a disk holds of the pages of a run at a moment, and what recovery makes of whatever a crash leaves then.
-use Rattle.std.specs.Prelude.{◌≡◌, ◌⊎◌, ℕ, ◌+◌, ◌-◌, ◌<◌, ◌≤◌, IsTrue, Option, None, List, length, take, slice_index}
+use Rattle.std.specs.Prelude.{◌≡◌, ◌⊎◌, ℕ, ◌+◌, ◌-◌, ◌<◌, ◌≤◌, IsTrue, Option, None, List, length, take}
 use Rattle.store_api.specs.Areas.{State, Image, IsImage, IsHonest}
 use Rattle.page_format.specs.Words.{lsn_of}
 use Rattle.log_format.specs.declared.group.Group.{Group}
@@ -10,7 +10,7 @@ use Rattle.doublewrite.specs.Reading.{IsPageIn}
 use Rattle.doublewrite.specs.Batches.{BatchView, IsBatch, IsInBatch}
 use Rattle.doublewrite.specs.Kept.{HadCopy, IsSettled, WasPage}
 use Rattle.law_logged_pages.specs.Applied.{page_after, logical}
-use Rattle.law_logged_pages.specs.Stages.{SameButSum, IsBase, begins_fresh, records_in, WasOnce, IsStage, or_zeros}
+use Rattle.law_logged_pages.specs.Stages.{AreBytes, SameButSum, IsBase, begins_fresh, records_in, WasOnce, IsStage, or_zeros}
 
 -- All groups of a run, and the pages as they stood at its beginning.
 pub record IsRun (first : ℕ) (groups : List Group) (base : ℕ → List ℕ) : Type 0 where
@@ -42,7 +42,7 @@ pub record Recovers (run first flushed : ℕ) (groups : List Group) (base : ℕ 
 
 -- a copy in Double: what the page was after some of the first so many groups, or older than the run's beginning
 pub record IsOldCopy (base : ℕ → List ℕ) (groups : List Group) (count page : ℕ) (bytes : List ℕ) : Type 0 where
-  pub are_bytes : (i : ℕ) → slice_index bytes i < 256
+  pub are_bytes : AreBytes 8 bytes
   pub once : WasOnce base groups count page bytes ⊎ (lsn_of bytes < lsn_of (base page))
 
 -- No batch is under way: each page was good in its place for good, or has no copy. What stands there are stages, and copies are old.
@@ -54,14 +54,14 @@ pub record IsPlaced (first flushed : ℕ) (groups : List Group) (base : ℕ → 
 -- The batch's pages are what they are after all groups, and log before page: the last of these that changed them is flushed.
 pub record IsLoggedBefore (flushed : ℕ) (groups : List Group) (base : ℕ → List ℕ) (batch : BatchView) : Type 0 where
   pub is_batch : IsBatch batch
-  pub are_bytes : (page : ℕ) (bytes : List ℕ) → IsInBatch batch page bytes → (i : ℕ) → slice_index bytes i < 256
+  pub are_bytes : (page : ℕ) (bytes : List ℕ) → IsInBatch batch page bytes → AreBytes 8 bytes
   pub newest : (page : ℕ) (bytes : List ℕ) → IsInBatch batch page bytes → SameButSum bytes (logical base groups (length groups) page)
   pub log_first : (page : ℕ) (bytes : List ℕ) → IsInBatch batch page bytes → lsn_of bytes ≤ flushed
 
 -- The batch may be placed where the areas stood so: its pages are stages, and copies of them are older, or the same.
 pub record MayBePlaced (first flushed : ℕ) (groups : List Group) (base : ℕ → List ℕ) (batch : BatchView) (before : State) : Type 0 where
   pub is_batch : IsBatch batch
-  pub are_bytes : (page : ℕ) (bytes : List ℕ) → IsInBatch batch page bytes → (i : ℕ) → slice_index bytes i < 256
+  pub are_bytes : (page : ℕ) (bytes : List ℕ) → IsInBatch batch page bytes → AreBytes 8 bytes
   pub stages : (page : ℕ) (bytes : List ℕ) → IsInBatch batch page bytes → WasOnce base groups (durable first flushed) page bytes
   pub older : (page : ℕ) (bytes other : List ℕ) → page < 65536 → IsInBatch batch page bytes → HadCopy page before.double other
       → (other ≡ bytes) ⊎ (lsn_of other < lsn_of bytes)

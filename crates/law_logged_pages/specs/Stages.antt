@@ -1,5 +1,5 @@
 -- Which contents of a page its groups of the log bring on to what it is.
-use Rattle.std.specs.Prelude.{◌≡◌, ℕ, ◌<◌, ◌≤◌, Bool, true, false, IsTrue, ◌==◌, if◌then◌else◌, Option, Some, None, List, [], ◌∷◌, length, drop}
+use Rattle.std.specs.Prelude.{◌≡◌, ℕ, ◌<◌, ◌≤◌, Bool, true, false, IsTrue, ◌==◌, if◌then◌else◌, Option, Some, None, List, [], ◌∷◌, length, drop, slice_index}
 use Rattle.std.specs.List.{flat_map}
 use Rattle.page_format.specs.Words.{lsn_of}
 use Rattle.log_format.specs.declared.group.Group.{Group}
@@ -12,6 +12,10 @@ use Rattle.law_logged_pages.specs.Applied.{logical}
 pub record SameButSum (a b : List ℕ) : Type 0 where
   pub size : length a ≡ length b
   pub same : drop 8 a ≡ drop 8 b
+
+-- the first so many are bytes: a list of numbers by itself needn't be
+abbrev pub AreBytes : ℕ → List ℕ → Type 0
+AreBytes count bytes = (i : ℕ) → i < count → slice_index bytes i < 256
 
 -- a whole page, which no group of a run has changed that begins with this LSN
 pub record IsBase (first : ℕ) (bytes : List ℕ) : Type 0 where
