@@ -14,7 +14,7 @@ use Rattle.law_logged_pages.specs.Stages.{IsStage}
 use Rattle.law_logged_pages.specs.Keeping.{IsPlaced, IsOldCopy, MayBePlaced, durable}
 
 -- a copy that is there is the batch's, or was there before
-copy_from : (before s : State) (batch : BatchView) → IsStaged before batch s → (page : ℕ) (bytes : List ℕ) → HadCopy page s.double bytes
+pub copy_from : (before s : State) (batch : BatchView) → IsStaged before batch s → (page : ℕ) (bytes : List ℕ) → HadCopy page s.double bytes
     → IsInBatch batch page bytes ⊎ HadCopy page before.double bytes
 copy_from before s batch done page bytes had =
     let whole : WasWhole (record { seen = done.double; synced = done.double; writes = [] }) (4096 * had.slot) bytes =
@@ -39,7 +39,7 @@ copy_from before s batch done page bytes had =
 
 module _ (staged : StagedView) (is : IsBatch staged.batch) where
   -- the batch has the page, or hasn't
-  has_or_not : (page n : ℕ) → n ≤ staged.batch.count
+  pub has_or_not : (page n : ℕ) → n ≤ staged.batch.count
       → ((k : ℕ) × (k < n) × (number_at staged.batch k ≡ page)) ⊎ ((k : ℕ) → k < n → number_at staged.batch k ≡ page → ⊥)
   has_or_not page zero within = inr (λ k below same. absurd (omega (arith, below)))
   has_or_not page (suc n) within = elim (cases_eq (number_at staged.batch n) page) [
@@ -55,10 +55,10 @@ module _ (staged : StagedView) (is : IsBatch staged.batch) where
         ]
   ]
 
-  in_batch : (page k : ℕ) → k < staged.batch.count → number_at staged.batch k ≡ page → IsInBatch staged.batch page (page_at staged.batch k)
+  pub in_batch : (page k : ℕ) → k < staged.batch.count → number_at staged.batch k ≡ page → IsInBatch staged.batch page (page_at staged.batch k)
   in_batch page k below number = record { slot = k; below = below; page = refl; number_is = number }
 
-  length-page : (k : ℕ) → k < staged.batch.count → length (page_at staged.batch k) ≡ 4096
+  pub length-page : (k : ℕ) → k < staged.batch.count → length (page_at staged.batch k) ≡ 4096
   length-page k below = length-take-le 4096 (drop (4096 * k) staged.batch.bytes) (omega (arith, below, is.whole, length-drop (4096 * k) staged.batch.bytes))
 
   module _ (s : State) (has : HasPlaced staged s) (all : staged.placed ≡ staged.batch.count) where

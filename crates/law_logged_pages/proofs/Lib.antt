@@ -9,3 +9,4 @@ pub mod Older
 pub mod Placement
 pub mod Recovery
 pub mod Spared
+pub mod Staged

@@ -17,7 +17,7 @@ use Rattle.law_logged_pages.proofs.Older.{older}
 
 -- ---- pages in an image
 
-inside : (k : ℕ) (xs : List ℕ) → length (piece 4096 k xs) ≡ 4096 → 4096 * k + 4096 ≤ length xs
+pub inside : (k : ℕ) (xs : List ℕ) → length (piece 4096 k xs) ≡ 4096 → 4096 * k + 4096 ≤ length xs
 inside k xs size = omega (arith, size, length-take 4096 (drop (4096 * k) xs), length-drop (4096 * k) xs)
 
 misses_place : (page i : ℕ) (w : Write) → 4096 * page ≤ i → i < 4096 * page + 4096 → Spares page w → Misses i w
@@ -28,7 +28,7 @@ misses_place page i w from to spares =
     spares
 
 -- every crash leaves a settled page good
-settled_good : (page : ℕ) (c : Contents) (image : List ℕ) → IsSettled page c → MayLeave c image → IsGoodPage page (place_of page image)
+pub settled_good : (page : ℕ) (c : Contents) (image : List ℕ) → IsSettled page c → MayLeave c image → IsGoodPage page (place_of page image)
 settled_good page c image settled left =
     let within = inside page c.synced settled.good.size in
     let same : place_of page image ≡ place_of page c.synced =
@@ -39,7 +39,7 @@ settled_good page c image settled left =
     subst (IsGoodPage page) (sym same) settled.good
 
 -- good bytes of an honest image stood there whole
-was_whole : (k page : ℕ) (c : Contents) (image bytes : List ℕ) → IsHonestArea 4096 c image → piece 4096 k image ≡ bytes → IsGoodPage page bytes
+pub was_whole : (k page : ℕ) (c : Contents) (image bytes : List ℕ) → IsHonestArea 4096 c image → piece 4096 k image ≡ bytes → IsGoodPage page bytes
     → WasWhole c (4096 * k) bytes
 was_whole k page c image bytes honest stands good =
     let here : IsGoodPage page (piece 4096 k image) = subst (IsGoodPage page) (sym stands) good in

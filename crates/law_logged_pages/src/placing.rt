@@ -4,7 +4,7 @@ ghost use Rattle.std.specs.Prelude.{◌≡◌, ℕ, ◌+◌, ◌<◌, ◌≤◌,
 ghost use Rattle.store_api.specs.Areas.{State};
 ghost use Rattle.log_format.specs.declared.group.Group.{Group as GroupValue};
 ghost use Rattle.redo_log.specs.Logged.{LeavesPrefix};
-ghost use Rattle.doublewrite.specs.Batches.{BatchView, StagedView};
+ghost use Rattle.doublewrite.specs.Batches.{BatchView, StagedView, IsBatch};
 ghost use Rattle.doublewrite.specs.Kept.{KeepsPages, IsStaged, HasPlaced};
 ghost use Rattle.law_logged_pages.specs.Stages.{begins_fresh, records_in, IsUnwritten};
 ghost use Rattle.law_logged_pages.specs.Keeping.{IsRun, Keeps, IsPlaced, IsLoggedBefore, MayBePlaced};
@@ -28,6 +28,11 @@ pub fn a_batch_keeps()
     ensures { (run first flushed : ℕ) (groups : List GroupValue) (base : ℕ → List ℕ) (batch : BatchView) (before s : State)
         → IsPlaced first flushed groups base before → MayBePlaced first flushed groups base batch before → KeepsPages before batch s
         → LeavesPrefix run first groups flushed before.log → Keeps run first flushed groups base s }
+{}
+
+/// Also between the steps in which its pages are placed, while nothing but the log goes on.
+pub fn a_staged_batch_keeps()
+    ensures { (batch : BatchView) (before s : State) → IsBatch batch → IsStaged before batch s → KeepsPages before batch s }
 {}
 
 /// Once all pages of the batch are in their places and synced, no batch is under way.
