@@ -1,0 +1,12 @@
+pub mod Afterwards
+pub mod Along
+pub mod Commits
+pub mod Edits
+pub mod FirstCommitted
+pub mod Groups
+pub mod Leading
+pub mod Older
+pub mod Placement
+pub mod Recovery
+pub mod Spared
+pub mod Staged
