@@ -1,4 +1,4 @@
 pub mod Order
 pub mod Edits
 pub mod Found
-mod Search
+mod Kept

@@ -1,12 +1,11 @@
 //! One ordered index as the list of its pairs of a key and a value: the calls that every index has, and an index that is
-//! a sorted vector. Statements, rollback and purge go through the trait; each call is one step of an actor.
+//! a map in memory. Statements, rollback and purge go through the trait; each call is one step of an actor.
 #![tactic(auto)]
 
 mod index;
 mod laws;
 mod list_index;
 mod pairs;
-mod stored;
 
 pub use index::Entries;
 pub use laws::{

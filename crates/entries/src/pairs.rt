@@ -1,18 +1,22 @@
-//! The sorted vector: pairs in the order of their keys. `ListIndex` alone calls these.
+//! The pairs of an index in memory, in a map that is ordered by their keys. `ListIndex` alone calls these.
 
-ghost use Rattle.std.specs.Prelude.{◌≡◌, ◌≤◌, ◌<◌, ◌+◌, ◌^◌, true, false, [], length, Some, None, MatchResult, IfOk, OnErr, vec_capacity, slice_get, is_some, option_map, if◌then◌else◌};
-ghost use Rattle.entries.specs.Pairs.{AreSound, IsShort, value_of, first_from, first_after, with_pair, without_key};
-ghost use Rattle.entries.specs.Places.{IsFoundAt, IsMissedAt};
+ghost use Rattle.std.specs.Prelude.{◌≡◌, ◌≤◌, ◌^◌, true, false, [], length, Some, MatchResult, IfOk, OnOk, OnErr, IsOk, vec_capacity, find, is_some, option_map, if◌then◌else◌};
+ghost use Rattle.std.specs.Range.Bound.{bound_map};
+ghost use Rattle.std.specs.BTreeMap.Range.{is_from_start};
+ghost use Rattle.std.specs.Map.Iter.{deref_pair};
+ghost use Rattle.entries.specs.Pairs.{AreSound, IsShort, key_cmp, value_of, first_from, first_after, with_pair, without_key};
 ghost use Rattle.entries.specs.Calls.{HasKey, is_as_long};
 
-use crate::stored::Stored;
 use inno_types::Bytes;
 use std::alloc::{AllocError, Global};
+use std::collections::BTreeMap;
 use std::marker::Model;
+use std::mem;
+use std::ops::Bound;
 
 #[derive(Drop)]
 pub struct SortedPairs {
-    stored: Vec<Stored>,
+    stored: BTreeMap<Bytes, Bytes>,
 }
 
 impl Model for SortedPairs {
@@ -21,9 +25,9 @@ impl Model for SortedPairs {
 
     ghost Value = { List Pair };
 
-    ghost view = { λ p. p.stored.items };
+    ghost view = { λ p. p.stored.entries };
 
-    ghost invariant = { λ p. AreSound p.stored.items };
+    ghost invariant = { λ p. AreSound p.stored.entries };
 }
 
 impl SortedPairs {
@@ -31,7 +35,7 @@ impl SortedPairs {
         ensures { result ≡ [] }
     {
         SortedPairs {
-            stored: Vec::new(alloc),
+            stored: BTreeMap::new(alloc),
         }
     }
 
@@ -42,66 +46,27 @@ impl SortedPairs {
         let _ = &self.stored;
     }
 
-    /// Where the key stands, or else where it would stand.
-    fn search(&self, key: &Bytes) -> Result<usize, usize>
-        ensures place { MatchResult result (IsFoundAt key.now self.now) (IsMissedAt key.now self.now) }
+    /// The first pair from this key on, or above it.
+    fn first<'a>(&'a self, from: Bound<&Bytes>) -> Option<(&'a Bytes, &'a Bytes)>
+        ensures found { option_map deref_pair result ≡ find (λ pair. is_from_start key_cmp (bound_map (λ key. key.now) from.entry) pair.0) self.now }
         ensures sound { AreSound self.now }
-        ensures small { IfOk result (λ at. at + 1 < 2 ^ 64) }
     {
-        let key = key.as_slice();
-        self.stored.binary_search_by(|pair| pair.compared(key))
-    }
-
-    /// The place of the first pair at or above the key, or the end.
-    fn place_from(&self, key: &Bytes) -> usize
-        ensures { slice_get self.now result ≡ first_from key.now self.now }
-    {
-        match self.search(key) {
-            Ok(at) => at,
-            Err(at) => at,
-        }
-    }
-
-    /// The place of the first pair above the key, or the end.
-    fn place_after(&self, key: &Bytes) -> usize
-        ensures { slice_get self.now result ≡ first_after key.now self.now }
-    {
-        match self.search(key) {
-            Ok(at) => at + 1,
-            Err(at) => at,
-        }
-    }
-
-    /// A copy of the pair at this place, if there is one.
-    fn copied_at(&self, at: usize) -> Result<Option<(Bytes, Bytes)>, AllocError>
-        ensures { IfOk result (λ pair. pair ≡ slice_get self.now at) }
-    {
-        match self.stored.get(at) {
-            Some(pair) => Ok(Some(pair.copied()?)),
-            None => Ok(None),
-        }
+        let mut pairs = self.stored.range((from, Bound::Unbounded));
+        pairs.next()
     }
 
     /// A copy of the first pair at or above the key, if there is one.
     pub(crate) fn first_from(&self, key: &Bytes) -> Result<Option<(Bytes, Bytes)>, AllocError>
         ensures found { IfOk result (λ pair. pair ≡ first_from key.now self.now) }
     {
-        self.copied_at(self.place_from(key))
+        copied(self.first(Bound::Included(key)))
     }
 
     /// A copy of the first pair above the key, if there is one.
     pub(crate) fn first_after(&self, key: &Bytes) -> Result<Option<(Bytes, Bytes)>, AllocError>
         ensures found { IfOk result (λ pair. pair ≡ first_after key.now self.now) }
     {
-        self.copied_at(self.place_after(key))
-    }
-
-    /// A copy of the key's value, if the key is there.
-    fn copied_value(&self, at: usize) -> Result<Bytes, AllocError>
-        requires { at < length self.now }
-        ensures { IfOk result (λ value. Some value ≡ option_map (λ pair. pair.1) (slice_get self.now at)) }
-    {
-        self.stored[at].copied_value()
+        copied(self.first(Bound::Excluded(key)))
     }
 
     /// Puts the key's value into `into`, and answers whether the key is there.
@@ -112,12 +77,12 @@ impl SortedPairs {
         ensures untouched { result ≡ false → into.new.items ≡ into.old.items }
         ensures room { vec_capacity into.old ≤ vec_capacity into.new }
     {
-        match self.search(key) {
-            Ok(at) => {
-                copy_into(self.stored[at].value(), into);
+        match self.stored.get(key) {
+            Some(value) => {
+                copy_into(value.as_slice(), into);
                 true
             }
-            Err(_) => false,
+            None => false,
         }
     }
 
@@ -129,9 +94,9 @@ impl SortedPairs {
         ensures untouched { result ≡ false → into.new.items ≡ into.old.items }
         ensures room { vec_capacity into.old ≤ vec_capacity into.new }
     {
-        match self.stored.get(self.place_after(key)) {
-            Some(pair) => {
-                copy_into(pair.key(), into);
+        match self.first(Bound::Excluded(key)) {
+            Some((next, _)) => {
+                copy_into(next.as_slice(), into);
                 true
             }
             None => false,
@@ -146,13 +111,11 @@ impl SortedPairs {
         ensures err { OnErr result (self.new ≡ self.old) }
         ensures sound { AreSound self.new }
     {
-        match self.search(key) {
-            Ok(at) => Ok(Some(self.copied_value(at)?)),
-            Err(at) => {
-                self.stored.insert(at, Stored::new(key, value)?)?;
-                Ok(None)
-            }
+        if let Some(kept) = self.stored.get(key) {
+            return Ok(Some(kept.copied()?));
         }
+        self.stored.insert(key.copied()?, value.copied()?)?;
+        Ok(None)
     }
 
     /// Gives the key another value, and answers whether the key is there. A value that is as long takes no memory.
@@ -169,13 +132,52 @@ impl SortedPairs {
         ensures resized { OnErr result (is_as_long value.now (value_of key.now self.old) ≡ false) }
         ensures sound { AreSound self.new }
     {
-        match self.search(key) {
-            Ok(at) => {
-                self.stored[at].put_value(alloc, value)?;
+        match self.length_of(key) {
+            None => Ok(false),
+            Some(len) => {
+                if len == value.len() {
+                    self.overwrite(alloc, key, value);
+                } else {
+                    self.resize(key, value)?;
+                }
                 Ok(true)
             }
-            Err(_) => Ok(false),
         }
+    }
+
+    /// How long the key's value is.
+    fn length_of(&self, key: &Bytes) -> Option<usize>
+        ensures length { result ≡ option_map (λ value. length value) (value_of key.now self.now) }
+        ensures sound { AreSound self.now }
+    {
+        match self.stored.get(key) {
+            Some(value) => Some(value.len()),
+            None => None,
+        }
+    }
+
+    /// Gives the key another value that is as long.
+    fn overwrite(&mut self, alloc: Global, key: &Bytes, value: &Bytes)
+        requires there { option_map (λ kept. length kept) (value_of key.now self.old) ≡ Some (length value.now) }
+        requires fits { length value.now ≤ 1024 }
+        ensures put { self.new ≡ with_pair key.now value.now self.old }
+        ensures sound { AreSound self.new }
+    {
+        if let Some(kept) = self.stored.get_mut(key) {
+            fill(alloc, kept, value);
+        }
+    }
+
+    /// Gives the key another value.
+    fn resize(&mut self, key: &Bytes, value: &Bytes) -> Result<(), AllocError>
+        requires there { is_some (value_of key.now self.old) ≡ true }
+        requires fits { length value.now ≤ 1024 }
+        ensures ok { OnOk result (self.new ≡ with_pair key.now value.now self.old) }
+        ensures err { OnErr result (self.new ≡ self.old) }
+        ensures sound { AreSound self.new }
+    {
+        self.stored.insert(key.copied()?, value.copied()?)?;
+        Ok(())
     }
 
     /// Removes the key's pair, and answers whether it was there.
@@ -184,14 +186,28 @@ impl SortedPairs {
         ensures removed { self.new ≡ (if result then without_key key.now self.old else self.old) }
         ensures sound { AreSound self.new }
     {
-        match self.search(key) {
-            Ok(at) => {
-                let _ = self.stored.remove(at);
-                true
-            }
-            Err(_) => false,
-        }
+        self.stored.remove(key).is_some()
     }
+}
+
+/// A copy of a pair that was found.
+fn copied(found: Option<(&Bytes, &Bytes)>) -> Result<Option<(Bytes, Bytes)>, AllocError>
+    ensures { IfOk result (λ copy. copy ≡ option_map deref_pair found.entry) }
+{
+    match found {
+        Some((key, value)) => Ok(Some((key.copied()?, value.copied()?))),
+        None => Ok(None),
+    }
+}
+
+/// Puts another value in place of this one, which is as long.
+fn fill(alloc: Global, kept: &mut Bytes, value: &Bytes)
+    requires { length kept.old ≡ length value.now }
+    ensures { kept.new ≡ value.now }
+{
+    let mut bytes = mem::replace(kept, Bytes::new(alloc)).into_vec();
+    bytes.copy_from_slice(value.as_slice());
+    *kept = Bytes::from_vec(bytes);
 }
 
 /// Puts these bytes in place of those that are there.

@@ -4,6 +4,7 @@
 
 mod listed;
 mod lock;
+mod order;
 mod reply;
 mod stmt;
 mod value;

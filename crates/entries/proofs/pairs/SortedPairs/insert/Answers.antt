@@ -1,29 +1,29 @@
-use Rattle.std.proofs.Common.{◌≡◌, List, subst, sym, ap, ◌∙◌}
-use Rattle.std.specs.Prelude.{insert}
+use Rattle.std.proofs.Common.{◌≡◌, List, subst, sym, ap, ◌∙◌, Some}
 use Rattle.entries.specs.Pairs.{Pair, AreSound, with_pair}
-use Rattle.entries.specs.Places.{IsMissedAt}
-use Rattle.entries.proofs.Edits.{insert_gap, sound_with, value_stands}
+use Rattle.entries.proofs.Edits.{sound_with}
+use Rattle.entries.proofs.Kept.{got, put_copy}
 use Rattle.entries.proofs.pairs.SortedPairs.insert.Goals as goal
 
-pub invariant_of-self-in-Err : goal.invariant_of-self-in-Err
-invariant_of-self-in-Err c =
-    let missed = subst (λ (pairs : List Pair). IsMissedAt c.args.key.now pairs c.in-Err.at) (sym c.self.view_is) c.in-Err.ensures.place in
-    subst AreSound
-    (sym
-    (c.in_ok-insert-in-Err.ensures.items ∙ ap (λ (pair : Pair). insert c.self.inside.stored.items c.in-Err.at pair) c.in_ok-new-in-Err.ensures
-    ∙ insert_gap c.args.key.now c.args.value.now c.self.inside.stored.items c.in-Err.at missed.gap))
-    (sound_with c.args.key.now c.args.value.now c.self.inside.stored.items c.requires c.self.invariant)
+pub returns-in-Some-clause-kept : goal.returns-in-Some-clause-kept
+returns-in-Some-clause-kept c =
+    rw (← c.self.view_is)
+    (ap (λ bytes. Some bytes) c.in_ok-copied.ensures ∙ c.in-Some.ensures.value ∙ got c.args.key.now c.self.inside.stored.entries)
 
-pub returns-in_ok-copied_value-in-Ok-clause-kept : goal.returns-in_ok-copied_value-in-Ok-clause-kept
-returns-in_ok-copied_value-in-Ok-clause-kept c =
-    c.in_ok-copied_value-in-Ok.ensures ∙ sym (value_stands c.args.key.now c.args.self.now c.in-Ok.at c.in-Ok.ensures.place.stands)
+is_put : (c : goal.Joined-branch-5) → c.insert.new.self.entries ≡ with_pair c.args.key.now c.args.value.now c.self.inside.stored.entries
+is_put c =
+    put_copy c.args.key.now c.args.value.now c.in_ok-copied-2.field-0 c.in_ok-copied-3.field-0 c.self.inside.stored.entries c.insert.new.self.entries
+    c.in_ok-copied-2.ensures c.in_ok-copied-3.ensures c.in_ok-insert.ensures.entries
 
-pub returns-in_ok-insert-in-Err-clause-ok : goal.returns-in_ok-insert-in-Err-clause-ok
-returns-in_ok-insert-in-Err-clause-ok c =
-    let missed = subst (λ (pairs : List Pair). IsMissedAt c.args.key.now pairs c.in-Err.at) (sym c.self.view_is) c.in-Err.ensures.place in
-    subst (λ (pairs : List Pair). c.insert.new.self.items ≡ with_pair c.args.key.now c.args.value.now pairs) c.self.view_is
-    (c.in_ok-insert-in-Err.ensures.items ∙ ap (λ (pair : Pair). insert c.self.inside.stored.items c.in-Err.at pair) c.in_ok-new-in-Err.ensures
-    ∙ insert_gap c.args.key.now c.args.value.now c.self.inside.stored.items c.in-Err.at missed.gap)
+pub invariant_of-self-2 : goal.invariant_of-self-2
+invariant_of-self-2 c =
+    subst AreSound (sym (is_put c))
+    (sound_with c.args.key.now c.args.value.now c.self.inside.stored.entries c.requires c.self.invariant)
 
-pub returns-in_ok-insert-in-Err-clause-sound : goal.returns-in_ok-insert-in-Err-clause-sound
-returns-in_ok-insert-in-Err-clause-sound c = invariant_of-self-in-Err c
+pub returns-clause-kept : goal.returns-clause-kept
+returns-clause-kept c = rw (← c.self.view_is) (c.in_default.ensures.value ∙ got c.args.key.now c.self.inside.stored.entries)
+
+pub returns-clause-ok : goal.returns-clause-ok
+returns-clause-ok c = rw (← c.self.view_is) (is_put c)
+
+pub returns-clause-sound : goal.returns-clause-sound
+returns-clause-sound c = invariant_of-self-2 c

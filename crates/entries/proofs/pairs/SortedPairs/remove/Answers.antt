@@ -1,20 +1,24 @@
-use Rattle.std.proofs.Common.{◌≡◌, List, subst, sym, ◌∙◌}
+use Rattle.std.proofs.Common.{◌≡◌, List, subst, sym, ap, ◌∙◌}
+use Rattle.std.specs.Prelude.{is_some}
 use Rattle.entries.specs.Pairs.{Pair, AreSound, without_key}
-use Rattle.entries.specs.Places.{IsFoundAt}
-use Rattle.entries.proofs.Edits.{remove_stands, sound_without}
+use Rattle.entries.proofs.Edits.{sound_without}
+use Rattle.entries.proofs.Kept.{got, removed, removed_if}
 use Rattle.entries.proofs.pairs.SortedPairs.remove.Goals as goal
 
 pub invariant_of-self : goal.invariant_of-self
 invariant_of-self c =
-    let found = subst (λ (pairs : List Pair). IsFoundAt c.args.key.now pairs c.in-Ok.at) (sym c.self.view_is) c.in-Ok.ensures.place in
-    subst AreSound (sym (c.remove.ensures.items ∙ remove_stands c.args.key.now c.self.inside.stored.items c.in-Ok.at found.stands))
-    (sound_without c.args.key.now c.self.inside.stored.items c.self.invariant)
+    subst AreSound (sym (c.remove.ensures.entries ∙ removed c.args.key.now c.self.inside.stored.entries))
+    (sound_without c.args.key.now c.self.inside.stored.entries c.self.invariant)
 
-pub returns-in-Ok-clause-removed : goal.returns-in-Ok-clause-removed
-returns-in-Ok-clause-removed c =
-    let found = subst (λ (pairs : List Pair). IsFoundAt c.args.key.now pairs c.in-Ok.at) (sym c.self.view_is) c.in-Ok.ensures.place in
-    subst (λ (pairs : List Pair). c.remove.new.self.items ≡ without_key c.args.key.now pairs) c.self.view_is
-    (c.remove.ensures.items ∙ remove_stands c.args.key.now c.self.inside.stored.items c.in-Ok.at found.stands)
+pub returns-clause-found : goal.returns-clause-found
+returns-clause-found c =
+    rw (← c.self.view_is) (c.is_some.ensures ∙ ap is_some (c.remove.ensures.value ∙ got c.args.key.now c.self.inside.stored.entries))
 
-pub returns-in-Ok-clause-sound : goal.returns-in-Ok-clause-sound
-returns-in-Ok-clause-sound c = invariant_of-self c
+pub returns-clause-removed : goal.returns-clause-removed
+returns-clause-removed c =
+    rw (← c.self.view_is, c.is_some.ensures)
+    (removed_if c.args.key.now c.self.inside.stored.entries c.remove.new.self.entries c.remove.result c.remove.ensures.entries
+    c.remove.ensures.unchanged)
+
+pub returns-clause-sound : goal.returns-clause-sound
+returns-clause-sound c = invariant_of-self c
