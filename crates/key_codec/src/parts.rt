@@ -24,7 +24,7 @@ pub fn key_len(kind: Kind) -> usize
 pub fn put_u64(number: u64, out: &mut Vec<u8>) -> Result<(), AllocError>
     ensures ok { OnOk result (out.new.items ≡ out.old.items ++ u64_bytes number) }
 {
-    out.extend_from_slice(&number.to_be_bytes())
+    big_endian::put_u64(number, out)
 }
 
 /// The number that these bytes are, if they are eight.
@@ -33,9 +33,10 @@ pub fn u64_of(bytes: &[u8]) -> Option<u64>
     ensures found { IfSome result (λ n. bytes.now ≡ u64_bytes n) }
     ensures none { IfNone result ((n : ℕ) → bytes.now ≡ u64_bytes n → ⊥) }
 {
-    match bytes {
-        [a, b, c, d, e, f, g, h] => Some(u64::from_be_bytes([*a, *b, *c, *d, *e, *f, *g, *h])),
-        _ => None,
+    if bytes.len() == 8 {
+        Some(big_endian::u64_at(bytes, 0))
+    } else {
+        None
     }
 }
 

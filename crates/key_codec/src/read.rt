@@ -1,5 +1,5 @@
 //! Reads a key back as its value. Nothing is handed out where bytes are refused.
-//! A number is read by std's `from_be_bytes`, which accepts all eight bytes.
+//! A number is read by `big_endian`, which accepts all eight bytes.
 
 ghost use Rattle.std.specs.Prelude.{◌≡◌, ℕ, ℤ, List, ◌<◌, ◌≤◌, ◌∷◌, [], ◌++◌, length, IfOk, Err, IfSome, IfNone};
 ghost use Rattle.key_codec.specs.Keys.{IsOfKind, Has64Bits, HasKey, key_code, padded, raised};

@@ -1,5 +1,5 @@
 //! What a mini-transaction may do with pages, as a trait.
-//! Only `ListedPages` meets it; the code above is generic over it.
+//! `ListedPages` meets it over pages in a list, `mini_txn` over the buffer pool and the redo log; the code above is generic over it.
 
 ghost use Rattle.std.specs.Prelude.{◌≡◌, ℕ, ◌+◌, ◌<◌, ◌≤◌, length, IsTrue, IsOk, IfOk, OnOk, OnErr, Err, Ok};
 ghost use Rattle.std.specs.Io.BufRead.{Rests};

@@ -6,6 +6,7 @@ ghost use Rattle.page_format.specs.Words.{number_of, right_of, low_of, high_of, 
 ghost use Rattle.page_format.specs.Shape.{HasTreeFields};
 
 use crate::edits::{clear, write_over};
+use big_endian::u32_bytes;
 
 pub fn set_number(bytes: &mut [u8], number: u32)
     requires size { length bytes.old ≡ 4096 }
@@ -16,7 +17,7 @@ pub fn set_number(bytes: &mut [u8], number: u32)
     ensures front { take 8 bytes.new ≡ take 8 bytes.old }
     ensures back { drop 12 bytes.new ≡ drop 12 bytes.old }
 {
-    write_over(bytes, 8, &number.to_be_bytes());
+    write_over(bytes, 8, &u32_bytes(number));
 }
 
 pub fn set_right(bytes: &mut [u8], number: u32)
@@ -28,7 +29,7 @@ pub fn set_right(bytes: &mut [u8], number: u32)
     ensures front { take 28 bytes.new ≡ take 28 bytes.old }
     ensures back { drop 32 bytes.new ≡ drop 32 bytes.old }
 {
-    write_over(bytes, 28, &number.to_be_bytes());
+    write_over(bytes, 28, &u32_bytes(number));
 }
 
 pub fn set_low(bytes: &mut [u8], key: &[u8])

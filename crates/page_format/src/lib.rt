@@ -12,6 +12,7 @@ mod records;
 mod shape;
 mod split;
 
+pub use numbers::{read_u16, read_u32, read_u64};
 pub use page::Page;
 pub use read::PageBad;
 pub use records::Found;

@@ -2,7 +2,9 @@
 //! Nothing here knows what a page is.
 
 ghost use Rattle.std.specs.Prelude.{◌≡◌, ◌+◌, ◌≤◌, length, drop};
-ghost use Rattle.page_format.specs.Words.{u16_at, u32_at, u64_at};
+ghost use Rattle.page_format.specs.Words as words;
+
+use big_endian::{u16_at, u32_at, u64_at};
 
 /// The bytes from a place on.
 pub fn behind(bytes: &[u8], at: usize) -> &[u8]
@@ -13,31 +15,29 @@ pub fn behind(bytes: &[u8], at: usize) -> &[u8]
     bytes.split_at(at).1
 }
 
+/// The number of two bytes at a place.
 #[tactic(auto, unfolding(crate::specs::Words::u16_at))]
 pub fn read_u16(bytes: &[u8], at: usize) -> u16
     requires { at + 2 ≤ length bytes.now }
-    ensures { result ≡ u16_at at bytes.now }
+    ensures { result ≡ words.u16_at at bytes.now }
 {
-    let field = &bytes[at..at + 2];
-    u16::from_be_bytes([field[0], field[1]])
+    u16_at(bytes, at)
 }
 
+/// The number of four bytes at a place.
 #[tactic(auto, unfolding(crate::specs::Words::u32_at))]
 pub fn read_u32(bytes: &[u8], at: usize) -> u32
     requires { at + 4 ≤ length bytes.now }
-    ensures { result ≡ u32_at at bytes.now }
+    ensures { result ≡ words.u32_at at bytes.now }
 {
-    let field = &bytes[at..at + 4];
-    u32::from_be_bytes([field[0], field[1], field[2], field[3]])
+    u32_at(bytes, at)
 }
 
+/// The number of eight bytes at a place.
 #[tactic(auto, unfolding(crate::specs::Words::u64_at))]
 pub fn read_u64(bytes: &[u8], at: usize) -> u64
     requires { at + 8 ≤ length bytes.now }
-    ensures { result ≡ u64_at at bytes.now }
+    ensures { result ≡ words.u64_at at bytes.now }
 {
-    let field = &bytes[at..at + 8];
-    u64::from_be_bytes([
-        field[0], field[1], field[2], field[3], field[4], field[5], field[6], field[7],
-    ])
+    u64_at(bytes, at)
 }

@@ -15,6 +15,7 @@ use crate::read::PageBad;
 use crate::records::{Found, find_record, insert_record, mark_record, remove_record};
 use crate::shape::{RECORDS, SIZE, has_fields, has_order, is_tree_kind};
 use crate::split::{keep_lower, keep_upper, key_of};
+use big_endian::u64_bytes;
 use std::marker::Model;
 use sum64::fnv;
 
@@ -74,7 +75,7 @@ impl Page {
         ensures readable { HasFields self.old → HasOrder self.old → IsPage (number_of self.old) self.new }
     {
         let sum = fnv(behind(&self.bytes, 8));
-        write_over(&mut self.bytes, 0, &sum.to_be_bytes());
+        write_over(&mut self.bytes, 0, &u64_bytes(sum));
     }
 
     /// How many bytes are left behind the records of a tree page.

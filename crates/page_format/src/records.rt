@@ -11,6 +11,7 @@ ghost use Rattle.page_format.specs.Shape.{HasTreeFields, AreRising};
 use crate::edits::{clear, insert_piece, remove_piece, write_over};
 use crate::numbers::{behind, read_u16};
 use crate::shape::RECORDS;
+use big_endian::u16_bytes;
 use std::cmp::Ordering;
 
 /// Where a key stands: at the record of that number, or before it.
@@ -36,7 +37,7 @@ fn set_count(bytes: &mut [u8], count: u16)
     requires { 208 ≤ length bytes.old }
     ensures { bytes.new ≡ take 22 bytes.old ++ (to_be_bytes w16 count ++ drop 24 bytes.old) }
 {
-    write_over(bytes, COUNT, &count.to_be_bytes());
+    write_over(bytes, COUNT, &u16_bytes(count));
 }
 
 /// Puts a record in.

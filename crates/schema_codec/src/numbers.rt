@@ -13,7 +13,7 @@ pub fn put_u16(number: u16, out: &mut Vec<u8>) -> Result<(), AllocError>
     ensures grows { vec_capacity out.old ≤ vec_capacity out.new }
     ensures full { OnErr result (vec_capacity out.old < vec_len out.old + 2) }
 {
-    out.extend_from_slice(&number.to_be_bytes())
+    big_endian::put_u16(number, out)
 }
 
 #[tactic(auto, unfolding(crate::specs::Numbers::u32_bytes))]
@@ -23,7 +23,7 @@ pub fn put_u32(number: u32, out: &mut Vec<u8>) -> Result<(), AllocError>
     ensures grows { vec_capacity out.old ≤ vec_capacity out.new }
     ensures full { OnErr result (vec_capacity out.old < vec_len out.old + 4) }
 {
-    out.extend_from_slice(&number.to_be_bytes())
+    big_endian::put_u32(number, out)
 }
 
 #[tactic(auto, unfolding(crate::specs::Numbers::u64_bytes))]
@@ -33,7 +33,7 @@ pub fn put_u64(number: u64, out: &mut Vec<u8>) -> Result<(), AllocError>
     ensures grows { vec_capacity out.old ≤ vec_capacity out.new }
     ensures full { OnErr result (vec_capacity out.old < vec_len out.old + 8) }
 {
-    out.extend_from_slice(&number.to_be_bytes())
+    big_endian::put_u64(number, out)
 }
 
 /// Puts bytes at the end of a vector that has room for them. A vector asks for memory only past its capacity, so the
@@ -57,7 +57,7 @@ pub fn put_u16_reserved(number: u16, out: &mut Vec<u8>)
     ensures len { vec_len out.new ≡ vec_len out.old + 2 }
     ensures grows { vec_capacity out.old ≤ vec_capacity out.new }
 {
-    extend_reserved(&number.to_be_bytes(), out);
+    extend_reserved(&big_endian::u16_bytes(number), out);
 }
 
 #[tactic(auto, unfolding(crate::specs::Numbers::u64_bytes))]
@@ -67,5 +67,5 @@ pub fn put_u64_reserved(number: u64, out: &mut Vec<u8>)
     ensures len { vec_len out.new ≡ vec_len out.old + 8 }
     ensures grows { vec_capacity out.old ≤ vec_capacity out.new }
 {
-    extend_reserved(&number.to_be_bytes(), out);
+    extend_reserved(&big_endian::u64_bytes(number), out);
 }

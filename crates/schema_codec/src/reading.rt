@@ -25,7 +25,7 @@ pub fn u16_of(bytes: &[u8]) -> Result<(u16, &[u8]), Stop>
         return Err(Stop::Malformed);
     }
     let (front, rest) = bytes.split_at(2);
-    Ok((u16::from_be_bytes([front[0], front[1]]), rest))
+    Ok((big_endian::u16_at(front, 0), rest))
 }
 
 #[tactic(auto, unfolding(crate::specs::Reading::u32_at))]
@@ -36,8 +36,7 @@ pub fn u32_of(bytes: &[u8]) -> Result<(u32, &[u8]), Stop>
         return Err(Stop::Malformed);
     }
     let (front, rest) = bytes.split_at(4);
-    let number = u32::from_be_bytes([front[0], front[1], front[2], front[3]]);
-    Ok((number, rest))
+    Ok((big_endian::u32_at(front, 0), rest))
 }
 
 #[tactic(auto, unfolding(crate::specs::Reading::u64_at))]
@@ -48,10 +47,7 @@ pub fn u64_of(bytes: &[u8]) -> Result<(u64, &[u8]), Stop>
         return Err(Stop::Malformed);
     }
     let (front, rest) = bytes.split_at(8);
-    let number = u64::from_be_bytes([
-        front[0], front[1], front[2], front[3], front[4], front[5], front[6], front[7],
-    ]);
-    Ok((number, rest))
+    Ok((big_endian::u64_at(front, 0), rest))
 }
 
 /// So many bytes.
