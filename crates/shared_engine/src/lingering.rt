@@ -25,7 +25,7 @@ pub(crate) fn step_of<D: Disk, R: Root, L: SharedLists>(
     ensures steps { StepsBy s result engine.old engine.new }
     ensures lingers { Lingers s (slice_index left.old s) engine.old → (result ≡ Progress.Went) × (engine.new ≡ engine.old) × (slice_index left.new s + 1 ≡ slice_index left.old s) }
     ensures goes { (Lingers s (slice_index left.old s) engine.old → ⊥) → Nears s result engine.old engine.new }
-    ensures begins { owes_ack s engine.old ≡ false → owes_ack s engine.new ≡ true → s < SESSIONS → slice_index left.new s ≡ LONGEST }
+    ensures begins { owes_ack s engine.old ≡ false → owes_ack s engine.new ≡ true → s < SESSIONS → (0 < slice_index left.new s) × (slice_index left.new s ≤ LONGEST) }
     // What is left to a commit never grows.
     ensures bounded { owes_ack s engine.old ≡ true → slice_index left.new s ≤ slice_index left.old s }
 {
@@ -51,7 +51,7 @@ fn note<D: Disk, R: Root, L: SharedLists>(
     s: u32,
 )
     requires { IsJoined s engine.now }
-    ensures waits { owes_ack s engine.now ≡ true → s < SESSIONS → slice_index left.new s ≡ LONGEST }
+    ensures waits { owes_ack s engine.now ≡ true → s < SESSIONS → (0 < slice_index left.new s) × (slice_index left.new s ≤ LONGEST) }
     ensures rests { owes_ack s engine.now ≡ false → left.new ≡ left.old }
 {
     if engine.owes_ack(s) {

@@ -26,6 +26,10 @@ impl<D: Disk, R: Root, L: SharedLists> Turns for SharedEngine<D, R, L> {
         progress
     }
 
+    fn took(&mut self, microseconds: u64) {
+        self.left.hear(microseconds);
+    }
+
     fn leave(&mut self, s: u32) {
         self.engine.leave(s);
     }

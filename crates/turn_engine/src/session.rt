@@ -266,7 +266,7 @@ fn end<E: Turns, R: Wait + Timer>(rt: &R, gate: &Gate<E>, pass: &mut Pass<E>, le
 }
 
 /// Stays away from the turn, and counts how often it had to wait in succession: for 50 microseconds at first, and the longer the
-/// oftener, up to 1,600, so that many that wait leave the turn to those who don't, and none sleeps long behind what it waits for.
+/// oftener, up to 400, so that many that wait leave the turn to those who don't, and none sleeps long behind what it waits for.
 fn rest<R: Timer>(rt: &R, pause: Pause, waits: u32) -> u32 {
     match pause {
         Pause::No => 0,
@@ -275,7 +275,7 @@ fn rest<R: Timer>(rt: &R, pause: Pause, waits: u32) -> u32 {
             0
         }
         Pause::Long => {
-            thread::sleep(rt, Duration::from_micros(50 << waits.min(5)));
+            thread::sleep(rt, Duration::from_micros(50 << waits.min(3)));
             waits.saturating_add(1)
         }
     }

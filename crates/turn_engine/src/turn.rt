@@ -6,13 +6,14 @@ ghost use Rattle.inno_model.specs.declared.event.Event.TheVariants.{Started};
 ghost use Rattle.turn_board.specs.declared.Phase.TheVariants.{Idle, Busy, Leaving};
 ghost use Rattle.turn_board.specs.Boards.{phase_of};
 ghost use Rattle.turn_rule.specs.Steps.{HasTurn};
-ghost use Rattle.turn_engine.specs.Calls.{IsUnderWay, item_number, reply_of};
+ghost use Rattle.turn_engine.specs.Calls.{IsUnderWay, StepsBy, item_number, reply_of};
 ghost use Rattle.turn_engine.specs.Turns.{Rests, Went, StepWent, HasJoined, HasToWait, reply_in};
 
 use crate::turns::Turns;
 use crossbeam_utils::Backoff;
 use inno_types::{Bytes, Item, Reply};
 use std::sync::Wait;
+use std::time::Clock as Timer;
 use store_api::{NoMemory, Progress};
 use turn_rule::{Gate, Pass};
 
@@ -35,8 +36,8 @@ pub enum Stepped {
     GoesOn(Pause),
 }
 
-/// Waits for the turn, and takes the engine. After a first miss it pauses, after a second it sleeps until the turn is
-/// given up.
+/// Waits for the turn, and takes the engine. After a miss it pauses, at each further one for longer, and in the end it sleeps
+/// until the turn is given up.
 fn take_turn<E: Turns, R: Wait>(rt: &R, gate: &Gate<E>, pass: &mut Pass<E>, s: u32) -> E
     requires gate { pass.old.table_id ≡ gate.now }
     requires rests { Rests pass.old.me s }
@@ -47,11 +48,8 @@ fn take_turn<E: Turns, R: Wait>(rt: &R, gate: &Gate<E>, pass: &mut Pass<E>, s: u
     for _ in rt.forever() {
         match gate.try_take(pass, s) {
             Ok(engine) => return engine,
+            Err(found) if backoff.is_completed() => gate.wait(rt, found),
             Err(_) => backoff.snooze(),
-        }
-        match gate.try_take(pass, s) {
-            Ok(engine) => return engine,
-            Err(found) => gate.wait(rt, found),
         }
     }
     unreachable!()
@@ -84,7 +82,7 @@ pub fn start_turn<E: Turns, R: Wait>(
 }
 
 /// Makes a step of the session's item, or of its ending.
-pub fn step_turn<E: Turns, R: Wait>(
+pub fn step_turn<E: Turns, R: Wait + Timer>(
     rt: &R,
     gate: &Gate<E>,
     pass: &mut Pass<E>,
@@ -101,11 +99,32 @@ pub fn step_turn<E: Turns, R: Wait>(
     ensures went { StepWent s pass.old.me.0.mine.seen (phase_of pass.old.me.0.mine.seen s) (reply_in result) pass.new.me.0.mine.seen }
 {
     let mut engine = take_turn(rt, gate, pass, s);
-    let progress = engine.step(s, now);
+    let progress = timed_step(rt, &mut engine, s, now);
     let lingers = engine.lingers(s);
     *len = engine.len();
     gate.hand_back(pass, engine, *len);
     after(progress, lingers)
+}
+
+/// A step of the engine, which hears how long it took.
+fn timed_step<E: Turns, R: Timer>(rt: &R, engine: &mut E, s: u32, now: u64) -> Progress
+    requires joined { s < length (E.board engine.old).names }
+    requires under_way { IsUnderWay (phase_of (E.board engine.old) s) }
+    ensures { StepsBy s (E.board engine.old) (phase_of (E.board engine.old) s) (reply_of result) (E.board engine.new) }
+{
+    let began = microseconds(rt);
+    let progress = engine.step(s, now);
+    let ended = microseconds(rt);
+    engine.took(ended.saturating_sub(began));
+    progress
+}
+
+/// The time by the machine's own clock, or 0 where that can't be read.
+fn microseconds<R: Timer>(rt: &R) -> u64 {
+    match rt.monotonic() {
+        Ok(time) => u64::try_from(time.as_micros()).unwrap_or(u64::MAX),
+        Err(_) => 0,
+    }
 }
 
 /// What a step came to, by its answer. Where others or memory are wanting, the session stays away from the turn for long.

@@ -44,6 +44,10 @@ pub trait Turns: Recorded {
         requires idle { phase_of (Self.board self.old) s ≡ Idle }
         ensures { Makes s (Self.board self.old) (Self.board self.new) [] Leaving };
 
+    /// Hears how many microseconds the last step took.
+    fn took(&mut self, microseconds: u64)
+        ensures { Self.board self.new ≡ Self.board self.old };
+
     /// Whether the session waits for what others can bring about, so that they should come to their turns first.
     fn lingers(&self, s: u32) -> bool
         requires { s < length (Self.board self.now).names };
