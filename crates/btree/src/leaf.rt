@@ -8,9 +8,9 @@ ghost use Rattle.entries.specs.Calls.{HasKey};
 ghost use Rattle.law_flat_tree.specs.Pages.{leaf_pairs};
 ghost use Rattle.btree.specs.Walks.{IsReadableLeaf, HasRow, Meets, Begins};
 
-use crate::page::{COUNT, FIELD, LEVEL, first_place, is_laid_out, key_at, read_u16, record_at};
+use crate::page::{COUNT, FIELD, LEVEL, first_place, is_laid_out, key_at, record_at};
 use crate::tree::{Bound, Tree};
-use mtr::read_u32;
+use page_format::{read_u16, read_u32};
 use store_api::Visit;
 
 const RIGHT: usize = 28;

@@ -11,7 +11,7 @@ mod walking;
 
 pub use descent::{leaf_of, step_down};
 pub use leaf::{Spot, is_readable_leaf};
-pub use page::{Down, child_at, first_place, is_laid_out, key_at, read_u16};
+pub use page::{Down, child_at, first_place, is_laid_out, key_at};
 pub use reading::{following, next_key, seek};
 pub use tree::{Bound, Tree};
 pub use walking::{find_first, read_row};

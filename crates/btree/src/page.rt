@@ -11,6 +11,8 @@ ghost use Rattle.btree.specs.Descents.{IsReadable, Leads};
 ghost use Rattle.btree.specs.Places.{passes, record_passes, StartsAt};
 
 use crate::tree::{Bound, Tree};
+use big_endian::u32_at;
+use page_format::read_u16;
 use store_api::Visit;
 
 const SIZE: usize = 4096;
@@ -29,15 +31,6 @@ pub const LEVEL: usize = 21;
 pub const COUNT: usize = 22;
 
 const WIDTH: usize = 32;
-
-#[tactic(auto, unfolding(page_format::specs::Words::u16_at))]
-pub fn read_u16(bytes: &[u8], at: usize) -> u16
-    requires { at + 2 ≤ length bytes.now }
-    ensures { result ≡ u16_at at bytes.now }
-{
-    let field = &bytes[at..at + 2];
-    u16::from_be_bytes([field[0], field[1]])
-}
 
 /// Whether the page's records are as long as those of the tree on the page's level, and lie within the page.
 pub fn is_laid_out(bytes: &[u8], tree: Tree) -> bool
@@ -127,7 +120,7 @@ pub fn child_at(bytes: &[u8], tree: Tree, i: u16) -> u32
     ensures { result ≡ child_of tree.key_len (slice_index_or (records_of bytes.now) i []) }
 {
     let (_, child) = record_at(bytes, i).split_at(usize::from(tree.key_len));
-    u32::from_be_bytes([child[0], child[1], child[2], child[3]])
+    u32_at(child, 0)
 }
 
 /// Where the page leads for a key. It is refused where it can't be read as a page of the tree.

@@ -9,6 +9,7 @@ ghost use Rattle.btree_change.specs.Calls.{Touches, Rewrites, IsLeafFor, IsLeafR
 
 use crate::edit::{COUNT, Edit, begin_of};
 use crate::place::{find_in, has_room};
+use big_endian::u16_bytes;
 use btree::Tree;
 use mtr::Mtr;
 use page_format::Found;
@@ -34,7 +35,7 @@ pub fn put_edit<M: Mtr>(m: &mut M, page: u32, edit: &Edit) -> Result<(), NoMemor
     ensures memory { OnErr result ((M.state m.old).spare < 4096) }
 {
     m.put(page, edit.at, edit.bytes())?;
-    m.put(page, COUNT as u16, &edit.count.to_be_bytes())
+    m.put(page, COUNT as u16, &u16_bytes(edit.count))
 }
 
 /// Adds a pair to the leaf of its key.

@@ -9,8 +9,8 @@ ghost use Rattle.btree.specs.Walks.{IsReadableLeaf};
 ghost use Rattle.btree_change.specs.Edits.{HasRoom, IsPlace};
 
 use crate::edit::{COUNT, WIDTH};
-use btree::{Bound, Tree, first_place, is_readable_leaf, key_at, read_u16};
-use page_format::Found;
+use btree::{Bound, Tree, first_place, is_readable_leaf, key_at};
+use page_format::{Found, read_u16};
 use std::cmp::Ordering;
 use store_api::Visit;
 

@@ -6,6 +6,7 @@ ghost use Rattle.page_format.specs.Words.{lsn_of};
 ghost use Rattle.buffer_pool.specs.Frames.{is_idle, is_changed, is_written, holds_page, fixed, unfixed, changed, placed};
 ghost use Rattle.buffer_pool.specs.declared.frame.Content.TheVariants.{Empty};
 
+use page_format::read_u64;
 use std::alloc::Global;
 use std::boxed::Box;
 use std::marker::Model;
@@ -152,13 +153,9 @@ impl Frame {
 }
 
 /// The LSN that stands on a page.
-#[tactic(auto, unfolding(page_format::specs::Words::u64_at))]
 fn lsn_in(bytes: &[u8]) -> u64
     requires { length bytes.now ≡ 4096 }
     ensures { result ≡ lsn_of bytes.now }
 {
-    let field = &bytes[12..20];
-    u64::from_be_bytes([
-        field[0], field[1], field[2], field[3], field[4], field[5], field[6], field[7],
-    ])
+    read_u64(bytes, 12)
 }

@@ -9,6 +9,7 @@ ghost use Rattle.catalog.specs.Makeable.{is_makeable};
 ghost use Rattle.catalog.specs.Creating.{leaf_head, key_bytes_at, record_len, MakesRoot, MakesRoots, Attempts, IsFreshReason, IsCreateReason};
 
 use crate::makeable::{bytes_of_key, bytes_of_row};
+use big_endian::{u16_bytes, u32_bytes};
 use inno_types::{Column, Kind, Schema};
 use mtr::Mtr;
 use space_map::take;
@@ -36,8 +37,8 @@ const INDEXES: u32 = 8;
 fn head_of_leaf(index: u32, record_len: u16) -> [u8; 16]
     ensures { result ≡ leaf_head index record_len }
 {
-    let [a, b, c, d] = index.to_be_bytes();
-    let [high, low] = record_len.to_be_bytes();
+    let [a, b, c, d] = u32_bytes(index);
+    let [high, low] = u16_bytes(record_len);
     [
         LEAF, 0, 0, 0, a, b, c, d, 0, 0, 0, 0, high, low, NO_FENCE, NO_FENCE,
     ]

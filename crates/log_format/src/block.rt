@@ -4,6 +4,7 @@
 ghost use Rattle.std.specs.Prelude.{◌≡◌, ◌+◌, ◌-◌, ◌*◌, ◌^◌, ◌<◌, ◌≤◌, ◌++◌, length, replicate, vec_len, vec_capacity};
 ghost use Rattle.log_format.specs.Block.{block_rest, block_bytes, AreBlocks, blocks_for};
 
+use big_endian::u64_bytes;
 use schema_codec::{extend_reserved, put_u16_reserved, put_u64_reserved};
 use std::alloc::AllocError;
 use sum64::fnv;
@@ -54,7 +55,7 @@ fn put_block(run: u64, number: u64, payload: &[u8], out: &mut Vec<u8>)
     extend_reserved(&[0; 8], out);
     put_rest(run, number, payload, out);
     let sum = fnv(&out[start + 8..]);
-    out[start..start + 8].copy_from_slice(&sum.to_be_bytes());
+    out[start..start + 8].copy_from_slice(&u64_bytes(sum));
 }
 
 /// Puts bytes at the end as blocks, numbered from a number on, and answers how many.

@@ -12,21 +12,12 @@ ghost use Rattle.log_format.specs.Scan.{HasPayloads, NoGroup, HoldsGroups, Holds
 use crate::block::BLOCK;
 use crate::group::{Group, Groups};
 use crate::reading::group_of;
+use big_endian::{u16_at, u64_at};
 use inno_types::Listed;
 use schema_codec::Stop;
 use std::alloc::{AllocError, Global};
 use store_api::NoMemory;
 use sum64::fnv;
-
-fn u64_in(bytes: &[u8], at: usize) -> u64
-    requires { at + 8 ≤ length bytes.now }
-    ensures { result ≡ from_be_bytes w64 (take 8 (drop at bytes.now)) }
-{
-    let part = &bytes[at..at + 8];
-    u64::from_be_bytes([
-        part[0], part[1], part[2], part[3], part[4], part[5], part[6], part[7],
-    ])
-}
 
 fn is_good(block: &[u8], run: u64, number: u64) -> bool
     requires { length block.now ≡ 512 }
@@ -34,7 +25,7 @@ fn is_good(block: &[u8], run: u64, number: u64) -> bool
         × (from_be_bytes w64 (take 8 (drop 8 block.now)) ≡ run)
         × (from_be_bytes w64 (take 8 (drop 16 block.now)) ≡ number) }
 {
-    u64_in(block, 0) == fnv(&block[8..]) && u64_in(block, 8) == run && u64_in(block, 16) == number
+    u64_at(block, 0) == fnv(&block[8..]) && u64_at(block, 8) == run && u64_at(block, 16) == number
 }
 
 #[tactic(auto, unfolding(crate::specs::Block::payload_of))]
@@ -43,7 +34,7 @@ fn payload(block: &[u8]) -> &[u8]
     ensures payload { result.now ≡ payload_of block.now }
     ensures small { length result.now ≤ 484 }
 {
-    let used = usize::from(u16::from_be_bytes([block[24], block[25]]));
+    let used = usize::from(u16_at(block, 24));
     let rest = &block[28..];
     if used < rest.len() {
         &rest[..used]

@@ -10,6 +10,7 @@ ghost use Rattle.log_format.specs.declared.group.Record.{Record as RecordValue};
 ghost use Rattle.log_format.specs.declared.group.Record.TheVariants.{RowPut, RowRemove, NewTable};
 
 use crate::group::{Group, Record, Records};
+use big_endian::u32_bytes;
 use inno_types::{Bytes, Schema, Value};
 use schema_codec::{put_name, put_schema, put_u16, put_u32, put_u64};
 use std::alloc::{AllocError, Global};
@@ -189,7 +190,7 @@ pub fn put_group_as(lsn: u64, records: &Records, out: &mut Vec<u8>) -> Result<()
     let Ok(len) = u32::try_from(out.len() - start - 4) else {
         return Err(AllocError);
     };
-    out[start..start + 4].copy_from_slice(&len.to_be_bytes());
+    out[start..start + 4].copy_from_slice(&u32_bytes(len));
     Ok(())
 }
 

@@ -9,4 +9,4 @@ mod store;
 
 pub use listed::ListedPages;
 pub use pages::Mtr;
-pub use reading::{capacity, read_u32, u32_on};
+pub use reading::{capacity, u32_on};

@@ -7,17 +7,8 @@ ghost use Rattle.mtr.specs.Seen.{visit, capacity_of};
 ghost use Rattle.mtr.specs.Calls.{Asks};
 
 use crate::pages::Mtr;
+use page_format::read_u32;
 use store_api::Visit;
-
-/// The number of 4 bytes at a place of bytes.
-#[tactic(auto, unfolding(page_format::specs::Words::u32_at))]
-pub fn read_u32(bytes: &[u8], at: usize) -> u32
-    requires { at + 4 ≤ length bytes.now }
-    ensures { result ≡ u32_at at bytes.now }
-{
-    let field = &bytes[at..at + 4];
-    u32::from_be_bytes([field[0], field[1], field[2], field[3]])
-}
 
 /// The number of 4 bytes at a place of a page.
 pub fn u32_on<M: Mtr>(m: &mut M, page: u32, at: usize) -> Result<u32, Visit>

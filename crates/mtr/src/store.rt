@@ -6,7 +6,7 @@ ghost use Rattle.page_format.specs.Words.{u32_at};
 ghost use Rattle.mtr.specs.Seen.{visit, IsWithin, with_bytes};
 ghost use Rattle.mtr.specs.Calls.{Looks, Makes, Puts, Commits, GivesUp};
 
-use crate::reading::read_u32;
+use page_format::read_u32;
 use std::alloc::{AllocError, Global};
 use store_api::NoMemory;
 

@@ -11,6 +11,7 @@ ghost use Rattle.row_codec.specs.Rows.{IsRecordOf, IsVersion, body_code, field_c
 ghost use Rattle.secondary.specs.Entries.{HasSecondary, place_of, front_at, entry_of};
 
 use crate::fields::{column_kind, field_at};
+use big_endian::u64_bytes;
 use inno_types::{Kind, Schema};
 use key_codec::u64_of;
 use std::alloc::AllocError;
@@ -38,7 +39,7 @@ fn put_number(body: &[u8], out: &mut Vec<u8>) -> Result<(), AllocError>
     ensures room { vec_capacity out.old ≤ vec_capacity out.new }
 {
     match u64_of(body) {
-        Some(bits) => out.extend_from_slice(&raised_bits(bits).to_be_bytes()),
+        Some(bits) => out.extend_from_slice(&u64_bytes(raised_bits(bits))),
         None => Ok(()),
     }
 }

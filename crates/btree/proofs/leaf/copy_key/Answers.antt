@@ -1,4 +1,4 @@
-use Rattle.std.proofs.Common.{◌≡◌, ◌<◌, ℕ, List, [], Some, length, take, drop, slice_index_or, refl, sym, ap, subst, ◌∙◌, arith}
+use Rattle.std.proofs.Common.{◌≡◌, ◌<◌, [], length, take, drop, slice_index_or, refl, sym, subst, ◌∙◌, arith}
 use Rattle.entries.specs.Calls.{HasKey}
 use Rattle.page_format.specs.Words.{count_of, record_len_of, records_of}
 use Rattle.page_format.proofs.Pieces.{length-pieces}
