@@ -4,3 +4,4 @@ mod Splitting
 mod Leaving
 mod Openings
 mod Concluding
+pub mod SetUp

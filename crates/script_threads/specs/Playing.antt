@@ -1,9 +1,12 @@
 -- What sessions have made of a script, by their own entries, and what the threads that play them answer for.
-use Rattle.std.specs.Prelude.{◌≡◌, ℕ, ◌+◌, false, List, [], ◌∷◌, ◌++◌, None}
+use Rattle.std.specs.Prelude.{◌≡◌, ℕ, ◌+◌, ◌<◌, false, List, [], ◌∷◌, ◌++◌, length, None}
 use Rattle.std.specs.List.{AllByRecursion}
 use Rattle.atomic_table.specs.Seated.{TableId}
 use Rattle.inno_types.specs.declared.reply.Item.{Item}
+use Rattle.inno_model.specs.declared.event.Event.{Event}
 use Rattle.inno_model.specs.Past.{under_way}
+use Rattle.inno_model.specs.Recorded.{Extends}
+use Rattle.turn_board.specs.Boards.{calls_of}
 use Rattle.inno_model.specs.Text.{items}
 use Rattle.script.specs.declared.script.Script.{Script}
 use Rattle.script.specs.declared.script.ScriptItem.{ScriptItem}
@@ -37,6 +40,13 @@ pub record IsAll (script : Script) (first : Sitting) (receipts : List Sitting) :
   pub named : first.seen.names ≡ script.names
   pub kept : first.lost ≡ false
   pub whole : AllByRecursion (IsWhole script.items) receipts
+
+-- The first session's calls were over while no other session had made one, and it has made none since.
+pub record HasSetUp (first : Sitting) : Type 0 where
+  pub before : List Event
+  pub seen : Extends before first.seen.past
+  pub over : own first ≡ calls_of first.number before
+  pub alone : (x : ℕ) → 0 < x → x < length first.seen.names → calls_of x before ≡ []
 
 -- the receipt of a session of this number, which has played the script in this hall
 abbrev pub IsPlayed : TableId → List ScriptItem → ℕ → Sitting → Type 0

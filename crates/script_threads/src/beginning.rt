@@ -1,7 +1,9 @@
 //! How a script begins: the room that its threads need, and a session for each of its names.
 
-ghost use Rattle.std.specs.Prelude.{◌≡◌, ◌↔◌, ◌+◌, ◌≤◌, ◌++◌, ◌∷◌, [], true, length, map, IfOk, IfSome, IsTrue, take, vec_capacity, vec_len};
+ghost use Rattle.std.specs.Prelude.{◌≡◌, ◌↔◌, ◌+◌, ◌<◌, ◌≤◌, ◌++◌, ◌∷◌, ℕ, [], true, length, map, IfOk, IfSome, IsTrue, take, vec_capacity, vec_len};
 ghost use Rattle.std.specs.List.{AllByRecursion};
+ghost use Rattle.inno_model.specs.Recorded.{Extends};
+ghost use Rattle.turn_board.specs.Boards.{calls_of};
 ghost use Rattle.turn_engine.specs.Sessions.{own, setup};
 ghost use Rattle.script_threads.specs.Playing.{IsNew, AreNumbered};
 
@@ -64,6 +66,9 @@ pub fn split_all<E: Turns, R: Wait>(
     requires few { length first.old.seen.names + length names.now ≤ 68 }
     requires room { (sessions.old.items ≡ []) × (length names.now ≤ vec_capacity sessions.old) }
     ensures same { (first.new.hall ≡ first.old.hall) × (first.new.number ≡ 0) × (own first.new ≡ own first.old) × (first.new.lost ≡ first.old.lost) }
+    ensures seen { Extends first.old.seen.past first.new.seen.past }
+    // Before they joined they had made no call.
+    ensures uncalled { (x : ℕ) → length first.old.seen.names ≤ x → x < length first.new.seen.names → calls_of x first.old.seen.past ≡ [] }
     ensures names { first.new.seen.names ≡ first.old.seen.names ++ take (length sessions.new.items) names.now }
     ensures all { IsTrue result → length sessions.new.items ≡ length names.now }
     ensures few { length sessions.new.items ≤ length names.now }

@@ -2,11 +2,13 @@
 
 ghost use Rattle.std.specs.Prelude.{◌≡◌, ◌≤◌, ◌<◌, ◌+◌, ◌∷◌, [], ℕ, length, map, true, All, IsTrue, OnOk, vec_capacity, vec_len};
 ghost use Rattle.std.specs.List.{AllByRecursion, list_any};
+ghost use Rattle.inno_model.specs.Recorded.{Extends};
+ghost use Rattle.sql_history.specs.Serial.{IsSetUp};
 ghost use Rattle.turn_board.specs.Boards.{calls_of, phase_of};
 ghost use Rattle.turn_board.specs.declared.Phase.TheVariants.{Idle};
 ghost use Rattle.turn_engine.specs.Sessions.{own, setup};
 ghost use Rattle.script_play.specs.Sessions.{AreNamed, HaveNames, FollowsScript, HasPlayed, AllRest};
-ghost use Rattle.script_threads.specs.Playing.{IsNew, HasBegunIn, HasPlayedIn, IsAll, AreNumbered};
+ghost use Rattle.script_threads.specs.Playing.{IsNew, HasBegunIn, HasPlayedIn, HasSetUp, IsAll, AreNumbered};
 
 use crate::beginning::{Rooms, other_names, split_all};
 use crate::parts::play_all;
@@ -43,6 +45,7 @@ where
     ensures follows { FollowsScript script.now.items (E.board result.0).past }
     ensures played { OnOk result.1 (HasPlayed script.now (E.board result.0).names (E.board result.0).past) }
     ensures rests { OnOk result.1 (AllRest (E.board result.0).past) }
+    ensures set_up { IsSetUp (E.board result.0).past }
 {
     let Some(others) = other_names(script.names.as_slice()) else {
         return (engine, Err(NoMemory));
@@ -83,6 +86,7 @@ where
     ensures follows { FollowsScript script.now.items (E.board result.0).past }
     ensures played { OnOk result.1 (HasPlayed script.now (E.board result.0).names (E.board result.0).past) }
     ensures rests { OnOk result.1 (AllRest (E.board result.0).past) }
+    ensures set_up { IsSetUp (E.board result.0).past }
 {
     let mut first = first;
     let Rooms {
@@ -160,10 +164,12 @@ fn conclude<E: Turns>(
     requires named { AreNamed script.now first.seen.names }
     requires each_named { HaveNames script.now }
     requires whole { IsTrue all → IsAll script.now first receipts.items }
+    requires set_up { HasSetUp first }
     ensures named { AreNamed script.now (E.board result.0).names }
     ensures follows { FollowsScript script.now.items (E.board result.0).past }
     ensures played { OnOk result.1 (HasPlayed script.now (E.board result.0).names (E.board result.0).past) }
     ensures rests { OnOk result.1 (AllRest (E.board result.0).past) }
+    ensures set_up { IsSetUp (E.board result.0).past }
 {
     let whole = all && !any_lost(&receipts);
     let mut engine = hall.gather(first, receipts);
@@ -181,6 +187,7 @@ fn let_leave<E: Turns>(engine: &mut E) -> bool
     requires idle { phase_of (E.board engine.old) 0 ≡ Idle }
     ensures names { (E.board engine.new).names ≡ (E.board engine.old).names }
     ensures calls { (x : ℕ) → calls_of x (E.board engine.new).past ≡ calls_of x (E.board engine.old).past }
+    ensures extends { Extends (E.board engine.old).past (E.board engine.new).past }
 {
     engine.leave(0);
     for _ in 0..u64::MAX {

@@ -111,6 +111,7 @@ impl Session {
         requires few { length self.old.seen.names < 68 }
         ensures same { (self.new.hall ≡ self.old.hall) × (self.new.number ≡ 0) × (own self.new ≡ own self.old) × (self.new.lost ≡ self.old.lost) }
         ensures ok { IfOk result (λ t. (t.hall ≡ self.old.hall) × (t.number ≡ length self.old.seen.names) × (own t ≡ []) × (t.lost ≡ false)) }
+        ensures together { IfOk result (λ t. t.seen ≡ self.new.seen) }
         ensures names { MatchResult result (λ t. self.new.seen.names ≡ self.old.seen.names ++ name.now ∷ []) (λ e. self.new.seen.names ≡ self.old.seen.names) }
         ensures seen { Extends self.old.seen.past self.new.seen.past }
     {

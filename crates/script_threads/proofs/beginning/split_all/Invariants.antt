@@ -1,5 +1,7 @@
-use Rattle.std.proofs.Common.{◌≡◌, ◌≤◌, ◌++◌, length, map, take, vec_capacity}
+use Rattle.std.proofs.Common.{◌≡◌, ℕ, ◌<◌, ◌≤◌, ◌++◌, [], length, map, take, vec_capacity}
 use Rattle.std.specs.List.{AllByRecursion}
+use Rattle.inno_model.specs.Recorded.{Extends}
+use Rattle.turn_board.specs.Boards.{calls_of}
 use Rattle.turn_engine.specs.Sessions.{Sitting, own}
 use Rattle.script_threads.specs.Playing.{IsNew, AreNumbered}
 use Rattle.script_threads.proofs.beginning.split_all.Given as goal
@@ -11,6 +13,8 @@ invariant-loop-name g l = record {
   own_stays : own l.first ≡ own l.initial.first;
   lost : l.first.lost ≡ l.initial.first.lost;
   names : l.first.seen.names ≡ l.initial.first.seen.names ++ take l.name-index l.names;
+  seen : Extends l.initial.first.seen.past l.first.seen.past;
+  uncalled : (x : ℕ) → length l.initial.first.seen.names ≤ x → x < length l.first.seen.names → calls_of x l.initial.first.seen.past ≡ [];
   count : length l.sessions.items ≡ l.name-index;
   within : l.name-index ≤ length l.names;
   new : AllByRecursion (IsNew l.hall) l.sessions.items;

@@ -1,6 +1,7 @@
 use Rattle.std.proofs.Common.{◌≡◌, false, List, sym, subst, ◌∙◌, arith}
 use Rattle.std.specs.List.{list_any}
 use Rattle.turn_engine.specs.Sessions.{Sitting}
+use Rattle.script_threads.proofs.SetUp.{set_up_left}
 use Rattle.script_threads.proofs.Concluding.{any_of, not_true, follows_left, rest_left, plays_left}
 use Rattle.script_threads.proofs.playing.conclude.Goals.{then-all, else-all}
 use Rattle.script_threads.proofs.playing.conclude.Goals as goal
@@ -20,6 +21,18 @@ returns-else-whole-clause-follows g c =
     follows_left c.args.hall c.args.script.now (g.E.Recorded.board c.gather-engine.result) (g.E.Recorded.board c.let_leave-gone.new.engine) c.args.first
     c.args.receipts.items c.requires.first.0 c.requires.first.1 c.requires.begun c.requires.numbered.0 c.requires.numbered.1 c.gather-engine.ensures.first
     c.gather-engine.ensures.receipts c.gather-engine.ensures.others c.let_leave-gone.ensures.calls
+
+pub returns-then-gone-clause-set_up : goal.returns-then-gone-clause-set_up
+returns-then-gone-clause-set_up g c =
+    set_up_left c.args.first (g.E.Recorded.board c.gather-engine.result).past (g.E.Recorded.board c.let_leave-gone.new.engine).past c.requires.first.0
+    c.requires.set_up c.requires.first.1.0.1.rests c.gather-engine.ensures.first.extends c.gather-engine.ensures.first.calls c.gather-engine.ensures.others
+    c.let_leave-gone.ensures.extends c.let_leave-gone.ensures.calls
+
+pub returns-else-whole-clause-set_up : goal.returns-else-whole-clause-set_up
+returns-else-whole-clause-set_up g c =
+    set_up_left c.args.first (g.E.Recorded.board c.gather-engine.result).past (g.E.Recorded.board c.let_leave-gone.new.engine).past c.requires.first.0
+    c.requires.set_up c.requires.first.1.0.1.rests c.gather-engine.ensures.first.extends c.gather-engine.ensures.first.calls c.gather-engine.ensures.others
+    c.let_leave-gone.ensures.extends c.let_leave-gone.ensures.calls
 
 pub returns-then-gone-clause-rests : goal.returns-then-gone-clause-rests
 returns-then-gone-clause-rests g c =

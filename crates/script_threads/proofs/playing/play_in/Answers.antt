@@ -1,7 +1,8 @@
-use Rattle.std.proofs.Common.{◌++◌, ◌∷◌, List, ℕ, length, take, sym, ap, subst, ◌∙◌}
+use Rattle.std.proofs.Common.{◌++◌, ◌∷◌, List, ℕ, length, take, sym, ap, subst, ◌∙◌, arith}
 use Rattle.std.specs.Prelude.{All}
 use Rattle.std.proofs.Math.Seq.{take-length}
 use Rattle.script.specs.declared.script.ScriptItem.{ScriptItem}
+use Rattle.turn_board.specs.Boards.{calls_of}
 use Rattle.turn_engine.specs.Sessions.{setup}
 use Rattle.script_threads.specs.Playing.{HasBegunIn, HasPlayedIn, IsWhole}
 use Rattle.script_threads.proofs.Openings.{named_so_far}
@@ -42,3 +43,23 @@ conclude-requires-else-joined-clause-named g c =
     (c.split_all-joined.ensures.names
     ∙ ap (λ (list : List (List ℕ)). list ++ take (length c.split_all-joined.new.sessions.items) c.args.others.now)
     (c.make_calls.ensures.names c.requires.first.1 ∙ c.requires.first.2))
+
+pub conclude-requires-clause-set_up : goal.conclude-requires-clause-set_up
+conclude-requires-clause-set_up g c = record {
+  before = c.make_calls.new.session.seen.past;
+  seen = c.split_all-joined.ensures.seen;
+  over = c.split_all-joined.ensures.same.2
+      ∙ ap (λ (x : ℕ). calls_of x c.make_calls.new.session.seen.past) (c.make_calls.ensures.same.1 ∙ (c.requires.first.1 ∙ sym c.split_all-joined.ensures.same.1));
+  alone = λ x above below. c.split_all-joined.ensures.uncalled x
+      (let one = ap length (c.make_calls.ensures.names c.requires.first.1 ∙ c.requires.first.2) in omega (arith, above, one)) below;
+}
+
+pub conclude-requires-else-joined-clause-set_up : goal.conclude-requires-else-joined-clause-set_up
+conclude-requires-else-joined-clause-set_up g c = record {
+  before = c.make_calls.new.session.seen.past;
+  seen = c.split_all-joined.ensures.seen;
+  over = c.split_all-joined.ensures.same.2
+      ∙ ap (λ (x : ℕ). calls_of x c.make_calls.new.session.seen.past) (c.make_calls.ensures.same.1 ∙ (c.requires.first.1 ∙ sym c.split_all-joined.ensures.same.1));
+  alone = λ x above below. c.split_all-joined.ensures.uncalled x
+      (let one = ap length (c.make_calls.ensures.names c.requires.first.1 ∙ c.requires.first.2) in omega (arith, above, one)) below;
+}

@@ -1,5 +1,6 @@
 use Rattle.std.proofs.Common.{sym, ◌∙◌}
 use Rattle.script_play.proofs.Places.{nobody_named}
+use Rattle.script_threads.proofs.SetUp.{alone_set_up}
 use Rattle.script_threads.proofs.Openings.{uncalled_named, uncalled_follows}
 use Rattle.script_threads.proofs.playing.play_on_threads.Goals as goal
 
@@ -22,3 +23,12 @@ returns-in-Err-clause-named g c =
 
 pub returns-in-Err-clause-follows : goal.returns-in-Err-clause-follows
 returns-in-Err-clause-follows g c = uncalled_follows c.args.script.now.items (g.E.Recorded.board c.in-Err.engine) c.in-Err.ensures.err.quiet
+
+pub returns-in_default-clause-set_up : goal.returns-in_default-clause-set_up
+returns-in_default-clause-set_up g c = alone_set_up (g.E.Recorded.board c.args.engine).past (λ x _. c.requires.no_calls x)
+
+pub returns-in_default-new-clause-set_up : goal.returns-in_default-new-clause-set_up
+returns-in_default-new-clause-set_up g c = alone_set_up (g.E.Recorded.board c.args.engine).past (λ x _. c.requires.no_calls x)
+
+pub returns-in-Err-clause-set_up : goal.returns-in-Err-clause-set_up
+returns-in-Err-clause-set_up g c = alone_set_up (g.E.Recorded.board c.in-Err.engine).past (λ x _. c.in-Err.ensures.err.quiet x)
