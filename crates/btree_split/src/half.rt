@@ -5,8 +5,9 @@ ghost use Rattle.page_format.specs.Changes.{IsLowerHalf, IsUpperHalf};
 ghost use Rattle.page_format.specs.Shape.{HasTreeFields};
 ghost use Rattle.page_format.specs.Words.{count_of, record_len_of};
 
-use btree::read_u16;
+use big_endian::{u16_bytes, u32_bytes};
 use btree_change::{begin_of, lay};
+use page_format::read_u16;
 
 const SIZE: usize = 4096;
 
@@ -44,11 +45,11 @@ pub fn lower_half(bytes: &[u8], i: u16, key: &[u8], number: u32) -> [u8; 4096]
     let at = begin_of(bytes, i);
     let end = begin_of(bytes, read_u16(bytes, COUNT));
     lay(&mut half, at, &zeros[..end - at]);
-    lay(&mut half, COUNT, &i.to_be_bytes());
+    lay(&mut half, COUNT, &u16_bytes(i));
     lay(&mut half, HIGH_LEN, &[key.len() as u8]);
     let behind = lay(&mut half, HIGH, key);
     lay(&mut half, behind, &zeros[..FENCE - key.len()]);
-    lay(&mut half, RIGHT, &number.to_be_bytes());
+    lay(&mut half, RIGHT, &u32_bytes(number));
     half
 }
 
@@ -67,10 +68,10 @@ pub fn upper_half(bytes: &[u8], i: u16, key: &[u8], number: u32) -> [u8; 4096]
     let at = begin_of(bytes, i);
     let moved = lay(&mut half, RECORDS, &bytes[at..begin_of(bytes, count)]);
     lay(&mut half, moved, &zeros[..at - RECORDS]);
-    lay(&mut half, COUNT, &(count - i).to_be_bytes());
+    lay(&mut half, COUNT, &u16_bytes(count - i));
     lay(&mut half, LOW_LEN, &[key.len() as u8]);
     let behind = lay(&mut half, LOW, key);
     lay(&mut half, behind, &zeros[..FENCE - key.len()]);
-    lay(&mut half, NUMBER, &number.to_be_bytes());
+    lay(&mut half, NUMBER, &u32_bytes(number));
     half
 }

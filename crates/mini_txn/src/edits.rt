@@ -8,6 +8,7 @@ ghost use Rattle.redo_log.specs.View.{room_of};
 ghost use Rattle.mini_txn.specs.Edits.{spare_of};
 ghost use Rattle.mini_txn.specs.Grouped.{IsGrouped};
 
+use big_endian::u32_bytes;
 use redo_log::Log;
 use schema_codec::{extend_reserved, put_u16_reserved};
 use std::alloc::Global;
@@ -45,7 +46,7 @@ fn put_fresh(page: u32, out: &mut Vec<u8>)
     ensures grows { vec_capacity out.old ≤ vec_capacity out.new }
 {
     extend_reserved(&[2], out);
-    extend_reserved(&page.to_be_bytes(), out);
+    extend_reserved(&u32_bytes(page), out);
 }
 
 /// Spells the record of bytes in a page at the end.
@@ -58,7 +59,7 @@ fn put_piece(page: u32, at: u16, bytes: &[u8], out: &mut Vec<u8>)
     ensures grows { vec_capacity out.old ≤ vec_capacity out.new }
 {
     extend_reserved(&[1], out);
-    extend_reserved(&page.to_be_bytes(), out);
+    extend_reserved(&u32_bytes(page), out);
     put_u16_reserved(at, out);
     put_u16_reserved(bytes.len() as u16, out);
     extend_reserved(bytes, out);

@@ -8,6 +8,7 @@ ghost use Rattle.mini_txn.specs.View.{IsResident, FixesPage, KeepsPages, TakesFr
 
 use crate::PAGE;
 use crate::dealt::{Dealt, Entry};
+use big_endian::{u32_bytes, u64_bytes};
 use buffer_pool::Pool;
 
 /// Fixes a page that nobody has fixed, if it is in the pool.
@@ -46,8 +47,8 @@ fn with_stamp(bytes: &[u8; PAGE], page: u32, lsn: u64) -> [u8; PAGE]
     ensures behind { drop 20 result ≡ drop 20 bytes.now }
     ensures size { length bytes.now ≡ 4096 }
 {
-    let p = page.to_be_bytes();
-    let l = lsn.to_be_bytes();
+    let p = u32_bytes(page);
+    let l = u64_bytes(lsn);
     let stamp = [
         p[0], p[1], p[2], p[3], l[0], l[1], l[2], l[3], l[4], l[5], l[6], l[7],
     ];

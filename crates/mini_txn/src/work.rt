@@ -20,7 +20,7 @@ use crate::dealt::Dealt;
 use crate::edits::Edits;
 use crate::placing::{keep_all, place_copies, release_all, take_frame};
 use buffer_pool::Pool;
-use mtr::read_u32;
+use page_format::read_u32;
 use redo_log::Log;
 use std::alloc::Global;
 use std::marker::Model;
