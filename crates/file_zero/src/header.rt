@@ -8,8 +8,9 @@ ghost use Rattle.file_zero.specs.Looks.{Looks, LeavesState};
 ghost use Rattle.file_zero.specs.Reading.{IsRead, SaysHeader};
 ghost use Rattle.file_zero.specs.Refused.{IsRefused, IsMissing};
 
-use crate::fields::{Header, PAGE, header_of, u64_in};
+use crate::fields::{Header, PAGE, header_of};
 use doublewrite::{good_number, newest_copy};
+use page_format::read_u64;
 use std::alloc::Global;
 use store_api::{Area, Disk, MountBad};
 use sum64::fnv;
@@ -45,7 +46,7 @@ fn missing(place: &[u8], len: usize) -> MountBad
     MountBad::Damaged {
         area: Area::Pages,
         place: 0,
-        stored: u64_in(place, 0),
+        stored: read_u64(place, 0),
         computed: fnv(&place[8..]),
     }
 }

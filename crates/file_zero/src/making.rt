@@ -10,6 +10,7 @@ ghost use Rattle.file_zero.specs.Looks.{Looks, LeavesState};
 ghost use Rattle.file_zero.specs.Making.{AreEmpty, AreNew, AreBeingMade, HasBytes, IsNotMade, IsPageAlone};
 
 use crate::fields::PAGE;
+use big_endian::u64_bytes;
 use store_api::{Area, Disk, MountBad};
 use sum64::fnv;
 
@@ -37,7 +38,7 @@ fn first_page() -> [u8; PAGE]
     let mut page = [0; PAGE];
     write_over(&mut page, 8, &FIELDS);
     let sum = fnv(&page[8..]);
-    write_over(&mut page, 0, &sum.to_be_bytes());
+    write_over(&mut page, 0, &u64_bytes(sum));
     page
 }
 

@@ -10,6 +10,6 @@ returns c = λ pages read.
     record {
       at = same.at;
       long = same.long;
-      says = c.u64_in.ensures ∙ same.says;
+      says = c.read_u64.ensures ∙ same.says;
       is = c.fnv.ensures ∙ ap fnv_of (take_rest c.args.place.now 8) ∙ same.is;
     }

@@ -10,7 +10,7 @@ returns-clause-good c =
     let tail : List ℕ = drop 72 (replicate 4096 0) in
     let is : old ≡ replicate 8 0 ++ (fields ++ tail) = c.write_over.ensures in
     let size : length old ≡ 4096 = omega (arith, c.write_over.auto.bytes, length-replicate {A = ℕ} 4096 0) in
-    let new : c.write_over-2.new.bytes ≡ to_be_bytes w64 c.fnv-sum.result ++ drop 8 old = rw c.to_be_bytes.ensures at c.write_over-2.ensures in
+    let new : c.write_over-2.new.bytes ≡ to_be_bytes w64 c.fnv-sum.result ++ drop 8 old = rw c.u64_bytes.ensures at c.write_over-2.ensures in
     first_good old c.write_over-2.new.bytes tail c.fnv-sum.result is size c.fnv-sum.ensures new
 
 pub returns-clause-header : goal.returns-clause-header
@@ -19,5 +19,5 @@ returns-clause-header c =
     let tail : List ℕ = drop 72 (replicate 4096 0) in
     let is : old ≡ replicate 8 0 ++ (fields ++ tail) = c.write_over.ensures in
     let size : length old ≡ 4096 = omega (arith, c.write_over.auto.bytes, length-replicate {A = ℕ} 4096 0) in
-    let new : c.write_over-2.new.bytes ≡ to_be_bytes w64 c.fnv-sum.result ++ drop 8 old = rw c.to_be_bytes.ensures at c.write_over-2.ensures in
+    let new : c.write_over-2.new.bytes ≡ to_be_bytes w64 c.fnv-sum.result ++ drop 8 old = rw c.u64_bytes.ensures at c.write_over-2.ensures in
     first_says old c.write_over-2.new.bytes tail c.fnv-sum.result is size c.fnv-sum.ensures new
