@@ -70,17 +70,20 @@ slot_none test (Some frame) never =
     let same : content_if frame.content (test (lsn_of frame.bytes)) ≡ frame.content = ap (content_if frame.content) (never (lsn_of frame.bytes)) ∙ content_none frame.content in
     ap (λ (content : Content). Some (marked content frame.fixes frame)) same
 
-slot_bare : (test : ℕ → Bool) (slot : Option FrameView) → option_map_or holds_page slot false ≡ false → option_map (cleaned test) slot ≡ slot
+slot_bare : (test : ℕ → Bool) (slot : Option FrameView) → option_map_or holds_page slot false ≡ false
+    → option_map (cleaned test) slot ≡ slot
 slot_bare test None bare = refl
 slot_bare test (Some frame) bare =
     ap (λ (content : Content). Some (marked content frame.fixes frame)) (content_unchanged frame.content (test (lsn_of frame.bytes)) (bare_unchanged frame.content bare))
 
-slot_twice : (a b : ℕ → Bool) (slot : Option FrameView) → option_map (cleaned b) (option_map (cleaned a) slot) ≡ option_map (cleaned (λ lsn. b lsn || a lsn)) slot
+slot_twice : (a b : ℕ → Bool) (slot : Option FrameView)
+    → option_map (cleaned b) (option_map (cleaned a) slot) ≡ option_map (cleaned (λ lsn. b lsn || a lsn)) slot
 slot_twice a b None = refl
 slot_twice a b (Some frame) =
     ap (λ (content : Content). Some (marked content frame.fixes frame)) (content_twice frame.content (a (lsn_of frame.bytes)) (b (lsn_of frame.bytes)))
 
-slot_here : (test : Bool) (lsn : ℕ) (slot : Option FrameView) → test ≡ true → option_map (placed lsn) slot ≡ option_map (cleaned (λ at. test && at == lsn)) slot
+slot_here : (test : Bool) (lsn : ℕ) (slot : Option FrameView) → test ≡ true
+    → option_map (placed lsn) slot ≡ option_map (cleaned (λ at. test && at == lsn)) slot
 slot_here test lsn None is = refl
 slot_here test lsn (Some frame) is =
     ap (λ (b : Bool). Some (marked (content_if frame.content (b && lsn_of frame.bytes == lsn)) frame.fixes frame)) (sym is)
@@ -90,7 +93,8 @@ slot_here test lsn (Some frame) is =
 pub cleans_none : (batch : BatchView) (pool : PoolView) → Cleans batch 0 pool pool
 cleans_none batch pool = record { order = refl; slots = refl; frames = λ page. sym (slot_none (λ lsn. false) (slot_of pool page) (λ lsn. refl)) }
 
-pub cleans_more : (batch : BatchView) (k : ℕ) (a b c : PoolView) → Cleans batch k a b → CleansOne (page_at batch k) b c → Cleans batch (suc k) a c
+pub cleans_more : (batch : BatchView) (k : ℕ) (a b c : PoolView) → Cleans batch k a b → CleansOne (page_at batch k) b c
+    → Cleans batch (suc k) a c
 cleans_more batch k a b c first next = record {
   order = next.order ∙ first.order;
   slots = next.slots ∙ first.slots;
@@ -157,7 +161,8 @@ slot_fixes : (test : ℕ → Bool) (slot : Option FrameView)
 slot_fixes test None = refl
 slot_fixes test (Some frame) = refl
 
-slot_pooled : (test : ℕ → Bool) (slot : Option FrameView) → option_map_or holds_page (option_map (cleaned test) slot) false ≡ option_map_or holds_page slot false
+slot_pooled : (test : ℕ → Bool) (slot : Option FrameView)
+    → option_map_or holds_page (option_map (cleaned test) slot) false ≡ option_map_or holds_page slot false
 slot_pooled test None = refl
 slot_pooled test (Some frame) = page_still frame.content (test (lsn_of frame.bytes))
 
@@ -198,7 +203,8 @@ settled_same None old new settles = same_none old new settles
 settled_same (Some batch) old new settles = same_by (is_among batch batch.count) old new settles
 
 -- a page is changed once a batch is in its place exactly where it waited
-pub waits_as_before : (staged : StagedView) (old new : PoolView) (page : ℕ) → Cleans staged.batch staged.batch.count old new → is_dirty new page ≡ waits (Some staged) old page
+pub waits_as_before : (staged : StagedView) (old new : PoolView) (page : ℕ) → Cleans staged.batch staged.batch.count old new
+    → is_dirty new page ≡ waits (Some staged) old page
 waits_as_before staged old new page cleans =
     ap (λ (slot : Option FrameView). option_map_or (λ (frame : FrameView). is_changed frame.content) slot false) (cleans.frames page)
     ∙ slot_changed (is_among staged.batch staged.batch.count page) (slot_of old page)

@@ -18,7 +18,8 @@ count_at_most p q (suc n) up =
     let rest = count_at_most p q n up in
     omega (arith, here, rest)
 
-pub count_less : (p q : ℕ → Bool) (n k : ℕ) → k < n → p k ≡ true → q k ≡ false → ((i : ℕ) → q i ≡ true → p i ≡ true) → count_below q n < count_below p n
+pub count_less : (p q : ℕ → Bool) (n k : ℕ) → k < n → p k ≡ true → q k ≡ false → ((i : ℕ) → q i ≡ true → p i ≡ true)
+    → count_below q n < count_below p n
 count_less p q zero k within has has_not up = absurd (omega (arith, within))
 count_less p q (suc n) k within has has_not up = ⊎_elim
     (λ (before : k < n).

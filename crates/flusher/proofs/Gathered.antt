@@ -25,7 +25,8 @@ changed_page New is = cc
 changed_page Clean is = cc
 changed_page Dirty is = refl
 
-slot_dirty : (slot : Option FrameView) → option_map_or (λ (frame : FrameView). is_changed frame.content) slot false ≡ true → option_map_or holds_page slot false ≡ true
+slot_dirty : (slot : Option FrameView) → option_map_or (λ (frame : FrameView). is_changed frame.content) slot false ≡ true
+    → option_map_or holds_page slot false ≡ true
 slot_dirty None is = cc
 slot_dirty (Some frame) is = changed_page frame.content is
 
@@ -53,7 +54,8 @@ gathers_none pool batch none = record {
   none = λ is page in_page. absurd (omega (arith, in_page));
 }
 
-pub gathers_past : (page : ℕ) (pool : PoolView) (batch : BatchView) → Gathers page pool batch → is_dirty pool page ≡ false → Gathers (suc page) pool batch
+pub gathers_past : (page : ℕ) (pool : PoolView) (batch : BatchView) → Gathers page pool batch → is_dirty pool page ≡ false
+    → Gathers (suc page) pool batch
 gathers_past page pool batch so_far clean = record {
   below = λ k in_k. let low = so_far.below k in_k in omega (arith, low);
   dirty = so_far.dirty;
@@ -89,7 +91,8 @@ module _ (page : ℕ) (pool : PoolView) (old new : BatchView) (bytes : List ℕ)
   }
 
 -- the page isn't in the batch yet
-pub apart : (page : ℕ) (pool : PoolView) (batch : BatchView) → Gathers page pool batch → (k : ℕ) → k < batch.count → number_at batch k ≢ page
+pub apart : (page : ℕ) (pool : PoolView) (batch : BatchView) → Gathers page pool batch → (k : ℕ) → k < batch.count
+    → number_at batch k ≢ page
 apart page pool batch so_far k in_k same = let low = so_far.below k in_k in absurd (omega (arith, low, same))
 
 -- ---- what the batch brings
@@ -98,7 +101,8 @@ lsn_sealed : (page : ℕ) (old new : List ℕ) → IsSealed page old new → lsn
 unfolding u64_at
 lsn_sealed page old new is = ap (λ (l : List ℕ). from_be_bytes w64 (take 8 l)) is.behind
 
-among_at : (batch : BatchView) (n j page lsn : ℕ) → j < n → number_at batch j ≡ page → lsn ≡ lsn_of (page_at batch j) → is_among batch n page lsn ≡ true
+among_at : (batch : BatchView) (n j page lsn : ℕ) → j < n → number_at batch j ≡ page → lsn ≡ lsn_of (page_at batch j)
+    → is_among batch n page lsn ≡ true
 among_at batch zero j page lsn within number same = absurd (omega (arith, within))
 among_at batch (suc n) j page lsn within number same = ⊎_elim
     (λ (before : j < n).
@@ -138,7 +142,8 @@ fewer_wait upto pool staged gathers any =
     and_false false = refl
 
 -- the batch's pages are what all groups have left, if the pool's are
-pub newest_in : (upto : ℕ) (pool : PoolView) (batch : BatchView) (groups : List _) (base : ℕ → List ℕ) → IsBatch batch → Gathers upto pool batch
+pub newest_in : (upto : ℕ) (pool : PoolView) (batch : BatchView) (groups : List _) (base : ℕ → List ℕ) → IsBatch batch
+    → Gathers upto pool batch
     → AreNewest groups base pool → AreNewestIn groups base batch
 newest_in upto pool batch groups base is gathers newest = record {
   is_batch = is;

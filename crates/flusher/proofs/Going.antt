@@ -21,7 +21,8 @@ and_true true = refl
 and_true false = refl
 
 -- a page was placed
-pub placed_nears : (staged : StagedView) (new : Option StagedView) (old_pool new_pool : PoolView) → staged.placed < staged.batch.count → GoesOn staged new
+pub placed_nears : (staged : StagedView) (new : Option StagedView) (old_pool new_pool : PoolView) → staged.placed < staged.batch.count
+    → GoesOn staged new
     → Settles (finished (Some staged) new) old_pool new_pool → IsBelow (to_go new new_pool) (to_go (Some staged) old_pool)
 placed_nears staged None old_pool new_pool within goes cleans =
     let length_same : length new_pool.slots ≡ length old_pool.slots = cleans.slots in

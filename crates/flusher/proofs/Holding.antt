@@ -29,14 +29,16 @@ module _ (first : ℕ) (groups : List Group) (log : LogView) (c : Contents) (is 
   leaves image left honest = holds_prefix first groups log c is image left honest
 
 -- the log was flushed further, and the pages are placed still
-still_placed : (first flushed later : ℕ) (groups : List Group) (base : ℕ → List ℕ) (b s : State) → flushed < first + length groups → flushed ≤ later
+still_placed : (first flushed later : ℕ) (groups : List Group) (base : ℕ → List ℕ) (b s : State) → flushed < first + length groups
+    → flushed ≤ later
     → IsPlaced first flushed groups base b → s.pages ≡ b.pages → s.double ≡ b.double → IsPlaced first later groups base s
 still_placed first flushed later groups base b s some upto placed pages double =
     let none = append-nil groups in
     subst (λ (gs : List Group). IsPlaced first later gs base s) none
     (outlast first flushed later groups [] base b s some upto placed (λ page unwritten. rw none unwritten.fresh) pages double)
 
-pub flush_holds : (first : ℕ) (groups : List Group) (base : ℕ → List ℕ) (log new : LogView) (b s : State) → HoldsRun first groups base None log b
+pub flush_holds : (first : ℕ) (groups : List Group) (base : ℕ → List ℕ) (log new : LogView) (b s : State)
+    → HoldsRun first groups base None log b
     → log.flushed ≤ new.flushed → Stands first groups new b.double b.pages s → HoldsRun first groups base None new s
 flush_holds first groups base log new b s held later stands = record {
   run = held.run;
@@ -44,7 +46,8 @@ flush_holds first groups base log new b s held later stands = record {
   pages = still_placed first log.flushed new.flushed groups base b s (some first groups log b.log held.logged) later held.pages stands.pages_is stands.double_is;
 }
 
-pub flush_keeps : (first : ℕ) (groups : List Group) (base : ℕ → List ℕ) (log : LogView) (b s : State) → HoldsRun first groups base None log b
+pub flush_keeps : (first : ℕ) (groups : List Group) (base : ℕ → List ℕ) (log : LogView) (b s : State)
+    → HoldsRun first groups base None log b
     → StandsMeanwhile log.run first groups log.flushed b.double b.pages s → KeepsSince log.run first log.flushed groups base s
 flush_keeps first groups base log b s held stands =
     let placed = still_placed first log.flushed log.flushed groups base b s (some first groups log b.log held.logged) (omega arith) held.pages stands.pages_is stands.double_is in
@@ -79,7 +82,8 @@ module _ (first : ℕ) (groups : List Group) (base : ℕ → List ℕ) (log : Lo
   may : MayBePlaced first log.flushed groups base batch b
   may = may_be_placed first log.flushed groups base held.run (some first groups log b.log held.logged) batch first_logged b held.pages
 
-  pub stage_holds : (s : State) → IsStagedHonestly b batch s → 0 < batch.count → HoldsRun first groups base (Some (record { batch = batch; placed = 0 })) log s
+  pub stage_holds : (s : State) → IsStagedHonestly b batch s → 0 < batch.count
+      → HoldsRun first groups base (Some (record { batch = batch; placed = 0 })) log s
   stage_holds s staged any = record {
     run = held.run;
     logged = subst (IsLogged first groups log) (sym staged.0.log_is) held.logged;
@@ -99,7 +103,8 @@ module _ (first : ℕ) (groups : List Group) (base : ℕ → List ℕ) (log : Lo
 
 -- ---- the pages in their places
 
-pub place_keeps : (first : ℕ) (groups : List Group) (base : ℕ → List ℕ) (log : LogView) (staged : StagedView) (x b s : State) → IsLogged first groups log b.log
+pub place_keeps : (first : ℕ) (groups : List Group) (base : ℕ → List ℕ) (log : LogView) (staged : StagedView) (x b s : State)
+    → IsLogged first groups log b.log
     → IsUnderWay first log.flushed groups base staged x b → KeepsPages x staged.batch s → Keeps log.run first log.flushed groups base s
 place_keeps first groups base log staged x b s logged way keeps =
     let same : IsLogged first groups log x.log = subst (IsLogged first groups log) way.stands.log_is logged in

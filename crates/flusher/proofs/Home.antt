@@ -27,7 +27,8 @@ reached_behind : (page lsn : ℕ) (front back : List Group) → AreReached page 
 reached_behind page lsn [] back reached = reached
 reached_behind page lsn (g ∷ front) back reached = reached_behind page lsn front back reached.1
 
-same_lsn : (first : ℕ) (groups : List Group) (base : ℕ → List ℕ) (page : ℕ) → AreGroups first groups → IsBase first (base page) → (j m : ℕ) → j ≤ m
+same_lsn : (first : ℕ) (groups : List Group) (base : ℕ → List ℕ) (page : ℕ) → AreGroups first groups → IsBase first (base page) → (j m : ℕ)
+    → j ≤ m
     → lsn_of (logical base groups m page) ≡ lsn_of (logical base groups j page) → logical base groups m page ≡ logical base groups j page
 same_lsn first groups base page are is j m upto lsn =
     let front : List Group = take j groups in
@@ -55,7 +56,8 @@ and_second false d is = refl
 abbrev IsAmong : BatchView → ℕ → ℕ → ℕ → Type 0
 IsAmong batch n page lsn = (k : ℕ) × (k < n) × (number_at batch k ≡ page) × (lsn ≡ lsn_of (page_at batch k))
 
-among_last : (batch : BatchView) (n page lsn : ℕ) → (is_among batch n page lsn ≡ true → IsAmong batch n page lsn) → is_among batch (suc n) page lsn ≡ true
+among_last : (batch : BatchView) (n page lsn : ℕ) → (is_among batch n page lsn ≡ true → IsAmong batch n page lsn)
+    → is_among batch (suc n) page lsn ≡ true
     → IsAmong batch (suc n) page lsn
 among_last batch n page lsn earlier is = go (eqb_tells (number_at batch n) page) (eqb_tells lsn (lsn_of (page_at batch n))) where
   next : is_among batch n page lsn ≡ true → IsAmong batch (suc n) page lsn

@@ -15,7 +15,8 @@ use Rattle.flusher.proofs.Holding.{some}
 abbrev with_log : Contents → State → State
 with_log log s = record { log = log; double = s.double; pages = s.pages }
 
-staged_still : (batch : BatchView) (x b s : State) → IsStaged x batch b → s.pages ≡ b.pages → s.double ≡ b.double → IsStaged (with_log s.log x) batch s
+staged_still : (batch : BatchView) (x b s : State) → IsStaged x batch b → s.pages ≡ b.pages → s.double ≡ b.double
+    → IsStaged (with_log s.log x) batch s
 staged_still batch x b s staged pages double = record {
   double = staged.double;
   double_is = double ∙ staged.double_is;
@@ -33,7 +34,8 @@ placed_still staged b s has pages =
 module _ (first : ℕ) (groups more : List Group) (base : ℕ → List ℕ) (log later : LogView) (b s : State) (few : log.flushed < first + length groups)
     (upto : log.flushed ≤ later.flushed) (fresh : (page : ℕ) → IsUnwritten base groups page → IsTrue (begins_fresh page (records_in (groups ++ more))))
     (pages : s.pages ≡ b.pages) (double : s.double ≡ b.double) where
-  pages_still : (staged : Option StagedView) → HoldsPages first log.flushed groups base staged b → HoldsPages first later.flushed (groups ++ more) base staged s
+  pages_still : (staged : Option StagedView) → HoldsPages first log.flushed groups base staged b
+      → HoldsPages first later.flushed (groups ++ more) base staged s
   pages_still None placed = outlast first log.flushed later.flushed groups more base b s few upto placed fresh pages double
   pages_still (Some staged) held =
       let x = held.0 in

@@ -70,7 +70,8 @@ module _ (first : ℕ) (groups : List Group) (base : ℕ → List ℕ) (log : Lo
       (λ x b s known run p. stage_holds first groups base log batch x run newest logged s p any)
       stands
 
-  pub stage_crash : (run flushed : ℕ) → log.run ≡ run → flushed ≤ log.flushed → ((x : State) → Now (IsReadyAs x) mid → Meanwhile (KeepsPages x batch) mid new)
+  pub stage_crash : (run flushed : ℕ) → log.run ≡ run → flushed ≤ log.flushed
+      → ((x : State) → Now (IsReadyAs x) mid → Meanwhile (KeepsPages x batch) mid new)
       → Meanwhile (KeepsSince run first flushed groups base) mid new
   stage_crash run flushed same later crash =
       meanwhile IsReadyAs (λ x. KeepsPages x batch) (KeepsSince run first flushed groups base)
@@ -126,7 +127,8 @@ module _ (first : ℕ) (groups : List Group) (base : ℕ → List ℕ) (staged :
     })
 
     -- the pages that became clean stand in their places
-    pub last_home : next ≡ record { batch = staged.batch; placed = staged.batch.count } → (old_pool new_pool : PoolView) → AreNewest groups base old_pool
+    pub last_home : next ≡ record { batch = staged.batch; placed = staged.batch.count } → (old_pool new_pool : PoolView)
+        → AreNewest groups base old_pool
         → Cleans staged.batch staged.batch.count old_pool new_pool → Now (AreHome old_pool new_pool) new
     last_home whole old_pool new_pool newest cleans = placed_by (AreHome old_pool new_pool) (λ x b s way p there page dirty clean.
         at_home first log.flushed groups base staged way.run (some first groups log b.log way.logged) x s way.way.may
@@ -146,7 +148,8 @@ module _ (first : ℕ) (groups : List Group) (base : ℕ → List ℕ) (staged :
 pub none_home : (pool : PoolView) (past : Past) → Now (AreHome pool pool) past
 none_home pool past s ticks is page dirty clean = let wrong : true ≡ false = sym dirty ∙ clean in absurd cc
 
-pub all_placed : (more : Bool) (old placed count : ℕ) → more ≡ false → (IsTrue more ↔ (placed < count)) → placed ≡ old + 1 → old < count → placed ≡ count
+pub all_placed : (more : Bool) (old placed count : ℕ) → more ≡ false → (IsTrue more ↔ (placed < count)) → placed ≡ old + 1 → old < count
+    → placed ≡ count
 all_placed more old placed count none is next within = ⊎_elim
     (λ (below : placed < count). let wrong : IsTrue more = is.1 below in absurd (cc))
     (λ (from : count ≤ placed). omega (arith, from, next, within))

@@ -75,16 +75,19 @@ impl Flusher {
         ensures in_place { Now (AreInPlace self.old) (D.past disk.old) → Now (AreInPlace (whole_or self.old self.new)) (D.past disk.new) }
 
         // A page that became clean stands in its place for good as it is in the pool.
-        ensures home { (first : ℕ) (groups : List GroupValue) (base : ℕ → List ℕ) → AreNewest groups base pool.old → Now IsReady (D.past disk.old)
+        ensures home { (first : ℕ) (groups : List GroupValue) (base : ℕ → List ℕ) → AreNewest groups base pool.old
+            → Now IsReady (D.past disk.old)
             → Now (HoldsRun first groups base self.old log.old) (D.past disk.old) → Now (AreHome pool.old pool.new) (D.past disk.new) }
 
         // As long as no call fails, the disk holds the run with its pages at their stages,
-        ensures stands { (first : ℕ) (groups : List GroupValue) (base : ℕ → List ℕ) → AreNewest groups base pool.old → Now IsReady (D.past disk.old)
+        ensures stands { (first : ℕ) (groups : List GroupValue) (base : ℕ → List ℕ) → AreNewest groups base pool.old
+            → Now IsReady (D.past disk.old)
             → Now (HoldsRun first groups base self.old log.old) (D.past disk.old)
             → OnOk result (Now (HoldsRun first groups base self.new log.new) (D.past disk.new)) }
 
         // and at each moment of the step what a crash leaves recovers: no page is placed before its log is flushed and its copy is synced.
-        ensures crash { (first : ℕ) (groups : List GroupValue) (base : ℕ → List ℕ) → AreNewest groups base pool.old → Now IsReady (D.past disk.old)
+        ensures crash { (first : ℕ) (groups : List GroupValue) (base : ℕ → List ℕ) → AreNewest groups base pool.old
+            → Now IsReady (D.past disk.old)
             → Now (HoldsRun first groups base self.old log.old) (D.past disk.old)
             → Meanwhile (KeepsSince log.old.run first log.old.flushed groups base) (D.past disk.old) (D.past disk.new) }
     {

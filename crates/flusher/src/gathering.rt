@@ -5,7 +5,7 @@ ghost use Rattle.std.specs.Prelude.{◌≡◌, ℕ, suc, ◌<◌, ◌≤◌, ◌
 ghost use Rattle.std.specs.Int.{w32, to_be_bytes};
 ghost use Rattle.store_api.specs.Areas.{PassesSum};
 ghost use Rattle.page_format.specs.Words.{lsn_of};
-ghost use Rattle.doublewrite.specs.Batches.{page_at, IsBatch};
+ghost use Rattle.doublewrite.specs.Batches.{page_at};
 ghost use Rattle.law_logged_pages.specs.Stages.{AreBytes};
 ghost use Rattle.flusher.specs.Gathering.{IsSealed, Gathers};
 

@@ -1,8 +1,7 @@
 //! What the pool is told once the pages of a batch are in their places.
 //! The flusher alone asks here.
 
-ghost use Rattle.std.specs.Prelude.{◌≡◌, ℕ, ◌<◌, length};
-ghost use Rattle.doublewrite.specs.Batches.{number_at, page_at};
+ghost use Rattle.std.specs.Prelude.{◌≡◌, length};
 ghost use Rattle.flusher.specs.Cleaning.{Cleans, CleansOne};
 
 use buffer_pool::Pool;

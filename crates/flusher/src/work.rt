@@ -1,21 +1,21 @@
 //! What a flusher has under way, and one step of it: pages are gathered and staged, or one page is placed.
 //! The flusher keeps it between its steps. The disk is called at most four times in a step.
 
-ghost use Rattle.std.specs.Prelude.{◌≡◌, ◌↔◌, ℕ, ◌+◌, ◌<◌, ◌≤◌, List, true, false, Some, None, Ok, Option, IfOk, IfSome, OnOk, OnErr};
+ghost use Rattle.std.specs.Prelude.{◌≡◌, ◌↔◌, ℕ, ◌<◌, ◌≤◌, List, true, false, Some, None, Ok, OnOk, OnErr};
 ghost use Rattle.inno_types.specs.Order.{IsBelow};
 ghost use Rattle.store_api.specs.Areas.{State, Contents};
 ghost use Rattle.store_api.specs.Causes.{HasCause};
 ghost use Rattle.store_api.specs.Past.{Now, Meanwhile};
 ghost use Rattle.page_format.specs.Words.{lsn_of};
 ghost use Rattle.log_format.specs.declared.group.Group.{Group as GroupValue};
+ghost use Rattle.redo_log.specs.View.{LogView};
 ghost use Rattle.redo_log.specs.Logged.{Stands, StandsMeanwhile};
 ghost use Rattle.buffer_pool.specs.Frames.{is_dirty};
-ghost use Rattle.doublewrite.specs.Batches.{StagedView, page_at};
+ghost use Rattle.doublewrite.specs.Batches.{page_at};
 ghost use Rattle.doublewrite.specs.Kept.{IsReady, IsReadyAs, IsStagedHonestly, KeepsPages};
+ghost use Rattle.law_logged_pages.specs.Keeping.{Keeps};
 ghost use Rattle.flusher.specs.Cleaning.{HasSamePages, Settles, finished, waits, to_go};
 ghost use Rattle.flusher.specs.Flushing.{AreNewest, AreNewestIn, HoldsRun, KeepsSince, AreHome, AreInPlace, whole_or};
-ghost use Rattle.redo_log.specs.View.{LogView};
-ghost use Rattle.law_logged_pages.specs.Keeping.{Keeps};
 ghost use Rattle.flusher.specs.Working.{IsWork, staged_of, IsAtRest, IsBegun, GoesOn, KeepsLog};
 ghost use Rattle.flusher.specs.declared.work.Worked.TheVariants.{Did, Idle};
 
@@ -70,8 +70,10 @@ fn copy_all<D: Disk>(batch: Batch, disk: &mut D) -> (Work, Result<Worked, Failed
     ensures ok { OnOk result.1 ((result.1 ≡ Ok Did) × (staged_of result.0 ≡ Some (record { batch = batch; placed = 0 }))) }
     ensures err { OnErr result.1 (staged_of result.0 ≡ None) }
     ensures cause { HasCause (D.past disk.old).faults (D.past disk.new).faults result.1 }
-    ensures stands { (before : State) → Now (IsReadyAs before) (D.past disk.old) → OnOk result.1 (Now (IsStagedHonestly before batch) (D.past disk.new)) }
-    ensures crash { (before : State) → Now (IsReadyAs before) (D.past disk.old) → Meanwhile (KeepsPages before batch) (D.past disk.old) (D.past disk.new) }
+    ensures stands { (before : State) → Now (IsReadyAs before) (D.past disk.old)
+        → OnOk result.1 (Now (IsStagedHonestly before batch) (D.past disk.new)) }
+    ensures crash { (before : State) → Now (IsReadyAs before) (D.past disk.old)
+        → Meanwhile (KeepsPages before batch) (D.past disk.old) (D.past disk.new) }
 {
     match stage(disk, batch) {
         Ok(staged) => (Work::Placing(staged), Ok(Worked::Did)),
@@ -87,10 +89,12 @@ fn begin<D: Disk>(batch: Batch, log: &mut Log, disk: &mut D) -> (Work, Result<Wo
     ensures err { OnErr result.1 (staged_of result.0 ≡ None) }
     ensures log { KeepsLog log.old log.new }
     ensures cause { HasCause (D.past disk.old).faults (D.past disk.new).faults result.1 }
-    ensures stands { (first : ℕ) (groups : List GroupValue) (base : ℕ → List ℕ) → AreNewestIn groups base batch → Now IsReady (D.past disk.old)
+    ensures stands { (first : ℕ) (groups : List GroupValue) (base : ℕ → List ℕ) → AreNewestIn groups base batch
+        → Now IsReady (D.past disk.old)
         → Now (HoldsRun first groups base None log.old) (D.past disk.old)
         → OnOk result.1 (Now (HoldsRun first groups base (staged_of result.0) log.new) (D.past disk.new)) }
-    ensures crash { (first : ℕ) (groups : List GroupValue) (base : ℕ → List ℕ) → AreNewestIn groups base batch → Now IsReady (D.past disk.old)
+    ensures crash { (first : ℕ) (groups : List GroupValue) (base : ℕ → List ℕ) → AreNewestIn groups base batch
+        → Now IsReady (D.past disk.old)
         → Now (HoldsRun first groups base None log.old) (D.past disk.old)
         → Meanwhile (KeepsSince log.old.run first log.old.flushed groups base) (D.past disk.old) (D.past disk.new) }
 {
@@ -123,10 +127,12 @@ fn gather_and_begin<D: Disk>(
     ensures err { OnErr result.1 (staged_of result.0 ≡ None) }
     ensures log { KeepsLog log.old log.new }
     ensures cause { HasCause (D.past disk.old).faults (D.past disk.new).faults result.1 }
-    ensures stands { (first : ℕ) (groups : List GroupValue) (base : ℕ → List ℕ) → AreNewest groups base pool.now → Now IsReady (D.past disk.old)
+    ensures stands { (first : ℕ) (groups : List GroupValue) (base : ℕ → List ℕ) → AreNewest groups base pool.now
+        → Now IsReady (D.past disk.old)
         → Now (HoldsRun first groups base None log.old) (D.past disk.old)
         → OnOk result.1 (Now (HoldsRun first groups base (staged_of result.0) log.new) (D.past disk.new)) }
-    ensures crash { (first : ℕ) (groups : List GroupValue) (base : ℕ → List ℕ) → AreNewest groups base pool.now → Now IsReady (D.past disk.old)
+    ensures crash { (first : ℕ) (groups : List GroupValue) (base : ℕ → List ℕ) → AreNewest groups base pool.now
+        → Now IsReady (D.past disk.old)
         → Now (HoldsRun first groups base None log.old) (D.past disk.old)
         → Meanwhile (KeepsSince log.old.run first log.old.flushed groups base) (D.past disk.old) (D.past disk.new) }
 {
@@ -149,8 +155,10 @@ fn go_on<D: Disk>(
     ensures err { OnErr result.1 (staged_of result.0 ≡ Some (record { batch = staged.batch; placed = 0 })) }
     ensures pool { Settles (finished (Some staged) (staged_of result.0)) pool.old pool.new }
     ensures cause { HasCause (D.past disk.old).faults (D.past disk.new).faults result.1 }
-    ensures in_place { Now (AreInPlace (Some staged)) (D.past disk.old) → Now (AreInPlace (whole_or (Some staged) (staged_of result.0))) (D.past disk.new) }
-    ensures home { (first : ℕ) (groups : List GroupValue) (base : ℕ → List ℕ) (log : LogView) → AreNewest groups base pool.old → Now IsReady (D.past disk.old)
+    ensures in_place { Now (AreInPlace (Some staged)) (D.past disk.old)
+        → Now (AreInPlace (whole_or (Some staged) (staged_of result.0))) (D.past disk.new) }
+    ensures home { (first : ℕ) (groups : List GroupValue) (base : ℕ → List ℕ) (log : LogView) → AreNewest groups base pool.old
+        → Now IsReady (D.past disk.old)
         → Now (HoldsRun first groups base (Some staged) log) (D.past disk.old) → Now (AreHome pool.old pool.new) (D.past disk.new) }
     ensures stands { (first : ℕ) (groups : List GroupValue) (base : ℕ → List ℕ) (log : LogView) → Now IsReady (D.past disk.old)
         → Now (HoldsRun first groups base (Some staged) log) (D.past disk.old)
@@ -187,13 +195,17 @@ pub fn step_of<D: Disk>(
     ensures changed_again { (page : ℕ) → waits (staged_of work) pool.old page ≡ true → is_dirty pool.new page ≡ true }
     ensures log { KeepsLog log.old log.new }
     ensures cause { HasCause (D.past disk.old).faults (D.past disk.new).faults result.1 }
-    ensures in_place { Now (AreInPlace (staged_of work)) (D.past disk.old) → Now (AreInPlace (whole_or (staged_of work) (staged_of result.0))) (D.past disk.new) }
-    ensures home { (first : ℕ) (groups : List GroupValue) (base : ℕ → List ℕ) → AreNewest groups base pool.old → Now IsReady (D.past disk.old)
+    ensures in_place { Now (AreInPlace (staged_of work)) (D.past disk.old)
+        → Now (AreInPlace (whole_or (staged_of work) (staged_of result.0))) (D.past disk.new) }
+    ensures home { (first : ℕ) (groups : List GroupValue) (base : ℕ → List ℕ) → AreNewest groups base pool.old
+        → Now IsReady (D.past disk.old)
         → Now (HoldsRun first groups base (staged_of work) log.old) (D.past disk.old) → Now (AreHome pool.old pool.new) (D.past disk.new) }
-    ensures stands { (first : ℕ) (groups : List GroupValue) (base : ℕ → List ℕ) → AreNewest groups base pool.old → Now IsReady (D.past disk.old)
+    ensures stands { (first : ℕ) (groups : List GroupValue) (base : ℕ → List ℕ) → AreNewest groups base pool.old
+        → Now IsReady (D.past disk.old)
         → Now (HoldsRun first groups base (staged_of work) log.old) (D.past disk.old)
         → OnOk result.1 (Now (HoldsRun first groups base (staged_of result.0) log.new) (D.past disk.new)) }
-    ensures crash { (first : ℕ) (groups : List GroupValue) (base : ℕ → List ℕ) → AreNewest groups base pool.old → Now IsReady (D.past disk.old)
+    ensures crash { (first : ℕ) (groups : List GroupValue) (base : ℕ → List ℕ) → AreNewest groups base pool.old
+        → Now IsReady (D.past disk.old)
         → Now (HoldsRun first groups base (staged_of work) log.old) (D.past disk.old)
         → Meanwhile (KeepsSince log.old.run first log.old.flushed groups base) (D.past disk.old) (D.past disk.new) }
 {
