@@ -62,12 +62,12 @@ module _ (batch : BatchView) (is : IsBatch batch) (page : List ℕ) (size : leng
   abbrev with_page : BatchView
   with_page = record { count = batch.count + 1; bytes = batch.bytes ++ page }
 
-  page_before : (k : ℕ) → k < batch.count → page_at with_page k ≡ page_at batch k
+  pub page_before : (k : ℕ) → k < batch.count → page_at with_page k ≡ page_at batch k
   page_before k below =
       piece_front 4096 batch.count k (batch.bytes ++ page) batch.bytes below
       (take_at batch.bytes page (4096 * batch.count) is.whole ∙ sym (take_all (4096 * batch.count) batch.bytes (omega (arith, is.whole))))
 
-  page_last : page_at with_page batch.count ≡ page
+  pub page_last : page_at with_page batch.count ≡ page
   page_last =
       let place : batch.count + 0 ≡ batch.count = omega arith in
       subst (λ (n : ℕ). piece 4096 n (batch.bytes ++ page) ≡ page) place

@@ -56,6 +56,7 @@ impl Batch {
     }
 
     pub fn len(&self) -> usize
+        ensures is_batch { IsBatch self.now }
         ensures value { result ≡ self.now.count }
         ensures few { result ≤ 64 }
     {
@@ -99,7 +100,20 @@ impl Batch {
         requires distinct { (k : ℕ) → k < self.old.count → number_at self.old k ≢ number_of page.now }
         ensures { self.new ≡ record { count = self.old.count + 1; bytes = self.old.bytes ++ page.now } }
     {
-        put_within(page.as_bytes(), &mut self.bytes);
+        self.add_bytes(page.as_bytes());
+    }
+
+    /// Takes the bytes of a page, as `add` does.
+    pub fn add_bytes(&mut self, page: &[u8])
+        requires room { self.old.count < 64 }
+        requires size { length page.now ≡ 4096 }
+        requires sealed { PassesSum page.now }
+        requires distinct { (k : ℕ) → k < self.old.count → number_at self.old k ≢ number_of page.now }
+        ensures batch { self.new ≡ record { count = self.old.count + 1; bytes = self.old.bytes ++ page.now } }
+        ensures earlier { (k : ℕ) → k < self.old.count → page_at self.new k ≡ page_at self.old k }
+        ensures last { page_at self.new self.old.count ≡ page.now }
+    {
+        put_within(page, &mut self.bytes);
         self.count += 1;
     }
 

@@ -1,0 +1,10 @@
+mod Cleaned
+mod Counting
+mod Gathered
+mod Going
+mod Holding
+mod Home
+mod Outlasting
+mod Runs
+mod Sealing
+mod Told

@@ -1,0 +1,4 @@
+pub mod Cleaning
+pub mod Flushing
+pub mod Gathering
+pub mod Working

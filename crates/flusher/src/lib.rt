@@ -1,0 +1,13 @@
+//! Changed pages on their way from the pool to the disk: first their log, then copies of them, then each page in place.
+//! Nobody else writes pages of a pool. The pool's pages stay as they are; some are clean afterwards.
+#![tactic(auto)]
+
+mod between;
+mod flusher;
+mod gathering;
+mod settling;
+mod work;
+
+pub use between::a_run_outlasts_the_log;
+pub use flusher::Flusher;
+pub use work::Worked;
