@@ -5,7 +5,9 @@ use Rattle.inno_types.specs.declared.reply.Item.{Item}
 use Rattle.inno_model.specs.declared.event.Event.{Event}
 use Rattle.inno_model.specs.declared.event.Event.TheVariants.{Started}
 use Rattle.inno_model.specs.Past.{under_way}
+use Rattle.inno_model.specs.Recorded.{Extends}
 use Rattle.inno_model.specs.Text.{items, answers}
+use Rattle.sql_history.specs.Serial.{IsSetUp}
 use Rattle.script.specs.declared.script.Script.{Script}
 use Rattle.script.specs.declared.script.ScriptItem.{ScriptItem}
 use Rattle.script.specs.declared.script.Tick.{Tick}
@@ -27,10 +29,11 @@ pub record IsIdle (s : ℕ) (shown : Shown) : Type 0 where
   pub rests : shown.is_working s ≡ false
   pub is_there : shown.has_left s ≡ false
 
--- Nobody joins, nothing is started, and no time passes.
+-- Nobody joins, nothing is started, and no time passes. Entries may be added.
 pub record StartsNothing (old new : Shown) : Type 0 where
   pub names : new.names ≡ old.names
   pub moment : new.moment ≡ old.moment
+  pub entries : Extends old.past new.past
   pub items : (s : ℕ) → items s new.past ≡ items s old.past
 
 pub record Joins (name : List ℕ) (old new : Shown) : Type 0 where
@@ -97,6 +100,11 @@ HasAnswered script past = (s : ℕ) → length (answers s past) ≡ length (item
 -- no item is left under way
 abbrev pub AllRest : List Event → Type 0
 AllRest past = (s : ℕ) → under_way s past ≡ None
+
+-- The setup part is over: none of its items is under way, and all were, before another session started one.
+pub record IsOver (past : List Event) : Type 0 where
+  pub rests : under_way 0 past ≡ None
+  pub first : IsSetUp past
 
 -- a step of play: nobody joins, and each session is where its place says
 pub record Plays (script : List ScriptItem) (places : List ℕ) (old new : Shown) : Type 0 where

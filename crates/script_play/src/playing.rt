@@ -1,13 +1,14 @@
 //! Plays a script on the calling thread: its items in order, and after each the steps of all sessions until no session can
 //! go on. Time passes at the script's ticks, and at the end where all who are there wait.
 
-ghost use Rattle.std.specs.Prelude.{◌≡◌, ◌+◌, ◌<◌, ◌≤◌, ◌↔◌, ◌++◌, [], ℕ, List, length, take, slice_index_or, min, max};
+ghost use Rattle.std.specs.Prelude.{◌≡◌, ◌≢◌, ◌+◌, ◌<◌, ◌≤◌, ◌↔◌, ◌++◌, [], ℕ, List, length, take, slice_index_or, min, max};
 ghost use Rattle.std.specs.Prelude.{All, IsTrue, IfSome, IfOk, OnOk, OnErr, None, true};
 ghost use Rattle.inno_model.specs.Past.{under_way};
-ghost use Rattle.inno_model.specs.Text.{items};
+ghost use Rattle.inno_model.specs.Text.{items as started_by};
 ghost use Rattle.script.specs.declared.script.ScriptItem.{ScriptItem as ScriptItemValue};
+ghost use Rattle.sql_history.specs.Serial.{IsSetUp};
 ghost use Rattle.script_play.specs.Sessions.{IsJoined, IsIdle, IsNextToLeave, StartsNothing, AreNamed, HaveNames, FollowsScript};
-ghost use Rattle.script_play.specs.Sessions.{HasPlayed, AllRest, Plays, Settles, IsNew, PassesWaits, items_of, seconds_in};
+ghost use Rattle.script_play.specs.Sessions.{HasPlayed, AllRest, IsOver, Plays, Settles, IsNew, PassesWaits, items_of, seconds_in};
 
 use crate::sessions::Sessions;
 use inno_types::Bytes;
@@ -26,10 +27,11 @@ pub fn play<E: Sessions>(alloc: Global, engine: &mut E, script: &Script) -> Resu
     ensures follows { FollowsScript script.now.items (E.shown engine.new).past }
     ensures played { OnOk result (HasPlayed script.now (E.shown engine.new).names (E.shown engine.new).past) }
     ensures rests { OnOk result (AllRest (E.shown engine.new).past) }
+    ensures set_up { IsSetUp (E.shown engine.new).past }
     // What has passed is the script's time, and at the end the longest wait, as often as all who were there waited.
     ensures moment { OnOk result (PassesWaits (seconds_in script.now.ticks) (E.shown engine.new).moment) }
 {
-    if script.names.len() > u32::MAX as usize {
+    if script.names.is_empty() || script.names.len() > u32::MAX as usize {
         return Err(NoMemory);
     }
     join_all(engine, script.names.as_slice())?;
@@ -46,7 +48,7 @@ pub fn play<E: Sessions>(alloc: Global, engine: &mut E, script: &Script) -> Resu
 fn join_all<E: Sessions>(engine: &mut E, names: &[Bytes]) -> Result<(), NoMemory>
     requires new { IsNew (E.shown engine.old) }
     requires few { length names.now ≤ 4294967295 }
-    ensures nothing { (s : ℕ) → items s (E.shown engine.new).past ≡ [] }
+    ensures nothing { (s : ℕ) → started_by s (E.shown engine.new).past ≡ [] }
     ensures named { (left : List (List ℕ)) × (names.now ≡ (E.shown engine.new).names ++ left) }
     ensures names { OnOk result ((E.shown engine.new).names ≡ names.now) }
     ensures moment { OnOk result ((E.shown engine.new).moment ≡ 0) }
@@ -92,14 +94,16 @@ fn play_items<E: Sessions>(
 ) -> Result<(), NoMemory>
     requires starts { Plays [] places.old (E.shown engine.old) (E.shown engine.old) }
     requires first { (E.shown engine.old).moment ≡ 0 }
-    requires few { length places.old ≤ 4294967295 }
+    requires nothing { (s : ℕ) → started_by s (E.shown engine.old).past ≡ [] }
+    requires few { (0 < length places.old) × (length places.old ≤ 4294967295) }
     ensures plays { Plays items.now places.new (E.shown engine.old) (E.shown engine.new) }
+    ensures set_up { IsSetUp (E.shown engine.new).past }
     ensures ends { OnOk result (All (λ place. place ≡ length items.now) places.new) }
     ensures rest { OnOk result ((s : ℕ) → IsJoined s (E.shown engine.new) → under_way s (E.shown engine.new).past ≡ None) }
     ensures moment { OnOk result (PassesWaits (seconds_in ticks.now) (E.shown engine.new).moment) }
 {
     let mut known = setup_items(items);
-    let _ = settle(engine, &items[..known], places)?;
+    set_up(engine, &items[..known], places)?;
     for tick in ticks {
         known = play_until(engine, items, known, tick.items, places)?;
         pass_time(engine, tick.seconds as u64)?;
@@ -107,11 +111,32 @@ fn play_items<E: Sessions>(
     }
     let _ = play_until(engine, items, known, items.len(), places)?;
     leave_all(engine, items, places)?;
+    places[0] = skip_others(items, places[0], 0);
     if all_at(items.len(), places) && all_left(engine, 0, places.len() as u32) {
         Ok(())
     } else {
         Err(NoMemory)
     }
+}
+
+/// Plays the setup part, which has these items, to its end. No other session starts anything before.
+fn set_up<E: Sessions>(
+    engine: &mut E,
+    items: &[ScriptItem],
+    places: &mut [usize],
+) -> Result<(), NoMemory>
+    requires starts { Plays items.now places.old (E.shown engine.old) (E.shown engine.old) }
+    requires nothing { (s : ℕ) → started_by s (E.shown engine.old).past ≡ [] }
+    requires first { 0 < length places.old }
+    ensures settles { Settles items.now places.new (E.shown engine.old) (E.shown engine.new) }
+    ensures first { IsSetUp (E.shown engine.new).past }
+    ensures over { OnOk result (IsOver (E.shown engine.new).past) }
+{
+    let _ = go_on(engine, items, places, 0)?;
+    if engine.is_working(0) {
+        return Err(NoMemory);
+    }
+    Ok(())
 }
 
 /// How many of the items are the setup part's: those before the first one of another session.
@@ -138,10 +163,11 @@ fn play_until<E: Sessions>(
 ) -> Result<usize, NoMemory>
     requires starts { Plays (take known items.now) places.old (E.shown engine.old) (E.shown engine.old) }
     requires known { known ≤ length items.now }
-    requires few { length places.old ≤ 4294967295 }
+    requires few { (0 < length places.old) × (length places.old ≤ 4294967295) }
     ensures settles { Settles items.now places.new (E.shown engine.old) (E.shown engine.new) }
     ensures known { IfOk result (λ n. Settles (take n items.now) places.new (E.shown engine.old) (E.shown engine.new)) }
     ensures until { IfOk result (λ n. n ≡ max known (min until (length items.now))) }
+    ensures set_up { IsOver (E.shown engine.old).past → IsOver (E.shown engine.new).past }
 {
     let until = until.min(items.len()).max(known);
     for next in known..until {
@@ -169,8 +195,9 @@ fn leave_all<E: Sessions>(
     places: &mut [usize],
 ) -> Result<(), NoMemory>
     requires starts { Plays items.now places.old (E.shown engine.old) (E.shown engine.old) }
-    requires few { length places.old ≤ 4294967295 }
+    requires few { (0 < length places.old) × (length places.old ≤ 4294967295) }
     ensures plays { Plays items.now places.new (E.shown engine.old) (E.shown engine.new) }
+    ensures set_up { IsOver (E.shown engine.old).past → IsOver (E.shown engine.new).past }
     ensures moment { OnOk result (PassesWaits (E.shown engine.old).moment (E.shown engine.new).moment) }
 {
     for _ in 0..u64::MAX {
@@ -189,8 +216,9 @@ fn leave_next<E: Sessions>(
     places: &mut [usize],
 ) -> Result<bool, NoMemory>
     requires starts { Plays items.now places.old (E.shown engine.old) (E.shown engine.old) }
-    requires few { length places.old ≤ 4294967295 }
+    requires few { (0 < length places.old) × (length places.old ≤ 4294967295) }
     ensures plays { Plays items.now places.new (E.shown engine.old) (E.shown engine.new) }
+    ensures set_up { IsOver (E.shown engine.old).past → IsOver (E.shown engine.new).past }
     ensures moment { OnOk result (PassesWaits (E.shown engine.old).moment (E.shown engine.new).moment) }
 {
     let count = places.len() as u32;
@@ -242,8 +270,9 @@ fn settle<E: Sessions>(
     places: &mut [usize],
 ) -> Result<bool, NoMemory>
     requires starts { Plays items.now places.old (E.shown engine.old) (E.shown engine.old) }
-    requires few { length places.old ≤ 4294967295 }
-    ensures { Settles items.now places.new (E.shown engine.old) (E.shown engine.new) }
+    requires few { (0 < length places.old) × (length places.old ≤ 4294967295) }
+    ensures settles { Settles items.now places.new (E.shown engine.old) (E.shown engine.new) }
+    ensures set_up { IsOver (E.shown engine.old).past → IsOver (E.shown engine.new).past }
 {
     for turn in 0..u64::MAX {
         if !pass(engine, items, places)? {
@@ -253,18 +282,19 @@ fn settle<E: Sessions>(
     Err(NoMemory)
 }
 
-/// Lets each session go on as far as it can, by number, and says whether one did.
+/// Lets each session go on as far as it can, by number, and says whether one did. The setup part starts nothing more.
 fn pass<E: Sessions>(
     engine: &mut E,
     items: &[ScriptItem],
     places: &mut [usize],
 ) -> Result<bool, NoMemory>
     requires starts { Plays items.now places.old (E.shown engine.old) (E.shown engine.old) }
-    requires few { length places.old ≤ 4294967295 }
-    ensures { Settles items.now places.new (E.shown engine.old) (E.shown engine.new) }
+    requires few { (0 < length places.old) × (length places.old ≤ 4294967295) }
+    ensures settles { Settles items.now places.new (E.shown engine.old) (E.shown engine.new) }
+    ensures set_up { IsOver (E.shown engine.old).past → IsOver (E.shown engine.new).past }
 {
-    let mut changed = false;
-    for s in 0..places.len() as u32 {
+    let mut changed = step_on(engine, 0)?;
+    for s in 1..places.len() as u32 {
         if go_on(engine, items, places, s)? {
             changed = true;
         }
@@ -281,7 +311,9 @@ fn go_on<E: Sessions>(
 ) -> Result<bool, NoMemory>
     requires starts { Plays items.now places.old (E.shown engine.old) (E.shown engine.old) }
     requires joined { IsJoined s (E.shown engine.old) }
-    ensures { Settles items.now places.new (E.shown engine.old) (E.shown engine.new) }
+    ensures settles { Settles items.now places.new (E.shown engine.old) (E.shown engine.new) }
+    ensures others { (t : ℕ) → t ≢ s → started_by t (E.shown engine.new).past ≡ started_by t (E.shown engine.old).past }
+    ensures set_up { 0 < s → IsOver (E.shown engine.old).past → IsOver (E.shown engine.new).past }
 {
     for turn in 0..u64::MAX {
         if !advance(engine, items, places, s)? {
@@ -300,7 +332,9 @@ fn advance<E: Sessions>(
 ) -> Result<bool, NoMemory>
     requires starts { Plays items.now places.old (E.shown engine.old) (E.shown engine.old) }
     requires joined { IsJoined s (E.shown engine.old) }
-    ensures { Settles items.now places.new (E.shown engine.old) (E.shown engine.new) }
+    ensures settles { Settles items.now places.new (E.shown engine.old) (E.shown engine.new) }
+    ensures others { (t : ℕ) → t ≢ s → started_by t (E.shown engine.new).past ≡ started_by t (E.shown engine.old).past }
+    ensures set_up { 0 < s → IsOver (E.shown engine.old).past → IsOver (E.shown engine.new).past }
 {
     if engine.has_left(s) {
         return Ok(false);
@@ -316,6 +350,31 @@ fn advance<E: Sessions>(
     engine.start(s, &items[next].item)?;
     places[s as usize] = next + 1;
     Ok(true)
+}
+
+/// Lets a session at work make its steps until it has ended or waits, and says whether it did anything.
+fn step_on<E: Sessions>(engine: &mut E, s: u32) -> Result<bool, NoMemory>
+    requires joined { IsJoined s (E.shown engine.old) }
+    ensures { StartsNothing (E.shown engine.old) (E.shown engine.new) }
+{
+    for turn in 0..u64::MAX {
+        if !step_at_work(engine, s)? {
+            return Ok(turn > 0);
+        }
+    }
+    Err(NoMemory)
+}
+
+/// Makes a step of a session where it is at work, and says whether it went on.
+fn step_at_work<E: Sessions>(engine: &mut E, s: u32) -> Result<bool, NoMemory>
+    requires joined { IsJoined s (E.shown engine.old) }
+    ensures { StartsNothing (E.shown engine.old) (E.shown engine.new) }
+{
+    if engine.is_working(s) {
+        step(engine, s)
+    } else {
+        Ok(false)
+    }
 }
 
 /// Makes a step of a session at work, and says whether it went on. One that found no memory is followed by another one;

@@ -1,6 +1,6 @@
 //! Sessions as play drives them: each makes its steps alone, and between the steps anybody's may come.
 
-ghost use Rattle.std.specs.Prelude.{◌≡◌, ◌<◌, ◌≤◌, ◌^◌, length, true, None, IsTrue, OnOk, OnErr};
+ghost use Rattle.std.specs.Prelude.{◌≡◌, ◌<◌, ◌≤◌, ◌^◌, length, true, false, None, IsTrue, OnOk, OnErr};
 ghost use Rattle.inno_model.specs.Past.{under_way};
 ghost use Rattle.inno_types.specs.Order.{IsBelow};
 ghost use Rattle.script_play.specs.Sessions.{Shown, IsJoined, IsIdle, StartsNothing, Joins, Starts};
@@ -22,7 +22,8 @@ pub trait Sessions {
     /// Whether the session has an item under way, or is on its way out.
     fn is_working(&self, s: u32) -> bool
         requires { IsJoined s (shown self.now) }
-        ensures { result ≡ (shown self.now).is_working s };
+        ensures told { result ≡ (shown self.now).is_working s }
+        ensures rests { result ≡ false → under_way s (shown self.now).past ≡ None };
 
     /// Whether the session is gone. Then nothing of it is under way.
     fn has_left(&self, s: u32) -> bool

@@ -9,6 +9,7 @@ ghost use Rattle.store_api.specs.Causes.{Rose};
 ghost use Rattle.store_api.specs.Past.{Now, Meanwhile};
 ghost use Rattle.sql_grammar.specs.Grammar.{Spells};
 ghost use Rattle.sql_history.specs.Legal.{IsLegal};
+ghost use Rattle.sql_history.specs.Serial.{IsSetUp};
 ghost use Rattle.session_engine.specs.Places.{HasExactPlaces};
 ghost use Rattle.sql_history.specs.Counts as counts;
 ghost use Rattle.inno_model.specs.Text.{text};
@@ -74,6 +75,8 @@ where
     // statement, its reply names the first bad byte.
     ensures legal { IsLegal Spells result.history.past }
     ensures exact { HasExactPlaces result.history.past }
+    // The setup part has ended all its items when another session starts one.
+    ensures set_up { IsSetUp result.history.past }
     ensures printed { PrintsHistory words.now → IsPrinted result.fault (K.taken out.old) (K.taken out.new) (text result.history) }
     ensures whole { PrintsHistory words.now → result.fault ≡ Fault.DiskFault → (Rose (K.faults out.old) (K.faults out.new) → ⊥)
         → Appends (K.taken out.old) (K.taken out.new) (text result.history) }
@@ -191,6 +194,7 @@ where
     R: Threads + Wait + Timer + Sync,
     ensures legal { IsLegal Spells result.history.past }
     ensures exact { HasExactPlaces result.history.past }
+    ensures set_up { IsSetUp result.history.past }
     ensures printed { IsPrinted result.fault (K.taken out.old) (K.taken out.new) (text result.history) }
     ensures whole { result.fault ≡ Fault.DiskFault → (Rose (K.faults out.old) (K.faults out.new) → ⊥)
         → Appends (K.taken out.old) (K.taken out.new) (text result.history) }
@@ -243,6 +247,7 @@ where
     R: Threads + Wait + Timer + Sync,
     ensures legal { IsLegal Spells result.history.past }
     ensures exact { HasExactPlaces result.history.past }
+    ensures set_up { IsSetUp result.history.past }
     ensures printed { IsReported (Report.Totals asked) result.fault (K.taken out.old) (K.taken out.new) result.history }
     ensures whole { result.fault ≡ Fault.DiskFault → (Rose (K.faults out.old) (K.faults out.new) → ⊥)
         → IsReportedWhole (Report.Totals asked) (K.taken out.old) (K.taken out.new) result.history }
@@ -363,6 +368,7 @@ where
     requires playable { IsPlayable (allowed way) script.now }
     ensures legal { IsLegal Spells result.history.past }
     ensures exact { HasExactPlaces result.history.past }
+    ensures set_up { IsSetUp result.history.past }
     ensures printed { IsReported report result.fault (K.taken out.old) (K.taken out.new) result.history }
     ensures whole { result.fault ≡ Fault.DiskFault → (Rose (K.faults out.old) (K.faults out.new) → ⊥)
         → IsReportedWhole report (K.taken out.old) (K.taken out.new) result.history }
@@ -408,6 +414,7 @@ where
     requires opened { IsOpened engine }
     ensures legal { IsLegal Spells result.history.past }
     ensures exact { HasExactPlaces result.history.past }
+    ensures set_up { IsSetUp result.history.past }
     ensures printed { IsReported report result.fault (K.taken out.old) (K.taken out.new) result.history }
     ensures whole { result.fault ≡ Fault.DiskFault → (Rose (K.faults out.old) (K.faults out.new) → ⊥)
         → IsReportedWhole report (K.taken out.old) (K.taken out.new) result.history }

@@ -3,6 +3,7 @@
 
 ghost use Rattle.std.specs.Prelude.{◌≡◌, IsTrue};
 ghost use Rattle.engine.specs.Opened.{IsOpened};
+ghost use Rattle.sql_history.specs.Serial.{IsSetUp};
 ghost use Rattle.script.specs.Script.{IsPlayable};
 ghost use Rattle.run_outcome.specs.Faults.{allowed};
 ghost use Rattle.run_outcome.specs.declared.words.Way.TheVariants.{InTurn, OnThreads};
@@ -45,6 +46,7 @@ where
     ensures follows { FollowsScript script.now.items result.0.past }
     ensures played { IsTrue result.1 → HasPlayed script.now result.0.names result.0.past }
     ensures rests { IsTrue result.1 → AllRest result.0.past }
+    ensures set_up { IsSetUp result.0.past }
 {
     match way {
         Way::InTurn => in_turn(alloc, engine, script),
@@ -63,11 +65,11 @@ fn in_turn<D: Disk, B: Root, L: SharedLists>(
     ensures follows { FollowsScript script.now.items result.0.past }
     ensures played { IsTrue result.1 → HasPlayed script.now result.0.names result.0.past }
     ensures rests { IsTrue result.1 → AllRest result.0.past }
+    ensures set_up { IsSetUp result.0.past }
 {
-    let mut seats = Seats { engine, moment: 0 };
+    let mut seats = Seats::new(engine);
     let played = play(alloc, &mut seats, script).is_ok();
-    let Seats { engine, moment: _ } = seats;
-    (engine, played)
+    (seats.into_engine(), played)
 }
 
 fn on_threads<D, B, L, C, G, R>(
@@ -91,6 +93,7 @@ where
     ensures follows { FollowsScript script.now.items result.0.past }
     ensures played { IsTrue result.1 → HasPlayed script.now result.0.names result.0.past }
     ensures rests { IsTrue result.1 → AllRest result.0.past }
+    ensures set_up { IsSetUp result.0.past }
 {
     let shared = SharedEngine::new(engine);
     let (shared, played) = play_on_threads(rt, alloc, shared, script, clock, gate);

@@ -12,6 +12,7 @@ loop-preserved g c =
     let plays = c.in_ok-leave_next.ensures.plays in
     record {
       plays = record { names = plays.names ∙ c.loop.invariant.plays.names; count = plays.count; started = plays.started };
+      set_up = λ over. c.in_ok-leave_next.ensures.set_up (c.loop.invariant.set_up over);
       moment = waits_on (g.E.Sessions.shown c.args.engine.now).moment (g.E.Sessions.shown c.loop.engine).moment
           (g.E.Sessions.shown c.leave_next.new.engine).moment c.loop.invariant.moment c.in_ok-leave_next.ensures.moment;
     }

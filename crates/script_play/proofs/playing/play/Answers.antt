@@ -4,10 +4,11 @@ use Rattle.script.specs.declared.script.ScriptItem.{ScriptItem}
 use Rattle.script_play.specs.Sessions.{HasStarted}
 use Rattle.script_play.proofs.Places.{nobody_named}
 use Rattle.script_play.proofs.Places.{follows, follows_nothing, on_ok, to_the_end, to_rest}
+use Rattle.script_play.proofs.SetUp.{nothing_first}
 use Rattle.script_play.proofs.playing.play.Goals as goal
 
-pub returns-then-len-clause-follows : goal.returns-then-len-clause-follows
-returns-then-len-clause-follows g c = follows_nothing c.args.script.now.items (g.E.Sessions.shown c.args.engine.now).past c.requires.new.items
+pub returns-then-is_empty-clause-follows : goal.returns-then-is_empty-clause-follows
+returns-then-is_empty-clause-follows g c = follows_nothing c.args.script.now.items (g.E.Sessions.shown c.args.engine.now).past c.requires.new.items
 
 pub returns-in_err-join_all-clause-follows : goal.returns-in_err-join_all-clause-follows
 returns-in_err-join_all-clause-follows g c = follows_nothing c.args.script.now.items (g.E.Sessions.shown c.join_all.new.engine).past c.join_all.ensures.nothing
@@ -44,8 +45,8 @@ returns-clause-rests g c =
     (λ s lt. rest s (omega (arith, lt, plays.count))))
     c.play_items.ensures.rest
 
-pub returns-then-len-clause-named : goal.returns-then-len-clause-named
-returns-then-len-clause-named g c = nobody_named c.args.script.now (g.E.Sessions.shown c.args.engine.now).names c.requires.new.names
+pub returns-then-is_empty-clause-named : goal.returns-then-is_empty-clause-named
+returns-then-is_empty-clause-named g c = nobody_named c.args.script.now (g.E.Sessions.shown c.args.engine.now).names c.requires.new.names
 
 pub returns-in_err-join_all-clause-named : goal.returns-in_err-join_all-clause-named
 returns-in_err-join_all-clause-named g c =
@@ -62,3 +63,12 @@ returns-clause-named g c =
       sym c.as_slice.ensures ∙ named.1
           ∙ ap (λ (list : List (List ℕ)). list ++ named.0) (sym c.play_items.ensures.plays.names),
     )
+
+pub returns-then-is_empty-clause-set_up : goal.returns-then-is_empty-clause-set_up
+returns-then-is_empty-clause-set_up g c = nothing_first (g.E.Sessions.shown c.args.engine.now).past c.requires.new.items
+
+pub returns-in_err-join_all-clause-set_up : goal.returns-in_err-join_all-clause-set_up
+returns-in_err-join_all-clause-set_up g c = nothing_first (g.E.Sessions.shown c.join_all.new.engine).past c.join_all.ensures.nothing
+
+pub returns-in_err-resize-clause-set_up : goal.returns-in_err-resize-clause-set_up
+returns-in_err-resize-clause-set_up g c = nothing_first (g.E.Sessions.shown c.join_all.new.engine).past c.join_all.ensures.nothing

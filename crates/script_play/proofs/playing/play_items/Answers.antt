@@ -1,10 +1,10 @@
-use Rattle.std.proofs.Common.{◌∙◌, refl, ap, arith}
-use Rattle.script_play.specs.Sessions.{Shown}
+use Rattle.std.proofs.Common.{◌∙◌, refl, sym, ap, subst, length, arith}
+use Rattle.script_play.specs.Sessions.{Shown, IsOver}
 use Rattle.script_play.proofs.Places.{more_known, seconds_more}
 use Rattle.script_play.proofs.playing.play_items.Goals as goal
 
-pub settle-requires-clause-starts : goal.settle-requires-clause-starts
-settle-requires-clause-starts g c =
+pub set_up-requires-clause-starts : goal.set_up-requires-clause-starts
+set_up-requires-clause-starts g c =
     let within = c.setup_items-known.ensures.within in
     record {
       names = refl;
@@ -18,7 +18,7 @@ loop-tick-preserved g c =
     let i = c.loop-tick.invariant in
     let until = c.in_ok-known.ensures in
     let passed = c.in_ok-pass_time.ensures.ok in
-    let s = c.settle-in-loop-tick.ensures in
+    let s = c.in_ok-settle.ensures in
     let within = i.within in
     let known = until.until in
     let before = until.settles.moment in
@@ -27,9 +27,16 @@ loop-tick-preserved g c =
     record {
       within = omega (arith, within, known);
       plays = record {
-        names = s.names ∙ (ap (λ (x : Shown). x.names) passed ∙ (until.settles.names ∙ i.plays.names));
-        count = s.count;
-        started = s.started;
+        names = s.settles.names ∙ (ap (λ (x : Shown). x.names) passed ∙ (until.settles.names ∙ i.plays.names));
+        count = s.settles.count;
+        started = s.settles.started;
       };
-      moment = s.moment ∙ (ap (λ (x : Shown). x.moment) passed ∙ omega (arith, before, i_moment, more));
+      over = s.set_up (subst IsOver (sym (ap (λ (x : Shown). x.past) passed)) (until.set_up i.over));
+      first =
+          let some = i.first in
+          let count = i.plays.count in
+          let counted = s.settles.count in
+          let same = ap length (s.settles.names ∙ (ap (λ (x : Shown). x.names) passed ∙ until.settles.names)) in
+          omega (arith, some, count, counted, same);
+      moment = s.settles.moment ∙ (ap (λ (x : Shown). x.moment) passed ∙ omega (arith, before, i_moment, more));
     }

@@ -6,4 +6,4 @@ pub returns-clause-known : goal.returns-clause-known
 returns-clause-known g c =
     let e : c.loop-next.next ≡ c.max-until.result = omega (arith, c.loop-next-test.false) in
     subst (λ n. Settles (take n c.args.items.now) c.loop-next.places (g.E.Sessions.shown c.args.engine.now) (g.E.Sessions.shown c.loop-next.engine)) e
-    c.loop-next.invariant
+    c.loop-next.invariant.settles

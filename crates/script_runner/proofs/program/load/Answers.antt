@@ -8,6 +8,7 @@ use Rattle.script_play.proofs.Places.{follows_nothing, nobody_named}
 use Rattle.script_runner.specs.Run.{IsLoadFault, script_of}
 use Rattle.script_runner.proofs.Causing.{not_usage, not_read, input_not_usage}
 use Rattle.script_runner.proofs.Loading.{made_up, made_not_read, load_refused, load_unprinted}
+use Rattle.sql_history.specs.Serial.{IsSetUp}
 use Rattle.session_engine.specs.Places.{HasExactPlaces}
 use Rattle.script_runner.proofs.program.load.Goals as goal
 
@@ -72,3 +73,6 @@ returns-in-Err-clause-script_read g c = λ is.
 
 pub returns-in-Err-clause-exact : goal.returns-in-Err-clause-exact
 returns-in-Err-clause-exact g c = subst HasExactPlaces (sym c.untouched.ensures.past) tt
+
+pub returns-in-Err-clause-set_up : goal.returns-in-Err-clause-set_up
+returns-in-Err-clause-set_up g c = subst IsSetUp (sym c.untouched.ensures.past) tt

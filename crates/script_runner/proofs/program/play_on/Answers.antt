@@ -8,6 +8,7 @@ use Rattle.script_play.proofs.Answering.{all_answered}
 use Rattle.script_runner.proofs.Untouched.{keeps_files}
 use Rattle.script_runner.proofs.Causing.{where_no_err}
 use Rattle.script_runner.proofs.Reporting.{opens_once}
+use Rattle.sql_history.specs.Serial.{IsSetUp}
 use Rattle.session_engine.specs.Places.{HasExactPlaces}
 use Rattle.script_runner.proofs.program.play_on.Goals.{then-stopped, else-stopped}
 use Rattle.script_runner.proofs.program.play_on.Goals as goal
@@ -52,3 +53,7 @@ finish-requires g c = rw c.close-disk.ensures.past (opens_once c.play_script-eng
 pub returns-clause-exact : goal.returns-clause-exact
 returns-clause-exact g c =
     subst HasExactPlaces (sym (ap (λ (h : Recorded). h.past) c.finish.ensures.history ∙ c.close-disk.ensures.past)) c.close-disk.ensures.exact
+
+pub returns-clause-set_up : goal.returns-clause-set_up
+returns-clause-set_up g c =
+    subst IsSetUp (sym (ap (λ (h : Recorded). h.past) c.finish.ensures.history ∙ c.close-disk.ensures.past)) c.play_script-engine.ensures.set_up

@@ -3,6 +3,7 @@ use Rattle.inno_model.specs.Text.{items}
 use Rattle.law_page_errors.proofs.Ended.{none_for_pages}
 use Rattle.script_runner.proofs.Following.{nothing_follows, spelled_follows, spelled_plays}
 use Rattle.script_runner.proofs.Causing.{not_usage, input_not_usage, judged, judged_refused, no_limit}
+use Rattle.sql_history.specs.Serial.{IsSetUp}
 use Rattle.session_engine.specs.Places.{HasExactPlaces}
 use Rattle.script_runner.proofs.program.play_source.Goals as goal
 
@@ -52,3 +53,6 @@ returns-in-Err-clause-usage g c = λ is. input_not_usage c.in-Err.fault c.in-Err
 
 pub returns-in-Err-clause-exact : goal.returns-in-Err-clause-exact
 returns-in-Err-clause-exact g c = subst HasExactPlaces (sym c.untouched.ensures.past) tt
+
+pub returns-in-Err-clause-set_up : goal.returns-in-Err-clause-set_up
+returns-in-Err-clause-set_up g c = subst IsSetUp (sym c.untouched.ensures.past) tt

@@ -14,6 +14,7 @@ use Rattle.script.specs.Script.{IsScript}
 use Rattle.script_runner.specs.Run.{Follows, Plays, IsLoadFault, script_of}
 use Rattle.script_runner.proofs.Following.{nothing_follows}
 use Rattle.script_runner.proofs.Causing.{no_text, appends_none, make_printed}
+use Rattle.sql_history.specs.Serial.{IsSetUp}
 use Rattle.session_engine.specs.Places.{HasExactPlaces}
 use Rattle.script_runner.proofs.program.run.Goals as goal
 
@@ -138,3 +139,21 @@ returns-in-Check-clause-exact g c = subst HasExactPlaces (sym c.show-in-Check.en
 
 pub returns-in-Gen-clause-exact : goal.returns-in-Gen-clause-exact
 returns-in-Gen-clause-exact g c = subst HasExactPlaces (sym c.make_up.ensures.empty) tt
+
+pub returns-in-Unknown-clause-set_up : goal.returns-in-Unknown-clause-set_up
+returns-in-Unknown-clause-set_up g c = subst IsSetUp (sym c.untouched.ensures.past) tt
+
+pub returns-in-Init-clause-set_up : goal.returns-in-Init-clause-set_up
+returns-in-Init-clause-set_up g c = subst IsSetUp (sym c.make.ensures.empty) tt
+
+pub returns-in-Dump-clause-set_up : goal.returns-in-Dump-clause-set_up
+returns-in-Dump-clause-set_up g c = subst IsSetUp (sym c.show.ensures.empty) tt
+
+pub returns-in-Check-clause-set_up : goal.returns-in-Check-clause-set_up
+returns-in-Check-clause-set_up g c = subst IsSetUp (sym c.show-in-Check.ensures.empty) tt
+
+pub returns-in-Gen-clause-set_up : goal.returns-in-Gen-clause-set_up
+returns-in-Gen-clause-set_up g c = subst IsSetUp (sym c.make_up.ensures.empty) tt
+
+pub returns-in-Script-clause-set_up : goal.returns-in-Script-clause-set_up
+returns-in-Script-clause-set_up g c = c.play_source.ensures.set_up

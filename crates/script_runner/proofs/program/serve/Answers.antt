@@ -4,6 +4,7 @@ use Rattle.script_play.proofs.Places.{follows_nothing}
 use Rattle.script_play.proofs.Places.{nobody_named}
 use Rattle.script_runner.proofs.Causing.{mount_fault}
 use Rattle.script_runner.proofs.Reporting.{refused_reported, refused_whole}
+use Rattle.sql_history.specs.Serial.{IsSetUp}
 use Rattle.session_engine.specs.Places.{HasExactPlaces}
 use Rattle.script_runner.proofs.program.serve.Goals as goal
 
@@ -32,3 +33,6 @@ returns-in-Err-clause-whole g c = λ fault fails.
 
 pub returns-in-Err-clause-exact : goal.returns-in-Err-clause-exact
 returns-in-Err-clause-exact g c = subst HasExactPlaces (sym c.without_engine.ensures.past) tt
+
+pub returns-in-Err-clause-set_up : goal.returns-in-Err-clause-set_up
+returns-in-Err-clause-set_up g c = subst IsSetUp (sym c.without_engine.ensures.past) tt

@@ -1,6 +1,11 @@
+use Rattle.std.proofs.Common.{◌≡◌, false, sym, subst}
 use Rattle.stopped_sessions.specs.Seats.{phase_at}
+use Rattle.stopped_sessions.specs.Calls.{is_at_work, has_left}
 use Rattle.script_runner.proofs.Stepping.{idle}
 use Rattle.script_runner.proofs.seats.SeatsSessions.leave.Goals as goal
 
 pub leave-requires-clause-idle : goal.leave-requires-clause-idle
-leave-requires-clause-idle g c = idle (phase_at c.args.self.now.engine.seats c.args.s) c.requires.idle.rests c.requires.idle.is_there
+leave-requires-clause-idle g c =
+    idle (phase_at c.self.inside.engine.seats c.args.s)
+    (subst (λ a. is_at_work (phase_at a.0.seats c.args.s) ≡ false) (sym c.self.view_is) c.requires.idle.rests)
+    (subst (λ a. has_left (phase_at a.0.seats c.args.s) ≡ false) (sym c.self.view_is) c.requires.idle.is_there)
