@@ -1,0 +1,4 @@
+pub mod Going
+pub mod Taken
+pub mod Cuts
+pub mod Grown
