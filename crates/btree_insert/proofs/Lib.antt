@@ -6,3 +6,4 @@ pub mod SplitTree
 pub mod AddedPair
 pub mod Under
 pub mod Looked
+pub mod Inserting

@@ -2,3 +2,4 @@ pub mod Going
 pub mod Taken
 pub mod Cuts
 pub mod Grown
+pub mod Adding

@@ -2,7 +2,9 @@
 //! one mini-transaction: either all of it stands afterwards, or nothing of it.
 #![tactic(auto)]
 
+mod inserts;
 mod splits;
 mod taking;
 
+pub use inserts::{Outcome, insert};
 pub use splits::split_in;
