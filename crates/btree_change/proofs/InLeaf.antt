@@ -83,6 +83,11 @@ module _ (tree : Tree) (leaf : ℕ) (key bytes : List ℕ) (old between : MtrSta
         → value_of key (tree_pairs tree old.seen) ≡ None
     is_absent i finds = absent tree old.seen key leaf is.whole is.holds long i (page_found (Before i) finds)
 
+    pub lacks_room : (HasRoom bytes → ⊥) → HasRoom page → ⊥
+    lacks_room full room =
+        full (subst (λ n. 208 + (n + 1) * record_len_of bytes ≤ 4096) (sym (same_count bytes page same))
+        (subst (λ n. 208 + (count_of page + 1) * n ≤ 4096) (sym (same_width bytes page same)) room))
+
     pub is_crowded : (i : ℕ) → Finds tree key bytes (Before i)
         → (HasRoom bytes → ⊥) → DoesInsert tree key [] old.seen between.seen Crowded
     is_crowded i finds full = (
@@ -90,8 +95,7 @@ module _ (tree : Tree) (leaf : ℕ) (key bytes : List ℕ) (old between : MtrSta
       record {
         leaf = leaf;
         holds = is.holds;
-        full = λ room. full (subst (λ n. 208 + (n + 1) * record_len_of bytes ≤ 4096) (sym (same_count bytes page same))
-            (subst (λ n. 208 + (count_of page + 1) * n ≤ 4096) (sym (same_width bytes page same)) room));
+        full = lacks_room full;
       },
       same_seen told,
     )

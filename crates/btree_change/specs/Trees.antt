@@ -28,6 +28,12 @@ pub record IsCrowded (tree : Tree) (pages : ℕ → List ℕ) (key : List ℕ) :
   pub holds : HoldsKey tree pages key leaf
   pub full : HasRoom (pages leaf) → ⊥
 
+-- where the leaf is said to lack room, it does
+abbrev pub LacksRoom : ℕ → (ℕ → List ℕ) → Insertion → Type 0
+LacksRoom leaf pages Added = Unit {0}
+LacksRoom leaf pages Present = Unit {0}
+LacksRoom leaf pages Crowded = HasRoom (pages leaf) → ⊥
+
 -- The pair is there now; or the key has a pair, or the leaf of the key lacks room, and nothing is changed.
 abbrev pub DoesInsert : Tree → List ℕ → List ℕ → (ℕ → List ℕ) → (ℕ → List ℕ) → Insertion → Type 0
 DoesInsert tree key value old new Added =

@@ -4,7 +4,7 @@
 ghost use Rattle.std.specs.Prelude.{◌≡◌, ◌≢◌, ◌+◌, ◌<◌, ◌≤◌, length, IsTrue, IfOk, IfErr, OnOk, OnErr};
 ghost use Rattle.mtr.specs.Seen.{visit, is_in, IsWithin};
 ghost use Rattle.btree_change.specs.Edits.{edited};
-ghost use Rattle.btree_change.specs.Trees.{DoesInsert, DoesReplace, DoesRemove};
+ghost use Rattle.btree_change.specs.Trees.{LacksRoom, DoesInsert, DoesReplace, DoesRemove};
 ghost use Rattle.btree_change.specs.Calls.{Touches, Rewrites, IsLeafFor, IsLeafReason};
 
 use crate::edit::{COUNT, Edit, begin_of};
@@ -53,6 +53,7 @@ pub fn insert_in<M: Mtr>(
     requires leaf { IsTrue (M.state m.old).told → IsLeafFor tree key.now leaf (M.state m.old).seen }
     ensures done { IfOk result (λ done. IsTrue (M.state m.new).told
         → DoesInsert tree key.now value.now (M.state m.old).seen (M.state m.new).seen done) }
+    ensures room { IfOk result (λ done. IsTrue (M.state m.new).told → LacksRoom leaf (M.state m.old).seen done) }
     ensures touches { Touches leaf (M.state m.old) (M.state m.new) }
     ensures reason { IfErr result (IsLeafReason leaf (M.state m.old) (M.state m.new)) }
 {

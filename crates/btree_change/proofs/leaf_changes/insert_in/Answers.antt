@@ -2,7 +2,7 @@ use Rattle.std.proofs.Common.{refl, subst}
 use Rattle.std.proofs.lemmas.Result.{err_from_is_err_and}
 use Rattle.btree.proofs.Steps.{asked_one}
 use Rattle.btree_change.specs.Edits.{IsPlace}
-use Rattle.btree_change.proofs.InLeaf.{Finds, leaf_within, leaf_some, not_refused, is_present, is_crowded, is_added}
+use Rattle.btree_change.proofs.InLeaf.{Finds, leaf_within, leaf_some, not_refused, is_present, is_crowded, lacks_room, is_added}
 use Rattle.btree_change.proofs.Steps.{asked_visited, looked_touches, touches_then}
 use Rattle.btree_change.proofs.leaf_changes.insert_in.Goals as goal
 
@@ -25,6 +25,12 @@ returns-then-not-has_room-clause-done g c = λ told.
     let looked = asked_one c.args.leaf _ _ _ c.bytes.follows.holds-at-none in
     is_crowded c.args.tree c.args.leaf c.args.key.now c.in_ok-bytes.bytes.now _ _ c.requires.key c.requires.leaf looked c.in_ok-bytes.ensures.shown
     told c.in-Before.i (subst (Finds c.args.tree c.args.key.now c.in_ok-bytes.bytes.now) c.in-Before.is c.in_ok-find_in.ensures.found) c.if-not-has_room.ensures
+
+pub returns-then-not-has_room-clause-room : goal.returns-then-not-has_room-clause-room
+returns-then-not-has_room-clause-room g c = λ told.
+    let looked = asked_one c.args.leaf _ _ _ c.bytes.follows.holds-at-none in
+    lacks_room c.args.tree c.args.leaf c.args.key.now c.in_ok-bytes.bytes.now _ _ c.requires.key c.requires.leaf looked c.in_ok-bytes.ensures.shown
+    told c.if-not-has_room.ensures
 
 pub put_edit-requires-clause-dealt_with : goal.put_edit-requires-clause-dealt_with
 put_edit-requires-clause-dealt_with g c = asked_visited c.args.leaf _ _ c.bytes.result _ c.in_ok-bytes.was c.bytes.follows.holds-at-none

@@ -1,0 +1,10 @@
+//! Pairs added to a B+-tree over mini-transactions, with the splits that they need. A split and the change that needs it are
+//! one mini-transaction: either all of it stands afterwards, or nothing of it.
+#![tactic(auto)]
+
+mod inserts;
+mod splits;
+mod taking;
+
+pub use inserts::{Outcome, insert};
+pub use splits::split_in;
