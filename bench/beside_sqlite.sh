@@ -1,5 +1,5 @@
 #!/usr/bin/env bash
-# Times a load in one transaction and selects by key, by the built program and by sqlite3 in memory, and prints the ratio.
+# Times a load in transactions of 50,000 rows (one has 65,535 changes at most) and selects by key, by the built program and by sqlite3 in memory, and prints the ratio.
 # Use: bench/beside_sqlite.sh [ROWS [SELECTS]]      (INNOD names another program than crates/innod/out/innod)
 set -euo pipefail
 source "$(dirname "$0")/common.sh"
@@ -10,6 +10,7 @@ statements() {
     awk -v n="$rows" -v m="$selects" 'BEGIN {
         print "BEGIN;"
         for (i = 0; i < n; i++) {
+            if (i > 0 && i % 50000 == 0) print "COMMIT;\nBEGIN;"
             if (i % 50 == 0) printf "INSERT INTO t VALUES "
             printf "(%d,%d)%s", i, i * 7919 % 100003, (i % 50 == 49 || i == n - 1) ? ";\n" : ","
         }
@@ -31,6 +32,6 @@ statements() {
 
 sqlite() { sqlite3 :memory: <"$work/sqlite.sql"; }
 
-ours="$(timed play "$work/innod.sql")"
+ours="$(timed_script "$work/innod.sql")"
 theirs="$(timed sqlite)"
 awk -v a="$ours" -v b="$theirs" 'BEGIN { printf "innod %d ms, sqlite3 %d ms, ratio %.1f\n", a, b, a / b }'
