@@ -25,6 +25,7 @@ grows_none tree pages placed = record {
   were_free = tt;
   stand = tt;
   rest = λ page nowhere out. nowhere;
+  keep = λ page nowhere. nowhere;
   marks = λ page few. refl;
   others = λ page nowhere out far. refl;
 }
@@ -75,6 +76,7 @@ module _ (tree : Tree) (key : List ℕ) (leaf : ℕ) (b c : ℕ → List ℕ) (p
         each_of (λ page. StandsNowhere page (levels_of tree b) → ⊥) (λ page. StandsNowhere page (levels_of tree c) → ⊥)
         (λ page stands nowhere. stands (subst (λ l. StandsNowhere page l) becomes.levels nowhere)) taken grows.stand;
     rest = λ page nowhere out. subst (λ l. StandsNowhere page l) (sym becomes.levels) (grows.rest page nowhere out);
+    keep = λ page nowhere. grows.keep page (subst (λ l. StandsNowhere page l) becomes.levels nowhere);
     marks = λ page few. same_mark page few ∙ grows.marks page few;
     others = λ page nowhere out far. becomes.others page (grows.rest page nowhere out) ∙ grows.others page nowhere out far;
   }

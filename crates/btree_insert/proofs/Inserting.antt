@@ -1,20 +1,22 @@
 -- Inserts from the descent to the end of their mini-transaction.
-use Rattle.std.proofs.Common.{◌≡◌, ℕ, zero, suc, ◌+◌, ◌-◌, ◌<◌, List, [], ◌∷◌, refl, sym, ◌∙◌, ap, subst, inl, inr, ◌≢◌, arith}
-use Rattle.std.specs.Prelude.{IsTrue, None, IsSome}
+use Rattle.std.proofs.Common.{◌≡◌, ℕ, zero, suc, ◌+◌, ◌-◌, ◌<◌, ◌==◌, Bool, List, [], ◌∷◌, ◌++◌, length, length-append, refl, sym, ◌∙◌, ap, subst, inl, inr, ◌≢◌, arith}
+use Rattle.std.specs.Prelude.{IsTrue, None, IsSome, if◌then◌else◌}
 use Rattle.store_api.specs.declared.visits.Visit.{Visit}
 use Rattle.store_api.specs.declared.visits.Visit.TheVariants.{Failed, Again, Bad}
 use Rattle.store_api.specs.declared.visits.SpaceBad.{SpaceBad}
 use Rattle.store_api.specs.declared.visits.SpaceBad.TheVariants as space
 use Rattle.entries.specs.Pairs.{value_of, with_pair}
-use Rattle.page_format.specs.Words.{u32_at}
-use Rattle.mtr.specs.Seen.{MtrState}
+use Rattle.page_format.specs.Words.{u32_at, level_of}
+use Rattle.mtr.specs.Seen.{MtrState, AreDistinct}
+use Rattle.law_flat_tree.specs.Levels.{levels_under}
+use Rattle.law_flat_tree.specs.Trees.{nodes}
 use Rattle.mtr.specs.Calls.{Goes, Commits, GivesUp}
 use Rattle.mtr.proofs.Consulting.{goes_then}
 use Rattle.space_map.specs.Taking.{Miscounts}
 use Rattle.space_map.specs.Map.{mark_of, free_among, IsFree}
 use Rattle.btree.specs.declared.tree.Tree.{Tree}
 use Rattle.btree.specs.Reads.{IsHindered}
-use Rattle.btree.specs.Sound.{HoldsKey, tree_pairs}
+use Rattle.btree.specs.Sound.{HoldsKey, lows_of, tree_pairs}
 use Rattle.btree_change.specs.Edits.{HasRoom}
 use Rattle.btree_change.specs.Trees.{DoesInsert, IsCrowded}
 use Rattle.btree_change.specs.Calls.{Ends, IsLeafReason}
@@ -23,21 +25,11 @@ use Rattle.btree_split.specs.Placed.{IsPlacedTree, IsParent}
 use Rattle.btree_insert.specs.declared.inserts.Outcome.TheVariants.{Added, Present, Full, Crowded}
 use Rattle.btree_insert.specs.Going.{GoesOn, IsStop}
 use Rattle.btree_insert.specs.Grown.{IsTakenOnce, DoesSplit}
-use Rattle.btree_insert.specs.Adding.{IsTakenIfCrowded, DoesAdd, IsInsertReason}
+use Rattle.btree_insert.specs.Raising.{RaisesSplit}
+use Rattle.btree_insert.specs.Adding.{needed, IsTakenIfCrowded, DoesAdd, IsInsertReason}
 use Rattle.btree_insert.proofs.AddedPair.{grows_none, grows_then}
-
--- ---- no page is free
-
-left_none : (k : ℕ) → (k ≡ 0 → ⊥) → 1 - k ≡ 0
-left_none zero some = absurd (some refl)
-left_none (suc k) some = omega arith
-
-pub none_free : (pages : ℕ → List ℕ) (n : ℕ) → ((page : ℕ) → page < n → mark_of pages page ≡ 0 → ⊥) → free_among pages 0 n ≡ 0
-none_free pages zero all = refl
-none_free pages (suc n) all =
-    let before : free_among pages 0 n ≡ 0 = none_free pages n (λ page below. all page (omega (arith, below))) in
-    let last : 1 - mark_of pages (0 + n) ≡ 0 = left_none (mark_of pages (0 + n)) (all (0 + n) (omega arith)) in
-    omega (arith, before, last)
+use Rattle.btree_insert.proofs.PutHalves.{ne_false}
+use Rattle.btree_insert.proofs.RaiseTree.{none_free, root_alone}
 
 -- ---- the end of a mini-transaction that went on
 
@@ -116,18 +108,49 @@ module _ {M : Type 0} (state : M → MtrState) where
 
 -- ---- what was added
 
+-- below a root that leads to nothing is nothing
+pub root_lowest : (tree : Tree) (pages : ℕ → List ℕ) → lows_of tree pages ≡ [] → level_of (pages tree.root) ≡ 0
+root_lowest tree pages none = go (level_of (pages tree.root)) none where
+  go : (k : ℕ) → levels_under k (nodes tree.key_len pages) (tree.root ∷ []) ≡ [] → k ≡ 0
+  go zero is = refl
+  go (suc k) is =
+      let empty : length (levels_under (suc k) (nodes tree.key_len pages) (tree.root ∷ [])) ≡ 0 = ap length is in
+      absurd (omega (arith, empty))
+
 module _ (tree : Tree) (key value : List ℕ) (o n : ℕ → List ℕ) where
-  taken_if : (taken : List ℕ) → IsTakenOnce tree key o taken → IsTakenIfCrowded tree key o taken
-  taken_if [] once = tt
-  taken_if (page ∷ []) once = once
-  taken_if (page ∷ other ∷ more) once = once
+  root_above : (u : ℕ) → IsParent tree o key u → level_of (o tree.root) ≢ 0
+  root_above u parent leaf =
+      let one : 1 ≡ length (parent.tops ++ parent.upper ∷ parent.lower ∷ []) = ap length (sym (root_alone tree o leaf) ∙ parent.at) in
+      let sum : length (parent.tops ++ parent.upper ∷ parent.lower ∷ []) ≡ length parent.tops + 2 =
+      length-append parent.tops (parent.upper ∷ parent.lower ∷ []) in
+      omega (arith, one, sum)
 
-  pub added_by_split : (u : ℕ) → value_of key (tree_pairs tree o) ≡ None → DoesSplit tree u key value o n insertion.Added → DoesAdd tree key value o n Added
-  added_by_split u absent does = (absent, does.0, taken_if does.0 does.1, does.2)
+  pub needs_one : (u : ℕ) → IsParent tree o key u → needed tree o ≡ 1
+  needs_one u parent = ap (λ (b : Bool). if b then 2 else 1) (ne_false (level_of (o tree.root)) 0 (root_above u parent))
 
-  pub crowded_by_split : (u : ℕ) → value_of key (tree_pairs tree o) ≡ None → IsParent tree o key u → DoesSplit tree u key value o n insertion.Crowded
-      → DoesAdd tree key value o n Crowded
-  crowded_by_split u absent parent does = (absent, does.0, inr (record { parent = u; above = parent; full = does.1 }), does.2)
+  needs_two : level_of (o tree.root) ≡ 0 → needed tree o ≡ 2
+  needs_two leaf = ap (λ (k : ℕ). if k == 0 then 2 else 1) leaf
+
+  taken_if : (u : ℕ) → IsParent tree o key u → (taken : List ℕ) → IsTakenOnce tree key o taken → IsTakenIfCrowded tree key o taken
+  taken_if u parent [] once = tt
+  taken_if u parent (page ∷ []) once = (once, sym (needs_one u parent), (refl, tt))
+  taken_if u parent (page ∷ other ∷ more) once = absurd once
+
+  pub added_by_split : (u : ℕ) → IsParent tree o key u → value_of key (tree_pairs tree o) ≡ None → DoesSplit tree u key value o n insertion.Added
+      → DoesAdd tree key value o n Added
+  added_by_split u parent absent does = (absent, does.0, taken_if u parent does.0 does.1, does.2)
+
+  -- one that raised the root
+  module _ (leaf : level_of (o tree.root) ≡ 0) (absent : value_of key (tree_pairs tree o) ≡ None) (full : IsCrowded tree o key) where
+    taken_two : (taken : List ℕ) → length taken ≡ 2 → AreDistinct taken → IsTakenIfCrowded tree key o taken
+    taken_two [] two distinct = tt
+    taken_two (page ∷ more) two distinct = (full, two ∙ sym (needs_two leaf), distinct)
+
+    pub added_by_raise : RaisesSplit tree key value o n None → DoesAdd tree key value o n Added
+    added_by_raise does = (absent, does.0, taken_two does.0 does.1 does.2, does.3)
+
+    pub full_by_raise : (free : ℕ) → (free ≡ free_among o 0 (u32_at 44 (o 0))) × (free < 2) → n ≡ o → DoesAdd tree key value o n (Full 2 free)
+    full_by_raise free is kept = (absent, full, sym (needs_two leaf), is.0, is.1, kept)
 
   pub added_alone : (leaf : ℕ) → IsPlacedTree tree o → HoldsKey tree o key leaf → ((r : ℕ) → r ≢ leaf → n r ≡ o r)
       → DoesInsert tree key value o n insertion.Added → DoesAdd tree key value o n Added
@@ -138,9 +161,10 @@ module _ (tree : Tree) (key value : List ℕ) (o n : ℕ → List ℕ) where
     grows_then tree key leaf o n (with_pair key value (tree_pairs tree o)) placed holds does.1 elsewhere o (tree_pairs tree o) [] (grows_none tree o placed),
   )
 
-  pub full_of_pages : value_of key (tree_pairs tree o) ≡ None → IsCrowded tree o key
+  pub full_of_pages : (u : ℕ) → IsParent tree o key u → value_of key (tree_pairs tree o) ≡ None → IsCrowded tree o key
       → ((page : ℕ) → page < u32_at 44 (o 0) → mark_of o page ≡ 0 → ⊥) → n ≡ o → DoesAdd tree key value o n (Full 1 0)
-  full_of_pages absent crowded none same = (absent, crowded, refl, sym (none_free o (u32_at 44 (o 0)) none), omega arith, same)
+  full_of_pages u parent absent crowded none same =
+      (absent, crowded, sym (needs_one u parent), sym (none_free o (u32_at 44 (o 0)) none), omega arith, same)
 
 -- ---- from what is seen to what stands
 
@@ -157,13 +181,13 @@ module _ (tree : Tree) (key value : List ℕ) (o n : ℕ → List ℕ) (absent :
   crowded_end u b c same parent does = (
     absent,
     subst (λ (f : ℕ → List ℕ). IsCrowded tree f key) same does.0,
-    inr (record { parent = u; above = parent; full = subst (λ (f : ℕ → List ℕ). HasRoom (f u) → ⊥) same does.1 }),
+    record { parent = u; above = parent; full = subst (λ (f : ℕ → List ℕ). HasRoom (f u) → ⊥) same does.1 },
     kept,
   )
 
-  pub full_end : (b : MtrState) → b.seen ≡ o → IsCrowded tree o key → ((page : ℕ) → IsFree b page → ⊥) → DoesAdd tree key value o n (Full 1 0)
-  full_end b same crowded none =
-      full_of_pages tree key value o n absent crowded (λ page within unmarked.
+  pub full_end : (u : ℕ) → IsParent tree o key u → (b : MtrState) → b.seen ≡ o → IsCrowded tree o key → ((page : ℕ) → IsFree b page → ⊥) → DoesAdd tree key value o n (Full 1 0)
+  full_end u parent b same crowded none =
+      full_of_pages tree key value o n u parent absent crowded (λ page within unmarked.
       none page (record {
         within = subst (λ (f : ℕ → List ℕ). page < u32_at 44 (f 0)) (sym same) within;
         unmarked = subst (λ (f : ℕ → List ℕ). mark_of f page ≡ 0) (sym same) unmarked;

@@ -54,7 +54,7 @@ pub entry_width : (tree : Tree) (above : List ℕ) (level n k : ℕ) → record_
 entry_width tree above level n k laid inner n_is k_is = omega (arith, laid, inner_of tree level inner, n_is, k_is)
 
 -- what is put from byte 20 on stands there
-put_from : (page image : List ℕ) → length page ≡ 4096 → length image ≡ 4096 → drop 20 (with_bytes 20 (drop 20 image) page) ≡ drop 20 image
+pub put_from : (page image : List ℕ) → length page ≡ 4096 → length image ≡ 4096 → drop 20 (with_bytes 20 (drop 20 image) page) ≡ drop 20 image
 put_from page image size long =
     let part = drop 20 image in
     let front : length (take 20 page) ≡ 20 = length-take-le 20 page (omega (arith, size)) in

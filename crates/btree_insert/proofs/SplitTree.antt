@@ -49,6 +49,17 @@ is_one q = ap (λ (b : Bool). b || false) (eq-eqb q q refl)
 pub other_than : (page q : ℕ) → page ≢ q → is_in page (q ∷ []) ≡ false
 other_than page q apart = ap (λ (b : Bool). b || false) (ne_false q page (λ e. apart (sym e)))
 
+-- one page less on one level
+one_less : (P : ℕ → Type 0) (xs ys : List ℕ) (p q : ℕ) → AllByRecursion P (xs ++ p ∷ q ∷ ys) → AllByRecursion P (xs ++ p ∷ ys)
+one_less P [] ys p q all = (all.0, all.1.1)
+one_less P (x ∷ xs) ys p q all = (all.0, one_less P xs ys p q all.1)
+
+without_page : (P : ℕ → Type 0) (tops : List (List ℕ)) (upper xs ys : List ℕ) (under : List (List ℕ)) (p q : ℕ)
+    → AllByRecursion (AllByRecursion P) (tops ++ upper ∷ (xs ++ p ∷ q ∷ ys) ∷ under)
+    → AllByRecursion (AllByRecursion P) (tops ++ upper ∷ (xs ++ p ∷ ys) ∷ under)
+without_page P [] upper xs ys under p q all = (all.0, (one_less P xs ys p q all.1.0, all.1.1))
+without_page P (top ∷ tops) upper xs ys under p q all = (all.0, without_page P tops upper xs ys under p q all.1)
+
 -- ---- room in a half
 
 room_for : (count w k : ℕ) → 208 + count * w ≤ 4096 → k < count → 208 + (k + 1) * w ≤ 4096
@@ -191,6 +202,9 @@ module _ (tree : Tree) (key : List ℕ) (cut : Cut) (above bytes : List ℕ) (a 
           subst (λ l. StandsNowhere page l) (sym done.levels)
           (with_page (λ r. r ≢ page) parent.tops uppers done.xs done.ys [] p q (not_one page q out)
           (subst (λ l. StandsNowhere page l) levels_before nowhere));
+      keep = λ page nowhere.
+          subst (λ l. StandsNowhere page l) (sym levels_before)
+          (without_page (λ r. r ≢ page) parent.tops uppers done.xs done.ys [] p q (subst (λ l. StandsNowhere page l) done.levels nowhere));
       marks = λ page few. elim (cases_eq page q) [
         | inl same ↦
             subst (λ r. mark_of c r ≡ (if is_in r (q ∷ []) then 1 else mark_of a r)) (sym same)

@@ -39,6 +39,7 @@ module _ (page : ℕ) (a b : MtrState) (takes : Takes page a b) where
           beyond = beyond;
           small = small;
           counted = free.within;
+          covered = (counts told_b).1;
           was_free = free.unmarked;
           used = same page small ∙ marks.here;
           marks = λ other few apart. same other few ∙ marks.others other apart;

@@ -13,14 +13,15 @@ use Rattle.btree_change.specs.declared.leaf_changes.Insertion.{Insertion}
 use Rattle.btree_change.specs.declared.leaf_changes.Insertion.TheVariants.{Added, Present, Crowded}
 use Rattle.btree_split.specs.Placed.{IsPlacedTree}
 
--- The tree has these pairs now, on its own pages and on those that were taken for it, which were free. No other page changes
--- but the map's.
+-- The tree has these pairs now, on its own pages, of which it loses none, and on those that were taken for it, which were free.
+-- No other page changes but the map's.
 pub record Grows (tree : Tree) (pairs : List Pair) (taken : List ℕ) (old new : ℕ → List ℕ) : Type 0 where
   pub placed : IsPlacedTree tree new
   pub pairs_are : tree_pairs tree new ≡ pairs
   pub were_free : AllByRecursion (λ page. mark_of old page ≡ 0) taken
   pub stand : AllByRecursion (λ page. StandsNowhere page (levels_of tree new) → ⊥) taken
   pub rest : (page : ℕ) → StandsNowhere page (levels_of tree old) → is_in page taken ≡ false → StandsNowhere page (levels_of tree new)
+  pub keep : (page : ℕ) → StandsNowhere page (levels_of tree new) → StandsNowhere page (levels_of tree old)
   pub marks : (page : ℕ) → page < 65536 → mark_of new page ≡ (if is_in page taken then 1 else mark_of old page)
   pub others : (page : ℕ) → StandsNowhere page (levels_of tree old) → is_in page taken ≡ false → (page < 2) ⊎ (4 < page) → new page ≡ old page
 

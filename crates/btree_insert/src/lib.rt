@@ -3,8 +3,10 @@
 #![tactic(auto)]
 
 mod inserts;
+mod raises;
 mod splits;
 mod taking;
 
 pub use inserts::{Outcome, insert};
+pub use raises::raise_in;
 pub use splits::split_in;

@@ -89,7 +89,7 @@ fn middle_of(bytes: &[u8], tree: Tree, page: u32) -> Result<u16, Visit>
 }
 
 /// Puts what an image has for a tree's page.
-fn put_image<M: Mtr>(m: &mut M, page: u32, image: &[u8]) -> Result<(), NoMemory>
+pub fn put_image<M: Mtr>(m: &mut M, page: u32, image: &[u8]) -> Result<(), NoMemory>
     requires size { length image.now ≡ 4096 }
     requires dealt_with { IsTrue (is_in page (M.state m.old).visited) }
     requires within { IsWithin page (M.state m.old) }

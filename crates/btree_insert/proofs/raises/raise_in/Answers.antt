@@ -1,0 +1,42 @@
+use Rattle.std.proofs.Common.{[], ◌∷◌, arith}
+use Rattle.std.proofs.lemmas.Result.{err_from_is_err_and}
+use Rattle.btree.proofs.Steps.{asked_one}
+use Rattle.btree_insert.proofs.Going.{halt_later}
+use Rattle.btree_insert.proofs.RaisingIn as raising
+use Rattle.btree_insert.proofs.raises.raise_in.Goals as goal
+
+pub returns-in_err-number-clause-reason : goal.returns-in_err-number-clause-reason
+returns-in_err-number-clause-reason g c =
+    let p = err_from_is_err_and c.from_residual-in_err-number.result c.from_residual-in_err-number.ensures.1 in
+    rw (p.1, p.2)
+    (halt_later g.M.Mtr.state (c.args.tree.root ∷ []) (g.M.Mtr.state c.args.m.now) (g.M.Mtr.state c.copy_of.new.m) (g.M.Mtr.state c.take_blank.new.m)
+    c.in_err-number.field-0.0
+    (asked_one c.args.tree.root (g.M.Mtr.state c.args.m.now) (g.M.Mtr.state c.copy_of.new.m) c.copy_of.result c.copy_of.ensures.asks)
+    c.take_blank.ensures.goes_on.goes c.in_err-number.ensures.reason)
+
+pub put_raised-requires-clause-ready : goal.put_raised-requires-clause-ready
+put_raised-requires-clause-ready g c =
+    raising.ready c.args.tree c.in_ok-number.number (g.M.Mtr.state c.args.m.now) (g.M.Mtr.state c.copy_of.new.m) (g.M.Mtr.state c.take_blank.new.m)
+    (asked_one c.args.tree.root (g.M.Mtr.state c.args.m.now) (g.M.Mtr.state c.copy_of.new.m) c.copy_of.result c.copy_of.ensures.asks)
+    c.take_blank.ensures.goes_on c.in_ok-number.ensures.taken c.requires.tree c.requires.leaf c.in_ok-bytes.bytes c.in_ok-bytes.ensures.shown
+
+pub returns-in_err-put_raised-clause-goes_on : goal.returns-in_err-put_raised-clause-goes_on
+returns-in_err-put_raised-clause-goes_on g c =
+    raising.whole_on c.args.tree c.in_ok-number.number (g.M.Mtr.state c.args.m.now) (g.M.Mtr.state c.copy_of.new.m) (g.M.Mtr.state c.take_blank.new.m)
+    (asked_one c.args.tree.root (g.M.Mtr.state c.args.m.now) (g.M.Mtr.state c.copy_of.new.m) c.copy_of.result c.copy_of.ensures.asks)
+    c.take_blank.ensures.goes_on c.in_ok-number.ensures.taken c.requires.tree c.requires.leaf (g.M.Mtr.state c.put_raised.new.m)
+    c.put_raised.ensures.goes_on
+
+pub returns-clause-goes_on : goal.returns-clause-goes_on
+returns-clause-goes_on g c =
+    raising.whole_on c.args.tree c.in_ok-number.number (g.M.Mtr.state c.args.m.now) (g.M.Mtr.state c.copy_of.new.m) (g.M.Mtr.state c.take_blank.new.m)
+    (asked_one c.args.tree.root (g.M.Mtr.state c.args.m.now) (g.M.Mtr.state c.copy_of.new.m) c.copy_of.result c.copy_of.ensures.asks)
+    c.take_blank.ensures.goes_on c.in_ok-number.ensures.taken c.requires.tree c.requires.leaf (g.M.Mtr.state c.put_raised.new.m)
+    c.put_raised.ensures.goes_on
+
+pub returns-clause-raised : goal.returns-clause-raised
+returns-clause-raised g c =
+    raising.raised c.args.tree c.in_ok-number.number (g.M.Mtr.state c.args.m.now) (g.M.Mtr.state c.copy_of.new.m) (g.M.Mtr.state c.take_blank.new.m)
+    (asked_one c.args.tree.root (g.M.Mtr.state c.args.m.now) (g.M.Mtr.state c.copy_of.new.m) c.copy_of.result c.copy_of.ensures.asks)
+    c.take_blank.ensures.goes_on c.in_ok-number.ensures.taken c.requires.tree c.requires.leaf (g.M.Mtr.state c.put_raised.new.m)
+    c.put_raised.ensures.goes_on c.requires.short c.in_ok-put_raised.ensures.raises
