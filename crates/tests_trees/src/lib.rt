@@ -1,11 +1,13 @@
-//! Trees that are read and changed through the calls of `btree` and `btree_change`, beside the sorted vector that has the
-//! same pairs. There is nothing here but tests.
+//! Trees that are read and changed through the calls of `btree`, `btree_change` and `btree_insert`, beside the sorted vector
+//! that has the same pairs. There is nothing here but tests.
 #![tactic(auto)]
 
 #[cfg(test)]
 mod changing;
 #[cfg(test)]
 mod comparing;
+#[cfg(test)]
+mod growing;
 #[cfg(test)]
 mod loose_pages;
 #[cfg(test)]
