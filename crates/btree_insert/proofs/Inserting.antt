@@ -1,5 +1,6 @@
 -- Inserts from the descent to the end of their mini-transaction.
-use Rattle.std.proofs.Common.{◌≡◌, ℕ, zero, suc, ◌+◌, ◌-◌, ◌<◌, ◌==◌, Bool, List, [], ◌∷◌, ◌++◌, length, length-append, refl, sym, ◌∙◌, ap, subst, inl, inr, ◌≢◌, arith}
+use Rattle.std.proofs.Common.{◌≡◌, ℕ, zero, suc, ◌+◌, ◌-◌, ◌<◌, ◌==◌, Bool, List, [], ◌∷◌}
+use Rattle.std.proofs.Common.{◌++◌, length, length-append, refl, sym, ◌∙◌, ap, subst, inl, inr, ◌≢◌, arith}
 use Rattle.std.specs.Prelude.{IsTrue, None, IsSome, if◌then◌else◌}
 use Rattle.store_api.specs.declared.visits.Visit.{Visit}
 use Rattle.store_api.specs.declared.visits.Visit.TheVariants.{Failed, Again, Bad}
@@ -185,7 +186,8 @@ module _ (tree : Tree) (key value : List ℕ) (o n : ℕ → List ℕ) (absent :
     kept,
   )
 
-  pub full_end : (u : ℕ) → IsParent tree o key u → (b : MtrState) → b.seen ≡ o → IsCrowded tree o key → ((page : ℕ) → IsFree b page → ⊥) → DoesAdd tree key value o n (Full 1 0)
+  pub full_end : (u : ℕ) → IsParent tree o key u → (b : MtrState) → b.seen ≡ o → IsCrowded tree o key → ((page : ℕ) → IsFree b page → ⊥)
+      → DoesAdd tree key value o n (Full 1 0)
   full_end u parent b same crowded none =
       full_of_pages tree key value o n u parent absent crowded (λ page within unmarked.
       none page (record {

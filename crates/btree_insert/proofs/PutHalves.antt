@@ -1,5 +1,6 @@
 -- Both halves of a leaf and the parent's record are put.
-use Rattle.std.proofs.Common.{◌≡◌, ◌≢◌, ℕ, suc, Bool, true, false, ◌==◌, ◌+◌, ◌*◌, ◌^◌, ◌<◌, ◌≤◌, List, [], ◌++◌, length, take, drop, insert, get_or, sym, ◌∙◌, ap, subst, append-nil, arith}
+use Rattle.std.proofs.Common.{◌≡◌, ◌≢◌, ℕ, suc, Bool, true, false, ◌==◌, ◌+◌, ◌*◌, ◌^◌, ◌<◌, ◌≤◌}
+use Rattle.std.proofs.Common.{List, [], ◌++◌, length, take, drop, insert, get_or, sym, ◌∙◌, ap, subst, append-nil, arith}
 use Rattle.std.specs.Prelude.{IsTrue, if◌then◌else◌}
 use Rattle.std.specs.Int.{w32, to_be_bytes}
 use Rattle.std.proofs.lemmas.List.{length-take-le, length-drop, drop_all}
@@ -74,7 +75,8 @@ module _ (tree : Tree) (cut : Cut) (number : ℕ) (above bytes fence lower upper
   pub leaf_within : IsWithin cut.leaf first
   leaf_within told =
       let is = good (one.goes.told told) in
-      subst (λ (l : List ℕ). cut.leaf < capacity_of (record first { seen = λ _. l })) (sym ((one.pages told).elsewhere 0 (λ same. is.some_number (sym same)))) is.leaf_counted
+      subst (λ (l : List ℕ). cut.leaf < capacity_of (record first { seen = λ _. l }))
+          (sym ((one.pages told).elsewhere 0 (λ same. is.some_number (sym same)))) is.leaf_counted
 
   module _ (second : MtrState) (put_lower : Puts cut.leaf 20 (drop 20 lower) first second) where
     two : Rewrites cut.leaf (with_bytes 20 (drop 20 lower) (first.seen cut.leaf)) first second

@@ -39,7 +39,8 @@ DoesAdd tree key value old new Added =
     × (taken : List ℕ) × IsTakenIfCrowded tree key old taken × Grows tree (with_pair key value (tree_pairs tree old)) taken old new
 DoesAdd tree key value old new Present = IsSome (value_of key (tree_pairs tree old)) × (new ≡ old)
 DoesAdd tree key value old new (Full need free) =
-    (value_of key (tree_pairs tree old) ≡ None) × IsCrowded tree old key × (need ≡ needed tree old) × (free ≡ free_among old 0 (u32_at 44 (old 0))) × (free < need)
+    (value_of key (tree_pairs tree old) ≡ None) × IsCrowded tree old key × (need ≡ needed tree old) ×
+        (free ≡ free_among old 0 (u32_at 44 (old 0))) × (free < need)
     × (new ≡ old)
 DoesAdd tree key value old new Crowded =
     (value_of key (tree_pairs tree old) ≡ None) × IsCrowded tree old key × IsParentCrowded tree old key × (new ≡ old)

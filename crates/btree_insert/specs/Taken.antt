@@ -7,7 +7,8 @@ use Rattle.space_map.specs.Map.{mark_of}
 abbrev pub AreReserved : (ℕ → List ℕ) → Type 0
 AreReserved pages = (page : ℕ) → page ≤ 20 → mark_of pages page ≡ 1
 
--- A page that was free is marked as used, and nothing stands on it yet. Page 0 counts no more pages than the map has marks for. Other pages keep their marks, and all but the map's are as before.
+-- A page that was free is marked as used, and nothing stands on it yet. Page 0 counts no more pages than the map has marks for. Other
+-- pages keep their marks, and all but the map's are as before.
 pub record TakesPage (page : ℕ) (old new : ℕ → List ℕ) : Type 0 where
   pub beyond : 20 < page
   pub small : page < 65536

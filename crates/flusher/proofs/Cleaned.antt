@@ -8,7 +8,8 @@ use Rattle.std.proofs.lemmas.List.{length-set, get_or-set_same, get_or-set_other
 use Rattle.page_format.specs.Words.{number_of, lsn_of}
 use Rattle.buffer_pool.specs.declared.frame.Content.{Content}
 use Rattle.buffer_pool.specs.declared.frame.Content.TheVariants.{Empty, New, Clean, Dirty}
-use Rattle.buffer_pool.specs.Frames.{FrameView, PoolView, slot_of, is_pooled, is_dirty, is_standing, is_page, is_changed, is_written, holds_page, bytes_of, fixes_of, at_slot, placed, marked}
+use Rattle.buffer_pool.specs.Frames.{FrameView, PoolView, slot_of, is_pooled, is_dirty, is_standing, is_page}
+use Rattle.buffer_pool.specs.Frames.{is_changed, is_written, holds_page, bytes_of, fixes_of, at_slot, placed, marked}
 use Rattle.doublewrite.specs.Batches.{BatchView, StagedView, page_at, number_at}
 use Rattle.flusher.specs.Cleaning.{is_among, cleaned, CleansBy, Cleans, CleansOne, HasSamePages, Settles, waits}
 
@@ -67,14 +68,16 @@ bare_unchanged Dirty is = cc
 slot_none : (test : ℕ → Bool) (slot : Option FrameView) → ((lsn : ℕ) → test lsn ≡ false) → option_map (cleaned test) slot ≡ slot
 slot_none test None never = refl
 slot_none test (Some frame) never =
-    let same : content_if frame.content (test (lsn_of frame.bytes)) ≡ frame.content = ap (content_if frame.content) (never (lsn_of frame.bytes)) ∙ content_none frame.content in
+    let same : content_if frame.content (test (lsn_of frame.bytes)) ≡ frame.content = ap (content_if frame.content)
+        (never (lsn_of frame.bytes)) ∙ content_none frame.content in
     ap (λ (content : Content). Some (marked content frame.fixes frame)) same
 
 slot_bare : (test : ℕ → Bool) (slot : Option FrameView) → option_map_or holds_page slot false ≡ false
     → option_map (cleaned test) slot ≡ slot
 slot_bare test None bare = refl
 slot_bare test (Some frame) bare =
-    ap (λ (content : Content). Some (marked content frame.fixes frame)) (content_unchanged frame.content (test (lsn_of frame.bytes)) (bare_unchanged frame.content bare))
+    ap (λ (content : Content). Some (marked content frame.fixes frame))
+        (content_unchanged frame.content (test (lsn_of frame.bytes)) (bare_unchanged frame.content bare))
 
 slot_twice : (a b : ℕ → Bool) (slot : Option FrameView)
     → option_map (cleaned b) (option_map (cleaned a) slot) ≡ option_map (cleaned (λ lsn. b lsn || a lsn)) slot
@@ -111,7 +114,8 @@ cleans_absent bytes pool bare = record {
   frames = λ page.
       let test : ℕ → Bool = λ lsn. number_of bytes == page && lsn == lsn_of bytes in
       ⊎_elim
-      (λ (here : ((number_of bytes == page) ≡ true) × (number_of bytes ≡ page)). sym (slot_bare test (slot_of pool page) (subst (λ (n : ℕ). is_pooled pool n ≡ false) here.1 bare)))
+      (λ (here : ((number_of bytes == page) ≡ true) × (number_of bytes ≡ page)). sym
+          (slot_bare test (slot_of pool page) (subst (λ (n : ℕ). is_pooled pool n ≡ false) here.1 bare)))
       (λ (other : ((number_of bytes == page) ≡ false) × (number_of bytes ≢ page)).
       sym (slot_none test (slot_of pool page) (λ lsn. ap (λ (b : Bool). b && lsn == lsn_of bytes) other.0)))
       (eqb_tells (number_of bytes) page);
@@ -167,7 +171,8 @@ slot_pooled test None = refl
 slot_pooled test (Some frame) = page_still frame.content (test (lsn_of frame.bytes))
 
 slot_standing : (test : ℕ → Bool) (slot : Option FrameView)
-    → option_map_or (λ (frame : FrameView). is_written frame.content) (option_map (cleaned test) slot) false ≡ option_map_or (λ (frame : FrameView). is_written frame.content) slot false
+    → option_map_or (λ (frame : FrameView). is_written frame.content) (option_map (cleaned test) slot) false ≡ option_map_or
+        (λ (frame : FrameView). is_written frame.content) slot false
 slot_standing test None = refl
 slot_standing test (Some frame) = written_still frame.content (test (lsn_of frame.bytes))
 
@@ -193,9 +198,11 @@ same_by test old new cleans = record {
   order = cleans.order;
   slots = cleans.slots;
   pooled = λ page. ap (λ (slot : Option FrameView). option_map_or holds_page slot false) (cleans.frames page) ∙ slot_pooled (test page) (slot_of old page);
-  standing = λ page. ap (λ (slot : Option FrameView). option_map_or (λ (frame : FrameView). is_written frame.content) slot false) (cleans.frames page) ∙ slot_standing (test page) (slot_of old page);
+  standing = λ page. ap (λ (slot : Option FrameView). option_map_or (λ (frame : FrameView). is_written frame.content) slot false)
+      (cleans.frames page) ∙ slot_standing (test page) (slot_of old page);
   bytes = λ page. ap bytes_in (cleans.frames page) ∙ slot_bytes (test page) (slot_of old page);
-  fixes = λ page. ap (λ (slot : Option FrameView). option_map_or (λ (frame : FrameView). frame.fixes) slot 0) (cleans.frames page) ∙ slot_fixes (test page) (slot_of old page);
+  fixes = λ page. ap (λ (slot : Option FrameView). option_map_or (λ (frame : FrameView). frame.fixes) slot 0) (cleans.frames page)
+      ∙ slot_fixes (test page) (slot_of old page);
 }
 
 pub settled_same : (batch : Option BatchView) (old new : PoolView) → Settles batch old new → HasSamePages old new

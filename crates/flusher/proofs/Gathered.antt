@@ -1,5 +1,6 @@
 -- A batch of changed pages, page by page.
-use Rattle.std.proofs.Common.{◌≡◌, ◌≢◌, ⊎_elim, ℕ, zero, suc, ◌+◌, ◌<◌, ◌≤◌, Bool, true, false, List, take, length, Option, Some, None, refl, sym, ◌∙◌, ap, subst, arith}
+use Rattle.std.proofs.Common.{◌≡◌, ◌≢◌, ⊎_elim, ℕ, zero, suc, ◌+◌, ◌<◌, ◌≤◌, Bool, true, false}
+use Rattle.std.proofs.Common.{List, take, length, Option, Some, None, refl, sym, ◌∙◌, ap, subst, arith}
 use Rattle.std.specs.Prelude.{not, ◌&&◌, ◌||◌, ◌==◌}
 use Rattle.std.specs.Option.{option_map_or}
 use Rattle.std.specs.Int.{w64, from_be_bytes}
@@ -36,7 +37,8 @@ dirty_pooled pool page is = slot_dirty (slot_of pool page) is
 
 -- and one of its pages
 pub dirty_past : (pool : PoolView) (page : ℕ) → length pool.slots ≤ page → is_dirty pool page ≡ false
-dirty_past pool page past = ap (λ (slot : Option FrameView). option_map_or (λ (frame : FrameView). is_changed frame.content) slot false) (get_or_past pool.slots page None past)
+dirty_past pool page past = ap (λ (slot : Option FrameView). option_map_or (λ (frame : FrameView). is_changed frame.content) slot false)
+    (get_or_past pool.slots page None past)
 
 pub dirty_within : (pool : PoolView) (page : ℕ) → is_dirty pool page ≡ true → page < length pool.slots
 dirty_within pool page is = ⊎_elim
@@ -107,7 +109,8 @@ among_at batch zero j page lsn within number same = absurd (omega (arith, within
 among_at batch (suc n) j page lsn within number same = ⊎_elim
     (λ (before : j < n).
     let rest = among_at batch n j page lsn before number same in
-    ap (λ (b : Bool). (number_at batch n == page && lsn == lsn_of (page_at batch n)) || b) rest ∙ or_true (number_at batch n == page && lsn == lsn_of (page_at batch n)))
+    ap (λ (b : Bool). (number_at batch n == page && lsn == lsn_of (page_at batch n)) || b) rest ∙ or_true
+        (number_at batch n == page && lsn == lsn_of (page_at batch n)))
     (λ (from : n ≤ j).
     let last : j ≡ n = omega (arith, from, within) in
     let a : (number_at batch n == page) ≡ true = eq-eqb (number_at batch n) page (ap (number_at batch) (sym last) ∙ number) in

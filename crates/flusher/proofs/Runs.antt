@@ -31,7 +31,8 @@ module _ (first : ℕ) (groups : List Group) (base : ℕ → List ℕ) (log : Lo
       (stands : (double pages : Contents) → Now (Stands first groups log double pages) old → Now (Stands first groups new double pages) mid) where
     pub flushed_run : Now (λ (s : State). HoldsRun first groups base None new s × IsReady s) mid
     flushed_run =
-        afterwards (λ x b. Stands first groups log x.double x.pages b) (λ x s. Stands first groups new x.double x.pages s) (λ s. HoldsRun first groups base None new s × IsReady s)
+        afterwards (λ x b. Stands first groups log x.double x.pages b) (λ x s. Stands first groups new x.double x.pages s)
+            (λ s. HoldsRun first groups base None new s × IsReady s)
         (λ s. not_each_double (λ x s. Stands first groups new x.double x.pages s) s (λ x p. p.double_is)) old mid Held held_by
         (λ x b s known run p. (
           flush_holds first groups base log new x s run.0 later p,
@@ -43,7 +44,8 @@ module _ (first : ℕ) (groups : List Group) (base : ℕ → List ℕ) (log : Lo
         (λ x. stands x.double x.pages)
 
   pub flush_crash : ((double pages : Contents) → Now (Stands first groups log double pages) old
-      → Meanwhile (StandsMeanwhile log.run first groups log.flushed double pages) old mid) → Meanwhile (KeepsSince log.run first log.flushed groups base) old mid
+      → Meanwhile (StandsMeanwhile log.run first groups log.flushed double pages) old mid) → Meanwhile
+          (KeepsSince log.run first log.flushed groups base) old mid
   flush_crash crash =
       meanwhile (λ x b. Stands first groups log x.double x.pages b) (λ x s. StandsMeanwhile log.run first groups log.flushed x.double x.pages s)
       (KeepsSince log.run first log.flushed groups base)
@@ -97,7 +99,8 @@ module _ (first : ℕ) (groups : List Group) (base : ℕ → List ℕ) (staged :
       let run = held s ticks is in
       (run.pages.0, (run.pages.1.stands, (ready s ticks is).read_pages), record { run = run.run; logged = run.logged; way = run.pages.1 })
 
-  module _ (next : StagedView) (same : next.batch ≡ staged.batch) (stands : (x : State) → Now (IsStagedHonestly x staged.batch) old → Now (IsStaged x next.batch) new)
+  module _ (next : StagedView) (same : next.batch ≡ staged.batch)
+      (stands : (x : State) → Now (IsStagedHonestly x staged.batch) old → Now (IsStaged x next.batch) new)
       (has : Now (HasPlaced staged) old → Now (HasPlaced next) new) where
     has_now : Now (HasPlaced next) new
     has_now = has (λ s ticks is. (held s ticks is).pages.1.in_place)
