@@ -59,7 +59,7 @@ module _ {M : Type 0} (state : M → MtrState) (tree : Tree) (key : List ℕ) (u
     holds : IsTrue a.told → HoldsKey tree a.seen key leaf
     holds told =
         subst (λ r. HoldsKey tree a.seen key r) (sym leaf_is)
-            (leaf_holds tree key u a.seen (good told) (parent told) above (above_shown told) place inside leads)
+        (leaf_holds tree key u a.seen (good told) (parent told) above (above_shown told) place inside leads)
 
     shown : IsTrue d.told → IsShown (a.seen leaf) bytes
     shown told = subst (λ (f : ℕ → List ℕ). IsShown (f leaf) bytes) ((looked.same (next.goes.told told)).seen) (bytes_shown (next.goes.told told))
@@ -86,7 +86,7 @@ module _ {M : Type 0} (state : M → MtrState) (tree : Tree) (key : List ℕ) (u
         subst (λ (f : ℕ → List ℕ). IsReady tree key (record { parent = u; place = place; leaf = leaf; middle = middle }) above bytes f) (sym (same told))
         (subst (λ r. IsReady tree key (record { parent = u; place = place; leaf = r; middle = middle }) above bytes a.seen) (sym leaf_is)
         (ready tree key u a.seen (good (told_a told)) (parent (told_a told)) above (above_shown (told_a told)) place inside leads bytes
-            (child_shown told) middle))
+        (child_shown told) middle))
 
     module _ (absent : IsTrue a.told → value_of key (tree_pairs tree a.seen) ≡ None) where
       pub absent_still : IsTrue d.told → value_of key (tree_pairs tree d.seen) ≡ None

@@ -76,7 +76,7 @@ module _ (tree : Tree) (cut : Cut) (number : ℕ) (above bytes fence lower upper
   leaf_within told =
       let is = good (one.goes.told told) in
       subst (λ (l : List ℕ). cut.leaf < capacity_of (record first { seen = λ _. l }))
-          (sym ((one.pages told).elsewhere 0 (λ same. is.some_number (sym same)))) is.leaf_counted
+      (sym ((one.pages told).elsewhere 0 (λ same. is.some_number (sym same)))) is.leaf_counted
 
   module _ (second : MtrState) (put_lower : Puts cut.leaf 20 (drop 20 lower) first second) where
     two : Rewrites cut.leaf (with_bytes 20 (drop 20 lower) (first.seen cut.leaf)) first second

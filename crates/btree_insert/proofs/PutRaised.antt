@@ -27,7 +27,7 @@ module _ (tree : Tree) (number : ℕ) (bytes image : List ℕ) (old first : MtrS
   root_within told =
       let is = good (one.goes.told told) in
       subst (λ (l : List ℕ). tree.root < capacity_of (record first { seen = λ _. l }))
-          (sym ((one.pages told).elsewhere 0 (λ same. is.some_number (sym same)))) is.root_counted
+      (sym ((one.pages told).elsewhere 0 (λ same. is.some_number (sym same)))) is.root_counted
 
   module _ (second : MtrState) (put_root : Puts tree.root 20 (drop 20 image) first second) where
     two : Rewrites tree.root (with_bytes 20 (drop 20 image) (first.seen tree.root)) first second

@@ -40,7 +40,7 @@ DoesAdd tree key value old new Added =
 DoesAdd tree key value old new Present = IsSome (value_of key (tree_pairs tree old)) × (new ≡ old)
 DoesAdd tree key value old new (Full need free) =
     (value_of key (tree_pairs tree old) ≡ None) × IsCrowded tree old key × (need ≡ needed tree old) ×
-        (free ≡ free_among old 0 (u32_at 44 (old 0))) × (free < need)
+    (free ≡ free_among old 0 (u32_at 44 (old 0))) × (free < need)
     × (new ≡ old)
 DoesAdd tree key value old new Crowded =
     (value_of key (tree_pairs tree old) ≡ None) × IsCrowded tree old key × IsParentCrowded tree old key × (new ≡ old)

@@ -111,7 +111,7 @@ module _ (bytes a b c d new : List ℕ) (n q m : ℕ) (size : length bytes ≡ 4
       ∙ drop-append-le 208 (take (208 + n) d) (to_be_bytes w32 q ++ end)
       (omega (arith, length-take-le (208 + n) d (omega (arith, short, size_a, one.size, two.size, three.size))))
       ∙ ap (λ (l : List ℕ). l ++ (to_be_bytes w32 q ++ end))
-          (drop-take 208 n d ∙ ap (take n) zeros_d ∙ take-replicate n (m - 208) 0 (omega (arith, short, many)))
+      (drop-take 208 n d ∙ ap (take n) zeros_d ∙ take-replicate n (m - 208) 0 (omega (arith, short, many)))
 
   record_long : length (lowest_record n q) ≡ n + 4
   record_long =

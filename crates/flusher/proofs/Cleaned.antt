@@ -69,7 +69,7 @@ slot_none : (test : ℕ → Bool) (slot : Option FrameView) → ((lsn : ℕ) →
 slot_none test None never = refl
 slot_none test (Some frame) never =
     let same : content_if frame.content (test (lsn_of frame.bytes)) ≡ frame.content = ap (content_if frame.content)
-        (never (lsn_of frame.bytes)) ∙ content_none frame.content in
+    (never (lsn_of frame.bytes)) ∙ content_none frame.content in
     ap (λ (content : Content). Some (marked content frame.fixes frame)) same
 
 slot_bare : (test : ℕ → Bool) (slot : Option FrameView) → option_map_or holds_page slot false ≡ false
@@ -77,7 +77,7 @@ slot_bare : (test : ℕ → Bool) (slot : Option FrameView) → option_map_or ho
 slot_bare test None bare = refl
 slot_bare test (Some frame) bare =
     ap (λ (content : Content). Some (marked content frame.fixes frame))
-        (content_unchanged frame.content (test (lsn_of frame.bytes)) (bare_unchanged frame.content bare))
+    (content_unchanged frame.content (test (lsn_of frame.bytes)) (bare_unchanged frame.content bare))
 
 slot_twice : (a b : ℕ → Bool) (slot : Option FrameView)
     → option_map (cleaned b) (option_map (cleaned a) slot) ≡ option_map (cleaned (λ lsn. b lsn || a lsn)) slot
@@ -115,7 +115,7 @@ cleans_absent bytes pool bare = record {
       let test : ℕ → Bool = λ lsn. number_of bytes == page && lsn == lsn_of bytes in
       ⊎_elim
       (λ (here : ((number_of bytes == page) ≡ true) × (number_of bytes ≡ page)). sym
-          (slot_bare test (slot_of pool page) (subst (λ (n : ℕ). is_pooled pool n ≡ false) here.1 bare)))
+      (slot_bare test (slot_of pool page) (subst (λ (n : ℕ). is_pooled pool n ≡ false) here.1 bare)))
       (λ (other : ((number_of bytes == page) ≡ false) × (number_of bytes ≢ page)).
       sym (slot_none test (slot_of pool page) (λ lsn. ap (λ (b : Bool). b && lsn == lsn_of bytes) other.0)))
       (eqb_tells (number_of bytes) page);
@@ -172,7 +172,7 @@ slot_pooled test (Some frame) = page_still frame.content (test (lsn_of frame.byt
 
 slot_standing : (test : ℕ → Bool) (slot : Option FrameView)
     → option_map_or (λ (frame : FrameView). is_written frame.content) (option_map (cleaned test) slot) false ≡ option_map_or
-        (λ (frame : FrameView). is_written frame.content) slot false
+    (λ (frame : FrameView). is_written frame.content) slot false
 slot_standing test None = refl
 slot_standing test (Some frame) = written_still frame.content (test (lsn_of frame.bytes))
 

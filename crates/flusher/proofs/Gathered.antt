@@ -110,7 +110,7 @@ among_at batch (suc n) j page lsn within number same = ⊎_elim
     (λ (before : j < n).
     let rest = among_at batch n j page lsn before number same in
     ap (λ (b : Bool). (number_at batch n == page && lsn == lsn_of (page_at batch n)) || b) rest ∙ or_true
-        (number_at batch n == page && lsn == lsn_of (page_at batch n)))
+    (number_at batch n == page && lsn == lsn_of (page_at batch n)))
     (λ (from : n ≤ j).
     let last : j ≡ n = omega (arith, from, within) in
     let a : (number_at batch n == page) ≡ true = eq-eqb (number_at batch n) page (ap (number_at batch) (sym last) ∙ number) in

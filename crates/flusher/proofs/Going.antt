@@ -27,7 +27,7 @@ pub placed_nears : (staged : StagedView) (new : Option StagedView) (old_pool new
 placed_nears staged None old_pool new_pool within goes cleans =
     let length_same : length new_pool.slots ≡ length old_pool.slots = cleans.slots in
     let each : (page : ℕ) → waits None new_pool page ≡ waits (Some staged) old_pool page = λ page. and_true (is_dirty new_pool page)
-        ∙ waits_as_before staged old_pool new_pool page cleans in
+    ∙ waits_as_before staged old_pool new_pool page cleans in
     let same = count_same (waits (Some staged) old_pool) (waits None new_pool) (length new_pool.slots) each in
     let waiting : count_below (waits None new_pool) (length new_pool.slots) ≡ count_below (waits (Some staged) old_pool) (length old_pool.slots) =
     same ∙ ap (count_below (waits (Some staged) old_pool)) length_same in
@@ -38,7 +38,7 @@ placed_nears staged (Some next) old_pool new_pool within goes same =
     let waiting : count_below (waits (Some next) new_pool) (length new_pool.slots) ≡ count_below (waits (Some staged) old_pool) (length old_pool.slots) =
     ap (λ (pool : PoolView). count_below (waits (Some next) pool) (length pool.slots)) same
     ∙ ap (λ (b : BatchView). count_below (λ page. is_dirty old_pool page && not (is_among b b.count page (lsn_of (bytes_of old_pool page))))
-        (length old_pool.slots)) batch in
+    (length old_pool.slots)) batch in
     let count : next.batch.count ≡ staged.batch.count = ap (λ (b : BatchView). b.count) batch in
     let left : next.batch.count - next.placed < staged.batch.count - staged.placed = omega (arith, within, goes.1, count) in
     inr (waiting, inl left)
@@ -53,7 +53,7 @@ changed_still None new old_pool new_pool same page is = ap (λ (p : PoolView). i
 changed_still (Some staged) None old_pool new_pool cleans page is = waits_as_before staged old_pool new_pool page cleans ∙ is
 changed_still (Some staged) (Some next) old_pool new_pool same page is =
     ap (λ (p : PoolView). is_dirty p page) same ∙ and_left (is_dirty old_pool page)
-        (not (is_among staged.batch staged.batch.count page (lsn_of (bytes_of old_pool page)))) is where
+    (not (is_among staged.batch staged.batch.count page (lsn_of (bytes_of old_pool page)))) is where
       and_left : (a b : Bool) → (a && b) ≡ true → a ≡ true
       and_left true b h = refl
       and_left false b h = cc

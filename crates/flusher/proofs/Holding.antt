@@ -52,7 +52,7 @@ pub flush_keeps : (first : ℕ) (groups : List Group) (base : ℕ → List ℕ) 
     → StandsMeanwhile log.run first groups log.flushed b.double b.pages s → KeepsSince log.run first log.flushed groups base s
 flush_keeps first groups base log b s held stands =
     let placed = still_placed first log.flushed log.flushed groups base b s (some first groups log b.log held.logged)
-        (omega arith) held.pages stands.pages_is stands.double_is in
+    (omega arith) held.pages stands.pages_is stands.double_is in
     record { now = log.flushed; later = omega arith; keeps = placed_keep first log.flushed groups base s placed log.run stands.log }
 
 -- ---- the copies
@@ -63,12 +63,12 @@ module _ (first : ℕ) (groups : List Group) (base : ℕ → List ℕ) (log : Lo
   given : (page : ℕ) (bytes : List ℕ) → IsInBatch batch page bytes → lsn_of bytes < log.next
   given page bytes there =
       let same : lsn_of bytes ≡ lsn_of (logical base groups (length groups) page) = lsn-same bytes
-          (logical base groups (length groups) page) (newest.newest page bytes there).same in
+      (logical base groups (length groups) page) (newest.newest page bytes there).same in
       let all : take (length groups) groups ≡ groups = take_all (length groups) groups (omega arith) in
       let base_is = held.run.bases page in
       let below = lsn_of_all page first groups (base page) held.run.each base_is.size base_is.before in
       let same_all : lsn_of (logical base groups (length groups) page) ≡ lsn_of (page_after page groups (base page)) = ap
-          (λ (gs : List Group). lsn_of (page_after page gs (base page))) all in
+      (λ (gs : List Group). lsn_of (page_after page gs (base page))) all in
       omega (arith, same, same_all, below, held.logged.next)
 
   first_logged : IsLoggedBefore log.flushed groups base batch

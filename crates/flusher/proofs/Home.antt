@@ -37,7 +37,7 @@ same_lsn first groups base page are is j m upto lsn =
     let parts = split first groups are base page is j m upto in
     let all = all_reached page first (take m groups) (base page) (AreGroups-take m first groups are) is.size is.before in
     let reached : AreReached page (lsn_of (logical base groups m page)) back = reached_behind page
-        (lsn_of (logical base groups m page)) front back (subst (AreReached page (lsn_of (logical base groups m page))) parts all) in
+    (lsn_of (logical base groups m page)) front back (subst (AreReached page (lsn_of (logical base groups m page))) parts all) in
     let stays = reached_stays page back (logical base groups j page) (subst (λ (n : ℕ). AreReached page n back) lsn reached) in
     ap (λ (l : List Group). page_after page l (base page)) parts ∙ (after-append page front back (base page) ∙ stays)
 
@@ -67,7 +67,7 @@ among_last batch n page lsn earlier is = go (eqb_tells (number_at batch n) page)
 
   go : (((number_at batch n == page) ≡ true) × (number_at batch n ≡ page)) ⊎ (((number_at batch n == page) ≡ false) × (number_at batch n ≢ page))
       → (((lsn == lsn_of (page_at batch n)) ≡ true) × (lsn ≡ lsn_of (page_at batch n))) ⊎
-          (((lsn == lsn_of (page_at batch n)) ≡ false) × (lsn ≢ lsn_of (page_at batch n)))
+      (((lsn == lsn_of (page_at batch n)) ≡ false) × (lsn ≢ lsn_of (page_at batch n)))
       → IsAmong batch (suc n) page lsn
   go (inl number) (inl same) = (n, omega arith, number.1, same.1)
   go (inl number) (inr other) =
@@ -93,20 +93,23 @@ was_among false among is clean = absurd cc
 module _ (first flushed : ℕ) (groups : List Group) (base : ℕ → List ℕ) (staged : StagedView) (run : IsRun first groups base)
     (some : flushed < first + length groups)
     (x s : State) (may : MayBePlaced first flushed groups base staged.batch x)
-        (whole : HasPlaced (record { batch = staged.batch; placed = staged.batch.count }) s)
+    (whole : HasPlaced (record { batch = staged.batch; placed = staged.batch.count }) s)
     (old new : PoolView) (newest : AreNewest groups base old) (cleans : Cleans staged.batch staged.batch.count old new) where
   abbrev batch : BatchView
   batch = staged.batch
 
   good : (k : ℕ) → k < batch.count → IsGoodPage (number_at batch k) (page_at batch k)
-  good k below = record { size = length-piece 4096 k batch.bytes (omega (arith, below, may.is_batch.whole));
-      sum = may.is_batch.sealed k below; number_is = refl }
+  good k below = record {
+    size = length-piece 4096 k batch.bytes (omega (arith, below, may.is_batch.whole));
+    sum = may.is_batch.sealed k below;
+    number_is = refl;
+  }
 
   pub at_home : (page : ℕ) → is_dirty old page ≡ true → is_dirty new page ≡ false → IsHome page (bytes_of new page) s
   at_home page dirty clean =
       let waited : waits (Some staged) old page ≡ false = sym (waits_as_before staged old new page cleans) ∙ clean in
       let found = found_among batch batch.count page (lsn_of (bytes_of old page))
-          (was_among (is_dirty old page) (is_among batch batch.count page (lsn_of (bytes_of old page))) dirty waited) in
+      (was_among (is_dirty old page) (is_among batch batch.count page (lsn_of (bytes_of old page))) dirty waited) in
       let k = found.0 in
       let rest = whole.synced refl in
       let place : place_of page s.pages.synced ≡ page_at batch k =

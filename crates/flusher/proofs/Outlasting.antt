@@ -30,7 +30,7 @@ staged_still batch x b s staged pages double = record {
 placed_still : (staged : StagedView) (b s : State) → HasPlaced staged b → s.pages ≡ b.pages → HasPlaced staged s
 placed_still staged b s has pages =
     subst (λ (c : Contents). HasPlaced staged (record { log = s.log; double = s.double; pages = c })) (sym pages)
-        (record { each = has.each; synced = has.synced })
+    (record { each = has.each; synced = has.synced })
 
 module _ (first : ℕ) (groups more : List Group) (base : ℕ → List ℕ) (log later : LogView) (b s : State) (few : log.flushed < first + length groups)
     (upto : log.flushed ≤ later.flushed) (fresh : (page : ℕ) → IsUnwritten base groups page → IsTrue (begins_fresh page (records_in (groups ++ more))))

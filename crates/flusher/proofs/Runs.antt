@@ -32,7 +32,7 @@ module _ (first : ℕ) (groups : List Group) (base : ℕ → List ℕ) (log : Lo
     pub flushed_run : Now (λ (s : State). HoldsRun first groups base None new s × IsReady s) mid
     flushed_run =
         afterwards (λ x b. Stands first groups log x.double x.pages b) (λ x s. Stands first groups new x.double x.pages s)
-            (λ s. HoldsRun first groups base None new s × IsReady s)
+        (λ s. HoldsRun first groups base None new s × IsReady s)
         (λ s. not_each_double (λ x s. Stands first groups new x.double x.pages s) s (λ x p. p.double_is)) old mid Held held_by
         (λ x b s known run p. (
           flush_holds first groups base log new x s run.0 later p,
@@ -45,7 +45,7 @@ module _ (first : ℕ) (groups : List Group) (base : ℕ → List ℕ) (log : Lo
 
   pub flush_crash : ((double pages : Contents) → Now (Stands first groups log double pages) old
       → Meanwhile (StandsMeanwhile log.run first groups log.flushed double pages) old mid) → Meanwhile
-          (KeepsSince log.run first log.flushed groups base) old mid
+      (KeepsSince log.run first log.flushed groups base) old mid
   flush_crash crash =
       meanwhile (λ x b. Stands first groups log x.double x.pages b) (λ x s. StandsMeanwhile log.run first groups log.flushed x.double x.pages s)
       (KeepsSince log.run first log.flushed groups base)

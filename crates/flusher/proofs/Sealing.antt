@@ -27,16 +27,16 @@ module _ (page : ℕ) (old mid new : List ℕ) (fits : page < 2 ^ 32) (size : le
   field_bytes i = ⊎_elim
       (λ (within : i < 4). subst (λ (n : ℕ). n < 256) (sym (get_or-take 4 (drop 8 old) i 0 within ∙ get_or-drop 8 old i 0)) (bytes (8 + i)))
       (λ (past : 4 ≤ i). subst (λ (n : ℕ). n < 256)
-          (sym (get_or_past (take 4 (drop 8 old)) i 0 (omega (arith, past, length-take 4 (drop 8 old))))) (omega arith))
+      (sym (get_or_past (take 4 (drop 8 old)) i 0 (omega (arith, past, length-take 4 (drop 8 old))))) (omega arith))
       (cases_lt i 4)
 
   whole : number_of old ≡ page → drop 8 new ≡ drop 8 old
   unfolding u32_at
   whole is =
       let field : to_be_bytes w32 page ≡ take 4 (drop 8 old) = be_bytes_4 (take 4 (drop 8 old)) page
-          (omega (arith, size, length-take 4 (drop 8 old), length-drop 8 old)) field_bytes (sym is) in
+      (omega (arith, size, length-take 4 (drop 8 old), length-drop 8 old)) field_bytes (sym is) in
       let parts : take 4 (drop 8 old) ++ drop 12 old ≡ drop 8 old = ap (λ (l : List ℕ). take 4 (drop 8 old) ++ l) (sym (drop-drop 4 8 old))
-          ∙ take-append-drop 4 (drop 8 old) in
+      ∙ take-append-drop 4 (drop 8 old) in
       back ∙ (ap (λ (l : List ℕ). l ++ drop 12 old) field ∙ parts)
 
   pub sealing : length new ≡ 4096 → PassesSum new → AreBytes 8 new → IsSealed page old new

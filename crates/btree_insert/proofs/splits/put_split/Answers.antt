@@ -39,14 +39,14 @@ put_edit-requires-clause-within g c =
     parent_within c.args.tree c.args.cut c.args.number c.args.above.now c.args.bytes.now c.key_at-fence.result.now c.lower_half-lower.result
     c.upper_half-upper.result c.insertion-entry.result
     (g.M.Mtr.state c.args.m.now) (g.M.Mtr.state c.put_image.new.m) c.requires.cut c.in_ok-put_image.ensures.put
-        (g.M.Mtr.state c.put_image-2.new.m) c.in_ok-put_image-2.ensures.put
+    (g.M.Mtr.state c.put_image-2.new.m) c.in_ok-put_image-2.ensures.put
 
 pub returns-clause-goes_on : goal.returns-clause-goes_on
 returns-clause-goes_on g c =
     three_on c.args.tree c.args.cut c.args.number c.args.above.now c.args.bytes.now c.key_at-fence.result.now c.lower_half-lower.result
     c.upper_half-upper.result c.insertion-entry.result
     (g.M.Mtr.state c.args.m.now) (g.M.Mtr.state c.put_image.new.m) c.requires.cut c.in_ok-put_image.ensures.put
-        (g.M.Mtr.state c.put_image-2.new.m) c.in_ok-put_image-2.ensures.put
+    (g.M.Mtr.state c.put_image-2.new.m) c.in_ok-put_image-2.ensures.put
     (g.M.Mtr.state c.put_edit.new.m)
     c.requires.parent_dealt_with c.put_edit.ensures.touches
 
@@ -62,11 +62,11 @@ returns-clause-splits g c =
     splits c.args.tree c.args.cut c.args.number c.args.above.now c.args.bytes.now c.key_at-fence.result.now c.lower_half-lower.result
     c.upper_half-upper.result c.insertion-entry.result
     (g.M.Mtr.state c.args.m.now) (g.M.Mtr.state c.put_image.new.m) c.requires.cut c.in_ok-put_image.ensures.put
-        (g.M.Mtr.state c.put_image-2.new.m) c.in_ok-put_image-2.ensures.put
+    (g.M.Mtr.state c.put_image-2.new.m) c.in_ok-put_image-2.ensures.put
     (g.M.Mtr.state c.put_edit.new.m) put
     (omega arith) (omega arith) c.requires.size c.requires.readable c.requires.middle c.key_at-fence.ensures c.lower_half-lower.ensures c.upper_half-upper.ensures
     c.ranges.number.fits c.requires.above_laid_out
-        (subst (λ l. length (c.key_at-fence.result.now ++ l) ≡ record_len_of c.args.above.now) c.u32_bytes.ensures wide)
+    (subst (λ l. length (c.key_at-fence.result.now ++ l) ≡ record_len_of c.args.above.now) c.u32_bytes.ensures wide)
     c.requires.place c.requires.room (subst (λ l. IsInsertion (c.args.cut.place + 1)
-        (c.key_at-fence.result.now ++ l) c.args.above.now c.insertion-entry.result) c.u32_bytes.ensures c.insertion-entry.ensures))
+    (c.key_at-fence.result.now ++ l) c.args.above.now c.insertion-entry.result) c.u32_bytes.ensures c.insertion-entry.ensures))
     c.put_edit.ensures.put

@@ -19,7 +19,7 @@ pub returns-in_err-place-clause-reason : goal.returns-in_err-place-clause-reason
 returns-in_err-place-clause-reason g c =
     let p = err_from_is_err_and c.from_residual-in_err-place.result c.from_residual-in_err-place.ensures.1 in
     rw (p.1, p.2) (looked.parent_stop g.M.Mtr.state c.args.tree c.args.key.now c.args.parent c.in_ok-above.above
-        (g.M.Mtr.state c.args.m.now) (g.M.Mtr.state c.copy_of.new.m)
+    (g.M.Mtr.state c.args.m.now) (g.M.Mtr.state c.copy_of.new.m)
     c.requires.tree c.requires.parent
     (asked_one c.args.parent (g.M.Mtr.state c.args.m.now) (g.M.Mtr.state c.copy_of.new.m) c.copy_of.result c.copy_of.ensures.asks)
     c.in_ok-above.ensures.shown
@@ -120,7 +120,7 @@ pub returns-in_err-middle-clause-reason : goal.returns-in_err-middle-clause-reas
 returns-in_err-middle-clause-reason g c =
     let p = err_from_is_err_and c.from_residual-in_err-middle.result c.from_residual-in_err-middle.ensures.1 in
     rw (p.1, p.2) (looked.leaf_stop g.M.Mtr.state c.args.tree c.args.key.now c.args.parent c.in_ok-above.above (g.M.Mtr.state c.args.m.now)
-        (g.M.Mtr.state c.copy_of.new.m)
+    (g.M.Mtr.state c.copy_of.new.m)
     c.requires.tree c.requires.parent
     (asked_one c.args.parent (g.M.Mtr.state c.args.m.now) (g.M.Mtr.state c.copy_of.new.m) c.copy_of.result c.copy_of.ensures.asks)
     c.in_ok-above.ensures.shown c.child_at-leaf.result c.in_ok-place.place c.in_ok-bytes.bytes (g.M.Mtr.state c.copy_of-2.new.m)
@@ -150,12 +150,12 @@ add_split-requires-clause-parent_dealt_with g c =
     (asked_one c.child_at-leaf.result (g.M.Mtr.state c.copy_of.new.m) (g.M.Mtr.state c.copy_of-2.new.m) c.copy_of-2.result c.copy_of-2.ensures.asks)
     c.in_ok-place.ensures.within c.in_ok-place.ensures.leads c.child_at-leaf.ensures c.in_ok-bytes.ensures.shown
     (asked_visited c.args.parent (g.M.Mtr.state c.args.m.now)
-        (g.M.Mtr.state c.copy_of.new.m) c.copy_of.result c.in_ok-above.above c.in_ok-above.was c.copy_of.ensures.asks)
+    (g.M.Mtr.state c.copy_of.new.m) c.copy_of.result c.in_ok-above.above c.in_ok-above.was c.copy_of.ensures.asks)
 
 pub add_split-requires-clause-leaf_dealt_with : goal.add_split-requires-clause-leaf_dealt_with
 add_split-requires-clause-leaf_dealt_with g c =
     asked_visited c.child_at-leaf.result (g.M.Mtr.state c.copy_of.new.m)
-        (g.M.Mtr.state c.copy_of-2.new.m) c.copy_of-2.result c.in_ok-bytes.bytes c.in_ok-bytes.was c.copy_of-2.ensures.asks
+    (g.M.Mtr.state c.copy_of-2.new.m) c.copy_of-2.result c.in_ok-bytes.bytes c.in_ok-bytes.was c.copy_of-2.ensures.asks
 
 pub add_split-requires-clause-ready : goal.add_split-requires-clause-ready
 add_split-requires-clause-ready g c =
@@ -207,9 +207,9 @@ returns-clause-reason g c =
     (asked_one c.args.parent (g.M.Mtr.state c.args.m.now) (g.M.Mtr.state c.copy_of.new.m) c.copy_of.result c.copy_of.ensures.asks)
     (goes_then (g.M.Mtr.state c.copy_of.new.m) (g.M.Mtr.state c.copy_of-2.new.m) (g.M.Mtr.state c.add_split.new.m)
     (asked_one c.child_at-leaf.result (g.M.Mtr.state c.copy_of.new.m)
-        (g.M.Mtr.state c.copy_of-2.new.m) c.copy_of-2.result c.copy_of-2.ensures.asks).goes c.add_split.ensures.goes_on.goes)
+    (g.M.Mtr.state c.copy_of-2.new.m) c.copy_of-2.result c.copy_of-2.ensures.asks).goes c.add_split.ensures.goes_on.goes)
     (halt_later g.M.Mtr.state (c.child_at-leaf.result ∷ []) (g.M.Mtr.state c.copy_of.new.m) (g.M.Mtr.state c.copy_of-2.new.m)
-        (g.M.Mtr.state c.add_split.new.m) why
+    (g.M.Mtr.state c.add_split.new.m) why
     (asked_one c.child_at-leaf.result (g.M.Mtr.state c.copy_of.new.m) (g.M.Mtr.state c.copy_of-2.new.m) c.copy_of-2.result c.copy_of-2.ensures.asks)
     c.add_split.ensures.goes_on.goes reason))
     c.add_split.ensures.reason
@@ -228,4 +228,4 @@ returns-clause-full g c =
 pub returns-then-has_room-clause-full : goal.returns-then-has_room-clause-full
 returns-then-has_room-clause-full g c =
     λ full. absurd (IfErr-at_err (IsLeafReason c.child_at-leaf.result (g.M.Mtr.state c.copy_of-2.new.m)
-        (g.M.Mtr.state c.insert_in.new.m)) full c.insert_in.ensures.reason)
+    (g.M.Mtr.state c.insert_in.new.m)) full c.insert_in.ensures.reason)

@@ -26,6 +26,6 @@ returns c = λ fields.
     c.requires.size fields c.requires.short refl one two
     (spelled 22 22 c.u16_bytes.result _ c.lay-2.new.into _ c.lay-3.new.into refl c.u16_bytes.ensures refl three)
     (spelled 32 32 c.u16_bytes-2.result _ c.lay-3.new.into _ c.lay-4.new.into refl
-        (c.u16_bytes-2.ensures ∙ ap (λ k. to_be_bytes w16 (k + 4)) c.from.ensures) refl four)
+    (c.u16_bytes-2.ensures ∙ ap (λ k. to_be_bytes w16 (k + 4)) c.from.ensures) refl four)
     (spelled (208 + c.from-2.result) (208 + n) c.u32_bytes.result _ c.lay-4.new.into _ c.lay-5.new.into
-        (ap (λ k. 208 + k) c.from-2.ensures) c.u32_bytes.ensures refl five)
+    (ap (λ k. 208 + k) c.from-2.ensures) c.u32_bytes.ensures refl five)

@@ -9,5 +9,5 @@ returns-then-is_dirty c =
     let page = c.args.page in
     let sealed = subst (λ (l : List ℕ). IsSealed page l c.sealed.result) c.bytes.ensures.value c.sealed.ensures in
     gathers_more page c.args.pool.now c.args.batch.now c.add_bytes.new.self c.sealed.result c.requires.gathered
-        (ap (λ (b : BatchView). b.count) c.add_bytes.ensures.batch)
+    (ap (λ (b : BatchView). b.count) c.add_bytes.ensures.batch)
     c.add_bytes.ensures.earlier c.add_bytes.ensures.last sealed (sym c.is_dirty.ensures ∙ c.if-is_dirty.true)

@@ -10,4 +10,4 @@ loop-slot-preserved c =
     let one = subst (λ (l : List ℕ). CleansOne l c.loop-slot.pool c.settle_page.new.pool) c.page.ensures.value c.settle_page.ensures in
     let next : suc k ≡ k + 1 = omega arith in
     subst (λ (n : ℕ). Cleans batch n c.args.pool.now c.settle_page.new.pool) next
-        (cleans_more batch k c.args.pool.now c.loop-slot.pool c.settle_page.new.pool c.loop-slot.invariant one)
+    (cleans_more batch k c.args.pool.now c.loop-slot.pool c.settle_page.new.pool c.loop-slot.invariant one)

@@ -17,7 +17,7 @@ on_ok_by (Err e) A B C D known each gives = tt
 pub returns-in-Err-clause-crash : goal.returns-in-Err-clause-crash
 returns-in-Err-clause-crash g c = λ first groups base newest ready held.
     flush_crash first groups base c.args.log.now (g.D.Disk.past c.args.disk.now) (g.D.Disk.past c.flush_for.new.disk) ready held
-        (c.flush_for.ensures.crash first groups)
+    (c.flush_for.ensures.crash first groups)
 
 pub returns-in-Ok-clause-stands : goal.returns-in-Ok-clause-stands
 returns-in-Ok-clause-stands g c = λ first groups base newest ready held.
@@ -28,7 +28,7 @@ returns-in-Ok-clause-stands g c = λ first groups base newest ready held.
     let keeps = c.flush_for.ensures.log in
     let run = flushed_run first groups base c.args.log.now old mid ready held flushed keeps.flushed (c.flush_for.ensures.stands first groups) in
     on_ok_by c.copy_all.result.1 (λ x. Now (IsReadyAs x) mid)
-        (λ x. Now (IsStagedHonestly x c.args.batch) new) _ _ c.copy_all.ensures.ok c.copy_all.ensures.stands
+    (λ x. Now (IsStagedHonestly x c.args.batch) new) _ _ c.copy_all.ensures.ok c.copy_all.ensures.stands
     (λ known stands.
     subst (λ (w : Option StagedView). Now (HoldsRun first groups base w flushed) new) (sym known.1)
     (staged_run first groups base flushed c.args.batch mid new run newest c.in-Ok.ensures.logged c.requires stands))

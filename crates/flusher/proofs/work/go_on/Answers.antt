@@ -10,7 +10,7 @@ pub returns-in-Ok-true-clause-stands : goal.returns-in-Ok-true-clause-stands
 returns-in-Ok-true-clause-stands g c = λ first groups base log ready held.
     let place = c.place_next in
     placed_run first groups base c.args.staged log (g.D.Disk.past c.args.disk.now)
-        (g.D.Disk.past place.new.disk) ready held place.new.self place.ensures.batch place.ensures.stands place.ensures.placed
+    (g.D.Disk.past place.new.disk) ready held place.new.self place.ensures.batch place.ensures.stands place.ensures.placed
 
 pub returns-in-Ok-true-clause-crash : goal.returns-in-Ok-true-clause-crash
 returns-in-Ok-true-clause-crash g c = λ first groups base log ready held.
@@ -22,8 +22,10 @@ returns-in-Ok-false-clause-in_place g c = λ held.
     let next = place.new.self in
     let count : next.batch.count ≡ c.args.staged.batch.count = ap (λ (b : BatchView). b.count) place.ensures.batch in
     let all : next.placed ≡ next.batch.count = all_placed c.in-Ok-false.field-0 c.args.staged.placed next.placed next.batch.count c.in-Ok-false.field-0-test c.in-Ok-false.ensures.more c.in-Ok-false.ensures.ok (omega (arith, c.requires, count)) in
-    let whole : next ≡ record { batch = c.args.staged.batch;
-        placed = c.args.staged.batch.count } = λ i. record { batch = place.ensures.batch i; placed = (all ∙ count) i } in
+    let whole : next ≡ record {
+      batch = c.args.staged.batch;
+      placed = c.args.staged.batch.count;
+    } = λ i. record { batch = place.ensures.batch i; placed = (all ∙ count) i } in
     subst (λ (s : StagedView). Now (HasPlaced s) (g.D.Disk.past place.new.disk)) whole (place.ensures.placed held)
 
 pub returns-in-Ok-false-clause-stands : goal.returns-in-Ok-false-clause-stands
@@ -33,7 +35,7 @@ returns-in-Ok-false-clause-stands g c = λ first groups base log ready held.
     let count : next.batch.count ≡ c.args.staged.batch.count = ap (λ (b : BatchView). b.count) place.ensures.batch in
     let all : next.placed ≡ next.batch.count = all_placed c.in-Ok-false.field-0 c.args.staged.placed next.placed next.batch.count c.in-Ok-false.field-0-test c.in-Ok-false.ensures.more c.in-Ok-false.ensures.ok (omega (arith, c.requires, count)) in
     last_run first groups base c.args.staged log (g.D.Disk.past c.args.disk.now)
-        (g.D.Disk.past place.new.disk) ready held next place.ensures.batch place.ensures.stands place.ensures.placed all
+    (g.D.Disk.past place.new.disk) ready held next place.ensures.batch place.ensures.stands place.ensures.placed all
 
 pub returns-in-Ok-false-clause-crash : goal.returns-in-Ok-false-clause-crash
 returns-in-Ok-false-clause-crash g c = λ first groups base log ready held.
@@ -43,7 +45,7 @@ pub returns-in-Err-clause-stands : goal.returns-in-Err-clause-stands
 returns-in-Err-clause-stands g c = λ first groups base log ready held.
     let place = c.place_next in
     placed_run first groups base c.args.staged log (g.D.Disk.past c.args.disk.now)
-        (g.D.Disk.past place.new.disk) ready held place.new.self place.ensures.batch place.ensures.stands place.ensures.placed
+    (g.D.Disk.past place.new.disk) ready held place.new.self place.ensures.batch place.ensures.stands place.ensures.placed
 
 pub returns-in-Err-clause-crash : goal.returns-in-Err-clause-crash
 returns-in-Err-clause-crash g c = λ first groups base log ready held.
@@ -65,4 +67,4 @@ returns-in-Ok-false-clause-home g c = λ first groups base log newest ready held
     let whole : next ≡ record { batch = staged.batch; placed = staged.batch.count } = λ i. record { batch = place.ensures.batch i; placed = (all ∙ count) i } in
     let cleans = subst (λ (b : BatchView). Cleans b b.count c.args.pool.now c.settle.new.pool) (c.done-batch.ensures ∙ place.ensures.batch) c.settle.ensures in
     last_home first groups base staged log (g.D.Disk.past c.args.disk.now)
-        (g.D.Disk.past place.new.disk) ready held next place.ensures.batch place.ensures.stands place.ensures.placed whole c.args.pool.now c.settle.new.pool newest cleans
+    (g.D.Disk.past place.new.disk) ready held next place.ensures.batch place.ensures.stands place.ensures.placed whole c.args.pool.now c.settle.new.pool newest cleans

@@ -64,7 +64,7 @@ returns-in-Placing-clause-crash g c = λ first groups base newest ready held.
     let some : staged_of c.args.work ≡ Some c.in-Placing.staged = ap staged_of c.in-Placing.is in
     let there = subst (λ (w : Option StagedView). Now (HoldsRun first groups base w log) (g.D.Disk.past c.args.disk.now)) some held in
     Meanwhile-weaker (Keeps log.run first log.flushed groups base) (KeepsSince log.run first log.flushed groups base)
-        (g.D.Disk.past c.args.disk.now) (g.D.Disk.past c.go_on.new.disk)
+    (g.D.Disk.past c.args.disk.now) (g.D.Disk.past c.go_on.new.disk)
     (c.go_on.ensures.crash first groups base log ready there)
     (λ s keeps. record { now = log.flushed; later = omega arith; keeps = keeps })
 
