@@ -34,7 +34,7 @@ pub fn finds_are_first()
         → MatchOption (first_after key pairs) (NonePasses (λ other. is_lt (key_cmp key other)) pairs) (IsFirstOf (λ other. is_lt (key_cmp key other)) pairs) }
 {}
 
-/// An index that is a sorted vector is never in pages.
+/// An index in memory is never in pages.
 pub fn a_list_has_no_pages()
     ensures { (list : ListIndex) → (shown list).paged ≡ None }
 {}

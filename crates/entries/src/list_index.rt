@@ -1,4 +1,4 @@
-//! An index in memory: a sorted vector, the place of each actor, and who is awaited.
+//! An index in memory: an ordered map, the place of each actor, and who is awaited.
 
 ghost use Rattle.std.specs.Prelude.{◌≡◌, IfOk, IsOk, MatchOption, MatchResult};
 ghost use Rattle.entries.specs.Pairs.{AreSound, IsShort};

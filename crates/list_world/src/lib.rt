@@ -1,4 +1,4 @@
-//! A world in memory: sorted vectors for indexes, versions in a vector, and all transactions, sessions and the history.
+//! A world in memory: ordered maps for indexes, versions in a vector, and all transactions, sessions and the history.
 //! Statements drive it through the trait `World`; the engine alone makes it, joins sessions and adds tables.
 #![tactic(auto)]
 
