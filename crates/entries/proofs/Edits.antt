@@ -1,15 +1,13 @@
 -- What is found among pairs in order, and what an edit makes of them.
-use Rattle.std.proofs.Common.{◌≡◌, ℕ, zero, suc, ◌<◌, ◌≤◌, Bool, true, false, cond, List, [], ◌∷◌, length, get_or, set, slice_get, None, Some, refl, sym, ◌∙◌, ap, subst, arith}
-use Rattle.std.specs.Prelude.{option_map, is_some, remove, insert, Result, Ok, Err, OnErr}
-use Rattle.std.proofs.lemmas.Bool.Decides.{nat_tests}
-use Rattle.entries.specs.Calls.{is_as_long}
+use Rattle.std.proofs.Common.{◌≡◌, ℕ, zero, suc, ◌<◌, Bool, true, false, cond, List, [], ◌∷◌, length, get_or, set, None, refl, sym, ◌∙◌, ap, arith}
+use Rattle.std.specs.Prelude.{is_some, remove, insert, Result, Ok, Err, OnErr}
 use Rattle.std.specs.declared.cmp.Ordering.{Ordering}
 use Rattle.std.specs.declared.cmp.Ordering.TheVariants.{Less, Equal, Greater}
 use Rattle.std.specs.Ordering.{match_ordering, is_eq}
 use Rattle.std.specs.List.{AllByRecursion}
-use Rattle.entries.specs.Pairs.{Pair, key_cmp, AreRising, AreSound, IsShort, value_of, first_from, first_after, with_pair, without_key}
-use Rattle.entries.specs.Places.{StandsAt, IsGapAt, IsFoundAt, IsMissedAt}
-use Rattle.entries.proofs.Order.{key_cmp_total, same_key, lower_from, below_all}
+use Rattle.entries.specs.Pairs.{Pair, key_cmp, AreRising, AreSound, IsShort, value_of, with_pair, without_key}
+use Rattle.entries.specs.Places.{StandsAt, IsGapAt, IsFoundAt}
+use Rattle.entries.proofs.Order.{key_cmp_total, lower_from, below_all}
 
 -- ---- at the place of a key
 
@@ -18,54 +16,10 @@ in_range key [] at is = absurd is
 in_range key (pair ∷ pairs) zero is = omega arith
 in_range key (pair ∷ pairs) (suc at) is = omega (arith, in_range key pairs at is.1)
 
-pub at_most_end : (key : List ℕ) (pairs : List Pair) (at : ℕ) → IsGapAt key pairs at → at ≤ length pairs
-at_most_end key [] zero is = omega arith
-at_most_end key [] (suc at) is = absurd is
-at_most_end key (pair ∷ pairs) zero is = omega arith
-at_most_end key (pair ∷ pairs) (suc at) is = omega (arith, at_most_end key pairs at is.1)
-
-pub from_stands : (key : List ℕ) (pairs : List Pair) (at : ℕ) → StandsAt key pairs at → first_from key pairs ≡ slice_get pairs at
-from_stands key [] at is = absurd is
-from_stands key (pair ∷ pairs) zero is = rw is
-from_stands key (pair ∷ pairs) (suc at) is = rw is.0 (from_stands key pairs at is.1)
-
-pub from_gap : (key : List ℕ) (pairs : List Pair) (at : ℕ) → IsGapAt key pairs at → first_from key pairs ≡ slice_get pairs at
-from_gap key [] zero is = refl
-from_gap key [] (suc at) is = absurd is
-from_gap key (pair ∷ pairs) zero is = rw is
-from_gap key (pair ∷ pairs) (suc at) is = rw is.0 (from_gap key pairs at is.1)
-
--- of pairs that are all above, the first
-first_above : (key : List ℕ) (pairs : List Pair) → AllByRecursion (λ (later : Pair). key_cmp key later.0 ≡ Less) pairs → first_after key pairs ≡ slice_get pairs 0
-first_above key [] all = refl
-first_above key (pair ∷ pairs) all = rw all.0
-
 -- what is above a key is above all keys that compare alike
 pub alike : (key other : List ℕ) (pairs : List Pair) → key_cmp key other ≡ Equal → AllByRecursion (λ (later : Pair). key_cmp other later.0 ≡ Less) pairs → AllByRecursion (λ (later : Pair). key_cmp key later.0 ≡ Less) pairs
 alike key other [] same all = tt
 alike key other (pair ∷ pairs) same all = (key_cmp_total.congr key other pair.0 same ∙ all.0, alike key other pairs same all.1)
-
-pub after_stands : (key : List ℕ) (pairs : List Pair) (at : ℕ) → AreRising pairs → StandsAt key pairs at → first_after key pairs ≡ slice_get pairs (suc at)
-after_stands key [] at rising is = absurd is
-after_stands key (pair ∷ pairs) zero rising is = rw is (first_above key pairs (alike key pair.0 pairs is rising.0))
-after_stands key (pair ∷ pairs) (suc at) rising is = rw is.0 (after_stands key pairs at rising.1 is.1)
-
-pub after_gap : (key : List ℕ) (pairs : List Pair) (at : ℕ) → IsGapAt key pairs at → first_after key pairs ≡ slice_get pairs at
-after_gap key [] zero is = refl
-after_gap key [] (suc at) is = absurd is
-after_gap key (pair ∷ pairs) zero is = rw is
-after_gap key (pair ∷ pairs) (suc at) is = rw is.0 (after_gap key pairs at is.1)
-
-pub value_stands : (key : List ℕ) (pairs : List Pair) (at : ℕ) → StandsAt key pairs at → value_of key pairs ≡ option_map (λ (pair : Pair). pair.1) (slice_get pairs at)
-value_stands key [] at is = absurd is
-value_stands key (pair ∷ pairs) zero is = rw is
-value_stands key (pair ∷ pairs) (suc at) is = rw is.0 (value_stands key pairs at is.1)
-
--- the pair that was read there has the key's value
-pub value_read : (key : List ℕ) (pairs : List Pair) (at : ℕ) (pair : Pair) → StandsAt key pairs at → pair ≡ get_or pairs at pair → value_of key pairs ≡ Some pair.1
-value_read key [] at read is same = absurd is
-value_read key (pair ∷ pairs) zero read is same = rw is (ap (λ (p : Pair). Some p.1) (sym same))
-value_read key (pair ∷ pairs) (suc at) read is same = rw is.0 (value_read key pairs at read is.1 same)
 
 there_stands : (key : List ℕ) (pairs : List Pair) (at : ℕ) → StandsAt key pairs at → is_some (value_of key pairs) ≡ true
 there_stands key [] at is = absurd is
@@ -96,11 +50,6 @@ pub set_stands : (key value : List ℕ) (pairs : List Pair) (at : ℕ) (d : Pair
 set_stands key value [] at d is = absurd is
 set_stands key value (pair ∷ pairs) zero d is = rw is
 set_stands key value (pair ∷ pairs) (suc at) d is = rw is.0 (ap (λ (l : List Pair). pair ∷ l) (set_stands key value pairs at d is.1))
-
--- the same, of a pair that was read there and given another value
-pub put_stands : (key value : List ℕ) (pairs : List Pair) (at : ℕ) (old new : Pair) → StandsAt key pairs at → old ≡ get_or pairs at old → new ≡ (old.0, value) → set pairs at new ≡ with_pair key value pairs
-put_stands key value pairs at old new is read put =
-    ap (λ (pair : Pair). set pairs at pair) (put ∙ ap (λ (pair : Pair). (pair.0, value)) read) ∙ set_stands key value pairs at old is
 
 pub remove_stands : (key : List ℕ) (pairs : List Pair) (at : ℕ) → StandsAt key pairs at → remove pairs at ≡ without_key key pairs
 remove_stands key [] at is = absurd is
@@ -156,17 +105,8 @@ short_without key (pair ∷ pairs) all = go (is_eq (key_cmp key pair.0)) (short_
   go true rest = all.1
   go false rest = (all.0, rest)
 
--- a key that stands there is no longer than the longest
-short_key : (key : List ℕ) (pairs : List Pair) (at : ℕ) → StandsAt key pairs at → AllByRecursion IsShort pairs → length key ≤ 67
-short_key key [] at is all = absurd is
-short_key key (pair ∷ pairs) zero is all = subst (λ (k : List ℕ). length k ≤ 67) (sym (same_key key pair.0 is)) all.0.key
-short_key key (pair ∷ pairs) (suc at) is all = short_key key pairs at is.1 all.1
-
 pub sound_with : (key value : List ℕ) (pairs : List Pair) → IsShort (key, value) → AreSound pairs → AreSound (with_pair key value pairs)
 sound_with key value pairs short sound = record { rising = rising_with key value pairs sound.rising; short = short_with key value pairs short sound.short }
-
-pub sound_replaced : (key value : List ℕ) (pairs : List Pair) (at : ℕ) → StandsAt key pairs at → length value ≤ 1024 → AreSound pairs → AreSound (with_pair key value pairs)
-sound_replaced key value pairs at is fits sound = sound_with key value pairs (record { key = short_key key pairs at is sound.short; value = fits }) sound
 
 pub sound_without : (key : List ℕ) (pairs : List Pair) → AreSound pairs → AreSound (without_key key pairs)
 sound_without key pairs sound = record { rising = rising_without key pairs sound.rising; short = short_without key pairs sound.short }
@@ -176,19 +116,6 @@ sound_without key pairs sound = record { rising = rising_without key pairs sound
 pub found_at : (key : List ℕ) (pairs : List Pair) (at : ℕ) → StandsAt key pairs at → IsFoundAt key pairs at
 found_at key pairs at is = record { stands = is; in_range = in_range key pairs at is; there = there_stands key pairs at is }
 
-pub missed_at : (key : List ℕ) (pairs : List Pair) (at : ℕ) → AreRising pairs → IsGapAt key pairs at → IsMissedAt key pairs at
-missed_at key pairs at rising is = record { gap = is; in_range = at_most_end key pairs at is; absent = value_gap key pairs at rising is }
-
--- a pair that was read is no longer than the longest
-pub short_read : (pairs : List Pair) (at : ℕ) (pair : Pair) → AllByRecursion IsShort pairs → at < length pairs → pair ≡ get_or pairs at pair → IsShort pair
-short_read [] at read all lt same = absurd (omega (arith, lt))
-short_read (pair ∷ pairs) zero read all lt same = subst IsShort (sym same) all.0
-short_read (pair ∷ pairs) (suc at) read all lt same = short_read pairs at read all.1 (omega (arith, lt)) same
-
 pub on_err : {T E : Type 0} {P : Type 0} (answer : Result T E) → P → OnErr answer P
 on_err (Ok value) fact = tt
 on_err (Err error) fact = fact
-
--- where the same length would have been Ok, the length is another
-pub resized : (kept value : List ℕ) → (length kept ≡ length value → false ≡ true) → is_as_long value (Some kept) ≡ false
-resized kept value ok = grind (arith, nat_tests, ok)

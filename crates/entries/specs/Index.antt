@@ -1,5 +1,5 @@
 -- What contracts see of an index, and what a call leaves of it as it was.
-use Rattle.std.specs.Prelude.{◌≡◌, ◌≢◌, ◌⊎◌, ℕ, ◌<◌, ◌≤◌, Bool, List, ◌∷◌, Option, None, Some, IfSome}
+use Rattle.std.specs.Prelude.{◌≡◌, ◌≢◌, ℕ, ◌≤◌, Bool, List, length, Option, None, Some, IfSome}
 use Rattle.entries.specs.Pairs.{Pair}
 
 -- What an index shows that is kept in pages: what its answers about pages rest on.
@@ -10,6 +10,9 @@ pub record Paged : Type 0 where
   pub free : ℕ
   -- how many levels the tree has
   pub levels : ℕ
+  -- how long each key is, and how long each value
+  pub key_len : ℕ
+  pub value_len : ℕ
   -- no frame of the pool is clean and unfixed
   pub is_crowded : Bool
   -- whether this page breaks this rule
@@ -66,11 +69,24 @@ abbrev pub InPages : (Paged → Paged → Type 0) → Option Paged → Option Pa
 InPages P (Some old) (Some new) = P old new
 InPages P old new = ⊥
 
--- an index stays in memory, or in pages, and the disk's faults are never fewer
+-- The disk's faults are never fewer, and keys and values are as long as before.
+pub record IsLater (old new : Paged) : Type 0 where
+  pub faults : old.faults ≤ new.faults
+  pub key_len : new.key_len ≡ old.key_len
+  pub value_len : new.value_len ≡ old.value_len
+
+-- an index stays in memory, or in pages
 abbrev pub GoesOn : Option Paged → Option Paged → Type 0
 GoesOn None None = Unit {0}
-GoesOn (Some old) (Some new) = old.faults ≤ new.faults
+GoesOn (Some old) (Some new) = IsLater old new
 GoesOn old new = ⊥
+
+-- A key or a value may stand there: in pages all keys are as long as one another, and so are all values.
+abbrev pub HasKeyWidth : List ℕ → Index → Type 0
+HasKeyWidth key index = IfSome index.paged (λ p. length key ≡ p.key_len)
+
+abbrev pub HasValueWidth : List ℕ → Index → Type 0
+HasValueWidth value index = IfSome index.paged (λ p. length value ≡ p.value_len)
 
 -- no other actor is awaited
 abbrev pub IsFree : ℕ → Index → Type 0

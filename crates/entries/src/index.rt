@@ -2,7 +2,7 @@
 
 ghost use Rattle.std.specs.Prelude.{◌≡◌, ◌≤◌, false, length, IsSome, vec_capacity};
 ghost use Rattle.entries.specs.Pairs.{AreSound};
-ghost use Rattle.entries.specs.Index.{Index, Told, GoesOn};
+ghost use Rattle.entries.specs.Index.{Index, Told, GoesOn, HasKeyWidth, HasValueWidth};
 ghost use Rattle.entries.specs.Calls.{is_done, Seeks, Follows, Fetches, NextKeys, Inserts, Replaces, Removes, Tidies, Leaves};
 
 use inno_types::Bytes;
@@ -45,17 +45,20 @@ pub trait Entries {
         ensures sound { Told AreSound (index self.new) }
         ensures later { GoesOn (index self.old).paged (index self.new).paged };
 
-    /// Adds a pair, or answers `At` with the key's pair, which stays.
+    /// Adds a pair, or answers `At` with the key's pair, which stays. In pages all keys are equally long, and all values are.
     fn insert(&mut self, actor: u32, key: &Bytes, value: &Bytes) -> Move
         requires key { length key.now ≤ 67 }
         requires value { length value.now ≤ 1024 }
+        requires key_width { HasKeyWidth key.now (index self.old) }
+        requires value_width { HasValueWidth value.now (index self.old) }
         ensures answer { Inserts actor key.now value.now (index self.old) (index self.new) result }
         ensures sound { Told AreSound (index self.new) }
         ensures later { GoesOn (index self.old).paged (index self.new).paged };
 
     /// Gives the key another value, or answers `End`.
     fn replace(&mut self, actor: u32, key: &Bytes, value: &Bytes) -> Move
-        requires { length value.now ≤ 1024 }
+        requires value { length value.now ≤ 1024 }
+        requires width { HasValueWidth value.now (index self.old) }
         ensures answer { Replaces actor key.now value.now (index self.old) (index self.new) result }
         ensures sound { Told AreSound (index self.new) }
         ensures later { GoesOn (index self.old).paged (index self.new).paged };

@@ -1,9 +1,5 @@
-use Rattle.std.proofs.Common.{subst, List}
-use Rattle.std.specs.Prelude.{find, option_map}
-use Rattle.std.specs.Range.Bound.{bound_map}
-use Rattle.std.specs.BTreeMap.Range.{is_from_start}
+use Rattle.std.specs.Prelude.{option_map}
 use Rattle.std.specs.Map.Iter.{deref_pair}
-use Rattle.entries.specs.Pairs.{Pair, key_cmp}
 use Rattle.entries.proofs.Kept.{first_of, shown_first}
 use Rattle.entries.proofs.pairs.SortedPairs.first.Goals as goal
 

@@ -1,5 +1,5 @@
-use Rattle.std.proofs.Common.{◌≡◌, List, subst, sym, ap, ◌∙◌, Some}
-use Rattle.entries.specs.Pairs.{Pair, AreSound, with_pair}
+use Rattle.std.proofs.Common.{◌≡◌, subst, sym, ap, ◌∙◌, Some}
+use Rattle.entries.specs.Pairs.{AreSound, with_pair}
 use Rattle.entries.proofs.Edits.{sound_with}
 use Rattle.entries.proofs.Kept.{got, put_copy}
 use Rattle.entries.proofs.pairs.SortedPairs.insert.Goals as goal

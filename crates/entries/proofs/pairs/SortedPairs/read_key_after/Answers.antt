@@ -1,4 +1,4 @@
-use Rattle.std.proofs.Common.{ap, length, sym, ◌∙◌, arith}
+use Rattle.std.proofs.Common.{ap, length, sym, arith}
 use Rattle.entries.proofs.Kept.{short_found}
 use Rattle.entries.proofs.pairs.SortedPairs.read_key_after.Goals as goal
 

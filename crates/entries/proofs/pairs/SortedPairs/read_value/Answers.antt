@@ -1,6 +1,6 @@
-use Rattle.std.proofs.Common.{◌≡◌, List, ap, length, subst, sym, ◌∙◌, arith}
+use Rattle.std.proofs.Common.{◌≡◌, ap, length, sym, ◌∙◌, arith}
 use Rattle.std.specs.Prelude.{Some, is_some}
-use Rattle.entries.specs.Pairs.{Pair, value_of}
+use Rattle.entries.specs.Pairs.{value_of}
 use Rattle.entries.proofs.Kept.{got, short_value}
 use Rattle.entries.proofs.pairs.SortedPairs.read_value.Goals as goal
 

@@ -1,6 +1,6 @@
-use Rattle.std.proofs.Common.{◌≡◌, List, subst, sym, ap, ◌∙◌}
+use Rattle.std.proofs.Common.{subst, sym, ap, ◌∙◌}
 use Rattle.std.specs.Prelude.{is_some}
-use Rattle.entries.specs.Pairs.{Pair, AreSound, without_key}
+use Rattle.entries.specs.Pairs.{AreSound}
 use Rattle.entries.proofs.Edits.{sound_without}
 use Rattle.entries.proofs.Kept.{got, removed, removed_if}
 use Rattle.entries.proofs.pairs.SortedPairs.remove.Goals as goal
