@@ -5,8 +5,10 @@
 mod listed;
 mod pages;
 mod reading;
+mod resident;
 mod store;
 
 pub use listed::ListedPages;
 pub use pages::Mtr;
 pub use reading::{capacity, u32_on};
+pub use resident::Resident;

@@ -2,6 +2,7 @@
 //! They never fail, and each of them is at hand.
 
 ghost use Rattle.std.specs.Prelude.{◌≡◌, ℕ, ◌+◌, ◌<◌, ◌≤◌, length, IsTrue, IsOk, IfOk, OnOk, OnErr, Err};
+ghost use Rattle.mtr.specs.Calls.{Commits};
 ghost use Rattle.mtr.specs.Resting.{IsResting};
 ghost use Rattle.mtr.specs.declared.listed.ListedPages.{ListedPages as Listed};
 
@@ -24,6 +25,13 @@ impl ListedPages {
         Ok(ListedPages {
             store: Store::new(alloc, pages, spare)?,
         })
+    }
+
+    /// Makes all the puts stand, and begins the next mini-transaction.
+    pub(crate) fn stand(&mut self)
+        ensures { Commits (⟦<ListedPages as Mtr>⟧.state self.old) (⟦<ListedPages as Mtr>⟧.state self.new) }
+    {
+        self.store.commit();
     }
 
     /// Pages in memory count no fault. So they are told through all calls, unless page 0 counts more of them.
