@@ -1,0 +1,6 @@
+pub mod Changing
+pub mod Empty
+pub mod Finding
+pub mod New
+pub mod Resting
+pub mod Widths

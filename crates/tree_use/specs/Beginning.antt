@@ -1,0 +1,27 @@
+-- A tree that was just made: its root is an empty leaf.
+use Rattle.std.specs.Prelude.{◌≡◌, ℕ, ◌+◌, ◌<◌, ◌≤◌, List, drop, slice_index}
+use Rattle.page_format.specs.Words.{u32_at, kind_of, level_of, count_of, index_of, record_len_of, right_of}
+use Rattle.page_format.specs.Shape.{AreZeros}
+use Rattle.space_map.specs.Map.{bit_in}
+use Rattle.btree.specs.declared.tree.Tree.{Tree}
+
+-- The page is a leaf of the tree's index with no record, no fence and no neighbour, and zeros behind its fields.
+pub record IsEmptyLeaf (tree : Tree) (bytes : List ℕ) : Type 0 where
+  pub kind : kind_of bytes ≡ 3
+  pub level : level_of bytes ≡ 0
+  pub count : count_of bytes ≡ 0
+  pub index : index_of bytes ≡ tree.index
+  pub right : right_of bytes ≡ 0
+  pub width : record_len_of bytes ≡ tree.key_len + tree.value_len
+  pub low : slice_index bytes 34 ≡ 255
+  pub high : slice_index bytes 35 ≡ 255
+  pub rest : AreZeros (drop 36 bytes)
+
+-- The root is one of the pages that page 0 counts, behind the first ones; these are marked as used, and so is the root.
+pub record IsCountedRoot (root : ℕ) (header map : List ℕ) : Type 0 where
+  pub beyond : 20 < root
+  pub covered : root < 32512
+  pub counted : root < u32_at 44 header
+  pub few : u32_at 44 header ≤ 65536
+  pub reserved : (page : ℕ) → page ≤ 20 → bit_in map page ≡ 1
+  pub used : bit_in map root ≡ 1

@@ -1,0 +1,120 @@
+//! Whether the pages hold a tree that was just made: a root in use that is an empty leaf.
+
+ghost use Rattle.std.specs.Prelude.{◌≡◌, ◌<◌, ◌≤◌, ℕ, [], length, IsTrue, IfOk, IfErr, MatchBool};
+ghost use Rattle.page_format.specs.Shape.{AreZeros};
+ghost use Rattle.mtr.specs.Seen.{IsShown};
+ghost use Rattle.mtr.specs.Calls.{GivesUp};
+ghost use Rattle.space_map.specs.Map.{bit_in};
+ghost use Rattle.btree.specs.Sound.{tree_pairs};
+ghost use Rattle.btree.specs.Reads.{IsIdle, IsHindered};
+ghost use Rattle.tree_use.specs.Stored.{HasWidths, IsAtRest};
+ghost use Rattle.tree_use.specs.Beginning.{IsEmptyLeaf, IsCountedRoot};
+
+use crate::reading::sure;
+use btree::Tree;
+use mtr::{Mtr, Resident};
+use page_format::{read_u16, read_u32};
+use store_api::Visit;
+
+/// Where page 0 has the number of pages.
+const PAGE_COUNT: usize = 44;
+
+/// The first pages of the file, which are no tree's.
+const RESERVED: u32 = 21;
+
+/// How many pages the first page of the map has bits of.
+const COVERED: u32 = 32_512;
+
+/// Where the fences begin; what follows them are records.
+const FENCES: usize = 36;
+
+/// Where the bits begin.
+const BITS: usize = 32;
+
+/// Whether a page is marked as used in the first page of the map.
+fn is_used(map: &[u8; 4096], page: u32) -> bool
+    requires { page < 32512 }
+    ensures { IsTrue result → bit_in map.now page ≡ 1 }
+{
+    let byte = map[BITS + (page / 8) as usize];
+    (byte >> (page % 8)) & 1 == 1
+}
+
+/// Whether the first pages are marked as used.
+fn are_reserved(map: &[u8; 4096]) -> bool
+    ensures { IsTrue result → (page : ℕ) → page ≤ 20 → bit_in map.now page ≡ 1 }
+{
+    for page in 0..RESERVED {
+        if !is_used(map, page) {
+            return false;
+        }
+    }
+    true
+}
+
+/// Whether the root is a page of the file that is in use.
+fn is_counted(root: u32, header: &[u8; 4096], map: &[u8; 4096]) -> bool
+    ensures { IsTrue result → IsCountedRoot root header.now map.now }
+{
+    let count = read_u32(header, PAGE_COUNT);
+    if root < RESERVED || root >= COVERED || root >= count || count > 65_536 {
+        return false;
+    }
+    are_reserved(map) && is_used(map, root)
+}
+
+fn are_zeros(bytes: &[u8]) -> bool
+    ensures { MatchBool result (AreZeros bytes.now) (AreZeros bytes.now → ⊥) }
+{
+    bytes.iter().all(|byte| *byte == 0)
+}
+
+/// Whether a page is an empty leaf of the tree's index, without fences and neighbour.
+fn is_empty_leaf(tree: Tree, bytes: &[u8]) -> bool
+    requires size { length bytes.now ≡ 4096 }
+    requires widths { HasWidths tree }
+    ensures { IsTrue result → IsEmptyLeaf tree bytes.now }
+{
+    if bytes[20] != 3 || bytes[21] != 0 || bytes[34] != 255 || bytes[35] != 255 {
+        return false;
+    }
+    if read_u16(bytes, 22) != 0 || read_u32(bytes, 28) != 0 {
+        return false;
+    }
+    if read_u32(bytes, 24) != tree.index {
+        return false;
+    }
+    if read_u16(bytes, 32) != u16::from(tree.key_len) + tree.value_len {
+        return false;
+    }
+    let (_, behind) = bytes.split_at(FENCES);
+    are_zeros(behind)
+}
+
+/// A copy of a page.
+fn copied<M: Mtr>(m: &mut M, page: u32) -> Result<[u8; 4096], Visit>
+    requires idle { IsIdle (M.state m.old) }
+    ensures shown { IfOk result (λ bytes. IsTrue (M.state m.new).told → IsShown ((M.state m.old).standing page) bytes) }
+    ensures reads { GivesUp (M.state m.old) (M.state m.new) }
+    ensures reason { IfErr result (IsHindered (M.state m.old) (M.state m.new)) }
+{
+    let mut copy = [0; 4096];
+    copy.copy_from_slice(m.bytes(page)?);
+    m.give_up();
+    Ok(copy)
+}
+
+/// Whether the pages hold a tree that was just made: then it stands on them and has no pairs.
+pub fn is_new_tree<M: Resident>(m: &mut M, tree: Tree) -> bool
+    requires widths { HasWidths tree }
+    requires told { IsTrue (M.state m.old).told }
+    requires idle { IsIdle (M.state m.old) }
+    requires spare { 4096 ≤ (M.state m.old).whole }
+    ensures rest { IsTrue result → IsAtRest tree (M.state m.new) }
+    ensures none { IsTrue result → tree_pairs tree (M.state m.new).standing ≡ [] }
+{
+    let header = sure(copied(m, 0));
+    let map = sure(copied(m, 2));
+    let root = sure(copied(m, tree.root));
+    is_counted(tree.root, &header, &map) && is_empty_leaf(tree, &root)
+}
