@@ -1,21 +1,22 @@
 -- A pair is added to a leaf of a tree that has grown.
-use Rattle.std.proofs.Common.{◌≡◌, ◌≢◌, ℕ, ◌+◌, ◌/◌, ◌%◌, ◌<◌, ◌≤◌, List, [], sym, ◌∙◌, ap, subst, refl, arith}
+use Rattle.std.proofs.Common.{◌≡◌, ◌≢◌, ℕ, ◌+◌, ◌/◌, ◌%◌, ◌<◌, ◌≤◌, List, [], ◌∷◌, sym, ◌∙◌, ap, subst, refl, arith}
 use Rattle.std.specs.Prelude.{slice_index}
 use Rattle.std.specs.Int.{bit_at}
 use Rattle.std.specs.List.{AllByRecursion}
 use Rattle.entries.specs.Pairs.{Pair}
 use Rattle.law_flat_tree.specs.Descents.{leaves_of}
 use Rattle.law_flat_tree.specs.PageSplits.{StandsNowhere}
+use Rattle.law_flat_tree.specs.Trees.{nodes}
 use Rattle.law_flat_tree.proofs.Apart.{each_of, with_both}
 use Rattle.law_tree_changes.proofs.Splitting.{of_all}
 use Rattle.space_map.specs.Map.{byte_of, mark_of}
 use Rattle.btree.specs.declared.tree.Tree.{Tree}
-use Rattle.btree.specs.Sound.{levels_of, IsTreePage, HoldsKey, tree_pairs}
-use Rattle.btree.proofs.Passed.{leaf_readable}
+use Rattle.btree.specs.Sound.{lows_of, levels_of, IsTreePage, HoldsKey, tree_pairs}
+use Rattle.btree.proofs.Passed.{leaf_readable, leaves_each}
 use Rattle.btree_change.specs.Trees.{Becomes}
 use Rattle.btree_split.specs.Placed.{BeginsLow, IsPlacedPage, IsPlacedTree}
-use Rattle.btree_insert.specs.Grown.{Grows}
-use Rattle.btree_insert.proofs.TakenTree.{of_leaf}
+use Rattle.btree_grow.specs.Grown.{Grows}
+use Rattle.btree_grow.proofs.TakenTree.{of_level}
 
 -- nothing is done yet
 pub grows_none : (tree : Tree) (pages : ℕ → List ℕ) → IsPlacedTree tree pages → Grows tree (tree_pairs tree pages) [] pages pages
@@ -36,7 +37,9 @@ module _ (tree : Tree) (key : List ℕ) (leaf : ℕ) (b c : ℕ → List ℕ) (p
   n = tree.key_len
 
   leaf_used : IsPlacedPage n b leaf
-  leaf_used = of_leaf (IsPlacedPage n b) tree b key leaf holds placed.placed
+  leaf_used =
+      of_level (IsPlacedPage n b) (nodes n b) (leaves_of (levels_of tree b)) key leaf holds
+      (leaves_each (IsPlacedPage n b) (tree.root ∷ []) (lows_of tree b) placed.placed)
 
   same_mark : (r : ℕ) → r < 65536 → mark_of c r ≡ mark_of b r
   same_mark r few =

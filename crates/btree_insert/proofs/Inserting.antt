@@ -1,36 +1,33 @@
 -- Inserts from the descent to the end of their mini-transaction.
-use Rattle.std.proofs.Common.{◌≡◌, ℕ, zero, suc, ◌+◌, ◌-◌, ◌<◌, ◌==◌, Bool, List, [], ◌∷◌}
-use Rattle.std.proofs.Common.{◌++◌, length, length-append, refl, sym, ◌∙◌, ap, subst, inl, inr, ◌≢◌, arith}
-use Rattle.std.specs.Prelude.{IsTrue, None, IsSome, if◌then◌else◌}
+use Rattle.std.proofs.Common.{◌≡◌, ◌≢◌, inl, inr, ℕ, suc, ◌+◌, ◌<◌, ◌≤◌, List, [], ◌∷◌, length, length-append, refl, sym, ◌∙◌, ap, subst, arith}
+use Rattle.std.specs.Prelude.{IsTrue, Option, None, Some, IsSome, is_some}
+use Rattle.std.proofs.lemmas.Bool.{false≢true}
 use Rattle.store_api.specs.declared.visits.Visit.{Visit}
 use Rattle.store_api.specs.declared.visits.Visit.TheVariants.{Failed, Again, Bad}
 use Rattle.store_api.specs.declared.visits.SpaceBad.{SpaceBad}
 use Rattle.store_api.specs.declared.visits.SpaceBad.TheVariants as space
 use Rattle.entries.specs.Pairs.{value_of, with_pair}
-use Rattle.page_format.specs.Words.{u32_at, level_of}
 use Rattle.mtr.specs.Seen.{MtrState, AreDistinct}
-use Rattle.law_flat_tree.specs.Levels.{levels_under}
-use Rattle.law_flat_tree.specs.Trees.{nodes}
 use Rattle.mtr.specs.Calls.{Goes, Commits, GivesUp}
 use Rattle.mtr.proofs.Consulting.{goes_then}
 use Rattle.space_map.specs.Taking.{Miscounts}
-use Rattle.space_map.specs.Map.{mark_of, free_among, IsFree}
 use Rattle.btree.specs.declared.tree.Tree.{Tree}
 use Rattle.btree.specs.Reads.{IsHindered}
-use Rattle.btree.specs.Sound.{HoldsKey, lows_of, tree_pairs}
+use Rattle.btree.specs.Sound.{levels_of, HoldsKey, tree_pairs}
 use Rattle.btree_change.specs.Edits.{HasRoom}
-use Rattle.btree_change.specs.Trees.{DoesInsert, IsCrowded}
-use Rattle.btree_change.specs.Calls.{Ends, IsLeafReason}
+use Rattle.btree_change.specs.Trees.{DoesInsert, LacksRoom, IsCrowded, Becomes}
+use Rattle.btree_change.specs.Calls.{Ends, IsLeafFor, IsLeafReason}
+use Rattle.btree_change.specs.declared.leaf_changes.Insertion.{Insertion}
 use Rattle.btree_change.specs.declared.leaf_changes.Insertion.TheVariants as insertion
-use Rattle.btree_split.specs.Placed.{IsPlacedTree, IsParent}
-use Rattle.btree_insert.specs.declared.inserts.Outcome.TheVariants.{Added, Present, Full, Crowded}
-use Rattle.btree_insert.specs.Going.{GoesOn, IsStop}
-use Rattle.btree_insert.specs.Grown.{IsTakenOnce, DoesSplit}
-use Rattle.btree_insert.specs.Raising.{RaisesSplit}
-use Rattle.btree_insert.specs.Adding.{needed, IsTakenIfCrowded, DoesAdd, IsInsertReason}
+use Rattle.btree_split.specs.Placed.{IsPlacedTree}
+use Rattle.btree_split.specs.Ways.{EndsFull, IsLowestRoom, needed}
+use Rattle.btree_grow.specs.Going.{GoesOn, IsStop, IsGrowStop}
+use Rattle.btree_grow.specs.Grown.{Grows, HasGrown, free_in}
+use Rattle.btree_grow.proofs.Below.{leaf_holds}
+use Rattle.btree_grow.proofs.RaiseTree.{way_long}
+use Rattle.btree_insert.specs.declared.inserts.Outcome.TheVariants.{Added, Present, Full, TooDeep}
+use Rattle.btree_insert.specs.Adding.{Needs, IsTakenIfCrowded, DoesAdd}
 use Rattle.btree_insert.proofs.AddedPair.{grows_none, grows_then}
-use Rattle.btree_insert.proofs.PutHalves.{ne_false}
-use Rattle.btree_insert.proofs.RaiseTree.{none_free, root_alone}
 
 -- ---- the end of a mini-transaction that went on
 
@@ -44,9 +41,12 @@ given_up_on n a b c on given = record {
   spare = given.spare;
 }
 
-pub committed_on : (n : ℕ) (a b c : MtrState) → GoesOn n a b → Commits b c → Ends a c
-committed_on n a b c on committed = record {
-  goes = goes_then a b c on.goes committed.goes;
+pub ends_then : (a b c : MtrState) → Goes a b → Ends b c → Ends a c
+ends_then a b c goes ends = record { goes = goes_then a b c goes ends.goes; idle = ends.idle }
+
+pub committed_after : (a b c : MtrState) → Goes a b → Commits b c → Ends a c
+committed_after a b c goes committed = record {
+  goes = goes_then a b c goes committed.goes;
   idle =
       record {
         seen = λ told. committed.seen told ∙ sym (committed.standing told);
@@ -81,7 +81,7 @@ module _ {M : Type 0} (state : M → MtrState) where
 
   -- a leaf wasn't changed
   pub leaf_around : (leaf : ℕ) (a : MtrState) (m : M) (c d : MtrState) (why : SpaceBad) → GivesUp a (state m) → Goes (state m) c → Goes c d
-      → IsLeafReason leaf (state m) c why → IsInsertReason state a d why
+      → IsLeafReason leaf (state m) c why → IsGrowStop state a d why
   leaf_around leaf a m c d space.Full begun goes last reason = reason
   leaf_around leaf a m c d (space.Visit Failed) begun goes last rose =
       let first = begun.goes.faults in
@@ -94,9 +94,26 @@ module _ {M : Type 0} (state : M → MtrState) where
       inl (sym (ap (λ (f : ℕ → _). f number) (begun.fault (goes.told told_c))) ∙ bad told_c)
   leaf_around leaf a m c d space.NoMemory begun goes last few = tt
 
+  -- the same, of a leaf within a mini-transaction
+  pub leaf_later : (leaf : ℕ) (m : M) (c d : MtrState) (why : SpaceBad) → Goes (state m) c → Goes c d → IsLeafReason leaf (state m) c why
+      → IsGrowStop state (state m) d why
+  leaf_later leaf m c d space.Full goes last reason = reason
+  leaf_later leaf m c d (space.Visit Failed) goes last rose = let next = goes.faults in let end = last.faults in omega arith
+  leaf_later leaf m c d (space.Visit Again) goes last shut = (m, leaf, shut.0)
+  leaf_later leaf m c d (space.Visit (Bad number rule)) goes last bad = λ told. inl (bad (last.told told))
+  leaf_later leaf m c d space.NoMemory goes last few = tt
+
+  -- what comes after changes nothing of it
+  pub stop_sooner : (a b c : MtrState) (why : SpaceBad) → Goes b c → IsGrowStop state a b why → IsGrowStop state a c why
+  stop_sooner a b c space.Full goes none = none
+  stop_sooner a b c (space.Visit Failed) goes rose = let next = goes.faults in omega arith
+  stop_sooner a b c (space.Visit Again) goes shut = shut
+  stop_sooner a b c (space.Visit (Bad number rule)) goes bad = λ told. bad (goes.told told)
+  stop_sooner a b c space.NoMemory goes none = tt
+
   -- an insert that follows wasn't made
-  pub reason_after : (a b d : MtrState) (why : SpaceBad) → GivesUp a b → (IsTrue a.told → a.seen ≡ a.standing) → Goes b d → IsInsertReason state b d why
-      → IsInsertReason state a d why
+  pub reason_after : (a b d : MtrState) (why : SpaceBad) → GivesUp a b → (IsTrue a.told → a.seen ≡ a.standing) → Goes b d → IsGrowStop state b d why
+      → IsGrowStop state a d why
   reason_after a b d space.Full begun idle goes reason = reason
   reason_after a b d (space.Visit why) begun idle goes stop = stop_around a b d d why begun idle goes (goes_none d) stop
   reason_after a b d space.NoMemory begun idle goes none = tt
@@ -109,50 +126,7 @@ module _ {M : Type 0} (state : M → MtrState) where
 
 -- ---- what was added
 
--- below a root that leads to nothing is nothing
-pub root_lowest : (tree : Tree) (pages : ℕ → List ℕ) → lows_of tree pages ≡ [] → level_of (pages tree.root) ≡ 0
-root_lowest tree pages none = go (level_of (pages tree.root)) none where
-  go : (k : ℕ) → levels_under k (nodes tree.key_len pages) (tree.root ∷ []) ≡ [] → k ≡ 0
-  go zero is = refl
-  go (suc k) is =
-      let empty : length (levels_under (suc k) (nodes tree.key_len pages) (tree.root ∷ [])) ≡ 0 = ap length is in
-      absurd (omega (arith, empty))
-
 module _ (tree : Tree) (key value : List ℕ) (o n : ℕ → List ℕ) where
-  root_above : (u : ℕ) → IsParent tree o key u → level_of (o tree.root) ≢ 0
-  root_above u parent leaf =
-      let one : 1 ≡ length (parent.tops ++ parent.upper ∷ parent.lower ∷ []) = ap length (sym (root_alone tree o leaf) ∙ parent.at) in
-      let sum : length (parent.tops ++ parent.upper ∷ parent.lower ∷ []) ≡ length parent.tops + 2 =
-      length-append parent.tops (parent.upper ∷ parent.lower ∷ []) in
-      omega (arith, one, sum)
-
-  pub needs_one : (u : ℕ) → IsParent tree o key u → needed tree o ≡ 1
-  needs_one u parent = ap (λ (b : Bool). if b then 2 else 1) (ne_false (level_of (o tree.root)) 0 (root_above u parent))
-
-  needs_two : level_of (o tree.root) ≡ 0 → needed tree o ≡ 2
-  needs_two leaf = ap (λ (k : ℕ). if k == 0 then 2 else 1) leaf
-
-  taken_if : (u : ℕ) → IsParent tree o key u → (taken : List ℕ) → IsTakenOnce tree key o taken → IsTakenIfCrowded tree key o taken
-  taken_if u parent [] once = tt
-  taken_if u parent (page ∷ []) once = (once, sym (needs_one u parent), (refl, tt))
-  taken_if u parent (page ∷ other ∷ more) once = absurd once
-
-  pub added_by_split : (u : ℕ) → IsParent tree o key u → value_of key (tree_pairs tree o) ≡ None → DoesSplit tree u key value o n insertion.Added
-      → DoesAdd tree key value o n Added
-  added_by_split u parent absent does = (absent, does.0, taken_if u parent does.0 does.1, does.2)
-
-  -- one that raised the root
-  module _ (leaf : level_of (o tree.root) ≡ 0) (absent : value_of key (tree_pairs tree o) ≡ None) (full : IsCrowded tree o key) where
-    taken_two : (taken : List ℕ) → length taken ≡ 2 → AreDistinct taken → IsTakenIfCrowded tree key o taken
-    taken_two [] two distinct = tt
-    taken_two (page ∷ more) two distinct = (full, two ∙ sym (needs_two leaf), distinct)
-
-    pub added_by_raise : RaisesSplit tree key value o n None → DoesAdd tree key value o n Added
-    added_by_raise does = (absent, does.0, taken_two does.0 does.1 does.2, does.3)
-
-    pub full_by_raise : (free : ℕ) → (free ≡ free_among o 0 (u32_at 44 (o 0))) × (free < 2) → n ≡ o → DoesAdd tree key value o n (Full 2 free)
-    full_by_raise free is kept = (absent, full, sym (needs_two leaf), is.0, is.1, kept)
-
   pub added_alone : (leaf : ℕ) → IsPlacedTree tree o → HoldsKey tree o key leaf → ((r : ℕ) → r ≢ leaf → n r ≡ o r)
       → DoesInsert tree key value o n insertion.Added → DoesAdd tree key value o n Added
   added_alone leaf placed holds elsewhere does = (
@@ -162,10 +136,71 @@ module _ (tree : Tree) (key value : List ℕ) (o n : ℕ → List ℕ) where
     grows_then tree key leaf o n (with_pair key value (tree_pairs tree o)) placed holds does.1 elsewhere o (tree_pairs tree o) [] (grows_none tree o placed),
   )
 
-  pub full_of_pages : (u : ℕ) → IsParent tree o key u → value_of key (tree_pairs tree o) ≡ None → IsCrowded tree o key
-      → ((page : ℕ) → page < u32_at 44 (o 0) → mark_of o page ≡ 0 → ⊥) → n ≡ o → DoesAdd tree key value o n (Full 1 0)
-  full_of_pages u parent absent crowded none same =
-      (absent, crowded, sym (needs_one u parent), sym (none_free o (u32_at 44 (o 0)) none), omega arith, same)
+  module _ (absent : value_of key (tree_pairs tree o) ≡ None) (crowded : IsCrowded tree o key) (placed : IsPlacedTree tree o) (above : Option ℕ)
+      (full : ℕ) (lowest : IsLowestRoom tree o key above full) (low : above ≡ None → full ≤ 7) where
+    -- a tree has at most eight levels
+    need_fits : (over : Option ℕ) → (over ≡ None → full ≤ 7) → EndsFull o lowest.way over full → needed over full ≤ 8
+    need_fits None few ends = omega (arith, few refl)
+    need_fits (Some page) few ends =
+        let long = way_long tree o key (levels_of tree o) lowest.way lowest.leads in
+        let parts : length lowest.way ≡ length ends.0 + suc (length ends.1) = ap length ends.2 ∙ length-append ends.0 (page ∷ ends.1) in
+        omega (
+          arith,
+          long,
+          parts,
+          ends.5,
+          placed.whole.sound.stands.numbered.0.0,
+          placed.whole.sound.each.0.0.fields.depth,
+        )
+
+    needs : (need : ℕ) → need ≡ needed above full → Needs tree o key need
+    needs need is = record {
+      above = above;
+      full = full;
+      lowest = lowest;
+      need_is = is;
+      fits = let fits = need_fits above low lowest.ends in omega (arith, fits, is);
+    }
+
+    taken_if : (taken : List ℕ) → length taken ≡ needed above full → AreDistinct taken → IsTakenIfCrowded tree key o taken
+    taken_if [] many distinct = tt
+    taken_if (page ∷ more) many distinct = (crowded, needs (length (page ∷ more)) many, distinct)
+
+    pub added_grown : (leaf : ℕ) (b : ℕ → List ℕ) → HasGrown tree key (needed above full) 0 leaf o b
+        → Becomes tree (with_pair key value (tree_pairs tree b)) b n → ((r : ℕ) → r ≢ leaf → n r ≡ b r) → DoesAdd tree key value o n Added
+    added_grown leaf b grown becomes elsewhere = (
+      absent,
+      grown.taken,
+      taken_if grown.taken grown.many grown.distinct,
+      subst (λ pairs. Grows tree (with_pair key value pairs) grown.taken o n) grown.grows.pairs_are
+          (grows_then tree key leaf b n (with_pair key value (tree_pairs tree b)) grown.above.placed (leaf_holds tree key 0 leaf b grown.above refl) becomes
+          elsewhere o (tree_pairs tree o) grown.taken grown.grows),
+    )
+
+    pub full_of_pages : (need free : ℕ) → need ≡ needed above full → (free ≡ free_in o) × (free < needed above full) → n ≡ o
+        → DoesAdd tree key value o n (Full need free)
+    full_of_pages need free is lacks same = (absent, crowded, needs need is, lacks.0, omega (arith, is, lacks.1), same)
+
+  pub too_deep : value_of key (tree_pairs tree o) ≡ None → IsCrowded tree o key → (above : Option ℕ) (full : ℕ) → IsLowestRoom tree o key above full
+      → (above ≡ None) × (full ≡ 8) → n ≡ o → DoesAdd tree key value o n TooDeep
+  too_deep absent crowded above full lowest is same =
+      (absent, crowded, subst (λ k. IsLowestRoom tree o key None k) is.1 (subst (λ a. IsLowestRoom tree o key a full) is.0 lowest), same)
+
+-- ---- the leaf that has room
+
+-- the leaf of a key, once its tree has grown
+pub grown_leaf : (tree : Tree) (key : List ℕ) (k leaf : ℕ) (a b : ℕ → List ℕ) → HasGrown tree key k 0 leaf a b → IsLeafFor tree key leaf b
+grown_leaf tree key k leaf a b grown = record { whole = grown.above.placed.whole; holds = leaf_holds tree key 0 leaf b grown.above refl }
+
+some_none : (v : Option (List ℕ)) → v ≡ None → IsSome v → ⊥
+some_none v none some = false≢true (sym (ap is_some none) ∙ some)
+
+-- the pair is added there, and nothing else comes of it
+pub not_otherwise : (tree : Tree) (key value : List ℕ) (leaf : ℕ) (a b : ℕ → List ℕ) (done : Insertion) → value_of key (tree_pairs tree a) ≡ None
+    → HasRoom (a leaf) → (done ≡ insertion.Added → ⊥) → DoesInsert tree key value a b done → LacksRoom leaf a done → ⊥
+not_otherwise tree key value leaf a b insertion.Added absent room other does lacks = other refl
+not_otherwise tree key value leaf a b insertion.Present absent room other does lacks = some_none (value_of key (tree_pairs tree a)) absent does.0
+not_otherwise tree key value leaf a b insertion.Crowded absent room other does lacks = lacks room
 
 -- ---- from what is seen to what stands
 
@@ -175,22 +210,3 @@ present_end tree key value o n b c same kept does = (subst (λ (f : ℕ → List
 
 pub moved : (D : (ℕ → List ℕ) → (ℕ → List ℕ) → Type 0) (b a c d : ℕ → List ℕ) → b ≡ a → d ≡ c → D b c → D a d
 moved D b a c d before after is = subst (λ f. D f d) before (subst (λ f. D b f) (sym after) is)
-
-module _ (tree : Tree) (key value : List ℕ) (o n : ℕ → List ℕ) (absent : value_of key (tree_pairs tree o) ≡ None) (kept : n ≡ o) where
-  pub crowded_end : (u : ℕ) (b c : ℕ → List ℕ) → b ≡ o → IsParent tree o key u → DoesSplit tree u key value b c insertion.Crowded
-      → DoesAdd tree key value o n Crowded
-  crowded_end u b c same parent does = (
-    absent,
-    subst (λ (f : ℕ → List ℕ). IsCrowded tree f key) same does.0,
-    record { parent = u; above = parent; full = subst (λ (f : ℕ → List ℕ). HasRoom (f u) → ⊥) same does.1 },
-    kept,
-  )
-
-  pub full_end : (u : ℕ) → IsParent tree o key u → (b : MtrState) → b.seen ≡ o → IsCrowded tree o key → ((page : ℕ) → IsFree b page → ⊥)
-      → DoesAdd tree key value o n (Full 1 0)
-  full_end u parent b same crowded none =
-      full_of_pages tree key value o n u parent absent crowded (λ page within unmarked.
-      none page (record {
-        within = subst (λ (f : ℕ → List ℕ). page < u32_at 44 (f 0)) (sym same) within;
-        unmarked = subst (λ (f : ℕ → List ℕ). mark_of f page ≡ 0) (sym same) unmarked;
-      })) kept

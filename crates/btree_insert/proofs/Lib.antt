@@ -1,13 +1,2 @@
 pub mod AddedPair
-pub mod Going
-pub mod GrownTwice
 pub mod Inserting
-pub mod Looked
-pub mod PutHalves
-pub mod PutRaised
-pub mod RaiseTree
-pub mod RaisingIn
-pub mod SplitTree
-pub mod TakenPage
-pub mod TakenTree
-pub mod Under

@@ -1,6 +1,1 @@
-pub mod Going
-pub mod Taken
-pub mod Cuts
-pub mod Grown
-pub mod Raising
 pub mod Adding

@@ -1,13 +1,14 @@
 -- A root that was laid out above one page alone says of its place what the old one said.
-use Rattle.std.proofs.Common.{◌≡◌, ℕ, ◌+◌, ◌-◌, ◌*◌, ◌^◌, ◌<◌, ◌≤◌, List, [], ◌∷◌, ◌++◌, length, take, drop, get_or, refl, sym, ap, ◌∙◌}
+use Rattle.std.proofs.Common.{◌≡◌, ◌≢◌, Bool, false, ℕ, ◌+◌, ◌-◌, ◌*◌, ◌<◌, ◌≤◌, List, [], ◌∷◌, ◌++◌, length, take, drop, get_or, refl, sym, ap, ◌∙◌}
 use Rattle.std.proofs.Common.{append_assoc, length-append, arith}
-use Rattle.std.specs.Prelude.{slice_index, replicate, if◌then◌else◌, ◌==◌}
+use Rattle.std.specs.Prelude.{replicate, if◌then◌else◌, ◌==◌}
 use Rattle.std.specs.Int.{w16, w32, to_be_bytes, from_be_bytes}
 use Rattle.std.proofs.lemmas.List.{take_at, drop_at, take-take, drop-take, drop-drop, drop-append-le, length-take-le, length-replicate}
 use Rattle.std.proofs.lemmas.List.{take-replicate, drop-replicate}
 use Rattle.std.proofs.lemmas.List.Elements.{All-replicate}
+use Rattle.std.proofs.lemmas.Bool.Decides.{nat_tests}
 use Rattle.std.proofs.lemmas.Nat.{from_be_bytes-to_be_bytes_2}
-use Rattle.page_format.specs.Words.{u16_at, u32_at, kind_of, level_of, count_of, index_of, right_of, record_len_of, low_of, high_of, records_of, pieces, fence}
+use Rattle.page_format.specs.Words.{u16_at, u32_at, kind_of, level_of, count_of, index_of, right_of, record_len_of, records_of, pieces, fence}
 use Rattle.page_format.specs.Shape.{HasTreeFields}
 use Rattle.page_format.proofs.Edited.{same_part, same_byte, byte_is}
 use Rattle.page_format.proofs.Headed.{back_part, back_more, Over, over}
@@ -16,8 +17,11 @@ use Rattle.btree_split.proofs.Laid.{Lays, laid_length}
 use Rattle.btree_split.proofs.Put.{same_low, same_high, same_number, fields_shown}
 use Rattle.btree_raise.specs.Raised.{lowest_record, IsRaised}
 
-module _ (bytes a b c d new : List ℕ) (n q m : ℕ) (size : length bytes ≡ 4096) (fields : HasTreeFields bytes) (short : n ≤ 80) (many : m ≡ 4096)
-    (first : Lays 0 (take 208 bytes) (replicate m 0) a) (kind : Lays 20 (4 ∷ 1 ∷ []) a b) (count : Lays 22 (to_be_bytes w16 1) b c)
+ne_false : (p q : ℕ) → p ≢ q → p == q ≡ false
+ne_false p q ne = grind (arith, nat_tests)
+
+module _ (bytes a b c d new : List ℕ) (n q m level : ℕ) (inner : 0 < level) (deep : level ≤ 7) (size : length bytes ≡ 4096) (fields : HasTreeFields bytes) (short : n ≤ 80) (many : m ≡ 4096)
+    (first : Lays 0 (take 208 bytes) (replicate m 0) a) (kind : Lays 20 (4 ∷ level ∷ []) a b) (count : Lays 22 (to_be_bytes w16 1) b c)
     (width : Lays 32 (to_be_bytes w16 (n + 4)) c d) (leads : Lays (208 + n) (to_be_bytes w32 q) d new) where
   front_long : length (take 208 bytes) ≡ 208
   front_long = length-take-le 208 bytes (omega (arith, size))
@@ -36,8 +40,8 @@ module _ (bytes a b c d new : List ℕ) (n q m : ℕ) (size : length bytes ≡ 4
       ap (drop 208) first ∙ drop_at (take 208 bytes) (drop (0 + length (take 208 bytes)) (replicate m 0)) 208 front_long
       ∙ ap (λ k. drop k (replicate m 0)) begins ∙ drop-replicate 208 m 0
 
-  one : Over 20 22 (4 ∷ 1 ∷ []) a b
-  one = over 20 22 (4 ∷ 1 ∷ []) a b refl (omega (arith, size_a)) kind
+  one : Over 20 22 (4 ∷ level ∷ []) a b
+  one = over 20 22 (4 ∷ level ∷ []) a b refl (omega (arith, size_a)) kind
 
   two : Over 22 24 (to_be_bytes w16 1) b c
   two = over 22 24 (to_be_bytes w16 1) b c refl (omega (arith, size_a, one.size)) count
@@ -70,12 +74,12 @@ module _ (bytes a b c d new : List ℕ) (n q m : ℕ) (size : length bytes ≡ 4
       same_byte new d 20 208 (omega arith) front ∙ same_byte d c 20 32 (omega arith) three.front ∙ same_byte c b 20 22 (omega arith) two.front
       ∙ byte_is b 20 ∙ ap (λ (l : List ℕ). get_or l 0 0) (sym (take-take 1 2 (drop 20 b) (omega arith)) ∙ ap (take 1) one.here)
 
-  level_is : level_of new ≡ 1
+  level_is : level_of new ≡ level
   level_is =
       same_byte new d 21 208 (omega arith) front ∙ same_byte d c 21 32 (omega arith) three.front ∙ same_byte c b 21 22 (omega arith) two.front
       ∙ byte_is b 21
       ∙ ap (λ (l : List ℕ). get_or l 0 0)
-      (ap (take 1) (sym (drop-drop 1 20 b)) ∙ same_part (drop 20 b) (4 ∷ 1 ∷ []) 1 1 2 (omega arith) one.here)
+      (ap (take 1) (sym (drop-drop 1 20 b)) ∙ same_part (drop 20 b) (4 ∷ level ∷ []) 1 1 2 (omega arith) one.here)
 
   count_is : count_of new ≡ 1
   unfolding u16_at
@@ -135,8 +139,10 @@ module _ (bytes a b c d new : List ℕ) (n q m : ℕ) (size : length bytes ≡ 4
 
   new_fields : HasTreeFields new
   new_fields = record {
-    level = kind_is ∙ ap (λ (l : ℕ). if l == 0 then 3 else 4) (sym level_is);
-    depth = omega (arith, level_is);
+    level =
+        kind_is ∙ ap (λ (b : Bool). if b then 3 else 4) (sym (ne_false level 0 (λ none. omega (arith, none, inner))))
+        ∙ ap (λ (l : ℕ). if l == 0 then 3 else 4) (sym level_is);
+    depth = omega (arith, level_is, deep);
     width = omega (arith, width_is);
     inside = rw used (omega (arith, short));
     low = rw (same_at 34 (omega arith) (omega arith), behind_width 36 80 (omega arith) (omega arith)) fields.low;
@@ -145,10 +151,10 @@ module _ (bytes a b c d new : List ℕ) (n q m : ℕ) (size : length bytes ≡ 4
     rest = rw rest_is (All-replicate (λ (byte : ℕ). byte ≡ 0) (m - 208 - (n + 4)) 0 refl);
   }
 
-  pub laid_root : IsRaised n q bytes new
+  pub laid_root : IsRaised n q level bytes new
   laid_root = record {
     fields = new_fields;
-    level = level_is;
+    level_is = level_is;
     index = index_is;
     width = width_is;
     records = records_are;
@@ -159,11 +165,11 @@ module _ (bytes a b c d new : List ℕ) (n q m : ℕ) (size : length bytes ≡ 4
 
 -- ---- put from byte 20 on
 
-module _ (n q : ℕ) (bytes page image new : List ℕ) (shown : drop 20 bytes ≡ drop 20 page) (put : drop 20 new ≡ drop 20 image) where
-  pub root_put : IsRaised n q bytes image → IsRaised n q page new
+module _ (n q level : ℕ) (bytes page image new : List ℕ) (shown : drop 20 bytes ≡ drop 20 page) (put : drop 20 new ≡ drop 20 image) where
+  pub root_put : IsRaised n q level bytes image → IsRaised n q level page new
   root_put is = record {
     fields = fields_shown new image put is.fields;
-    level = same_level new image put ∙ is.level;
+    level_is = same_level new image put ∙ is.level_is;
     index = same_number new image put ∙ is.index ∙ same_number bytes page shown;
     width = same_width new image put ∙ is.width;
     records = same_records new image put ∙ is.records;

@@ -1,5 +1,5 @@
--- What the bytes of two pages say once a root that was a leaf got a level below it.
-use Rattle.std.specs.Prelude.{◌≡◌, ◌≢◌, ℕ, ◌+◌, List, [], ◌∷◌, ◌++◌, drop, replicate}
+-- What the bytes of two pages say once a root got a level below it.
+use Rattle.std.specs.Prelude.{◌≡◌, ◌≢◌, ℕ, suc, ◌+◌, List, [], ◌∷◌, ◌++◌, drop, replicate}
 use Rattle.std.specs.Int.{w32, to_be_bytes}
 use Rattle.page_format.specs.Words.{level_of, index_of, record_len_of, low_of, high_of, right_of, records_of}
 use Rattle.page_format.specs.Shape.{HasTreeFields}
@@ -9,10 +9,10 @@ use Rattle.btree.specs.declared.tree.Tree.{Tree}
 abbrev pub lowest_record : ℕ → ℕ → List ℕ
 lowest_record key_len number = replicate key_len 0 ++ to_be_bytes w32 number
 
--- The page stands where the old one stood, on the level above the leaves, and leads to the page of that number alone.
-pub record IsRaised (key_len number : ℕ) (old new : List ℕ) : Type 0 where
+-- The page stands where the old one stood, on that level, and leads to the page of that number alone.
+pub record IsRaised (key_len number level : ℕ) (old new : List ℕ) : Type 0 where
   pub fields : HasTreeFields new
-  pub level : level_of new ≡ 1
+  pub level_is : level_of new ≡ level
   pub index : index_of new ≡ index_of old
   pub width : record_len_of new ≡ key_len + 4
   pub records : records_of new ≡ lowest_record key_len number ∷ []
@@ -20,9 +20,8 @@ pub record IsRaised (key_len number : ℕ) (old new : List ℕ) : Type 0 where
   pub high : high_of new ≡ high_of old
   pub right : right_of new ≡ right_of old
 
--- What the root had, a leaf, stands on page q, and the root keeps its number and leads to that page; no other page changes.
-pub record RaisesLeaf (tree : Tree) (q : ℕ) (old new : ℕ → List ℕ) : Type 0 where
-  pub leaf : level_of (old tree.root) ≡ 0
+-- What the root had stands on page q, and the root, one level higher, keeps its number and leads to that page; no other page changes.
+pub record RaisesTree (tree : Tree) (q : ℕ) (old new : ℕ → List ℕ) : Type 0 where
   pub moved : drop 20 (new q) ≡ drop 20 (old tree.root)
-  pub root : IsRaised tree.key_len q (old tree.root) (new tree.root)
+  pub root : IsRaised tree.key_len q (suc (level_of (old tree.root))) (old tree.root) (new tree.root)
   pub others : (r : ℕ) → r ≢ tree.root → r ≢ q → new r ≡ old r

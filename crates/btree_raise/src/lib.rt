@@ -1,5 +1,5 @@
-//! Towards roots that get a level below them: what a root that was a leaf is then, by its bytes, and the law that a tree
-//! stands as it should once its leaf was moved below it.
+//! Towards roots that get a level below them: what a root is then, by its bytes, and the law that a tree stands as it should
+//! once what its root had was moved below it.
 #![tactic(auto)]
 
 mod laws;

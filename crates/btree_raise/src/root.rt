@@ -1,6 +1,6 @@
-//! A root that stands above one page alone, laid out from the bytes of a root that is a leaf. Nothing here asks for a page.
+//! A root that stands above one page alone, laid out from the bytes of the root before it. Nothing here asks for a page.
 
-ghost use Rattle.std.specs.Prelude.{◌≡◌, ◌≤◌, length};
+ghost use Rattle.std.specs.Prelude.{◌≡◌, ◌<◌, ◌≤◌, length};
 ghost use Rattle.page_format.specs.Shape.{HasTreeFields};
 ghost use Rattle.btree_raise.specs.Raised.{IsRaised};
 
@@ -22,15 +22,17 @@ const WIDTH: usize = 32;
 /// Where the records begin.
 const RECORDS: usize = 208;
 
-/// The root above the page of that number: its place is the same, and its one record begins with zeros.
-pub fn raised_root(bytes: &[u8], key_len: u8, number: u32) -> [u8; 4096]
+/// The root above the page of that number, on that level: its place is the same, and its one record begins with zeros.
+pub fn raised_root(bytes: &[u8], key_len: u8, number: u32, level: u8) -> [u8; 4096]
     requires size { length bytes.now ≡ 4096 }
     requires short { key_len ≤ 80 }
-    ensures { HasTreeFields bytes.now → IsRaised key_len number bytes.now result }
+    requires inner { 0 < level }
+    requires low { level ≤ 7 }
+    ensures { HasTreeFields bytes.now → IsRaised key_len number level bytes.now result }
 {
     let mut root = [0; SIZE];
     lay(&mut root, 0, &bytes[..RECORDS]);
-    lay(&mut root, KIND, &[INNER, 1]);
+    lay(&mut root, KIND, &[INNER, level]);
     lay(&mut root, COUNT, &u16_bytes(1));
     lay(&mut root, WIDTH, &u16_bytes(u16::from(key_len) + 4));
     lay(

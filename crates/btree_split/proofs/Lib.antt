@@ -1,5 +1,6 @@
+pub mod Followed
 pub mod Laid
-pub mod LeafSplit
-pub mod Passing
+pub mod Least
 pub mod Placing
 pub mod Put
+pub mod Records

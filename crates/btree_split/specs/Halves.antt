@@ -1,4 +1,4 @@
--- What the bytes of three pages say once a leaf was split, and which of the halves holds a key.
+-- What the bytes of three pages say once a page was split.
 use Rattle.std.specs.Prelude.{◌≡◌, ◌≢◌, ℕ, suc, ◌^◌, ◌<◌, List, [], ◌++◌, length, take, insert, slice_index_or}
 use Rattle.std.specs.Int.{w32, to_be_bytes}
 use Rattle.page_format.specs.Words.{u32_at, index_of, record_len_of, records_of}
@@ -10,9 +10,9 @@ use Rattle.law_flat_tree.specs.PageSplits.{StandsNowhere, IsLowerPart, IsUpperPa
 use Rattle.btree.specs.declared.tree.Tree.{Tree}
 use Rattle.btree.specs.Sound.{levels_of}
 
--- the leaf that the parent's record of that number leads to
-abbrev pub leaf_under : ℕ → (ℕ → List ℕ) → ℕ → ℕ → ℕ
-leaf_under key_len pages u j = child_of key_len (slice_index_or (records_of (pages u)) j [])
+-- the page that the parent's record of that number leads to
+abbrev pub child_under : ℕ → (ℕ → List ℕ) → ℕ → ℕ → ℕ
+child_under key_len pages u j = child_of key_len (slice_index_or (records_of (pages u)) j [])
 
 -- The page of that number is one of the file behind the first ones, it is marked as used, and it is no page of the tree.
 pub record IsTakenFor (tree : Tree) (pages : ℕ → List ℕ) (q : ℕ) : Type 0 where
@@ -35,9 +35,9 @@ pub record IsUpperPut (old : List ℕ) (i : ℕ) (key new : List ℕ) : Type 0 w
   pub width : record_len_of new ≡ record_len_of old
   pub part : IsUpperPart old i key new
 
--- Leaf p is cut at its i-th record, which begins with the key, page q gets what lies from there on, and the parent u gets a
+-- Page p is cut at its i-th record, which begins with the key, page q gets what lies from there on, and the parent u gets a
 -- record for page q behind its j-th; no other page changes.
-pub record SplitsLeaf (tree : Tree) (key : List ℕ) (i j u p q : ℕ) (old new : ℕ → List ℕ) : Type 0 where
+pub record SplitsChild (tree : Tree) (key : List ℕ) (i j u p q : ℕ) (old new : ℕ → List ℕ) : Type 0 where
   pub size : length (old p) ≡ 4096
   pub long : length key ≡ tree.key_len
   pub some : 0 < i

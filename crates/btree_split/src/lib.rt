@@ -1,11 +1,11 @@
-//! Towards splits of leaves of a B+-tree: the page above the leaf of a key, the two halves of a page, and the laws
+//! Towards splits of pages of a B+-tree: the lowest page with room on the way of a key, the two halves of a page, and the laws
 //! that a tree stands as it should once they are put.
 #![tactic(auto)]
 
 mod half;
 mod laws;
-mod parent;
+mod way;
 
 pub use half::{lower_half, upper_half};
-pub use laws::{a_leaf_of_a_placed_tree_is_split, halves_are_put};
-pub use parent::parent_of;
+pub use laws::{a_page_of_a_placed_tree_is_split, halves_are_put};
+pub use way::{LowestRoom, lowest_room};

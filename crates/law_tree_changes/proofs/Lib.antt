@@ -1,4 +1,5 @@
 pub mod Alike
+pub mod Held
 pub mod Raising
 pub mod Splitting
 pub mod Tails

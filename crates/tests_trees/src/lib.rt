@@ -7,6 +7,8 @@ mod changing;
 #[cfg(test)]
 mod comparing;
 #[cfg(test)]
+mod deepening;
+#[cfg(test)]
 mod growing;
 #[cfg(test)]
 mod loose_pages;

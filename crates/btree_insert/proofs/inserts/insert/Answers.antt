@@ -9,7 +9,8 @@ use Rattle.btree_change.specs.Trees.{IsCrowded, DoesInsert}
 use Rattle.btree_change.specs.declared.leaf_changes.Insertion.TheVariants.{Added}
 use Rattle.btree_change.proofs.Steps.{ends_given_up, ends_committed, given_up_whole, leaf_found}
 use Rattle.btree_split.specs.Placed.{IsPlacedTree}
-use Rattle.btree_insert.specs.Adding.{IsInsertReason, DoesAdd}
+use Rattle.btree_grow.specs.Going.{IsGrowStop}
+use Rattle.btree_insert.specs.Adding.{DoesAdd}
 use Rattle.btree_insert.proofs.Inserting as inserting
 use Rattle.btree_insert.proofs.inserts.insert.Goals as goal
 
@@ -54,7 +55,7 @@ returns-in_err-settle-in-Ok-Added-clause-kept g c =
 pub returns-in_err-settle-in-Ok-Added-clause-reason : goal.returns-in_err-settle-in-Ok-Added-clause-reason
 returns-in_err-settle-in-Ok-Added-clause-reason g c =
     let p = err_from_is_err_and c.from_residual-in_err-settle-in-Ok-Added.result c.from_residual-in_err-settle-in-Ok-Added.ensures.1 in
-    rw (p.1, p.2) (subst (IsInsertReason g.M.Mtr.state (g.M.Mtr.state c.args.m.now) (g.M.Mtr.state c.settle.new.m))
+    rw (p.1, p.2) (subst (IsGrowStop g.M.Mtr.state (g.M.Mtr.state c.args.m.now) (g.M.Mtr.state c.settle.new.m))
     (sym c.in_err-settle-in-Ok-Added.ensures.memory) tt)
 
 pub returns-in-Ok-Present-clause-done : goal.returns-in-Ok-Present-clause-done
@@ -76,20 +77,20 @@ returns-in-Ok-Present-clause-ends g c =
     (given_up_whole c.in_ok-leaf.leaf (g.M.Mtr.state c.args.m.now) (g.M.Mtr.state c.leaf_of.new.m) (g.M.Mtr.state c.insert_in.new.m)
     (g.M.Mtr.state c.give_up.new.self) c.in_ok-leaf.ensures.reads c.insert_in.ensures.touches c.give_up.ensures)
 
-pub insert_by_split-requires-clause-idle : goal.insert_by_split-requires-clause-idle
-insert_by_split-requires-clause-idle g c =
+pub insert_crowded-requires-clause-idle : goal.insert_crowded-requires-clause-idle
+insert_crowded-requires-clause-idle g c =
     idle_after (g.M.Mtr.state c.args.m.now) (g.M.Mtr.state c.give_up-in-Ok-Crowded.new.self)
     (given_up_whole c.in_ok-leaf.leaf (g.M.Mtr.state c.args.m.now) (g.M.Mtr.state c.leaf_of.new.m) (g.M.Mtr.state c.insert_in.new.m)
     (g.M.Mtr.state c.give_up-in-Ok-Crowded.new.self) c.in_ok-leaf.ensures.reads c.insert_in.ensures.touches c.give_up-in-Ok-Crowded.ensures)
 
-pub insert_by_split-requires-clause-tree : goal.insert_by_split-requires-clause-tree
-insert_by_split-requires-clause-tree g c =
+pub insert_crowded-requires-clause-tree : goal.insert_crowded-requires-clause-tree
+insert_crowded-requires-clause-tree g c =
     λ told. subst (λ (f : ℕ → List ℕ). IsPlacedTree c.args.tree f)
     (sym ((given_up_whole c.in_ok-leaf.leaf (g.M.Mtr.state c.args.m.now) (g.M.Mtr.state c.leaf_of.new.m)
     (g.M.Mtr.state c.insert_in.new.m) (g.M.Mtr.state c.give_up-in-Ok-Crowded.new.self) c.in_ok-leaf.ensures.reads c.insert_in.ensures.touches c.give_up-in-Ok-Crowded.ensures).standing told)) (c.requires.tree ((given_up_whole c.in_ok-leaf.leaf (g.M.Mtr.state c.args.m.now) (g.M.Mtr.state c.leaf_of.new.m) (g.M.Mtr.state c.insert_in.new.m) (g.M.Mtr.state c.give_up-in-Ok-Crowded.new.self) c.in_ok-leaf.ensures.reads c.insert_in.ensures.touches c.give_up-in-Ok-Crowded.ensures).goes.told told))
 
-pub insert_by_split-requires-clause-absent : goal.insert_by_split-requires-clause-absent
-insert_by_split-requires-clause-absent g c =
+pub insert_crowded-requires-clause-absent : goal.insert_crowded-requires-clause-absent
+insert_crowded-requires-clause-absent g c =
     λ told.
     let does = rw c.in-Ok-Crowded.field-0-is at c.in-Ok-Crowded.ensures.done in
     let told_c = c.give_up-in-Ok-Crowded.ensures.goes.told told in
@@ -99,8 +100,8 @@ insert_by_split-requires-clause-absent g c =
     ((given_up_whole c.in_ok-leaf.leaf (g.M.Mtr.state c.args.m.now) (g.M.Mtr.state c.leaf_of.new.m) (g.M.Mtr.state c.insert_in.new.m)
     (g.M.Mtr.state c.give_up-in-Ok-Crowded.new.self) c.in_ok-leaf.ensures.reads c.insert_in.ensures.touches c.give_up-in-Ok-Crowded.ensures).standing told)) (does told_c).0
 
-pub insert_by_split-requires-clause-crowded : goal.insert_by_split-requires-clause-crowded
-insert_by_split-requires-clause-crowded g c =
+pub insert_crowded-requires-clause-crowded : goal.insert_crowded-requires-clause-crowded
+insert_crowded-requires-clause-crowded g c =
     λ told.
     let does = rw c.in-Ok-Crowded.field-0-is at c.in-Ok-Crowded.ensures.done in
     let told_c = c.give_up-in-Ok-Crowded.ensures.goes.told told in
@@ -112,34 +113,34 @@ insert_by_split-requires-clause-crowded g c =
 
 pub returns-in-Ok-Crowded-clause-done : goal.returns-in-Ok-Crowded-clause-done
 returns-in-Ok-Crowded-clause-done g c =
-    IfOk-weaker c.insert_by_split.result _ _ (λ done does told.
-    subst (λ (f : ℕ → List ℕ). DoesAdd c.args.tree c.args.key.now c.args.value.now f (g.M.Mtr.state c.insert_by_split.new.m).standing done)
+    IfOk-weaker c.insert_crowded.result _ _ (λ done does told.
+    subst (λ (f : ℕ → List ℕ). DoesAdd c.args.tree c.args.key.now c.args.value.now f (g.M.Mtr.state c.insert_crowded.new.m).standing done)
     ((given_up_whole c.in_ok-leaf.leaf (g.M.Mtr.state c.args.m.now) (g.M.Mtr.state c.leaf_of.new.m) (g.M.Mtr.state c.insert_in.new.m)
-    (g.M.Mtr.state c.give_up-in-Ok-Crowded.new.self) c.in_ok-leaf.ensures.reads c.insert_in.ensures.touches c.give_up-in-Ok-Crowded.ensures).standing (c.insert_by_split.ensures.ends.goes.told told)) (does told))
-    c.insert_by_split.ensures.done
+    (g.M.Mtr.state c.give_up-in-Ok-Crowded.new.self) c.in_ok-leaf.ensures.reads c.insert_in.ensures.touches c.give_up-in-Ok-Crowded.ensures).standing (c.insert_crowded.ensures.ends.goes.told told)) (does told))
+    c.insert_crowded.ensures.done
 
 pub returns-in-Ok-Crowded-clause-ends : goal.returns-in-Ok-Crowded-clause-ends
 returns-in-Ok-Crowded-clause-ends g c =
     inserting.ends_after (g.M.Mtr.state c.args.m.now) (g.M.Mtr.state c.give_up-in-Ok-Crowded.new.self)
-    (g.M.Mtr.state c.insert_by_split.new.m) (given_up_whole c.in_ok-leaf.leaf (g.M.Mtr.state c.args.m.now)
+    (g.M.Mtr.state c.insert_crowded.new.m) (given_up_whole c.in_ok-leaf.leaf (g.M.Mtr.state c.args.m.now)
     (g.M.Mtr.state c.leaf_of.new.m) (g.M.Mtr.state c.insert_in.new.m)
-    (g.M.Mtr.state c.give_up-in-Ok-Crowded.new.self) c.in_ok-leaf.ensures.reads c.insert_in.ensures.touches c.give_up-in-Ok-Crowded.ensures) c.insert_by_split.ensures.ends
+    (g.M.Mtr.state c.give_up-in-Ok-Crowded.new.self) c.in_ok-leaf.ensures.reads c.insert_in.ensures.touches c.give_up-in-Ok-Crowded.ensures) c.insert_crowded.ensures.ends
 
 pub returns-in-Ok-Crowded-clause-kept : goal.returns-in-Ok-Crowded-clause-kept
 returns-in-Ok-Crowded-clause-kept g c =
-    on_err_weaker c.insert_by_split.result (λ given. gives_up_then (g.M.Mtr.state c.args.m.now)
-    (g.M.Mtr.state c.give_up-in-Ok-Crowded.new.self) (g.M.Mtr.state c.insert_by_split.new.m)
+    on_err_weaker c.insert_crowded.result (λ given. gives_up_then (g.M.Mtr.state c.args.m.now)
+    (g.M.Mtr.state c.give_up-in-Ok-Crowded.new.self) (g.M.Mtr.state c.insert_crowded.new.m)
     (given_up_whole c.in_ok-leaf.leaf (g.M.Mtr.state c.args.m.now) (g.M.Mtr.state c.leaf_of.new.m) (g.M.Mtr.state c.insert_in.new.m)
-    (g.M.Mtr.state c.give_up-in-Ok-Crowded.new.self) c.in_ok-leaf.ensures.reads c.insert_in.ensures.touches c.give_up-in-Ok-Crowded.ensures) given) c.insert_by_split.ensures.kept
+    (g.M.Mtr.state c.give_up-in-Ok-Crowded.new.self) c.in_ok-leaf.ensures.reads c.insert_in.ensures.touches c.give_up-in-Ok-Crowded.ensures) given) c.insert_crowded.ensures.kept
 
 pub returns-in-Ok-Crowded-clause-reason : goal.returns-in-Ok-Crowded-clause-reason
 returns-in-Ok-Crowded-clause-reason g c =
-    IfErr-weaker c.insert_by_split.result _ _ (λ why reason.
+    IfErr-weaker c.insert_crowded.result _ _ (λ why reason.
     inserting.reason_after g.M.Mtr.state (g.M.Mtr.state c.args.m.now) (g.M.Mtr.state c.give_up-in-Ok-Crowded.new.self)
-    (g.M.Mtr.state c.insert_by_split.new.m) why
+    (g.M.Mtr.state c.insert_crowded.new.m) why
     (given_up_whole c.in_ok-leaf.leaf (g.M.Mtr.state c.args.m.now) (g.M.Mtr.state c.leaf_of.new.m) (g.M.Mtr.state c.insert_in.new.m)
-    (g.M.Mtr.state c.give_up-in-Ok-Crowded.new.self) c.in_ok-leaf.ensures.reads c.insert_in.ensures.touches c.give_up-in-Ok-Crowded.ensures) c.requires.idle.seen c.insert_by_split.ensures.ends.goes reason)
-    c.insert_by_split.ensures.reason
+    (g.M.Mtr.state c.give_up-in-Ok-Crowded.new.self) c.in_ok-leaf.ensures.reads c.insert_in.ensures.touches c.give_up-in-Ok-Crowded.ensures) c.requires.idle.seen c.insert_crowded.ensures.ends.goes reason)
+    c.insert_crowded.ensures.reason
 
 pub returns-in-Err-clause-ends : goal.returns-in-Err-clause-ends
 returns-in-Err-clause-ends g c =

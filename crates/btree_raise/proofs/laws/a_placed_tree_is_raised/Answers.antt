@@ -1,4 +1,4 @@
-use Rattle.btree_raise.proofs.Raising.{raised_placed, raised_pairs, raised_to, raised_parent}
+use Rattle.btree_raise.proofs.Raising.{raised_placed, raised_pairs, raised_to, raised_held}
 use Rattle.btree_raise.proofs.laws.a_placed_tree_is_raised.Goals as goal
 
 pub returns-clause-placed : goal.returns-clause-placed
@@ -10,5 +10,5 @@ returns-clause-same_pairs c = λ tree old new q placed taken raises. raised_pair
 pub returns-clause-levels : goal.returns-clause-levels
 returns-clause-levels c = λ tree old new q placed taken raises. raised_to tree old new q placed taken raises
 
-pub returns-clause-parent : goal.returns-clause-parent
-returns-clause-parent c = λ tree old new q sought placed taken raises. raised_parent tree old new q placed taken raises sought
+pub returns-clause-held : goal.returns-clause-held
+returns-clause-held c = λ tree old new q sought placed taken raises. raised_held tree old new q placed taken raises sought

@@ -1,4 +1,4 @@
-use Rattle.std.proofs.Common.{◌≡◌, ℕ, ◌+◌, List, [], ◌∷◌, take, refl, ap, ◌∙◌, arith}
+use Rattle.std.proofs.Common.{ℕ, ◌+◌, List, [], ◌∷◌, take, refl, ap, ◌∙◌, arith}
 use Rattle.std.specs.Prelude.{replicate}
 use Rattle.std.proofs.lemmas.List.{length-take-le}
 use Rattle.std.specs.Int.{w16, to_be_bytes}
@@ -18,11 +18,12 @@ returns c = λ fields.
     let n = c.args.key_len in
     let zeros : List ℕ = replicate 4096 0 in
     let one : Lays 0 (take 208 bytes) zeros c.lay.new.into = c.lay.ensures.whole in
-    let two : Lays 20 (4 ∷ 1 ∷ []) c.lay.new.into c.lay-2.new.into = c.lay-2.ensures.whole in
+    let two : Lays 20 (4 ∷ c.args.level ∷ []) c.lay.new.into c.lay-2.new.into = c.lay-2.ensures.whole in
     let three : Lays 22 c.u16_bytes.result c.lay-2.new.into c.lay-3.new.into = c.lay-3.ensures.whole in
     let four : Lays 32 c.u16_bytes-2.result c.lay-3.new.into c.lay-4.new.into = c.lay-4.ensures.whole in
     let five : Lays (208 + c.from-2.result) c.u32_bytes.result c.lay-4.new.into c.lay-5.new.into = c.lay-5.ensures.whole in
-    laid_root bytes c.lay.new.into c.lay-2.new.into c.lay-3.new.into c.lay-4.new.into c.lay-5.new.into n c.args.number 4096
+    laid_root bytes c.lay.new.into c.lay-2.new.into c.lay-3.new.into c.lay-4.new.into c.lay-5.new.into n c.args.number 4096 c.args.level
+    c.requires.inner c.requires.low
     c.requires.size fields c.requires.short refl one two
     (spelled 22 22 c.u16_bytes.result _ c.lay-2.new.into _ c.lay-3.new.into refl c.u16_bytes.ensures refl three)
     (spelled 32 32 c.u16_bytes-2.result _ c.lay-3.new.into _ c.lay-4.new.into refl

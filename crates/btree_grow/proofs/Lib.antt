@@ -1,0 +1,12 @@
+pub mod Below
+pub mod Free
+pub mod Going
+pub mod Next
+pub mod PutHalves
+pub mod PutRaised
+pub mod RaiseTree
+pub mod RaisingIn
+pub mod SplitTree
+pub mod TakenPage
+pub mod TakenTree
+pub mod Together

@@ -1,0 +1,5 @@
+pub mod Going
+pub mod Taken
+pub mod Cuts
+pub mod Grown
+pub mod Raising
