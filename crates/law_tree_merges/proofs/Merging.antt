@@ -245,7 +245,8 @@ module _ (tree : Tree) (old : ℕ → List ℕ) (u : ℕ) (placed : IsPlacedTree
       merged_sound = record {
         stands = subst (λ l. IsTree n new tree.root l) (sym lows_are) done.tree;
         each = fewer (IsTreePage tree new)
-            (each_of (AllByRecursion (IsTreePage tree old)) (AllByRecursion (IsTreePage tree new)) (each_of (IsTreePage tree old) (IsTreePage tree new) page_new)
+            (each_of (AllByRecursion (IsTreePage tree old)) (AllByRecursion (IsTreePage tree new))
+            (each_of (IsTreePage tree old) (IsTreePage tree new) page_new)
             (levels_of tree old) sound.each);
       }
 
