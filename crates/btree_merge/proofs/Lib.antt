@@ -1,0 +1,9 @@
+pub mod Ended
+pub mod Freed
+pub mod Going
+pub mod Joining
+pub mod Looked
+pub mod Merged
+pub mod Putting
+pub mod Sparse
+pub mod Under

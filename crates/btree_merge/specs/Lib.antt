@@ -1,0 +1,4 @@
+pub mod Going
+pub mod Merged
+pub mod Siblings
+pub mod Tidied

@@ -1,0 +1,73 @@
+//! Two leaves in one page, laid out from their bytes. Nothing here asks for a page.
+
+ghost use Rattle.std.specs.Prelude.{◌≡◌, ◌+◌, ◌*◌, ◌<◌, ◌≤◌, length, MatchBool};
+ghost use Rattle.page_format.specs.Shape.{HasTreeFields};
+ghost use Rattle.page_format.specs.Words.{count_of, record_len_of};
+ghost use Rattle.law_tree_merges.specs.Merges.{IsJoined};
+ghost use Rattle.btree_merge.specs.Merged.{FitTogether, HoldsFew};
+
+use big_endian::u16_bytes;
+use btree_change::{begin_of, lay};
+use page_format::read_u16;
+
+const SIZE: usize = 4096;
+
+/// Where the records begin.
+const RECORDS: usize = 208;
+
+pub const COUNT: usize = 22;
+
+const RIGHT: usize = 28;
+
+/// How many bytes the number of a page has.
+const NUMBER: usize = 4;
+
+const WIDTH: usize = 32;
+
+const HIGH_LEN: usize = 35;
+
+const HIGH: usize = 116;
+
+/// How many bytes a fence has room for.
+const FENCE: usize = 80;
+
+/// Whether the records of both pages have room in one.
+pub fn fit_together(left: &[u8], right: &[u8]) -> bool
+    requires left_size { length left.now ≡ 4096 }
+    requires right_size { length right.now ≡ 4096 }
+    ensures { MatchBool result (FitTogether left.now right.now) (FitTogether left.now right.now → ⊥) }
+{
+    let count = usize::from(read_u16(left, COUNT)) + usize::from(read_u16(right, COUNT));
+    RECORDS + count * usize::from(read_u16(left, WIDTH)) <= SIZE
+}
+
+/// Whether a page has less than half of the records that have room on it.
+pub fn holds_few(bytes: &[u8]) -> bool
+    requires { length bytes.now ≡ 4096 }
+    ensures { MatchBool result (HoldsFew bytes.now) (HoldsFew bytes.now → ⊥) }
+{
+    let more_than_twice = 2 * usize::from(read_u16(bytes, COUNT)) + 1;
+    RECORDS + more_than_twice * usize::from(read_u16(bytes, WIDTH)) <= SIZE
+}
+
+/// The left page with the records of the right one behind its own, up to where that one ends.
+pub fn joined(left: &[u8], right: &[u8]) -> [u8; 4096]
+    requires left_size { length left.now ≡ 4096 }
+    requires right_size { length right.now ≡ 4096 }
+    requires some { 0 < record_len_of left.now }
+    requires alike { record_len_of right.now ≡ record_len_of left.now }
+    requires fits { FitTogether left.now right.now }
+    ensures { HasTreeFields left.now → HasTreeFields right.now → IsJoined left.now right.now result }
+{
+    let mut page = [0; SIZE];
+    page.copy_from_slice(left);
+    let count = read_u16(left, COUNT);
+    let more = read_u16(right, COUNT);
+    let end = begin_of(left, count);
+    lay(&mut page, end, &right[RECORDS..begin_of(right, more)]);
+    lay(&mut page, COUNT, &u16_bytes(count + more));
+    lay(&mut page, RIGHT, &right[RIGHT..RIGHT + NUMBER]);
+    lay(&mut page, HIGH_LEN, &right[HIGH_LEN..HIGH_LEN + 1]);
+    lay(&mut page, HIGH, &right[HIGH..HIGH + FENCE]);
+    page
+}

@@ -1,0 +1,55 @@
+//! A page that a mini-transaction asks for while it goes on, copied, so that others can be asked for.
+
+ghost use Rattle.std.specs.Prelude.{◌≡◌, ◌≤◌, [], ◌∷◌, length, IsTrue, IfOk, IfErr, OnOk};
+ghost use Rattle.mtr.specs.Seen.{visit, is_in, IsShown};
+ghost use Rattle.mtr.specs.Calls.{Asks, Consults};
+ghost use Rattle.btree.specs.Walks.{IsReadableLeaf};
+ghost use Rattle.btree_merge.specs.Going.{IsStop};
+
+use btree::{Tree, is_readable_leaf};
+use mtr::Mtr;
+use store_api::Visit;
+
+const SIZE: usize = 4096;
+
+/// The rule that a page breaks by one of its fields.
+pub const FIELD: u8 = 1;
+
+/// The bytes of a page, asked for.
+fn asked<M: Mtr>(m: &mut M, page: u32) -> Result<[u8; 4096], Visit>
+    requires { length (visit page (M.state m.old).visited) ≤ 24 }
+    ensures shown { IfOk result (λ bytes. IsTrue (M.state m.old).told → IsShown ((M.state m.old).seen page) bytes) }
+    ensures asks { Asks page (M.state m.old) result (M.state m.new) }
+{
+    let mut copy = [0; SIZE];
+    copy.copy_from_slice(m.bytes(page)?);
+    Ok(copy)
+}
+
+/// The bytes of a page.
+pub fn copy_of<M: Mtr>(m: &mut M, page: u32) -> Result<[u8; 4096], Visit>
+    requires { length (visit page (M.state m.old).visited) ≤ 24 }
+    ensures shown { IfOk result (λ bytes. IsTrue (M.state m.old).told → IsShown ((M.state m.old).seen page) bytes) }
+    ensures looks { Consults (page ∷ []) (M.state m.old) (M.state m.new) }
+    ensures dealt_with { OnOk result (IsTrue (is_in page (M.state m.new).visited)) }
+    ensures reason { IfErr result (IsStop M.state (M.state m.old) (M.state m.new)) }
+{
+    asked(m, page)
+}
+
+/// The bytes of a page that is a leaf.
+pub fn leaf_copy<M: Mtr>(m: &mut M, tree: Tree, page: u32) -> Result<[u8; 4096], Visit>
+    requires few { length (visit page (M.state m.old).visited) ≤ 24 }
+    requires leaf { IsTrue (M.state m.old).told → IsReadableLeaf tree ((M.state m.old).seen page) }
+    ensures shown { IfOk result (λ bytes. IsTrue (M.state m.old).told → IsShown ((M.state m.old).seen page) bytes) }
+    ensures readable { IfOk result (λ bytes. IsReadableLeaf tree bytes) }
+    ensures looks { Consults (page ∷ []) (M.state m.old) (M.state m.new) }
+    ensures dealt_with { OnOk result (IsTrue (is_in page (M.state m.new).visited)) }
+    ensures reason { IfErr result (IsStop M.state (M.state m.old) (M.state m.new)) }
+{
+    let bytes = copy_of(m, page)?;
+    if !is_readable_leaf(&bytes, tree) {
+        return Err(Visit::Bad { page, rule: FIELD });
+    }
+    Ok(bytes)
+}
