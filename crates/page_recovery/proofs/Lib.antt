@@ -1,0 +1,10 @@
+mod Applied
+mod Becoming
+mod Brought
+mod Done
+mod GoingOn
+mod Instead
+mod Kept
+mod Looking
+mod Places
+mod Read

@@ -1,0 +1,37 @@
+-- What recovery reads: page 0, which says the log's run, the pages that are good in their places, and the log's groups.
+use Rattle.std.specs.Prelude.{◌≡◌, ◌≢◌, ℕ, ◌<◌, ◌≤◌, Option, Some, None, IfSome, List, slice_index_or}
+use Rattle.page_format.specs.Words.{u32_at, u64_at}
+use Rattle.log_format.specs.declared.scan.Found.{Found}
+use Rattle.log_format.specs.Scan.{IsScan, EndsAt}
+use Rattle.doublewrite.specs.Reading.{IsGoodPage, place_of}
+use Rattle.law_crashes.specs.Header.{HasMagic, version_of}
+
+-- page 0 of files that keep rows in pages: how many pages there may be, the log's run, and the LSN of its first group
+pub record IsFileHeader (capacity run first : ℕ) (page : List ℕ) : Type 0 where
+  pub marked : HasMagic page
+  pub version : version_of page ≡ 1
+  pub pages : u32_at 44 page ≡ capacity
+  pub enough : 21 ≤ capacity
+  pub few : capacity ≤ 65536
+  pub of_run : u64_at 48 page ≡ run
+  pub begins : u64_at 56 page ≡ first
+
+-- the page as it stands in its place, or none where it isn't good there
+abbrev pub StandsIn : List ℕ → ℕ → Option (List ℕ) → Type 0
+StandsIn area page (Some bytes) = (place_of page area ≡ bytes) × IsGoodPage page bytes
+StandsIn area page None = IsGoodPage page (place_of page area) → ⊥
+
+-- so do the first so many pages of the table, and the others aren't there
+pub record AreStanding (area : List ℕ) (count : ℕ) (slots : List (Option (List ℕ))) : Type 0 where
+  pub each : (page : ℕ) → page < count → StandsIn area page (slice_index_or slots page None)
+  pub others : (page : ℕ) → count ≤ page → slice_index_or slots page None ≡ None
+
+-- The page was taken as it stands in its place, if it is good there, and the others are as they were.
+pub record IsTaken (area : List ℕ) (page : ℕ) (old new : List (Option (List ℕ))) : Type 0 where
+  pub here : slice_index_or old page None ≡ None → StandsIn area page (slice_index_or new page None)
+  pub others : (other : ℕ) → other ≢ page → slice_index_or new other None ≡ slice_index_or old other None
+
+-- The log has these groups, and they end before that block.
+pub record HasGroups (run first : ℕ) (log : List ℕ) (found : Found) : Type 0 where
+  pub scan : IsScan run first log found.groups
+  pub ends : IfSome found.blocks (λ n. EndsAt run n log found.groups)

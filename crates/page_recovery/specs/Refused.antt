@@ -1,0 +1,26 @@
+-- Why a repair gave up, and what is wrong with page 0.
+use Rattle.std.specs.Prelude.{◌≡◌, ◌≢◌, ◌⊎◌, ℕ, ◌<◌, List}
+use Rattle.store_api.specs.Causes.{Rose}
+use Rattle.page_format.specs.Words.{u32_at}
+use Rattle.doublewrite.specs.declared.restoring.RepairBad.{RepairBad}
+use Rattle.doublewrite.specs.declared.restoring.RepairBad.TheVariants as repair
+use Rattle.law_crashes.specs.Header.{HasMagic, version_of}
+use Rattle.page_recovery.specs.declared.bad.RecoverBad.{RecoverBad}
+use Rattle.page_recovery.specs.declared.bad.RecoverBad.TheVariants.{Failed, NoMemory, NoDatabase, Version, Capacity}
+
+-- a page 0 that is another thing than the header of files that keep rows in pages
+abbrev pub IsOther : List ℕ → RecoverBad → Type 0
+IsOther page NoDatabase = HasMagic page → ⊥
+IsOther page (Version found) = HasMagic page × (version_of page ≡ found) × (found ≢ 1)
+IsOther page (Capacity found) = HasMagic page × (u32_at 44 page ≡ found) × ((found < 21) ⊎ (65536 < found))
+IsOther page why = ⊥
+
+abbrev pub of_repair : RepairBad → RecoverBad
+of_repair repair.Failed = Failed
+of_repair repair.NoMemory = NoMemory
+
+-- a call has failed, and said nothing of the files: the disk, whose count of faults has risen then, or memory
+abbrev pub IsFailed : ℕ → ℕ → RecoverBad → Type 0
+IsFailed before now Failed = Rose before now
+IsFailed before now NoMemory = Unit {0}
+IsFailed before now why = ⊥

@@ -1,0 +1,52 @@
+//! Page 0 of files that keep rows in pages: how many pages there may be, and of which run the log is.
+//! Nothing here meets the disk.
+
+ghost use Rattle.std.specs.Prelude.{◌≡◌, length, IfOk, IfErr};
+ghost use Rattle.page_recovery.specs.Reading.{IsFileHeader};
+ghost use Rattle.page_recovery.specs.Refused.{IsOther};
+
+use crate::bad::RecoverBad;
+use page_format::{read_u32, read_u64};
+
+/// The bytes `INNODPRF`.
+const MAGIC: u64 = 5_282_245_515_307_668_038;
+
+/// The version of files that keep rows in pages.
+const VERSION: u32 = 1;
+
+/// A new file has so many pages.
+const FEWEST: u32 = 21;
+
+const MOST: u32 = 65536;
+
+/// What page 0 says: how many pages the file may have, the run of the log, and the LSN of its first group.
+#[derive(Clone, Copy, Debug, PartialEq, Eq)]
+pub struct Header {
+    pub capacity: u32,
+    pub run: u64,
+    pub first: u64,
+}
+
+/// What a good page 0 says.
+pub fn header_of(page: &[u8]) -> Result<Header, RecoverBad>
+    requires { length page.now ≡ 4096 }
+    ensures ok { IfOk result (λ header. IsFileHeader header.capacity header.run header.first page.now) }
+    ensures other { IfErr result (IsOther page.now) }
+{
+    if read_u64(page, 32) != MAGIC {
+        return Err(RecoverBad::NoDatabase);
+    }
+    let version = read_u32(page, 40);
+    if version != VERSION {
+        return Err(RecoverBad::Version { found: version });
+    }
+    let capacity = read_u32(page, 44);
+    if !(FEWEST..=MOST).contains(&capacity) {
+        return Err(RecoverBad::Capacity { found: capacity });
+    }
+    Ok(Header {
+        capacity,
+        run: read_u64(page, 48),
+        first: read_u64(page, 56),
+    })
+}
