@@ -7,3 +7,4 @@ pub mod Merged
 pub mod Putting
 pub mod Sparse
 pub mod Under
+pub mod Passing

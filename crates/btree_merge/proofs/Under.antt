@@ -11,7 +11,8 @@ use Rattle.btree.specs.Sound.{HoldsKey}
 use Rattle.btree.specs.Walks.{IsReadableLeaf}
 use Rattle.btree.proofs.Shown.{same_count, same_width, same_records, same_level, readable_shown, leads_shown}
 use Rattle.btree.proofs.Standing.{Reached, at_child, at_leaf}
-use Rattle.btree_split.specs.Placed.{IsPlacedTree, IsParent}
+use Rattle.btree_split.specs.Placed.{IsPlacedTree}
+use Rattle.btree_merge.specs.Parents.{IsParent}
 use Rattle.law_tree_merges.specs.Merges.{child_under, IsAboveLeaves}
 use Rattle.law_tree_merges.proofs.Merging as merging
 use Rattle.btree_merge.specs.declared.look.Couple.{Couple}

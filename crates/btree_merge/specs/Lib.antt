@@ -2,3 +2,4 @@ pub mod Going
 pub mod Merged
 pub mod Siblings
 pub mod Tidied
+pub mod Parents

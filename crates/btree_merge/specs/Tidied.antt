@@ -3,7 +3,7 @@ use Rattle.std.specs.Prelude.{◌≡◌, ◌⊎◌, ℕ, suc, ◌<◌, List, [],
 use Rattle.page_format.specs.Words.{records_of}
 use Rattle.btree.specs.declared.tree.Tree.{Tree}
 use Rattle.btree.specs.Sound.{lows_of, HoldsKey}
-use Rattle.btree_split.specs.Placed.{IsParent}
+use Rattle.btree_merge.specs.Parents.{IsParent}
 use Rattle.law_tree_merges.specs.Merges.{child_under}
 use Rattle.btree_merge.specs.Merged.{HoldsFew, CanMerge, MergesCouple}
 

@@ -6,6 +6,7 @@ mod free;
 mod join;
 mod look;
 mod merge;
+mod parent;
 mod reading;
 mod tidying;
 

@@ -1,12 +1,10 @@
 -- A placed tree of which two leaves under one parent became one is placed, with the same pairs.
-use Rattle.std.proofs.Common.{◌≡◌, ◌≢◌, inl, ℕ, suc, ◌+◌, ◌/◌, ◌%◌, ◌<◌, ◌≤◌, true, ◌==◌, List, [], ◌∷◌, ◌++◌}
+use Rattle.std.proofs.Common.{◌≡◌, ◌≢◌, inl, ℕ, suc, ◌+◌, ◌/◌, ◌%◌, ◌<◌, ◌≤◌, ◌==◌, List, [], ◌∷◌, ◌++◌}
 use Rattle.std.proofs.Common.{length, take, drop, map, get_or, remove, refl, sym, ◌∙◌, ap, subst, append_assoc, arith}
 use Rattle.std.specs.Int.{bit_at}
-use Rattle.std.specs.Ordering.{is_le}
 use Rattle.std.specs.Prelude.{slice_index}
 use Rattle.std.specs.List.{AllByRecursion}
 use Rattle.std.proofs.lemmas.List.{length-take-le}
-use Rattle.entries.specs.Pairs.{key_cmp}
 use Rattle.page_format.specs.Words.{u32_at, level_of, low_of, count_of, record_len_of, records_of}
 use Rattle.page_format.specs.Shape.{AreRising}
 use Rattle.page_format.proofs.Edited.{same_byte, same_width}
@@ -14,7 +12,7 @@ use Rattle.page_format.proofs.Orders.{rising_remove}
 use Rattle.page_format.proofs.Pieces.{length-pieces}
 use Rattle.law_flat_tree.specs.Levels.{Fence, IsAbove, IsRow, AreLevels, children}
 use Rattle.law_flat_tree.specs.Levels.Fence.{First, Last}
-use Rattle.law_flat_tree.specs.Leaves.{IsLeaf, IsFrom, HaveRoom, AreOthers, AreLeaves}
+use Rattle.law_flat_tree.specs.Leaves.{IsLeaf, HaveRoom, AreOthers, AreLeaves}
 use Rattle.law_flat_tree.specs.Descents.{AreInner, AreAllInner, leaves_of}
 use Rattle.law_flat_tree.specs.Pages.{low_fence, entries_of, leaf_pairs}
 use Rattle.law_flat_tree.specs.PageMerges.{AreChildrenAt, MergesPages, IsMergedTree}
@@ -37,7 +35,7 @@ use Rattle.btree.specs.Sound.{lows_of, levels_of, IsTreePage, IsSoundTree}
 use Rattle.btree_change.proofs.Whole.{keys_rise}
 use Rattle.space_map.specs.Map.{byte_of, mark_of}
 use Rattle.law_tree_changes.proofs.Alike.{page_stays}
-use Rattle.btree_split.specs.Placed.{BeginsLow, IsPlacedPage, IsPlacedTree}
+use Rattle.btree_split.specs.Placed.{least_key, BeginsLow, IsPlacedPage, IsPlacedTree}
 use Rattle.law_tree_merges.specs.Merges.{child_under, IsAboveLeaves, MergesLeaves, LosesPage}
 use Rattle.law_tree_merges.proofs.Lists.{of_all, cut_one, cut_two, length-entries, named_child, has_entries, first_left, same_index}
 use Rattle.law_tree_merges.proofs.Lists.{with_page, without_page, both_sides, on_all}
@@ -264,9 +262,8 @@ module _ (tree : Tree) (old : ℕ → List ℕ) (u : ℕ) (placed : IsPlacedTree
       -- an inner page whose first record and low fence are the same begins as it did
       begins_still : (a b : List ℕ) → level_of b ≡ level_of a → low_of b ≡ low_of a → get_or (records_of b) 0 [] ≡ get_or (records_of a) 0 []
           → BeginsLow n a → BeginsLow n b
-      begins_still a b level low first begins inner key short from =
-          subst (λ r. is_le (key_cmp (take n r) key) ≡ true) (sym first)
-          (begins (λ leaf'. inner (level ∙ leaf')) key short (subst (λ f. IsFrom (low_fence f) key) low from))
+      begins_still a b level low first begins inner =
+          ap (take n) first ∙ (begins (λ leaf'. inner (level ∙ leaf')) ∙ ap (λ f. least_key n f) (sym low))
 
       placed_new : (r : ℕ) → IsTreePage tree old r → IsPlacedPage n old r → IsPlacedPage n new r
       placed_new =

@@ -1,5 +1,5 @@
-//! Trees that are read and changed through the calls of `btree`, `btree_change` and `btree_insert`, beside the sorted vector
-//! that has the same pairs. There is nothing here but tests.
+//! Trees that are read and changed through the calls of `btree`, `btree_change`, `btree_insert` and `btree_merge`, beside the
+//! sorted vector that has the same pairs. There is nothing here but tests.
 #![tactic(auto)]
 
 #[cfg(test)]
@@ -14,3 +14,5 @@ mod growing;
 mod loose_pages;
 #[cfg(test)]
 mod reading;
+#[cfg(test)]
+mod tidying;
