@@ -1,20 +1,28 @@
 -- A change of a leaf, and the end of its mini-transaction.
-use Rattle.std.proofs.Common.{◌≡◌, ◌≢◌, ◌⊎◌, ℕ, ◌<◌, ◌≤◌, Bool, true, false, List, sym, ◌∙◌, ap, subst, refl, arith}
+use Rattle.std.proofs.Common.{◌≡◌, ◌≢◌, ◌⊎◌, ℕ, ◌<◌, ◌≤◌, Bool, true, false, List, [], ◌∷◌, sym, ◌∙◌, ap, subst, refl, arith}
 use Rattle.std.specs.Prelude.{IsTrue, IsSome, None}
+use Rattle.std.specs.List.{AllByRecursion}
 use Rattle.entries.specs.Pairs.{Pair, value_of, with_pair, without_key}
 use Rattle.page_format.specs.Words.{u32_at}
 use Rattle.mtr.specs.Seen.{MtrState}
 use Rattle.mtr.specs.Calls.{Commits, GivesUp}
 use Rattle.space_map.specs.Taking.{HasPageCount}
 use Rattle.btree.specs.declared.tree.Tree.{Tree}
-use Rattle.btree.specs.Sound.{tree_pairs, HoldsKey}
+use Rattle.btree.specs.Sound.{lows_of, levels_of, tree_pairs, HoldsKey}
 use Rattle.btree_change.specs.Trees.{IsWholeTree, Becomes, DoesReplace, DoesRemove}
 use Rattle.btree_change.specs.Calls.{IsLeafFor, Touches}
 use Rattle.btree_split.specs.Placed.{IsPlacedPage, IsPlacedTree}
 use Rattle.btree_insert.proofs.AddedPair.{placed_still}
-use Rattle.btree_insert.proofs.TakenTree.{of_leaf}
+use Rattle.law_flat_tree.proofs.PageSplits.{all_in}
+use Rattle.btree.proofs.Passed.{leaves_each}
 use Rattle.tree_use.specs.Stored.{IsAtRest, IsStill}
 use Rattle.tree_use.proofs.Resting.{AreResident, told_on}
+
+-- what holds of all pages of a tree holds of the leaf of a key
+of_leaf : (P : ℕ → Type 0) (tree : Tree) (pages : ℕ → List ℕ) (key : List ℕ) (leaf : ℕ) → HoldsKey tree pages key leaf
+    → AllByRecursion (AllByRecursion P) (levels_of tree pages) → P leaf
+of_leaf P tree pages key leaf holds all =
+    all_in P holds.xs holds.ys leaf (subst (λ l. AllByRecursion P l) holds.whole (leaves_each P (tree.root ∷ []) (lows_of tree pages) all))
 
 module _ {M : Type 0} (state : M → MtrState) (resident : AreResident state) (tree : Tree) (key : List ℕ) (leaf : ℕ) (a b : M) (rest : IsAtRest tree (state a))
     (still : IsStill tree (state a) (state b)) (holds : HoldsKey tree (state a).standing key leaf) where

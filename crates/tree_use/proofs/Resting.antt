@@ -33,11 +33,11 @@ no_rise_of n k none still rose =
     let begin : Rose 0 0 = subst (λ i. Rose 0 i) still (subst (λ i. Rose i k) none rose) in
     omega (arith, begin)
 
-no_rule : (rule : ℕ) (fault : _) → fault ≡ None → fault ≡ Some rule → ⊥
+pub no_rule : (rule : ℕ) (fault : _) → fault ≡ None → fault ≡ Some rule → ⊥
 no_rule rule fault none some = cc
 
 module _ {M : Type 0} (state : M → MtrState) (resident : AreResident state) where
-  no_rise : (a b : M) → Rose (state a).faults (state b).faults → ⊥
+  pub no_rise : (a b : M) → Rose (state a).faults (state b).faults → ⊥
   no_rise a b rose = no_rise_of (state a).faults (state b).faults (resident.no_fault a) (resident.no_fault b) rose
 
   pub told_on : (a b : M) → Goes (state a) (state b) → IsTrue (state a).told → IsTrue (state b).told

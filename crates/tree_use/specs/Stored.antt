@@ -1,15 +1,16 @@
 -- What a tree shows between two mini-transactions, and what holds of its pages then.
-use Rattle.std.specs.Prelude.{◌≡◌, ℕ, suc, ◌<◌, ◌≤◌, Bool, if◌then◌else◌, List, is_some, IsTrue, refl}
+use Rattle.std.specs.Prelude.{◌≡◌, ℕ, ◌<◌, ◌≤◌, Bool, if◌then◌else◌, List, length, None, Some, is_some, IsTrue, refl}
 use Rattle.std.specs.Coded.{Coded, code_by, coded×, coded_list, coded_ℕ}
+use Rattle.store_api.specs.declared.moves.Move.{Move}
+use Rattle.store_api.specs.declared.moves.Move.TheVariants.{At, Done, Full, TooDeep, NoMemory}
 use Rattle.entries.specs.Pairs.{Pair, value_of, with_pair, without_key}
-use Rattle.page_format.specs.Words.{u32_at, level_of}
 use Rattle.mtr.specs.Seen.{MtrState}
-use Rattle.space_map.specs.Map.{free_among}
 use Rattle.space_map.specs.Taking.{HasPageCount}
 use Rattle.btree.specs.declared.tree.Tree.{Tree}
 use Rattle.btree.specs.Reads.{IsIdle}
-use Rattle.btree.specs.Sound.{tree_pairs}
+use Rattle.btree.specs.Sound.{levels_of, tree_pairs}
 use Rattle.btree_split.specs.Placed.{IsPlacedTree}
+use Rattle.btree_grow.specs.Grown.{free_in}
 
 -- the pairs, how many pages of the file are free, how many levels the tree has, and how long each key and each value is
 pub record Stored : Type 0 where
@@ -26,15 +27,11 @@ stored_code =
     (λ s. (s.pairs, (s.free, (s.levels, (s.key_len, s.value_len)))))
     (λ p. record { pairs = p.0; free = p.1.0; levels = p.1.1.0; key_len = p.1.1.1.0; value_len = p.1.1.1.1 }) (λ _. refl)
 
--- how many pages are free, as page 0 counts them and the map marks them
-abbrev pub free_in : (ℕ → List ℕ) → ℕ
-free_in pages = free_among pages 0 (u32_at 44 (pages 0))
-
 abbrev pub stored_of : Tree → (ℕ → List ℕ) → Stored
 stored_of tree pages = record {
   pairs = tree_pairs tree pages;
   free = free_in pages;
-  levels = suc (level_of (pages tree.root));
+  levels = length (levels_of tree pages);
   key_len = tree.key_len;
   value_len = tree.value_len;
 }
@@ -71,3 +68,19 @@ pub record IsTaken (key : List ℕ) (old new : Stored) (found : Bool) : Type 0 w
 pub record IsStill (tree : Tree) (old new : MtrState) : Type 0 where
   pub rest : IsAtRest tree new
   pub same : new.standing ≡ old.standing
+
+-- the key has this value now; keys and values are as long as before
+pub record IsPutIn (key value : List ℕ) (old new : Stored) : Type 0 where
+  pub pairs_are : new.pairs ≡ with_pair key value old.pairs
+  pub key_len : new.key_len ≡ old.key_len
+  pub value_len : new.value_len ≡ old.value_len
+
+-- The pair is there now; or it isn't, and nothing is changed: the key has a pair, which is answered; fewer pages are free than are
+-- needed; the tree has eight levels, all of them full on the way of the key; or memory is lacking.
+abbrev pub IsAdded : List ℕ → List ℕ → Stored → Stored → Move → Type 0
+IsAdded key value old new Done = (value_of key old.pairs ≡ None) × IsPutIn key value old new
+IsAdded key value old new (At there kept) = (there ≡ key) × (value_of key old.pairs ≡ Some kept) × (new ≡ old)
+IsAdded key value old new (Full need free) = (free ≡ old.free) × (free < need) × (new ≡ old)
+IsAdded key value old new TooDeep = (old.levels ≡ 8) × (new ≡ old)
+IsAdded key value old new NoMemory = new ≡ old
+IsAdded key value old new other = ⊥

@@ -1,18 +1,19 @@
 //! The pages of an index's tree between two mini-transactions, and room for a row that is read. `TreeUse` alone calls these.
 
-ghost use Rattle.std.specs.Prelude.{◌≡◌, ◌≤◌, false, true, length, is_some, Some, IfOk, vec_capacity};
+ghost use Rattle.std.specs.Prelude.{◌≡◌, ◌≤◌, false, true, length, is_some, Some, IsSome, IfOk, vec_capacity};
 ghost use Rattle.entries.specs.Pairs.{AreSound, value_of, first_from, first_after};
 ghost use Rattle.entries.specs.Calls.{HasKey};
-ghost use Rattle.tree_use.specs.Stored.{stored_of, HasWidths, IsAtRest, IsPut, IsTaken};
+ghost use Rattle.tree_use.specs.Stored.{stored_of, HasWidths, IsAtRest, IsPut, IsTaken, IsAdded};
 
-use crate::changes::{put_value, take_pair};
+use crate::changes::{add_pair, put_value, take_pair, tidy_leaf};
 use crate::reading::{Row, copy_into, find_row, follow_row, lacks_key, read_next, seek_row};
 use btree::Tree;
+use btree_insert::Outcome;
 use inno_types::Bytes;
 use mtr::Resident;
 use std::alloc::{AllocError, Global};
 use std::marker::Model;
-use store_api::NoMemory;
+use store_api::{Move, NoMemory};
 
 /// A tree and its pages.
 #[derive(Drop)]
@@ -20,6 +21,8 @@ pub struct TreePages<M: Resident + Drop> {
     tree: Tree,
     m: M,
     row: Row,
+    /// The key that was removed last.
+    removed: Vec<u8>,
 }
 
 impl<M: Resident + Drop> Model for TreePages<M> {
@@ -32,7 +35,8 @@ impl<M: Resident + Drop> Model for TreePages<M> {
 
     ghost view = { λ p. stored_of p.tree (M.state p.m).standing };
 
-    ghost invariant = { λ p. HasWidths p.tree × IsAtRest p.tree (M.state p.m) × (p.tree.key_len ≤ vec_capacity p.row.key) × (p.tree.value_len ≤ vec_capacity p.row.value) };
+    ghost invariant = { λ p. HasWidths p.tree × IsAtRest p.tree (M.state p.m) × (p.tree.key_len ≤ vec_capacity p.row.key) × (p.tree.value_len ≤ vec_capacity p.row.value)
+        × (p.tree.key_len ≤ vec_capacity p.removed) };
 }
 
 impl<M: Resident + Drop> TreePages<M> {
@@ -44,10 +48,12 @@ impl<M: Resident + Drop> TreePages<M> {
     {
         let key = Vec::with_capacity(alloc, tree.key_len as usize)?;
         let value = Vec::with_capacity(alloc, tree.value_len as usize)?;
+        let removed = Vec::with_capacity(alloc, tree.key_len as usize)?;
         Ok(TreePages {
             tree,
             m,
             row: Row { key, value },
+            removed,
         })
     }
 
@@ -131,6 +137,45 @@ impl<M: Resident + Drop> TreePages<M> {
             lacks_key(&mut self.m, self.tree, key.as_slice());
             return false;
         }
+        copy_into(key.as_slice(), &mut self.removed);
         take_pair(&mut self.m, self.tree, key.as_slice())
+    }
+
+    /// Adds a pair, or answers why not.
+    pub(crate) fn insert(&mut self, alloc: Global, key: &Bytes, value: &Bytes) -> Move
+        requires key { length key.now ≡ self.old.key_len }
+        requires value { length value.now ≡ self.old.value_len }
+        ensures answer { IsAdded key.now value.now self.old self.new result }
+    {
+        match add_pair(&mut self.m, self.tree, key.as_slice(), value.as_slice()) {
+            Ok(Outcome::Added) => Move::Done,
+            Ok(Outcome::Present) => self.kept_row(alloc, key).unwrap_or(Move::NoMemory),
+            Ok(Outcome::Full { need, free }) => Move::Full { need, free },
+            Ok(Outcome::TooDeep) => Move::TooDeep,
+            Err(NoMemory) => Move::NoMemory,
+        }
+    }
+
+    /// The row of a key that has one.
+    fn kept_row(&mut self, alloc: Global, key: &Bytes) -> Result<Move, AllocError>
+        requires { IsSome (value_of key.now self.old.pairs) }
+        ensures kept { IfOk result (λ answer. IsAdded key.now key.now self.old self.new answer) }
+        ensures same { self.new ≡ self.old }
+    {
+        if find_row(&mut self.m, self.tree, key.as_slice(), &mut self.row) {
+            let value = Bytes::from_vec(Vec::from_slice(alloc, self.row.value.as_slice())?);
+            Ok(Move::At(key.copied()?, value))
+        } else {
+            unreachable!()
+        }
+    }
+
+    /// Merges the leaf of the key that was removed last with one beside it, where it holds few rows. No pair changes.
+    pub(crate) fn tidy(&mut self) -> Result<(), NoMemory>
+        ensures pairs { self.new.pairs ≡ self.old.pairs }
+        ensures key_len { self.new.key_len ≡ self.old.key_len }
+        ensures value_len { self.new.value_len ≡ self.old.value_len }
+    {
+        tidy_leaf(&mut self.m, self.tree, self.removed.as_slice())
     }
 }

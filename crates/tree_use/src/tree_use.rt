@@ -1,13 +1,15 @@
 //! An index in a tree: its pages, the place of each actor, and who is awaited.
 
-ghost use Rattle.std.specs.Prelude.{◌≡◌, IfOk, MatchOption, MatchResult, None};
+ghost use Rattle.std.specs.Prelude.{◌≡◌, ◌≤◌, IsTrue, IfOk, IfSome, MatchOption, MatchResult, None};
 ghost use Rattle.std.specs.Ordering.{nat_cmp};
 ghost use Rattle.std.specs.BTreeMap.{get};
 ghost use Rattle.entries.specs.Index.{IsAsBefore, IsFree, IsHeld};
 ghost use Rattle.entries.specs.Calls.{next_of, Gives, Seeks, Follows};
 ghost use Rattle.tree_use.specs.Stored.{stored_of, HasWidths, IsAtRest};
-ghost use Rattle.tree_use.specs.Shown.{index_of};
+ghost use Rattle.btree.specs.Reads.{IsIdle};
+ghost use Rattle.tree_use.specs.Shown.{index_of, IsEmptyOf};
 
+use crate::beginning::is_new_tree;
 use crate::pages::TreePages;
 use btree::Tree;
 use entries::Entries;
@@ -26,6 +28,8 @@ pub struct TreeUse<M: Resident + Drop> {
     places: BTreeMap<u32, (Bytes, Bytes)>,
     /// The actor that has called `next_key` and has since neither inserted nor removed.
     awaited: Option<u32>,
+    /// The actor that has removed the last key, if its leaf wasn't tidied since.
+    tidies: Option<u32>,
 }
 
 impl<M: Resident + Drop> TreeUse<M> {
@@ -40,7 +44,24 @@ impl<M: Resident + Drop> TreeUse<M> {
             pages: TreePages::new(alloc, tree, m)?,
             places: BTreeMap::new(alloc),
             awaited: None,
+            tidies: None,
         })
+    }
+
+    /// The index of a tree that was just made, if the pages hold one: a root in use that is an empty leaf.
+    pub fn begin(alloc: Global, tree: Tree, mut m: M) -> Result<Option<TreeUse<M>>, NoMemory>
+        requires widths { HasWidths tree }
+        requires told { IsTrue (M.state m).told }
+        requires idle { IsIdle (M.state m) }
+        requires spare { 4096 ≤ (M.state m).whole }
+        ensures { IfOk result (λ made. IfSome made (λ t. IsEmptyOf tree (⟦<TreeUse<M> as Entries>⟧.index t))) }
+    {
+        if is_new_tree(&mut m, tree) {
+            Ok(Some(TreeUse::new(alloc, tree, m)?))
+        } else {
+            drop(m);
+            Ok(None)
+        }
     }
 
     /// Another actor that is awaited, if there is one.
@@ -143,7 +164,19 @@ impl<M: Resident + Drop> Entries for TreeUse<M> {
         if let Some(by) = self.other_awaited(actor) {
             return Move::Latch { by };
         }
-        Move::NoMemory
+        let answer = self.pages.insert(self.alloc, key, value);
+        self.pages.are_sound();
+        match answer {
+            Move::Done => {
+                self.awaited = None;
+                Move::Done
+            }
+            Move::At(there, kept) => {
+                self.awaited = None;
+                Move::At(there, kept)
+            }
+            refused => refused,
+        }
     }
 
     fn replace(&mut self, _actor: u32, key: &Bytes, value: &Bytes) -> Move {
@@ -165,15 +198,25 @@ impl<M: Resident + Drop> Entries for TreeUse<M> {
         let found = self.pages.remove(key);
         self.pages.are_sound();
         if found {
+            self.tidies = Some(actor);
             Move::Done
         } else {
             Move::End
         }
     }
 
-    fn tidy(&mut self, _actor: u32) -> Move {
+    fn tidy(&mut self, actor: u32) -> Move {
         self.pages.are_sound();
-        Move::Done
+        if self.tidies != Some(actor) {
+            return Move::Done;
+        }
+        self.tidies = None;
+        let tidied = self.pages.tidy();
+        self.pages.are_sound();
+        match tidied {
+            Ok(()) => Move::Done,
+            Err(NoMemory) => Move::NoMemory,
+        }
     }
 
     fn leave(&mut self, actor: u32) {

@@ -1,0 +1,32 @@
+use Rattle.std.proofs.Common.{ap, ℕ, List}
+use Rattle.btree.specs.Sound.{tree_pairs}
+use Rattle.tree_use.proofs.Resting.{AreResident, told_on, still}
+use Rattle.tree_use.proofs.Growing.{added_rest, not_grow}
+use Rattle.tree_use.proofs.changes.add_pair.Given
+use Rattle.tree_use.proofs.changes.add_pair.Goals as goal
+
+resident : (g : Given.Over) → AreResident (g.M.Mtr.state)
+resident g = record { no_fault = g.met.M.Resident.no_fault; at_hand = g.met.M.Resident.at_hand; tested = g.met.M.Resident.tested }
+
+pub unreachable-requires : goal.unreachable-requires
+unreachable-requires g c = ?
+
+pub unreachable-requires-2 : goal.unreachable-requires-2
+unreachable-requires-2 g c = ?
+
+pub returns-in-Ok-clause-done : goal.returns-in-Ok-clause-done
+returns-in-Ok-clause-done g c =
+    c.in-Ok.ensures.done (told_on (g.M.Mtr.state) (resident g) c.args.m.now c.insert.new.m c.in-Ok.ensures.ends.goes c.requires.rest.told)
+
+pub returns-in-Ok-clause-rest : goal.returns-in-Ok-clause-rest
+returns-in-Ok-clause-rest g c =
+    added_rest (g.M.Mtr.state) (resident g) c.args.tree c.args.m.now c.insert.new.m c.requires.rest c.in-Ok.ensures.ends c.args.key.now c.args.value.now c.in-Ok.done
+    (c.in-Ok.ensures.done (told_on (g.M.Mtr.state) (resident g) c.args.m.now c.insert.new.m c.in-Ok.ensures.ends.goes c.requires.rest.told))
+
+pub returns-in-Err-NoMemory-clause-same : goal.returns-in-Err-NoMemory-clause-same
+returns-in-Err-NoMemory-clause-same g c =
+    (still (g.M.Mtr.state) (resident g) c.args.tree c.args.m.now c.insert.new.m c.requires.rest c.in-Err-NoMemory.ensures.kept).same
+
+pub returns-in-Err-NoMemory-clause-rest : goal.returns-in-Err-NoMemory-clause-rest
+returns-in-Err-NoMemory-clause-rest g c =
+    (still (g.M.Mtr.state) (resident g) c.args.tree c.args.m.now c.insert.new.m c.requires.rest c.in-Err-NoMemory.ensures.kept).rest
