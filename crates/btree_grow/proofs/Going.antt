@@ -1,7 +1,7 @@
 -- Calls that go on within a mini-transaction, one after another.
 use Rattle.std.proofs.Common.{◌≡◌, inl, inr, ℕ, ◌+◌, ◌<◌, ◌≤◌, List, [], ◌∷◌}
 use Rattle.std.proofs.Common.{◌++◌, length, Bool, true, false, refl, sym, ◌∙◌, ap, subst, arith, length-append}
-use Rattle.std.specs.Prelude.{IsTrue, Result, Err, if◌then◌else◌}
+use Rattle.std.specs.Prelude.{IsTrue, if◌then◌else◌}
 use Rattle.std.proofs.lemmas.Bool.{false≢true}
 use Rattle.std.proofs.lemmas.Bool.Decides.{nat_tests}
 use Rattle.store_api.specs.Causes.{Rose}
@@ -11,14 +11,14 @@ use Rattle.store_api.specs.declared.visits.SpaceBad.{SpaceBad}
 use Rattle.store_api.specs.declared.visits.SpaceBad.TheVariants as space
 use Rattle.page_format.specs.Words.{u32_at}
 use Rattle.mtr.specs.Seen.{MtrState, is_in, visit, visit_all, claim, AreAmong, Visits}
-use Rattle.mtr.specs.Calls.{Goes, Looks, Explains, Makes, Asks, Consults, IsReason}
+use Rattle.mtr.specs.Calls.{Goes, Makes, Consults}
 use Rattle.mtr.proofs.Claims.{visited_now, visited_stays, claim_least}
 use Rattle.mtr.proofs.Consulting.{goes_then, claim_left}
 use Rattle.space_map.specs.Map.{mark_of}
-use Rattle.space_map.specs.Taking.{map_pages, Miscounts, Marks, IsTakeReason}
+use Rattle.space_map.specs.Taking.{map_pages, Miscounts, Marks}
 use Rattle.space_map.proofs.Places.{distinct_map_pages}
 use Rattle.btree_change.specs.Calls.{Touches, Rewrites}
-use Rattle.btree_grow.specs.Going.{GoesOn, IsStop, IsHalt, IsGrowStop}
+use Rattle.btree_grow.specs.Going.{GoesOn, IsStop, IsHalt}
 
 -- ---- how many pages are dealt with
 
@@ -136,15 +136,6 @@ touched_known_on page a b is touched = record {
   stay = visits_stay (page ∷ []) a b touched.visits;
 }
 
-pub touched_on : (page : ℕ) (a b : MtrState) → Touches page a b → GoesOn 1 a b
-touched_on page a b touched = record {
-  goes = touched.goes;
-  standing = touched.standing;
-  fault = touched.fault;
-  longer = page_longer page a b touched.visits;
-  stay = visits_stay (page ∷ []) a b touched.visits;
-}
-
 pub marked_on : (page mark : ℕ) (a b : MtrState) → Marks page mark a b → GoesOn 0 a b
 marked_on page mark a b marks = record {
   goes = marks.goes;
@@ -187,19 +178,6 @@ rose_later : (a b c : ℕ) → a ≤ b → Rose b c → Rose a c
 rose_later a b c first rose = omega arith
 
 module _ {M : Type 0} (state : M → MtrState) where
-  by_cause : (m : M) (page : ℕ) (new : MtrState) (why : Visit) → Looks (state m).visited (state m) new → Explains page (state m) new why
-      → IsStop state (state m) new why
-  by_cause m page new Failed looks rose = rose
-  by_cause m page new Again looks shut = (m, page, shut.0)
-  by_cause m page new (Bad number rule) looks bad = λ told. inl (ap (state m).fault bad.0 ∙ bad.1 (looks.goes.told told))
-
-  -- a page that was asked for
-  pub stop_asked : {T : Type 0} (m : M) (page : ℕ) (new : MtrState) (result : Result T Visit) (why : Visit) → result ≡ Err why
-      → Asks page (state m) result new → IsStop state (state m) new why
-  stop_asked {T} m page new result why is asks =
-      let both : Looks (state m).visited (state m) new × Explains page (state m) new why = subst (λ (r : Result T Visit). Asks page (state m) r new) is asks in
-      by_cause m page new why both.0 both.1
-
   -- after pages that were looked at
   pub stop_later : (pages : List ℕ) (a b c : MtrState) (why : Visit) → Consults pages a b → Goes b c → IsStop state b c why → IsStop state a c why
   stop_later pages a b c Failed looked goes rose = rose_later a.faults b.faults c.faults looked.goes.faults rose
@@ -221,17 +199,6 @@ module _ {M : Type 0} (state : M → MtrState) where
   halt_later pages a b c (space.Visit why) looked goes stop = stop_later pages a b c why looked goes stop
   halt_later pages a b c space.NoMemory looked goes none = tt
 
-  -- no page is taken
-  stop_taken : (old : MtrState) (m : M) (why : Visit) → IsReason map_pages Miscounts old (state m) why → IsStop state old (state m) why
-  stop_taken old m Failed rose = rose
-  stop_taken old m Again shut = (m, shut.0, shut.2)
-  stop_taken old m (Bad page rule) bad = bad.1
-
-  pub halt_taken : (old : MtrState) (m : M) (why : SpaceBad) → IsTakeReason old (state m) why → IsHalt state old (state m) why
-  halt_taken old m space.Full full = full
-  halt_taken old m (space.Visit why) reason = stop_taken old m why reason
-  halt_taken old m space.NoMemory few = tt
-
   -- after calls that leave page 0
   pub stop_after : (n : ℕ) (a b c : MtrState) (why : Visit) → GoesOn n a b → (IsTrue b.told → b.seen 0 ≡ a.seen 0) → Goes b c → IsStop state b c why
       → IsStop state a c why
@@ -243,9 +210,3 @@ module _ {M : Type 0} (state : M → MtrState) where
         | inl fault ↦ inl (sym (ap (λ (f : ℕ → _). f number) (on.fault before)) ∙ fault)
         | inr broken ↦ inr (broken.0, broken.1, λ has. broken.2 (subst (λ (l : List ℕ). (21 ≤ u32_at 44 l) × (u32_at 44 l ≤ 65536)) (sym (header before)) has))
       ]
-
-  pub grow_after : (n : ℕ) (a b c : MtrState) (why : SpaceBad) → GoesOn n a b → (IsTrue b.told → b.seen 0 ≡ a.seen 0) → Goes b c
-      → IsGrowStop state b c why → IsGrowStop state a c why
-  grow_after n a b c space.Full on header goes none = none
-  grow_after n a b c (space.Visit why) on header goes stop = stop_after n a b c why on header goes stop
-  grow_after n a b c space.NoMemory on header goes none = tt

@@ -20,7 +20,8 @@ use Rattle.btree_raise.specs.Raised.{lowest_record, IsRaised}
 ne_false : (p q : ℕ) → p ≢ q → p == q ≡ false
 ne_false p q ne = grind (arith, nat_tests)
 
-module _ (bytes a b c d new : List ℕ) (n q m level : ℕ) (inner : 0 < level) (deep : level ≤ 7) (size : length bytes ≡ 4096) (fields : HasTreeFields bytes) (short : n ≤ 80) (many : m ≡ 4096)
+module _ (bytes a b c d new : List ℕ) (n q m level : ℕ) (inner : 0 < level) (deep : level ≤ 7) (size : length bytes ≡ 4096)
+    (fields : HasTreeFields bytes) (short : n ≤ 80) (many : m ≡ 4096)
     (first : Lays 0 (take 208 bytes) (replicate m 0) a) (kind : Lays 20 (4 ∷ level ∷ []) a b) (count : Lays 22 (to_be_bytes w16 1) b c)
     (width : Lays 32 (to_be_bytes w16 (n + 4)) c d) (leads : Lays (208 + n) (to_be_bytes w32 q) d new) where
   front_long : length (take 208 bytes) ≡ 208

@@ -77,7 +77,10 @@ module _ (tree : Tree) (old new : ℕ → List ℕ) (q : ℕ) (placed : IsPlaced
     within = root_page.within;
     fields = raises.root.fields;
     index = raises.root.index ∙ root_page.index;
-    width = raises.root.width ∙ sym (ap (λ (b : Bool). n + (if b then tree.value_len else 4)) (above_none (level_of (new tree.root)) (level_of (old tree.root)) raises.root.level_is));
+    width =
+        raises.root.width
+        ∙ sym (ap (λ (b : Bool). n + (if b then tree.value_len else 4))
+        (above_none (level_of (new tree.root)) (level_of (old tree.root)) raises.root.level_is));
     rising = subst (λ rs. AreRising (map (take n) rs)) (sym raises.root.records) tt;
   }
 

@@ -115,7 +115,8 @@ module _ (tree : Tree) (old : ℕ → List ℕ) (key0 : List ℕ) (u : ℕ) (pla
     front : length (take j es) ≡ j
     front = length-take-le j es (omega (arith, inside, length-entries n (low_fence (low_of (old u))) (records_of (old u))))
 
-    pub child : IsChildAt n old (levels_of tree old) parent.tops (parent.holds.xs ++ u ∷ parent.holds.ys) parent.lower parent.under u p (take j es) (drop (suc j) es)
+    pub child : IsChildAt n old (levels_of tree old) parent.tops (parent.holds.xs ++ u ∷ parent.holds.ys) parent.lower parent.under u p (take j es)
+        (drop (suc j) es)
     child = record { at = whole; cs = parent.holds.xs; ds = parent.holds.ys; parents = refl; fence = fence; entries = here }
 
     place : IsCut (nodes n old) parent.lower (children (nodes n old) parent.holds.xs ++ take j es) fence p
@@ -257,8 +258,8 @@ module _ (tree : Tree) (old : ℕ → List ℕ) (key0 : List ℕ) (u : ℕ) (pla
 
       pub done : IsSoundSplit tree old new parent.tops (parent.holds.xs ++ u ∷ parent.holds.ys) parent.lower parent.under p q
       done =
-          sound_split tree old new parent.tops (parent.holds.xs ++ u ∷ parent.holds.ys) parent.lower parent.under key u p q i (take j es) (drop (suc j) es) sound
-          halves.long child taken.free splits new_u new_p new_q
+          sound_split tree old new parent.tops (parent.holds.xs ++ u ∷ parent.holds.ys) parent.lower parent.under key u p q i (take j es) (drop (suc j) es)
+          sound halves.long child taken.free splits new_u new_p new_q
 
       pub stands_split : IsSoundSplit tree old new parent.tops parent.upper parent.lower parent.under p q
       stands_split = subst (λ l. IsSoundSplit tree old new parent.tops l parent.lower parent.under p q) (sym parent.holds.whole) done

@@ -105,7 +105,7 @@ module _ {M : Type 0} (state : M → MtrState) (resident : AreResident state) (t
   pub counts_right : (page rule : ℕ) → Miscounts page rule (state a).seen → ⊥
   counts_right page rule mis = mis.2 (subst (λ (p : ℕ → List ℕ). HasPageCount p) (sym (rest.idle.seen rest.told)) rest.counted)
 
-  pub not_grow : (why : Visit) → IsTrue (state b).told → grow.IsStop state (state a) (state b) why → ⊥
+  not_grow : (why : Visit) → IsTrue (state b).told → grow.IsStop state (state a) (state b) why → ⊥
   not_grow Failed told rose = no_rise state resident a b rose
   not_grow Again told shut = resident.at_hand shut.0 shut.1 shut.2
   not_grow (Bad page rule) told bad = elim (bad told) [
@@ -113,7 +113,7 @@ module _ {M : Type 0} (state : M → MtrState) (resident : AreResident state) (t
     | inr mis ↦ counts_right page rule mis
   ]
 
-  pub not_merge : (why : Visit) → IsTrue (state b).told → merge.IsStop state (state a) (state b) why → ⊥
+  not_merge : (why : Visit) → IsTrue (state b).told → merge.IsStop state (state a) (state b) why → ⊥
   not_merge Failed told rose = no_rise state resident a b rose
   not_merge Again told shut = resident.at_hand shut.0 shut.1 shut.2
   not_merge (Bad page rule) told bad = elim (bad told) [
@@ -121,3 +121,16 @@ module _ {M : Type 0} (state : M → MtrState) (resident : AreResident state) (t
     | inr mis ↦ counts_right page rule mis
   ]
 
+  pub not_full : (why : SpaceBad) → why ≡ space.Full → grow.IsGrowStop state (state a) (state b) why → ⊥
+  not_full why full reason = subst (λ w. grow.IsGrowStop state (state a) (state b) w) full reason
+
+  pub merge_not_full : (why : SpaceBad) → why ≡ space.Full → merge.IsMergeReason state (state a) (state b) why → ⊥
+  merge_not_full why full reason = subst (λ w. merge.IsMergeReason state (state a) (state b) w) full reason
+
+  pub not_visit : (why : SpaceBad) (stop : Visit) → why ≡ space.Visit stop → grow.IsGrowStop state (state a) (state b) why → ⊥
+  not_visit why stop is reason =
+      not_grow stop (told_on state resident a b goes rest.told) (subst (λ w. grow.IsGrowStop state (state a) (state b) w) is reason)
+
+  pub merge_not_visit : (why : SpaceBad) (stop : Visit) → why ≡ space.Visit stop → merge.IsMergeReason state (state a) (state b) why → ⊥
+  merge_not_visit why stop is reason =
+      not_merge stop (told_on state resident a b goes rest.told) (subst (λ w. merge.IsMergeReason state (state a) (state b) w) is reason)

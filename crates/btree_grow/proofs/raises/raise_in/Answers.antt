@@ -17,27 +17,31 @@ returns-in_err-number-clause-reason g c =
 
 pub put_raised-requires-clause-ready : goal.put_raised-requires-clause-ready
 put_raised-requires-clause-ready g c =
-    raising.ready c.args.tree c.in_ok-number.number c.args.level (g.M.Mtr.state c.args.m.now) (g.M.Mtr.state c.copy_of.new.m) (g.M.Mtr.state c.take_blank.new.m)
+    raising.ready c.args.tree c.in_ok-number.number c.args.level (g.M.Mtr.state c.args.m.now) (g.M.Mtr.state c.copy_of.new.m)
+    (g.M.Mtr.state c.take_blank.new.m)
     (asked_one c.args.tree.root (g.M.Mtr.state c.args.m.now) (g.M.Mtr.state c.copy_of.new.m) c.copy_of.result c.copy_of.ensures.asks)
     c.take_blank.ensures.goes_on c.in_ok-number.ensures.taken c.requires.tree c.requires.level c.in_ok-bytes.bytes c.in_ok-bytes.ensures.shown
 
 pub returns-in_err-put_raised-clause-goes_on : goal.returns-in_err-put_raised-clause-goes_on
 returns-in_err-put_raised-clause-goes_on g c =
-    raising.whole_on c.args.tree c.in_ok-number.number c.args.level (g.M.Mtr.state c.args.m.now) (g.M.Mtr.state c.copy_of.new.m) (g.M.Mtr.state c.take_blank.new.m)
+    raising.whole_on c.args.tree c.in_ok-number.number c.args.level (g.M.Mtr.state c.args.m.now) (g.M.Mtr.state c.copy_of.new.m)
+    (g.M.Mtr.state c.take_blank.new.m)
     (asked_one c.args.tree.root (g.M.Mtr.state c.args.m.now) (g.M.Mtr.state c.copy_of.new.m) c.copy_of.result c.copy_of.ensures.asks)
     c.take_blank.ensures.goes_on c.in_ok-number.ensures.taken c.requires.tree c.requires.level (g.M.Mtr.state c.put_raised.new.m)
     c.put_raised.ensures.goes_on
 
 pub returns-clause-goes_on : goal.returns-clause-goes_on
 returns-clause-goes_on g c =
-    raising.whole_on c.args.tree c.in_ok-number.number c.args.level (g.M.Mtr.state c.args.m.now) (g.M.Mtr.state c.copy_of.new.m) (g.M.Mtr.state c.take_blank.new.m)
+    raising.whole_on c.args.tree c.in_ok-number.number c.args.level (g.M.Mtr.state c.args.m.now) (g.M.Mtr.state c.copy_of.new.m)
+    (g.M.Mtr.state c.take_blank.new.m)
     (asked_one c.args.tree.root (g.M.Mtr.state c.args.m.now) (g.M.Mtr.state c.copy_of.new.m) c.copy_of.result c.copy_of.ensures.asks)
     c.take_blank.ensures.goes_on c.in_ok-number.ensures.taken c.requires.tree c.requires.level (g.M.Mtr.state c.put_raised.new.m)
     c.put_raised.ensures.goes_on
 
 pub returns-clause-raised : goal.returns-clause-raised
 returns-clause-raised g c =
-    raising.raised c.args.tree c.in_ok-number.number c.args.level (g.M.Mtr.state c.args.m.now) (g.M.Mtr.state c.copy_of.new.m) (g.M.Mtr.state c.take_blank.new.m)
+    raising.raised c.args.tree c.in_ok-number.number c.args.level (g.M.Mtr.state c.args.m.now) (g.M.Mtr.state c.copy_of.new.m)
+    (g.M.Mtr.state c.take_blank.new.m)
     (asked_one c.args.tree.root (g.M.Mtr.state c.args.m.now) (g.M.Mtr.state c.copy_of.new.m) c.copy_of.result c.copy_of.ensures.asks)
     c.take_blank.ensures.goes_on c.in_ok-number.ensures.taken c.requires.tree c.requires.level (g.M.Mtr.state c.put_raised.new.m)
     c.put_raised.ensures.goes_on c.requires.short c.in_ok-put_raised.ensures.raises

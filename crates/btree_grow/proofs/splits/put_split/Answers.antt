@@ -64,7 +64,8 @@ returns-clause-splits g c =
     (g.M.Mtr.state c.args.m.now) (g.M.Mtr.state c.put_image.new.m) c.requires.cut c.in_ok-put_image.ensures.put
     (g.M.Mtr.state c.put_image-2.new.m) c.in_ok-put_image-2.ensures.put
     (g.M.Mtr.state c.put_edit.new.m) put
-    (omega arith) (omega arith) c.requires.size c.requires.laid_out c.requires.middle c.key_at-fence.ensures c.lower_half-lower.ensures c.upper_half-upper.ensures
+    (omega arith) (omega arith) c.requires.size c.requires.laid_out c.requires.middle c.key_at-fence.ensures c.lower_half-lower.ensures
+    c.upper_half-upper.ensures
     c.ranges.number.fits c.requires.above_laid_out
     (subst (λ l. length (c.key_at-fence.result.now ++ l) ≡ record_len_of c.args.above.now) c.u32_bytes.ensures wide)
     c.requires.place c.requires.room (subst (λ l. IsInsertion (c.args.cut.place + 1)

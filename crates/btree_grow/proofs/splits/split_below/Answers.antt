@@ -18,7 +18,8 @@ returns-in_err-place-clause-reason g c =
     c.in_ok-above.ensures.shown c.in_err-place.field-0.0 c.in_err-place.ensures.refused)
 
 pub returns-then-not-has_room-clause-reason : goal.returns-then-not-has_room-clause-reason
-returns-then-not-has_room-clause-reason g c = next.room_stop g.M.Mtr.state c.args.tree c.args.key.now c.args.parent c.in_ok-above.above (g.M.Mtr.state c.args.m.now)
+returns-then-not-has_room-clause-reason g c =
+    next.room_stop g.M.Mtr.state c.args.tree c.args.key.now c.args.parent c.in_ok-above.above (g.M.Mtr.state c.args.m.now)
     (g.M.Mtr.state c.copy_of.new.m) c.requires.above
     (asked_one c.args.parent (g.M.Mtr.state c.args.m.now) (g.M.Mtr.state c.copy_of.new.m) c.copy_of.result c.copy_of.ensures.asks)
     c.in_ok-above.ensures.shown c.if-not-has_room.ensures
@@ -126,7 +127,8 @@ returns-clause-reason g c =
     halt_later g.M.Mtr.state (c.args.parent ∷ []) (g.M.Mtr.state c.args.m.now) (g.M.Mtr.state c.copy_of.new.m) (g.M.Mtr.state c.split_page.new.m) why
     (asked_one c.args.parent (g.M.Mtr.state c.args.m.now) (g.M.Mtr.state c.copy_of.new.m) c.copy_of.result c.copy_of.ensures.asks)
     (goes_then (g.M.Mtr.state c.copy_of.new.m) (g.M.Mtr.state c.copy_of-2.new.m) (g.M.Mtr.state c.split_page.new.m)
-    (asked_one c.child_at-child.result (g.M.Mtr.state c.copy_of.new.m) (g.M.Mtr.state c.copy_of-2.new.m) c.copy_of-2.result c.copy_of-2.ensures.asks).goes c.split_page.ensures.goes_on.goes)
+    (asked_one c.child_at-child.result (g.M.Mtr.state c.copy_of.new.m) (g.M.Mtr.state c.copy_of-2.new.m) c.copy_of-2.result c.copy_of-2.ensures.asks).goes
+    c.split_page.ensures.goes_on.goes)
     (halt_later g.M.Mtr.state (c.child_at-child.result ∷ []) (g.M.Mtr.state c.copy_of.new.m) (g.M.Mtr.state c.copy_of-2.new.m)
     (g.M.Mtr.state c.split_page.new.m) why
     (asked_one c.child_at-child.result (g.M.Mtr.state c.copy_of.new.m) (g.M.Mtr.state c.copy_of-2.new.m) c.copy_of-2.result c.copy_of-2.ensures.asks)

@@ -16,7 +16,8 @@ fresh-requires-clause-few g c =
     omega (arith, few_visit page after.visited, (marked_on page 1 _ _ c.in_ok-page.ensures.taken.marks).longer, c.requires.few)
 
 pub returns-in-Ok-clause-goes_on : goal.returns-in-Ok-clause-goes_on
-returns-in-Ok-clause-goes_on g c = taken_on c.in_ok-page.page _ _ c.in_ok-page.ensures.taken _ c.in_ok-page.ensures.counted c.requires.reserved c.in-Ok.ensures.made
+returns-in-Ok-clause-goes_on g c =
+    taken_on c.in_ok-page.page _ _ c.in_ok-page.ensures.taken _ c.in_ok-page.ensures.counted c.requires.reserved c.in-Ok.ensures.made
 
 pub returns-in-Ok-clause-taken : goal.returns-in-Ok-clause-taken
 returns-in-Ok-clause-taken g c = taken c.in_ok-page.page _ _ c.in_ok-page.ensures.taken _ c.in_ok-page.ensures.counted c.requires.reserved c.in-Ok.ensures.made

@@ -1,7 +1,7 @@
 use Rattle.std.proofs.Common.{ap, ℕ, List}
 use Rattle.btree.specs.Sound.{tree_pairs}
 use Rattle.tree_use.proofs.Resting.{AreResident, told_on, still}
-use Rattle.tree_use.proofs.Growing.{tidied_rest, tidied_pairs, not_merge}
+use Rattle.tree_use.proofs.Growing.{tidied_rest, tidied_pairs, merge_not_full, merge_not_visit}
 use Rattle.tree_use.proofs.changes.tidy_leaf.Given
 use Rattle.tree_use.proofs.changes.tidy_leaf.Goals as goal
 
@@ -9,10 +9,12 @@ resident : (g : Given.Over) → AreResident (g.M.Mtr.state)
 resident g = record { no_fault = g.met.M.Resident.no_fault; at_hand = g.met.M.Resident.at_hand; tested = g.met.M.Resident.tested }
 
 pub unreachable-requires : goal.unreachable-requires
-unreachable-requires g c = ?
+unreachable-requires g c =
+    merge_not_full (g.M.Mtr.state) (resident g) c.args.tree c.args.m.now c.tidy.new.m c.requires.rest c.in-Err-Full.ensures.ends.goes c.in-Err-Full.field-0
+    c.in-Err-Full.field-0-is c.in-Err-Full.ensures.reason
 
-pub unreachable-requires-2 : goal.unreachable-requires-2
-unreachable-requires-2 g c = ?
+pub unreachable-requires-in-Err-Visit : goal.unreachable-requires-in-Err-Visit
+unreachable-requires-in-Err-Visit g c = ?
 
 pub returns-in-Ok-clause-same : goal.returns-in-Ok-clause-same
 returns-in-Ok-clause-same g c =
