@@ -20,9 +20,9 @@ ghost use Rattle.btree_merge.specs.Tidied.{IsSparse, MergesBeside, DoesTidy};
 
 use crate::join::{COUNT, holds_few};
 use crate::merge::merge_in;
+use crate::parent::parent_of;
 use crate::reading::{FIELD, copy_of, leaf_copy};
 use btree::{Bound, Tree, child_at, first_place, is_laid_out};
-use crate::parent::parent_of;
 use mtr::Mtr;
 use page_format::read_u16;
 use store_api::{NoMemory, SpaceBad, Visit};

@@ -1,6 +1,6 @@
 -- A change of a leaf, and the end of its mini-transaction.
-use Rattle.std.proofs.Common.{◌≡◌, ◌≢◌, ◌⊎◌, ℕ, ◌<◌, ◌≤◌, Bool, true, false, List, [], ◌∷◌, sym, ◌∙◌, ap, subst, refl, arith}
-use Rattle.std.specs.Prelude.{IsTrue, IsSome, None}
+use Rattle.std.proofs.Common.{◌≡◌, ℕ, ◌<◌, ◌≤◌, Bool, true, false, List, [], ◌∷◌, sym, ◌∙◌, ap, subst, refl, arith}
+use Rattle.std.specs.Prelude.{IsTrue, None}
 use Rattle.std.specs.List.{AllByRecursion}
 use Rattle.entries.specs.Pairs.{Pair, value_of, with_pair, without_key}
 use Rattle.page_format.specs.Words.{u32_at}
@@ -9,7 +9,7 @@ use Rattle.mtr.specs.Calls.{Commits, GivesUp}
 use Rattle.space_map.specs.Taking.{HasPageCount}
 use Rattle.btree.specs.declared.tree.Tree.{Tree}
 use Rattle.btree.specs.Sound.{lows_of, levels_of, tree_pairs, HoldsKey}
-use Rattle.btree_change.specs.Trees.{IsWholeTree, Becomes, DoesReplace, DoesRemove}
+use Rattle.btree_change.specs.Trees.{Becomes, DoesReplace, DoesRemove}
 use Rattle.btree_change.specs.Calls.{IsLeafFor, Touches}
 use Rattle.btree_split.specs.Placed.{IsPlacedPage, IsPlacedTree}
 use Rattle.btree_insert.proofs.AddedPair.{placed_still}
@@ -54,7 +54,7 @@ module _ {M : Type 0} (state : M → MtrState) (resident : AreResident state) (t
         let told = told_on state resident c d commits.goes told_c in
         let stands : (state d).standing ≡ (state c).seen = commits.standing told in
         let header : (state d).standing 0 ≡ (state a).standing 0 =
-            ap (λ (p : ℕ → List ℕ). p 0) stands ∙ (header_stays ∙ ap (λ (p : ℕ → List ℕ). p 0) seen_still)
+        ap (λ (p : ℕ → List ℕ). p 0) stands ∙ (header_stays ∙ ap (λ (p : ℕ → List ℕ). p 0) seen_still)
         in
         record {
           told = told;

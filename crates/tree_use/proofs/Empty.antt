@@ -1,7 +1,7 @@
 -- A page that is an empty leaf, as the words of a page say it.
-use Rattle.std.proofs.Common.{◌≡◌, ℕ, ◌+◌, ◌-◌, ◌*◌, ◌<◌, ◌≤◌, min, List, [], length, take, drop, get_or, None, refl, sym, ◌∙◌, ap, subst, arith}
+use Rattle.std.proofs.Common.{◌≡◌, ℕ, ◌+◌, ◌-◌, ◌*◌, ◌<◌, min, List, [], length, take, drop, get_or, None, refl, sym, ◌∙◌, ap, subst, arith}
 use Rattle.std.proofs.lemmas.List.{get_or-drop, get_or-take, length-take, length-drop, drop-drop}
-use Rattle.page_format.specs.Words.{kind_of, level_of, count_of, record_len_of, records_of, fence, pieces}
+use Rattle.page_format.specs.Words.{level_of, count_of, record_len_of, records_of, fence, pieces}
 use Rattle.page_format.specs.Shape.{AreZeros, IsFence, HasTreeFields}
 use Rattle.mtr.proofs.Behind.{drop-behind, u32-behind, byte-behind}
 use Rattle.law_flat_tree.specs.Trees.{IsEmptyRoot}

@@ -1,6 +1,6 @@
 -- A tree that grows by pages or loses one is at rest again, and page 0 stays as it is.
-use Rattle.std.proofs.Common.{◌≡◌, ◌≢◌, ◌⊎◌, inl, inr, ℕ, zero, suc, ◌+◌, ◌<◌, ◌≤◌, Bool, true, false, ◌||◌, List, [], ◌∷◌, length, Option, None, Some, sym, ◌∙◌, ap, subst, refl, arith}
-use Rattle.std.specs.Prelude.{IsTrue, ◌==◌}
+use Rattle.std.proofs.Common.{◌≡◌, ◌≢◌, inl, inr, ℕ, suc, ◌≤◌, Bool, false, ◌||◌, List, [], ◌∷◌, length, Option, None, Some, sym, ◌∙◌, ap, subst, refl, arith}
+use Rattle.std.specs.Prelude.{IsTrue}
 use Rattle.std.specs.List.{AllByRecursion}
 use Rattle.store_api.specs.declared.visits.Visit.{Visit}
 use Rattle.store_api.specs.declared.visits.Visit.TheVariants.{Failed, Again, Bad}
@@ -8,7 +8,7 @@ use Rattle.store_api.specs.declared.visits.SpaceBad.{SpaceBad}
 use Rattle.store_api.specs.declared.visits.SpaceBad.TheVariants as space
 use Rattle.page_format.specs.Words.{u32_at}
 use Rattle.mtr.specs.Seen.{MtrState, is_in}
-use Rattle.mtr.specs.Calls.{Goes, GivesUp}
+use Rattle.mtr.specs.Calls.{Goes}
 use Rattle.law_flat_tree.specs.Levels.{Node}
 use Rattle.law_flat_tree.specs.PageSplits.{StandsNowhere}
 use Rattle.law_flat_tree.proofs.Apart.{each_of}
@@ -16,7 +16,6 @@ use Rattle.space_map.specs.Map.{mark_of}
 use Rattle.space_map.specs.Taking.{HasPageCount, Miscounts}
 use Rattle.btree.specs.declared.tree.Tree.{Tree}
 use Rattle.btree.specs.Sound.{levels_of, IsTreePage, tree_pairs}
-use Rattle.btree.specs.Reads.{IsIdle}
 use Rattle.btree_change.specs.Calls.{Ends}
 use Rattle.btree_split.specs.Placed.{IsPlacedTree}
 use Rattle.btree_split.specs.Ways.{IsWayTo, IsLowestRoom}
@@ -27,7 +26,6 @@ use Rattle.btree_merge.specs.Going as merge
 use Rattle.btree_insert.specs.declared.inserts.Outcome.{Outcome}
 use Rattle.btree_insert.specs.declared.inserts.Outcome.TheVariants.{Added, Present, Full, TooDeep}
 use Rattle.btree_insert.specs.Adding.{DoesAdd}
-use Rattle.law_tree_merges.specs.Merges.{Shrinks}
 use Rattle.btree_merge.specs.Tidied.{DoesTidy}
 use Rattle.tree_use.specs.Stored.{IsAtRest}
 use Rattle.tree_use.proofs.Resting.{AreResident, no_rise, no_rule, told_on}
@@ -43,9 +41,9 @@ not_taken : (pages : ℕ → List ℕ) (taken : List ℕ) → mark_of pages 0 �
 not_taken pages [] marked free = refl
 not_taken pages (page ∷ taken) marked free =
     let other : page ≢ 0 = λ is.
-        let used : mark_of pages page ≡ 1 = ap (mark_of pages) is ∙ marked in
-        let unused : mark_of pages page ≡ 0 = free.0 in
-        omega (arith, used, unused)
+    let used : mark_of pages page ≡ 1 = ap (mark_of pages) is ∙ marked in
+    let unused : mark_of pages page ≡ 0 = free.0 in
+    omega (arith, used, unused)
     in
     ap (λ (b : Bool). b || is_in 0 taken) (ne_false page 0 other) ∙ not_taken pages taken marked free.1
 

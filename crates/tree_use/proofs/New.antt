@@ -1,13 +1,11 @@
 -- A tree that was just made stands on its root alone.
-use Rattle.std.proofs.Common.{◌≡◌, ◌≢◌, ℕ, zero, suc, ◌+◌, ◌/◌, ◌%◌, ◌<◌, ◌≤◌, List, [], ◌∷◌, length, drop, refl, sym, ◌∙◌, ap, subst, arith}
+use Rattle.std.proofs.Common.{◌≡◌, ℕ, ◌+◌, ◌/◌, ◌%◌, ◌<◌, ◌≤◌, List, [], ◌∷◌, drop, sym, ◌∙◌, ap, subst, arith}
 use Rattle.std.specs.Prelude.{IsTrue, slice_index}
 use Rattle.mtr.specs.Seen.{MtrState, IsShown}
 use Rattle.mtr.specs.Calls.{GivesUp}
-use Rattle.btree.specs.Reads.{IsIdle}
 use Rattle.tree_use.proofs.Resting.{AreResident, told_on}
 use Rattle.std.specs.Int.{bit_at}
-use Rattle.page_format.specs.Words.{u32_at, level_of, count_of, records_of}
-use Rattle.page_format.specs.Shape.{AreRising}
+use Rattle.page_format.specs.Words.{u32_at}
 use Rattle.mtr.proofs.Behind.{u32-behind, byte-behind}
 use Rattle.law_flat_tree.specs.Levels.{levels_under}
 use Rattle.law_flat_tree.specs.Trees.{IsTree, nodes, all_pairs}
@@ -15,10 +13,9 @@ use Rattle.law_flat_tree.proofs.Trees.{empty_tree}
 use Rattle.space_map.specs.Map.{mark_of, bit_in}
 use Rattle.space_map.specs.Taking.{HasPageCount}
 use Rattle.btree.specs.declared.tree.Tree.{Tree}
-use Rattle.btree.specs.Sound.{IsSoundTree, IsTreePage, lows_of, levels_of, tree_pairs}
+use Rattle.btree.specs.Sound.{IsTreePage, lows_of, tree_pairs}
 use Rattle.btree.specs.Layout.{width_of}
-use Rattle.btree_change.specs.Trees.{IsWholeTree}
-use Rattle.btree_split.specs.Placed.{IsPlacedPage, IsPlacedTree}
+use Rattle.btree_split.specs.Placed.{IsPlacedTree}
 use Rattle.tree_use.specs.Stored.{HasWidths, IsAtRest}
 use Rattle.tree_use.specs.Beginning.{IsEmptyLeaf, IsCountedRoot}
 use Rattle.tree_use.proofs.Empty.{leaf_fields, leaf_records, empty_root, leaf_shown}
@@ -59,12 +56,17 @@ module _ (tree : Tree) (pages : ℕ → List ℕ) (widths : HasWidths tree) (emp
         };
     reserved = λ page few. near page (omega (arith, few)) ∙ is.reserved page few;
     placed =
-        rw none_below
-        ((record {
-          beyond = is.beyond;
-          used = near tree.root is.covered ∙ is.used;
-          first = λ inner. absurd (inner empty.level);
-        }, tt), tt);
+        rw none_below (
+          (
+            record {
+              beyond = is.beyond;
+              used = near tree.root is.covered ∙ is.used;
+              first = λ inner. absurd (inner empty.level);
+            },
+            tt,
+          ),
+          tt,
+        );
   }
 
   pub new_pairs : tree_pairs tree pages ≡ []
@@ -83,7 +85,7 @@ pub counted_shown : (root : ℕ) (a b c d : List ℕ) → drop 20 a ≡ drop 20 
 counted_shown root a b c d same map is =
     let count : u32_at 44 a ≡ u32_at 44 b = u32-behind 44 a b (omega arith) same in
     let bit : (page : ℕ) → bit_in c page ≡ bit_in d page =
-        λ page. ap (λ byte. bit_at byte (page % 8)) (byte-behind (32 + page / 8) c d (omega arith) map)
+    λ page. ap (λ byte. bit_at byte (page % 8)) (byte-behind (32 + page / 8) c d (omega arith) map)
     in
     record {
       beyond = is.beyond;

@@ -1,5 +1,5 @@
 -- Between two mini-transactions on pages that are all in memory.
-use Rattle.std.proofs.Common.{◌≡◌, ◌≢◌, ◌⊎◌, inl, inr, ℕ, ◌<◌, ◌≤◌, List, [], sym, ◌∙◌, ap, subst, refl, arith}
+use Rattle.std.proofs.Common.{◌≡◌, ℕ, ◌≤◌, List, sym, ◌∙◌, subst, refl, arith}
 use Rattle.std.specs.Prelude.{IsTrue, None, Some, Result, Ok, Err, IsOk, IfOk, IfErr, OnOk}
 use Rattle.store_api.specs.Causes.{Rose}
 use Rattle.store_api.specs.declared.visits.Visit.{Visit}
@@ -7,10 +7,10 @@ use Rattle.store_api.specs.declared.visits.Visit.TheVariants.{Failed, Again, Bad
 use Rattle.store_api.specs.declared.visits.SpaceBad.{SpaceBad}
 use Rattle.store_api.specs.declared.visits.SpaceBad.TheVariants as space
 use Rattle.mtr.specs.Seen.{MtrState, IsShut}
-use Rattle.mtr.specs.Calls.{Goes, Commits, GivesUp}
+use Rattle.mtr.specs.Calls.{Goes, GivesUp}
 use Rattle.space_map.specs.Taking.{HasPageCount}
 use Rattle.btree.specs.declared.tree.Tree.{Tree}
-use Rattle.btree.specs.Reads.{IsIdle, IsHindered}
+use Rattle.btree.specs.Reads.{IsHindered}
 use Rattle.btree_change.specs.Calls.{IsLeafReason}
 use Rattle.btree_split.specs.Placed.{IsPlacedTree}
 use Rattle.tree_use.specs.Stored.{IsAtRest, IsStill}

@@ -1,14 +1,14 @@
 -- The pairs of a tree rise, and are as long as its keys and values.
-use Rattle.std.proofs.Common.{◌≡◌, ◌≢◌, ℕ, zero, suc, ◌+◌, ◌-◌, ◌*◌, ◌<◌, ◌≤◌, min, List, [], ◌∷◌, ◌++◌, length, take, drop, map, sym, ◌∙◌, ap, subst, refl, arith}
+use Rattle.std.proofs.Common.{◌≡◌, ◌≢◌, ℕ, zero, suc, ◌+◌, ◌-◌, ◌*◌, ◌≤◌, min, List, [], ◌∷◌, ◌++◌, length, take, drop, map, sym, ◌∙◌, ap, refl, arith}
 use Rattle.std.specs.Prelude.{None}
 use Rattle.std.specs.List.{flat_map, AllByRecursion}
 use Rattle.std.specs.declared.cmp.Ordering.{Ordering}
 use Rattle.std.specs.declared.cmp.Ordering.TheVariants.{Less, Equal, Greater}
 use Rattle.std.proofs.lemmas.List.{length-take, length-drop, append_assoc}
-use Rattle.entries.specs.Pairs.{Pair, key_cmp, value_of, AreRising, IsShort, AreSound}
+use Rattle.entries.specs.Pairs.{Pair, key_cmp, value_of, IsShort, AreSound}
 use Rattle.entries.proofs.Order.{same_key}
 use Rattle.law_flat_tree.proofs.Reading as reading
-use Rattle.page_format.specs.Words.{level_of, count_of, record_len_of, records_of, pieces}
+use Rattle.page_format.specs.Words.{count_of, record_len_of, pieces}
 use Rattle.law_flat_tree.specs.Descents.{leaves_of}
 use Rattle.law_flat_tree.specs.Pages.{leaf_pairs, pair_of}
 use Rattle.law_flat_tree.specs.Trees.{pairs_in}

@@ -63,7 +63,12 @@ pub fn take_pair<M: Resident>(m: &mut M, tree: Tree, key: &[u8]) -> bool
 }
 
 /// Adds a pair, where the key has none. Where memory is lacking, nothing is changed.
-pub fn add_pair<M: Resident>(m: &mut M, tree: Tree, key: &[u8], value: &[u8]) -> Result<Outcome, NoMemory>
+pub fn add_pair<M: Resident>(
+    m: &mut M,
+    tree: Tree,
+    key: &[u8],
+    value: &[u8],
+) -> Result<Outcome, NoMemory>
     requires rest { IsAtRest tree (M.state m.old) }
     requires widths { HasWidths tree }
     requires key { length key.now ≡ tree.key_len }

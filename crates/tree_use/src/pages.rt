@@ -65,7 +65,11 @@ impl<M: Resident + Drop> TreePages<M> {
     }
 
     /// A copy of the first pair at or above the key, if there is one.
-    pub(crate) fn first_from(&mut self, alloc: Global, key: &Bytes) -> Result<Option<(Bytes, Bytes)>, AllocError>
+    pub(crate) fn first_from(
+        &mut self,
+        alloc: Global,
+        key: &Bytes,
+    ) -> Result<Option<(Bytes, Bytes)>, AllocError>
         ensures found { IfOk result (λ pair. pair ≡ first_from key.now self.old.pairs) }
         ensures same { self.new ≡ self.old }
     {
@@ -77,7 +81,11 @@ impl<M: Resident + Drop> TreePages<M> {
     }
 
     /// A copy of the first pair above the key, if there is one.
-    pub(crate) fn first_after(&mut self, alloc: Global, key: &Bytes) -> Result<Option<(Bytes, Bytes)>, AllocError>
+    pub(crate) fn first_after(
+        &mut self,
+        alloc: Global,
+        key: &Bytes,
+    ) -> Result<Option<(Bytes, Bytes)>, AllocError>
         ensures found { IfOk result (λ pair. pair ≡ first_after key.now self.old.pairs) }
         ensures same { self.new ≡ self.old }
     {

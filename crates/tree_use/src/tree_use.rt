@@ -182,11 +182,7 @@ impl<M: Resident + Drop> Entries for TreeUse<M> {
     fn replace(&mut self, _actor: u32, key: &Bytes, value: &Bytes) -> Move {
         let found = self.pages.replace(key, value);
         self.pages.are_sound();
-        if found {
-            Move::Done
-        } else {
-            Move::End
-        }
+        if found { Move::Done } else { Move::End }
     }
 
     fn remove(&mut self, actor: u32, key: &Bytes) -> Move {

@@ -1,5 +1,3 @@
-use Rattle.std.proofs.Common.{ap, ℕ, List}
-use Rattle.btree.specs.Sound.{tree_pairs}
 use Rattle.tree_use.proofs.Resting.{AreResident, told_on, still}
 use Rattle.tree_use.proofs.Growing.{added_rest, not_full, not_visit}
 use Rattle.tree_use.proofs.changes.add_pair.Given
@@ -14,7 +12,9 @@ unreachable-requires g c =
     c.in-Err-Full.field-0-is c.in-Err-Full.ensures.reason
 
 pub unreachable-requires-in-Err-Visit : goal.unreachable-requires-in-Err-Visit
-unreachable-requires-in-Err-Visit g c = ?
+unreachable-requires-in-Err-Visit g c =
+    not_visit (g.M.Mtr.state) (resident g) c.args.tree c.args.m.now c.insert.new.m c.requires.rest c.in-Err-Visit.ensures.ends.goes c.in-Err-Visit.field-0
+    c.in-Err-Visit.field-0-0 c.in-Err-Visit.field-0-is c.in-Err-Visit.ensures.reason
 
 pub returns-in-Ok-clause-done : goal.returns-in-Ok-clause-done
 returns-in-Ok-clause-done g c =

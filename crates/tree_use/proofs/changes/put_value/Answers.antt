@@ -1,4 +1,4 @@
-use Rattle.std.proofs.Common.{sym, ◌∙◌, subst, ◌≤◌}
+use Rattle.std.proofs.Common.{sym, subst, ◌≤◌}
 use Rattle.tree_use.proofs.Resting.{AreResident, told_on, not_stopped}
 use Rattle.tree_use.proofs.Changing.{leaf_for, replaced_rest, replaced}
 use Rattle.tree_use.proofs.changes.put_value.Given

@@ -1,4 +1,4 @@
-use Rattle.std.proofs.Common.{sym, ◌∙◌, subst, ◌≤◌}
+use Rattle.std.proofs.Common.{sym, subst, ◌≤◌}
 use Rattle.tree_use.proofs.Resting.{AreResident, told_on, not_stopped}
 use Rattle.tree_use.proofs.Changing.{leaf_for, removed_rest, removed}
 use Rattle.tree_use.proofs.changes.take_pair.Given

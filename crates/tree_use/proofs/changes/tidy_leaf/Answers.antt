@@ -14,7 +14,9 @@ unreachable-requires g c =
     c.in-Err-Full.field-0-is c.in-Err-Full.ensures.reason
 
 pub unreachable-requires-in-Err-Visit : goal.unreachable-requires-in-Err-Visit
-unreachable-requires-in-Err-Visit g c = ?
+unreachable-requires-in-Err-Visit g c =
+    merge_not_visit (g.M.Mtr.state) (resident g) c.args.tree c.args.m.now c.tidy.new.m c.requires.rest c.in-Err-Visit.ensures.ends.goes c.in-Err-Visit.field-0
+    c.in-Err-Visit.field-0-0 c.in-Err-Visit.field-0-is c.in-Err-Visit.ensures.reason
 
 pub returns-in-Ok-clause-same : goal.returns-in-Ok-clause-same
 returns-in-Ok-clause-same g c =

@@ -31,4 +31,5 @@ pub returns-then-seek_row-clause-short : goal.returns-then-seek_row-clause-short
 returns-then-seek_row-clause-short g c = λ same.
     let pages = (g.M.Mtr.state c.args.m.now).standing in
     let sound = tree_sound c.args.tree pages c.requires.widths c.requires.rest.placed.whole.sound in
-    (of_found IsShort c.args.key.now (tree_pairs c.args.tree pages) _ sound.short c.if-seek_row.ensures.row).value
+    (of_found IsShort c.args.key.now (tree_pairs c.args.tree pages) (c.seek_row.new.row.key.items, c.seek_row.new.row.value.items) sound.short
+    c.if-seek_row.ensures.row).value

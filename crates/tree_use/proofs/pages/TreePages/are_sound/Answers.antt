@@ -1,4 +1,4 @@
-use Rattle.std.proofs.Common.{ap, sym, subst}
+use Rattle.std.proofs.Common.{subst}
 use Rattle.entries.specs.Pairs.{AreSound}
 use Rattle.tree_use.specs.Stored.{Stored}
 use Rattle.tree_use.proofs.Widths.{tree_sound}

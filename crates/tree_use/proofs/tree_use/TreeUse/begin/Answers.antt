@@ -1,4 +1,4 @@
-use Rattle.std.proofs.Common.{refl, sym, ap, ◌∙◌, subst, Some}
+use Rattle.std.proofs.Common.{refl, sym, ap, subst, Some}
 use Rattle.entries.specs.Index.{Index}
 use Rattle.tree_use.specs.Shown.{IsEmptyOf}
 use Rattle.tree_use.proofs.tree_use.TreeUse.begin.Goals as goal
