@@ -3,6 +3,8 @@
 #![tactic(auto)]
 
 #[cfg(test)]
+mod both;
+#[cfg(test)]
 mod changing;
 #[cfg(test)]
 mod comparing;

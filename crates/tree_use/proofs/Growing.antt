@@ -61,7 +61,8 @@ long_way node key (level ∷ levels) (page ∷ way) is = ap suc (long_way node k
 pub eight_levels : (tree : Tree) (pages : ℕ → List ℕ) (key : List ℕ) → IsLowestRoom tree pages key None 8 → length (levels_of tree pages) ≡ 8
 eight_levels tree pages key lowest = long_way _ key (levels_of tree pages) lowest.way lowest.leads ∙ lowest.ends.1
 
-module _ {M : Type 0} (state : M → MtrState) (resident : AreResident state) (tree : Tree) (a b : M) (rest : IsAtRest tree (state a)) (ends : Ends (state a) (state b)) where
+module _ {M : Type 0} (state : M → MtrState) (resident : AreResident state) (tree : Tree) (a b : M)
+    (rest : IsAtRest tree (state a)) (ends : Ends (state a) (state b)) where
   told_end : IsTrue (state b).told
   told_end = told_on state resident a b ends.goes rest.told
 
@@ -99,7 +100,8 @@ module _ {M : Type 0} (state : M → MtrState) (resident : AreResident state) (t
       merged.shrinks.loses.same_pairs
 
 -- nothing stops a change of a tree on pages that are all in memory but want of memory
-module _ {M : Type 0} (state : M → MtrState) (resident : AreResident state) (tree : Tree) (a b : M) (rest : IsAtRest tree (state a)) (goes : Goes (state a) (state b)) where
+module _ {M : Type 0} (state : M → MtrState) (resident : AreResident state) (tree : Tree) (a b : M)
+    (rest : IsAtRest tree (state a)) (goes : Goes (state a) (state b)) where
   pub counts_right : (page rule : ℕ) → Miscounts page rule (state a).seen → ⊥
   counts_right page rule mis = mis.2 (subst (λ (p : ℕ → List ℕ). HasPageCount p) (sym (rest.idle.seen rest.told)) rest.counted)
 

@@ -20,7 +20,8 @@ use Rattle.tree_use.specs.Stored.{HasWidths, IsAtRest}
 use Rattle.tree_use.specs.Beginning.{IsEmptyLeaf, IsCountedRoot}
 use Rattle.tree_use.proofs.Empty.{leaf_fields, leaf_records, empty_root, leaf_shown}
 
-module _ (tree : Tree) (pages : ℕ → List ℕ) (widths : HasWidths tree) (empty : IsEmptyLeaf tree (pages tree.root)) (is : IsCountedRoot tree.root (pages 0) (pages 2)) where
+module _ (tree : Tree) (pages : ℕ → List ℕ) (widths : HasWidths tree)
+    (empty : IsEmptyLeaf tree (pages tree.root)) (is : IsCountedRoot tree.root (pages 0) (pages 2)) where
   none_below : lows_of tree pages ≡ []
   none_below = ap (λ n. levels_under n (nodes tree.key_len pages) (tree.root ∷ [])) empty.level
 
@@ -100,7 +101,8 @@ module _ {M : Type 0} (state : M → MtrState) (resident : AreResident state) (t
     (spare : 4096 ≤ (state a).whole) (first : GivesUp (state a) (state b)) (second : GivesUp (state b) (state c)) (third : GivesUp (state c) (state d))
     (header map root : List ℕ) (header_shown : IsTrue (state b).told → IsShown ((state a).standing 0) header)
     (map_shown : IsTrue (state c).told → IsShown ((state b).standing 2) map)
-    (root_shown : IsTrue (state d).told → IsShown ((state c).standing tree.root) root) (is : IsCountedRoot tree.root header map) (leaf : IsEmptyLeaf tree root) where
+    (root_shown : IsTrue (state d).told → IsShown ((state c).standing tree.root) root)
+    (is : IsCountedRoot tree.root header map) (leaf : IsEmptyLeaf tree root) where
   told_b : IsTrue (state b).told
   told_b = told_on state resident a b first.goes told
 

@@ -46,7 +46,10 @@ module _ (tree : Tree) (pages : ℕ → List ℕ) (widths : HasWidths tree) (sou
       (short_leaves (xs ++ page ∷ []) ys (whole ∙ sym (append_assoc xs (page ∷ []) ys)))
 
   pub tree_sound : AreSound (tree_pairs tree pages)
-  tree_sound = record { rising = reading.pairs_rise tree.key_len pages tree.root (lows_of tree pages) sound.stands; short = short_leaves [] (leaves_of (levels_of tree pages)) refl }
+  tree_sound = record {
+    rising = reading.pairs_rise tree.key_len pages tree.root (lows_of tree pages) sound.stands;
+    short = short_leaves [] (leaves_of (levels_of tree pages)) refl;
+  }
 
 -- ---- a key of another length
 

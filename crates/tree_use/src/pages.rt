@@ -35,8 +35,8 @@ impl<M: Resident + Drop> Model for TreePages<M> {
 
     ghost view = { λ p. stored_of p.tree (M.state p.m).standing };
 
-    ghost invariant = { λ p. HasWidths p.tree × IsAtRest p.tree (M.state p.m) × (p.tree.key_len ≤ vec_capacity p.row.key) × (p.tree.value_len ≤ vec_capacity p.row.value)
-        × (p.tree.key_len ≤ vec_capacity p.removed) };
+    ghost invariant = { λ p. HasWidths p.tree × IsAtRest p.tree (M.state p.m) × (p.tree.key_len ≤ vec_capacity p.row.key)
+        × (p.tree.value_len ≤ vec_capacity p.row.value) × (p.tree.key_len ≤ vec_capacity p.removed) };
 }
 
 impl<M: Resident + Drop> TreePages<M> {

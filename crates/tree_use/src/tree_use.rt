@@ -37,7 +37,8 @@ impl<M: Resident + Drop> TreeUse<M> {
     pub fn new(alloc: Global, tree: Tree, m: M) -> Result<TreeUse<M>, NoMemory>
         requires widths { HasWidths tree }
         requires rest { IsAtRest tree (M.state m) }
-        ensures { IfOk result (λ t. ⟦<TreeUse<M> as Entries>⟧.index t ≡ index_of (stored_of tree (M.state m).standing) (λ actor. None) None) }
+        ensures { IfOk result (λ t. ⟦<TreeUse<M> as Entries>⟧.index t
+            ≡ index_of (stored_of tree (M.state m).standing) (λ actor. None) None) }
     {
         Ok(TreeUse {
             alloc,
@@ -66,7 +67,8 @@ impl<M: Resident + Drop> TreeUse<M> {
 
     /// Another actor that is awaited, if there is one.
     fn other_awaited(&self, actor: u32) -> Option<u32>
-        ensures { MatchOption result (IsFree actor (⟦<TreeUse<M> as Entries>⟧.index self.now)) (λ by. IsHeld actor by (⟦<TreeUse<M> as Entries>⟧.index self.now)) }
+        ensures { MatchOption result (IsFree actor (⟦<TreeUse<M> as Entries>⟧.index self.now))
+            (λ by. IsHeld actor by (⟦<TreeUse<M> as Entries>⟧.index self.now)) }
     {
         match self.awaited {
             None => None,
@@ -76,7 +78,8 @@ impl<M: Resident + Drop> TreeUse<M> {
 
     /// Gives the actor the pair that was found, which is its place from now on.
     fn give(&mut self, actor: u32, found: Option<(Bytes, Bytes)>) -> Result<Move, AllocError>
-        ensures answer { MatchResult result (λ answer. Gives actor found (⟦<TreeUse<M> as Entries>⟧.index self.old) (⟦<TreeUse<M> as Entries>⟧.index self.new) answer)
+        ensures answer { MatchResult result (λ answer. Gives actor found (⟦<TreeUse<M> as Entries>⟧.index self.old)
+            (⟦<TreeUse<M> as Entries>⟧.index self.new) answer)
             (λ _. IsAsBefore (⟦<TreeUse<M> as Entries>⟧.index self.old) (⟦<TreeUse<M> as Entries>⟧.index self.new)) }
         ensures same { self.new.pages ≡ self.old.pages }
     {
@@ -91,7 +94,8 @@ impl<M: Resident + Drop> TreeUse<M> {
     }
 
     fn try_seek(&mut self, actor: u32, from: &Bytes) -> Result<Move, AllocError>
-        ensures answer { MatchResult result (λ answer. Seeks actor from.now (⟦<TreeUse<M> as Entries>⟧.index self.old) (⟦<TreeUse<M> as Entries>⟧.index self.new) answer)
+        ensures answer { MatchResult result (λ answer. Seeks actor from.now (⟦<TreeUse<M> as Entries>⟧.index self.old)
+            (⟦<TreeUse<M> as Entries>⟧.index self.new) answer)
             (λ _. IsAsBefore (⟦<TreeUse<M> as Entries>⟧.index self.old) (⟦<TreeUse<M> as Entries>⟧.index self.new)) }
         ensures same { self.new.pages ≡ self.old.pages }
     {
@@ -111,7 +115,8 @@ impl<M: Resident + Drop> TreeUse<M> {
     }
 
     fn try_following(&mut self, actor: u32) -> Result<Move, AllocError>
-        ensures answer { MatchResult result (λ answer. Follows actor (⟦<TreeUse<M> as Entries>⟧.index self.old) (⟦<TreeUse<M> as Entries>⟧.index self.new) answer)
+        ensures answer { MatchResult result (λ answer. Follows actor (⟦<TreeUse<M> as Entries>⟧.index self.old)
+            (⟦<TreeUse<M> as Entries>⟧.index self.new) answer)
             (λ _. IsAsBefore (⟦<TreeUse<M> as Entries>⟧.index self.old) (⟦<TreeUse<M> as Entries>⟧.index self.new)) }
         ensures same { self.new.pages ≡ self.old.pages }
     {

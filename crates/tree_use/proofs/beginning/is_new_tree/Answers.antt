@@ -13,7 +13,8 @@ returns-then-is_counted-clause-rest g c = λ empty.
     c.requires.spare c.copied.ensures.reads c.copied-2.ensures.reads c.copied-3.ensures.reads c.sure-header.result c.sure-map.result c.sure-root.result
     (ok_gives _ c.copied.result c.sure-header.result c.sure-header.ensures c.copied.ensures.shown)
     (ok_gives _ c.copied-2.result c.sure-map.result c.sure-map.ensures c.copied-2.ensures.shown)
-    (ok_gives _ c.copied-3.result c.sure-root.result c.sure-root.ensures c.copied-3.ensures.shown) (c.if-is_counted.ensures refl) (c.is_empty_leaf.ensures empty)
+    (ok_gives _ c.copied-3.result c.sure-root.result c.sure-root.ensures c.copied-3.ensures.shown)
+    (c.if-is_counted.ensures refl) (c.is_empty_leaf.ensures empty)
 
 pub returns-then-is_counted-clause-none : goal.returns-then-is_counted-clause-none
 returns-then-is_counted-clause-none g c = λ empty.
@@ -21,4 +22,5 @@ returns-then-is_counted-clause-none g c = λ empty.
     c.requires.spare c.copied.ensures.reads c.copied-2.ensures.reads c.copied-3.ensures.reads c.sure-header.result c.sure-map.result c.sure-root.result
     (ok_gives _ c.copied.result c.sure-header.result c.sure-header.ensures c.copied.ensures.shown)
     (ok_gives _ c.copied-2.result c.sure-map.result c.sure-map.ensures c.copied-2.ensures.shown)
-    (ok_gives _ c.copied-3.result c.sure-root.result c.sure-root.ensures c.copied-3.ensures.shown) (c.if-is_counted.ensures refl) (c.is_empty_leaf.ensures empty)
+    (ok_gives _ c.copied-3.result c.sure-root.result c.sure-root.ensures c.copied-3.ensures.shown)
+    (c.if-is_counted.ensures refl) (c.is_empty_leaf.ensures empty)

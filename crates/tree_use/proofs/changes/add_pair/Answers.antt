@@ -22,7 +22,8 @@ returns-in-Ok-clause-done g c =
 
 pub returns-in-Ok-clause-rest : goal.returns-in-Ok-clause-rest
 returns-in-Ok-clause-rest g c =
-    added_rest (g.M.Mtr.state) (resident g) c.args.tree c.args.m.now c.insert.new.m c.requires.rest c.in-Ok.ensures.ends c.args.key.now c.args.value.now c.in-Ok.done
+    added_rest (g.M.Mtr.state) (resident g) c.args.tree c.args.m.now c.insert.new.m c.requires.rest c.in-Ok.ensures.ends c.args.key.now
+    c.args.value.now c.in-Ok.done
     (c.in-Ok.ensures.done (told_on (g.M.Mtr.state) (resident g) c.args.m.now c.insert.new.m c.in-Ok.ensures.ends.goes c.requires.rest.told))
 
 pub returns-in-Err-NoMemory-clause-same : goal.returns-in-Err-NoMemory-clause-same

@@ -10,7 +10,8 @@ resident g = record { no_fault = g.met.M.Resident.no_fault; at_hand = g.met.M.Re
 pub sure-requires : goal.sure-requires
 sure-requires g c =
     read_ok (g.M.Mtr.state) (resident g) c.sure_leaf-leaf.new.m c.look_at.new.m c.look_at.result
-    (told_on (g.M.Mtr.state) (resident g) c.sure_leaf-leaf.new.m c.look_at.new.m c.look_at.ensures.reads.goes c.sure_leaf-leaf.ensures.still.rest.told) c.look_at.ensures.reason
+    (told_on (g.M.Mtr.state) (resident g) c.sure_leaf-leaf.new.m c.look_at.new.m c.look_at.ensures.reads.goes
+    c.sure_leaf-leaf.ensures.still.rest.told) c.look_at.ensures.reason
 
 pub returns-clause-none : goal.returns-clause-none
 returns-clause-none g c =

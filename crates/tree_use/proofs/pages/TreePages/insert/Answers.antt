@@ -10,7 +10,10 @@ returns-in-Ok-TooDeep g c =
     let tree = c.self.inside.tree in
     let old = (g.M.Mtr.state c.self.inside.m).standing in
     let new = (g.M.Mtr.state c.add_pair.new.m).standing in
-    let does = subst (λ (done : Outcome). DoesAdd tree c.as_slice.result.now c.as_slice-2.result.now old new done) c.in-Ok-TooDeep.field-0-is c.in-Ok-TooDeep.ensures.done in
+    let does =
+    subst (λ (done : Outcome). DoesAdd tree c.as_slice.result.now c.as_slice-2.result.now old new done) c.in-Ok-TooDeep.field-0-is
+    c.in-Ok-TooDeep.ensures.done
+    in
     record {
       answer = (
         sym (ap (λ (s : Stored). s.levels) c.self.view_is) ∙ eight_levels tree old c.as_slice.result.now does.2,
