@@ -1,1 +1,2 @@
 mod NewRun
+mod Staying

@@ -33,15 +33,15 @@ pub begun_other : (header : List ℕ) (base : ℕ → List ℕ) (groups : List G
 begun_other header base groups page unlike =
     ap (λ (b : Bool). cond b header (logical base groups (length groups) page)) (ne_eqb page 0 unlike)
 
-begun_first : (header : List ℕ) (base : ℕ → List ℕ) (groups : List Group) (page : ℕ) → page ≡ 0 → begun header base groups page ≡ header
+pub begun_first : (header : List ℕ) (base : ℕ → List ℕ) (groups : List Group) (page : ℕ) → page ≡ 0 → begun header base groups page ≡ header
 begun_first header base groups page is = ap (begun header base groups) is
 
 module _ (capacity run first : ℕ) (groups : List Group) (base : ℕ → List ℕ) (batch : BatchView) (before : State) (is : IsRun first groups base)
     (check : IsCheckpoint capacity run first groups batch before) where
-  abbrev header : List ℕ
+  abbrev pub header : List ℕ
   header = page_at batch 0
 
-  size : length header ≡ 4096
+  pub size : length header ≡ 4096
   size = length-page (record { batch = batch; placed = 0 }) check.is_batch 0 (omega (arith, check.alone))
 
   pub begins : IsFileRun capacity (run + 1) (first + length groups + 1) [] (begun header base groups)
@@ -69,7 +69,7 @@ module _ (capacity run first : ℕ) (groups : List Group) (base : ℕ → List �
 
   -- ---- what a crash leaves
 
-  in_batch : (page : ℕ) (bytes : List ℕ) → IsInBatch batch page bytes → (bytes ≡ header) × (page ≡ 0)
+  pub in_batch : (page : ℕ) (bytes : List ℕ) → IsInBatch batch page bytes → (bytes ≡ header) × (page ≡ 0)
   in_batch page bytes here =
       let slot : here.slot ≡ 0 = omega (arith, here.below, check.alone) in
       let same : bytes ≡ header = sym here.page ∙ ap (page_at batch) slot in
@@ -82,16 +82,16 @@ module _ (capacity run first : ℕ) (groups : List Group) (base : ℕ → List �
       omega (arith, lsn-same bytes (logical base groups after page) same.same, lsn, upto)
 
   module _ (flushed : ℕ) (clean : IsClean first flushed groups base before) where
-    durable_is : durable first flushed ≡ length groups
+    pub durable_is : durable first flushed ≡ length groups
     durable_is = omega (arith, clean.all)
 
     -- what the page was before the checkpoint has a lower LSN
-    was_older : (page : ℕ) (bytes : List ℕ) → page < 65536 → WasPage before page (Some bytes) → lsn_of bytes < first + length groups
+    pub was_older : (page : ℕ) (bytes : List ℕ) → page < 65536 → WasPage before page (Some bytes) → lsn_of bytes < first + length groups
     was_older page bytes below was =
         let once : WasOnce base groups (durable first flushed) page bytes = clean.placed.stages page (Some bytes) below was in
         older_stage page once.after bytes (omega (arith, once.upto, durable_is)) once.same
 
-    copy_older : (page : ℕ) (other : List ℕ) → page < 65536 → HadCopy page before.double other → lsn_of other < first + length groups
+    pub copy_older : (page : ℕ) (other : List ℕ) → page < 65536 → HadCopy page before.double other → lsn_of other < first + length groups
     copy_older page other below had =
         let old = clean.placed.copies page other below had in
         ⊎_elim
@@ -108,6 +108,37 @@ module _ (capacity run first : ℕ) (groups : List Group) (base : ℕ → List �
           let less = copy_older page other below had in
           inr (omega (arith, less, ap (λ (l : List ℕ). lsn_of l) same, check.lsn));
     }
+
+    stood : (page : ℕ) (b : List ℕ) → IsSettled page before.pages → WasPage before page (Some b) → b ≡ place_of page before.pages.synced
+    stood page b settled was =
+        ⊎_elim
+        (λ (there : take (length b) (drop (4096 * page) before.pages.synced) ≡ b).
+        sym there ∙ (λ i. take (was.0.size i) (drop (4096 * page) before.pages.synced)))
+        (λ (put : (w : Write) × Contains before.pages.writes w × Puts (4096 * page) b w).
+        let spares = All-contains (Spares page) before.pages.writes put.0 settled.spared put.1 in
+        absurd (⊎_elim
+        (λ (early : end_of put.0 ≤ 4096 * page). omega (arith, early, put.2.ends, was.0.size))
+        (λ (late : 4096 * (page + 1) ≤ put.0.at). omega (arith, late, put.2.begins)) spares))
+        was.1
+
+    -- a page that the checkpoint leaves is what it is after all groups
+    pub other_stage : (page : ℕ) (content : Option (List ℕ)) → page ≢ 0 → WasPage before page content
+        → IsHome page (logical base groups (length groups) page) before ⊎ IsNowhere page (logical base groups (length groups) page) before
+        → IsStage (begun header base groups) [] (durable (first + length groups + 1) (first + length groups)) page content
+    other_stage page (Some b) unlike old (inl home) = record {
+      after = 0;
+      upto = omega arith;
+      same =
+          subst (SameButSum b) (sym (begun_other header base groups page unlike))
+          (subst (λ (l : List ℕ). SameButSum l (logical base groups (length groups) page)) (sym (stood page b home.settled old)) home.same);
+    }
+    other_stage page (Some b) unlike old (inr nowhere) = absurd (nowhere.no_page b old)
+    other_stage page None unlike old (inl home) = absurd (old home.settled)
+    other_stage page None unlike old (inr nowhere) = record { zeros = begun_other header base groups page unlike ∙ nowhere.zeros; fresh = refl }
+
+    own_number : (page : ℕ) (content : Option (List ℕ)) → IsInBatchToo batch page content → page ≡ 0
+    own_number page (Some b) own = (in_batch page b own).1
+    own_number page None own = absurd own
 
     module _ (s : State) (image : Image) (keeps : KeepsPages before batch s) (left : IsImage s image) (honest : IsHonest s image) where
       found : (page : ℕ) (content : Option (List ℕ)) → page < 65536 → IsPageIn image.pages image.double page content
@@ -175,18 +206,6 @@ module _ (capacity run first : ℕ) (groups : List Group) (base : ℕ → List �
       abbrev Begun : ℕ → List ℕ
       Begun = begun header base groups
 
-      stood : (page : ℕ) (b : List ℕ) → IsSettled page before.pages → WasPage before page (Some b) → b ≡ place_of page before.pages.synced
-      stood page b settled was =
-          ⊎_elim
-          (λ (there : take (length b) (drop (4096 * page) before.pages.synced) ≡ b).
-          sym there ∙ (λ i. take (was.0.size i) (drop (4096 * page) before.pages.synced)))
-          (λ (put : (w : Write) × Contains before.pages.writes w × Puts (4096 * page) b w).
-          let spares = All-contains (Spares page) before.pages.writes put.0 settled.spared put.1 in
-          absurd (⊎_elim
-          (λ (early : end_of put.0 ≤ 4096 * page). omega (arith, early, put.2.ends, was.0.size))
-          (λ (late : 4096 * (page + 1) ≤ put.0.at). omega (arith, late, put.2.begins)) spares))
-          was.1
-
       new_run : (bytes : List ℕ) → IsPageIn image.pages image.double 0 (Some bytes) → IsInBatch batch 0 bytes
           → LeavesRun (run + 1) (first + length groups + 1) (first + length groups) [] Begun image
       new_run bytes at new = record {
@@ -204,7 +223,9 @@ module _ (capacity run first : ℕ) (groups : List Group) (base : ℕ → List �
         };
         pages = λ page content below here. elim (cases_eq page 0) [
           | inl same ↦ first_page page content below same here
-          | inr unlike ↦ other page content below unlike here (clean.each page below)
+          | inr unlike ↦
+              ⊎_elim (λ (old : WasPage before page content). other_stage page content unlike old (clean.each page below))
+              (λ (own : IsInBatchToo batch page content). absurd (unlike (own_number page content own))) (found page content below here)
         ];
       } where
         first_page : (page : ℕ) (content : Option (List ℕ)) → page < 65536 → page ≡ 0 → IsPageIn image.pages image.double page content
@@ -223,34 +244,6 @@ module _ (capacity run first : ℕ) (groups : List Group) (base : ℕ → List �
               same = subst (SameButSum b) ((in_batch page b own).0 ∙ sym (begun_first header base groups page same)) (same_itself b);
             })
             (found page (Some b) below here)
-
-        other : (page : ℕ) (content : Option (List ℕ)) → page < 65536 → page ≢ 0 → IsPageIn image.pages image.double page content
-            → IsHome page (logical base groups (length groups) page) before ⊎ IsNowhere page (logical base groups (length groups) page) before
-            → IsStage Begun [] (durable (first + length groups + 1) (first + length groups)) page content
-        other page (Some b) below unlike here either =
-            ⊎_elim
-            (λ (old : WasPage before page (Some b)).
-            ⊎_elim
-            (λ (home : IsHome page (logical base groups (length groups) page) before). record {
-              after = 0;
-              upto = omega arith;
-              same =
-                  subst (SameButSum b) (sym (begun_other header base groups page unlike))
-                  (subst (λ (l : List ℕ). SameButSum l (logical base groups (length groups) page)) (sym (stood page b home.settled old)) home.same);
-            })
-            (λ (nowhere : IsNowhere page (logical base groups (length groups) page) before). absurd (nowhere.no_page b old)) either)
-            (λ (own : IsInBatch batch page b). absurd (unlike (in_batch page b own).1))
-            (found page (Some b) below here)
-        other page None below unlike here either =
-            ⊎_elim
-            (λ (old : WasPage before page None).
-            ⊎_elim (λ (home : IsHome page (logical base groups (length groups) page) before). absurd (old home.settled))
-            (λ (nowhere : IsNowhere page (logical base groups (length groups) page) before). record {
-              zeros = begun_other header base groups page unlike ∙ nowhere.zeros;
-              fresh = refl;
-            }) either)
-            (λ (none : ⊥). absurd none)
-            (found page None below here)
 
       pub either_run : (bytes : List ℕ) → IsPageIn image.pages image.double 0 (Some bytes) → LeavesPrefix run first groups flushed before.log
           → LeavesRun run first flushed groups base image

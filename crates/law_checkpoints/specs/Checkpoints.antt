@@ -8,6 +8,7 @@ use Rattle.doublewrite.specs.Batches.{BatchView, IsBatch, page_at, number_at}
 use Rattle.doublewrite.specs.Kept.{WasPage}
 use Rattle.mini_txn.specs.Edits.{blank}
 use Rattle.law_logged_pages.specs.Applied.{logical}
+use Rattle.law_logged_pages.specs.Stages.{AreBytes}
 use Rattle.law_logged_pages.specs.Keeping.{IsPlaced}
 use Rattle.flusher.specs.Flushing.{IsHome}
 use Rattle.page_recovery.specs.Reading.{IsFileHeader}
@@ -33,6 +34,7 @@ pub record IsCheckpoint (capacity run first : ℕ) (groups : List Group) (batch 
   pub is_batch : IsBatch batch
   pub alone : batch.count ≡ 1
   pub number : number_at batch 0 ≡ 0
+  pub are_bytes : AreBytes 8 (page_at batch 0)
   pub lsn : lsn_of (page_at batch 0) ≡ first + length groups
   pub header : IsFileHeader capacity (run + 1) (first + length groups + 1) (page_at batch 0)
   pub unused : (area : List ℕ) → MayLeave before.log area → IsHonestArea 512 before.log area → IsGood (run + 1) 0 area → ⊥

@@ -5,11 +5,11 @@ ghost use Rattle.std.specs.Prelude.{◌≡◌, ◌≢◌, ◌⊎◌, ℕ, ◌+�
 ghost use Rattle.store_api.specs.Areas.{State, Image, IsImage, IsHonest};
 ghost use Rattle.log_format.specs.declared.group.Group.{Group as GroupValue};
 ghost use Rattle.redo_log.specs.Logged.{LeavesPrefix};
-ghost use Rattle.doublewrite.specs.Batches.{BatchView, page_at};
-ghost use Rattle.doublewrite.specs.Kept.{KeepsPages};
+ghost use Rattle.doublewrite.specs.Batches.{BatchView, StagedView, page_at};
+ghost use Rattle.doublewrite.specs.Kept.{KeepsPages, IsStaged, HasPlaced};
 ghost use Rattle.doublewrite.specs.Reading.{IsPageIn};
 ghost use Rattle.law_logged_pages.specs.Applied.{logical};
-ghost use Rattle.law_logged_pages.specs.Keeping.{IsRun};
+ghost use Rattle.law_logged_pages.specs.Keeping.{IsRun, IsPlaced};
 ghost use Rattle.page_recovery.specs.Leaving.{IsFileRun, LeavesRun};
 ghost use Rattle.law_checkpoints.specs.Checkpoints.{begun, IsClean, IsCheckpoint};
 
@@ -32,4 +32,13 @@ pub fn a_crash_leaves_one_of_both_runs()
         → KeepsPages before batch s → IsImage s image → IsHonest s image → IsPageIn image.pages image.double 0 (Some bytes)
         → LeavesRun run first flushed groups base image
         ⊎ LeavesRun (run + 1) (first + length groups + 1) (first + length groups) [] (begun (page_at batch 0) base groups) image }
+{}
+
+/// Once page 0 is in its place and synced, no batch is under way, and what stands there are the pages of the new run.
+pub fn a_placed_checkpoint_stays()
+    ensures { (capacity run first flushed : ℕ) (groups : List GroupValue) (base : ℕ → List ℕ) (staged : StagedView) (before s : State)
+        → IsRun first groups base → IsClean first flushed groups base before
+        → IsCheckpoint capacity run first groups staged.batch before → IsStaged before staged.batch s → HasPlaced staged s
+        → staged.placed ≡ staged.batch.count
+        → IsPlaced (first + length groups + 1) (first + length groups) [] (begun (page_at staged.batch 0) base groups) s }
 {}

@@ -4,4 +4,6 @@
 
 mod beginning;
 
-pub use beginning::{a_checkpoint_begins_a_run, a_crash_leaves_one_of_both_runs};
+pub use beginning::{
+    a_checkpoint_begins_a_run, a_crash_leaves_one_of_both_runs, a_placed_checkpoint_stays,
+};
