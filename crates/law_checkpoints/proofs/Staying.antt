@@ -106,7 +106,8 @@ module _ (capacity run first : ℕ) (groups : List Group) (base : ℕ → List �
 
   -- ---- copies
 
-  old_copy : (page : ℕ) (bytes : List ℕ) → page < 65536 → HadCopy page before.double bytes → WasOnce Begun [] n page bytes ⊎ (lsn_of bytes < lsn_of (Begun page))
+  old_copy : (page : ℕ) (bytes : List ℕ) → page < 65536 → HadCopy page before.double bytes
+      → WasOnce Begun [] n page bytes ⊎ (lsn_of bytes < lsn_of (Begun page))
   old_copy page bytes below had = elim (cases_eq page 0) [
     | inl same ↦
         let less = copy_older capacity run first groups base staged.batch before is check flushed clean page bytes below had in
