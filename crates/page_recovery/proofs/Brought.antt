@@ -1,6 +1,6 @@
 -- What recovery answers, however pages are read, and for a run of groups.
 use Rattle.std.proofs.Common.{◌≡◌, ℕ, ◌+◌, ◌-◌, ◌<◌, ◌≤◌, Option, Some, None, List, length, take, drop, sym, ap, subst, ◌∙◌, arith}
-use Rattle.std.specs.Prelude.{IfSome}
+use Rattle.std.specs.Prelude.{IfSome, IfNone}
 use Rattle.std.specs.Int.{w32, w64, from_be_bytes}
 use Rattle.std.proofs.lemmas.List.{drop-drop, drop-take, take-take, length-take-le}
 use Rattle.store_api.specs.Areas.{State, seen_image}
@@ -36,6 +36,7 @@ module _ (read other : ℕ → Option (List ℕ) → Type 0) (log same : List �
     header = says_too (length r.pages) r.run r.first rec.header;
     scan = subst (λ (l : List ℕ). IsScan r.run r.first l rec.groups) is rec.scan;
     ends = subst (λ (l : List ℕ). IfSome r.block (λ n. EndsAt r.run n l rec.groups)) is rec.ends;
+    none = subst (λ (l : List ℕ). IfNone r.block ((n : ℕ) → EndsAt r.run n l rec.groups → ⊥)) is rec.none;
     count_is = rec.count_is;
     next_is = rec.next_is;
     within = rec.within;

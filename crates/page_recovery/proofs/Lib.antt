@@ -8,3 +8,4 @@ mod Kept
 mod Looking
 mod Places
 mod Read
+mod Untouched

@@ -1,6 +1,6 @@
 -- What is known of a disk of which page 0, the pages and the log were read.
 use Rattle.std.proofs.Common.{◌≡◌, inl, inr, ℕ, ◌+◌, ◌^◌, ◌<◌, ◌≤◌, Bool, true, false, Option, Some, None, List, length, refl, sym, ap, subst, ◌∙◌, arith}
-use Rattle.std.specs.Prelude.{Result, Ok, Err, IfOk, IfErr, IfSome, MatchBool, slice_index_or, slice_set}
+use Rattle.std.specs.Prelude.{Result, Ok, Err, IfOk, IfErr, IfSome, IfNone, MatchBool, slice_index_or, slice_set}
 use Rattle.std.proofs.lemmas.Bool.{cases_lt, cases_eq}
 use Rattle.std.proofs.lemmas.List.{get_or-set_same, get_or-set_other}
 use Rattle.store_api.specs.Areas.{State}
@@ -145,6 +145,9 @@ brought area log header pages found r read capacity became within run_is first_i
     let ends : IfSome r.block (λ n. EndsAt r.run n log groups) =
     subst (λ (b : Option ℕ). IfSome b (λ n. EndsAt r.run n log groups)) (sym block_is)
     (subst (λ (m : ℕ). IfSome found.blocks (λ n. EndsAt m n log groups)) (sym run_is) read.groups.ends) in
+    let none : IfNone r.block ((n : ℕ) → EndsAt r.run n log groups → ⊥) =
+    subst (λ (b : Option ℕ). IfNone b ((n : ℕ) → EndsAt r.run n log groups → ⊥)) (sym block_is)
+    (subst (λ (m : ℕ). IfNone found.blocks ((n : ℕ) → EndsAt m n log groups → ⊥)) (sym run_is) read.groups.none) in
     let says : SaysHeader (StandsIn area) (length r.pages) r.run r.first =
     subst (λ (n : ℕ). SaysHeader (StandsIn area) n r.run r.first) (sym same)
     (subst (λ (n : ℕ). SaysHeader (StandsIn area) header.capacity n r.first) (sym run_is)
@@ -154,6 +157,7 @@ brought area log header pages found r read capacity became within run_is first_i
       header = says;
       scan = scan;
       ends = ends;
+      none = none;
       count_is = count_is;
       next_is = next_is ∙ ap (λ (n : ℕ). n + length groups) (sym first_is);
       within = subst (λ (n : ℕ). AreWithin n groups) (sym became.count) within;

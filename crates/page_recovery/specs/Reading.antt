@@ -1,5 +1,5 @@
 -- What recovery reads: page 0, which says the log's run, the pages that are good in their places, and the log's groups.
-use Rattle.std.specs.Prelude.{◌≡◌, ◌≢◌, ℕ, ◌<◌, ◌≤◌, Option, Some, None, IfSome, List, slice_index_or}
+use Rattle.std.specs.Prelude.{◌≡◌, ◌≢◌, ℕ, ◌<◌, ◌≤◌, Option, Some, None, IfSome, IfNone, List, slice_index_or}
 use Rattle.page_format.specs.Words.{u32_at, u64_at}
 use Rattle.log_format.specs.declared.scan.Found.{Found}
 use Rattle.log_format.specs.Scan.{IsScan, EndsAt}
@@ -31,7 +31,8 @@ pub record IsTaken (area : List ℕ) (page : ℕ) (old new : List (Option (List 
   pub here : slice_index_or old page None ≡ None → StandsIn area page (slice_index_or new page None)
   pub others : (other : ℕ) → other ≢ page → slice_index_or new other None ≡ slice_index_or old other None
 
--- The log has these groups, and they end before that block.
+-- The log has these groups, and they end before that block, or within one.
 pub record HasGroups (run first : ℕ) (log : List ℕ) (found : Found) : Type 0 where
   pub scan : IsScan run first log found.groups
   pub ends : IfSome found.blocks (λ n. EndsAt run n log found.groups)
+  pub none : IfNone found.blocks ((n : ℕ) → EndsAt run n log found.groups → ⊥)

@@ -1,5 +1,5 @@
 -- What recovery answers. `read` is how pages are read from the areas, and `log` what stands in the log.
-use Rattle.std.specs.Prelude.{◌≡◌, ℕ, ◌+◌, ◌^◌, ◌<◌, ◌≤◌, Option, Some, None, IfSome, List, length}
+use Rattle.std.specs.Prelude.{◌≡◌, ℕ, ◌+◌, ◌^◌, ◌<◌, ◌≤◌, Option, Some, None, IfSome, IfNone, List, length}
 use Rattle.store_api.specs.Causes.{Rose}
 use Rattle.log_format.specs.declared.group.Group.{Group}
 use Rattle.log_format.specs.Scan.{IsScan, EndsAt}
@@ -34,6 +34,7 @@ pub record IsRecovered (read : ℕ → Option (List ℕ) → Type 0) (log : List
   pub header : SaysHeader read (length r.pages) r.run r.first
   pub scan : IsScan r.run r.first log groups
   pub ends : IfSome r.block (λ n. EndsAt r.run n log groups)
+  pub none : IfNone r.block ((n : ℕ) → EndsAt r.run n log groups → ⊥)
   pub count_is : r.count ≡ length groups
   pub next_is : r.next ≡ r.first + length groups
   pub within : AreWithin (length r.pages) groups

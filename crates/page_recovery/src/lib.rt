@@ -11,6 +11,8 @@ mod reading;
 mod recovering;
 
 pub use bad::RecoverBad;
-pub use laws::{a_recovered_run_goes_on, what_a_step_leaves_recovers};
+pub use laws::{
+    a_page_below_the_run_is_as_it_was, a_recovered_run_goes_on, what_a_step_leaves_recovers,
+};
 pub use pages::Pages;
 pub use recovering::{Recovered, recover};

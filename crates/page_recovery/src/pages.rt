@@ -164,7 +164,7 @@ impl Model for Pages {
 
 impl Pages {
     /// No page is there.
-    pub fn new(alloc: Global, count: u32) -> Result<Pages, NoMemory>
+    pub(crate) fn new(alloc: Global, count: u32) -> Result<Pages, NoMemory>
         ensures { IfOk result (λ pages. pages ≡ replicate count None) }
     {
         Ok(Pages {
@@ -192,7 +192,7 @@ impl Pages {
     }
 
     /// The LSN of the last group that changed the page, 0 if it isn't there.
-    pub fn lsn(&self, page: u32) -> u64
+    pub(crate) fn lsn(&self, page: u32) -> u64
         ensures { result ≡ lsn_of (page_of self.now page) }
     {
         match slot_at(&self.slots, page) {
@@ -202,7 +202,7 @@ impl Pages {
     }
 
     /// These are the page's bytes.
-    pub fn set(&mut self, alloc: Global, page: u32, bytes: &[u8]) -> Result<(), NoMemory>
+    pub(crate) fn set(&mut self, alloc: Global, page: u32, bytes: &[u8]) -> Result<(), NoMemory>
         requires within { page < length self.old }
         requires size { length bytes.now ≡ 4096 }
         ensures ok { OnOk result (self.new ≡ slice_set self.old page (Some bytes.now)) }
@@ -213,7 +213,13 @@ impl Pages {
     }
 
     /// Writes a piece over the page's bytes.
-    pub fn write(&mut self, alloc: Global, page: u32, at: u16, piece: &[u8]) -> Result<(), NoMemory>
+    pub(crate) fn write(
+        &mut self,
+        alloc: Global,
+        page: u32,
+        at: u16,
+        piece: &[u8],
+    ) -> Result<(), NoMemory>
         requires within { page < length self.old }
         requires ends { at + length piece.now ≤ 4096 }
         ensures ok { OnOk result (HasInstead page (with_bytes at piece.now (page_of self.old page)) self.old self.new) }
@@ -228,7 +234,7 @@ impl Pages {
     }
 
     /// The page is zeros.
-    pub fn clear(&mut self, alloc: Global, page: u32) -> Result<(), NoMemory>
+    pub(crate) fn clear(&mut self, alloc: Global, page: u32) -> Result<(), NoMemory>
         requires within { page < length self.old }
         ensures ok { OnOk result (HasInstead page blank self.old self.new) }
     {
@@ -238,7 +244,7 @@ impl Pages {
     }
 
     /// The page has its number and this LSN.
-    pub fn stamp(&mut self, alloc: Global, page: u32, lsn: u64) -> Result<(), NoMemory>
+    pub(crate) fn stamp(&mut self, alloc: Global, page: u32, lsn: u64) -> Result<(), NoMemory>
         requires within { page < length self.old }
         ensures ok { OnOk result (HasInstead page (stamped page lsn (page_of self.old page)) self.old self.new) }
     {

@@ -1,4 +1,4 @@
-//! The pool of pages over a disk in memory, mini-transactions over it, and the flusher, each public call once with ample memory.
+//! The pool of pages over a disk in memory, mini-transactions over it, the flusher, and recovery, each public call once with ample memory.
 //! There is nothing here but tests.
 #![tactic(auto)]
 
@@ -8,3 +8,5 @@ mod flushed_pages;
 mod mini_transactions;
 #[cfg(test)]
 mod pooled_pages;
+#[cfg(test)]
+mod recovered_pages;

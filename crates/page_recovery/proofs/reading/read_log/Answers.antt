@@ -65,4 +65,4 @@ returns-clause-groups g c = λ s ticks is.
     ∙ take_all (length s.log.seen) s.log.seen (omega arith) in
     let found = c.in_ok-scan_log.field-0 in
     subst (λ (l : List ℕ). HasGroups c.args.run c.args.first l found) read
-    (record { scan = c.in_ok-scan_log.ensures.groups; ends = c.in_ok-scan_log.ensures.ends })
+    (record { scan = c.in_ok-scan_log.ensures.groups; ends = c.in_ok-scan_log.ensures.ends; none = c.in_ok-scan_log.ensures.none })

@@ -41,3 +41,12 @@ returns-in_err-read_page-clause-failed g c =
     rw (p.1, p.2)
     (failed_from (past c.args.disk.now).faults (past c.loop-page.disk).faults (past c.read_page.new.disk).faults c.in_err-read_page.field-0.0
     (omega (arith, c.in_ok-count.ensures.cause.later, c.loop-page.invariant.later)) c.in_err-read_page.ensures.failed)
+
+pub returns-in_err-read_page-clause-looks : goal.returns-in_err-read_page-clause-looks
+returns-in_err-read_page-clause-looks g c =
+    let past = g.D.Disk.past in
+    let p0 = past c.args.disk.now in
+    let p1 = past c.whole_pages.new.disk in
+    let p2 = past c.loop-page.disk in
+    let p3 = past c.read_page.new.disk in
+    looks_join p0 p1 p3 c.in_ok-count.ensures.looks (looks_join p1 p2 p3 c.loop-page.invariant.looks c.in_err-read_page.ensures.looks)

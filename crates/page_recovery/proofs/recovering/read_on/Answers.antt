@@ -74,3 +74,12 @@ returns-clause-refused g c =
       standing = c.in_ok-pages.ensures.pages s at2.0 at2.1;
       groups = c.in_ok-found.ensures.groups s ticks is;
     }))
+
+pub returns-in_err-found-clause-looks : goal.returns-in_err-found-clause-looks
+returns-in_err-found-clause-looks g c =
+    let past = g.D.Disk.past in
+    let p0 = past c.args.disk.now in
+    let p1 = past c.read_header.new.disk in
+    let p2 = past c.read_pages.new.disk in
+    let p3 = past c.read_log.new.disk in
+    looks_join p0 p2 p3 (looks_join p0 p1 p2 c.in_ok-header.ensures.looks c.in_ok-pages.ensures.looks) c.in_err-found.ensures.looks

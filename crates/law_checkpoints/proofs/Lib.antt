@@ -1,0 +1,2 @@
+mod NewRun
+mod Staying
