@@ -4,6 +4,7 @@ pub mod Going
 pub mod Joining
 pub mod Looked
 pub mod Merged
+pub mod Passing
 pub mod Putting
 pub mod Sparse
 pub mod Under

@@ -11,10 +11,10 @@ use Rattle.btree.specs.declared.tree.Tree.{Tree}
 use Rattle.btree.specs.declared.page.Down.TheVariants.{Child}
 use Rattle.btree.specs.Descents.{IsReadable, Leads}
 use Rattle.btree.specs.Walks.{IsReadableLeaf}
-use Rattle.btree_split.specs.Placed.{IsPlacedTree, IsParent}
+use Rattle.btree_split.specs.Placed.{IsPlacedTree}
 use Rattle.btree_merge.specs.Going.{Reads, IsStop}
 use Rattle.btree_merge.specs.Merged.{HoldsFew, CanMerge, MergesCouple, DoesMerge}
-use Rattle.btree_merge.specs.Tidied.{IsSparse, MergesBeside, DoesTidy}
+use Rattle.btree_merge.specs.Tidied.{IsParent, IsSparse, MergesBeside, DoesTidy}
 use Rattle.btree_merge.proofs.Going.{length-visit, reads_one, reads_then, reads_more}
 use Rattle.btree_merge.proofs.Under as under
 

@@ -11,13 +11,13 @@ use Rattle.btree.specs.Sound.{HoldsKey}
 use Rattle.btree.specs.Walks.{IsReadableLeaf}
 use Rattle.btree.proofs.Shown.{same_count, same_width, same_records, same_level, readable_shown, leads_shown}
 use Rattle.btree.proofs.Standing.{Reached, at_child, at_leaf}
-use Rattle.btree_split.specs.Placed.{IsPlacedTree, IsParent}
+use Rattle.btree_split.specs.Placed.{IsPlacedTree}
 use Rattle.law_tree_merges.specs.Merges.{child_under, IsAboveLeaves}
 use Rattle.law_tree_merges.proofs.Merging as merging
 use Rattle.btree_merge.specs.declared.look.Couple.{Couple}
 use Rattle.btree_merge.specs.Merged.{FitTogether, HoldsFew, CanMerge}
 use Rattle.btree_merge.specs.Siblings.{IsCouple, AreToMerge}
-use Rattle.btree_merge.specs.Tidied.{IsLeafUnder}
+use Rattle.btree_merge.specs.Tidied.{IsParent, IsLeafUnder}
 
 -- room, as it is read and as it is
 pub fit_shown : (a b one other : List ℕ) → drop 20 a ≡ drop 20 one → drop 20 b ≡ drop 20 other → FitTogether a b → FitTogether one other

@@ -1,11 +1,25 @@
 -- What tidying makes of a placed tree.
-use Rattle.std.specs.Prelude.{◌≡◌, ◌⊎◌, ℕ, suc, ◌<◌, List, [], length, Option, None, Some}
+use Rattle.std.specs.Prelude.{◌≡◌, ◌⊎◌, ℕ, suc, ◌<◌, List, [], ◌∷◌, ◌++◌, length, Option, None, Some}
 use Rattle.page_format.specs.Words.{records_of}
 use Rattle.btree.specs.declared.tree.Tree.{Tree}
-use Rattle.btree.specs.Sound.{lows_of, HoldsKey}
-use Rattle.btree_split.specs.Placed.{IsParent}
+use Rattle.btree.specs.Sound.{lows_of, levels_of, HoldsKey}
+use Rattle.law_flat_tree.specs.Descents.{Holds}
+use Rattle.law_flat_tree.specs.Trees.{nodes}
 use Rattle.law_tree_merges.specs.Merges.{child_under}
 use Rattle.btree_merge.specs.Merged.{HoldsFew, CanMerge, MergesCouple}
+
+-- The page stands on the level above the leaves, and its fences hold the key.
+pub record IsParent (tree : Tree) (pages : ℕ → List ℕ) (key : List ℕ) (page : ℕ) : Type 0 where
+  pub tops : List (List ℕ)
+  pub upper : List ℕ
+  pub lower : List ℕ
+  pub at : levels_of tree pages ≡ tops ++ upper ∷ lower ∷ []
+  pub holds : Holds (nodes tree.key_len pages) upper key page
+
+-- the page above the leaf of the key, or that the root is a leaf
+abbrev pub IsParentFor : Tree → (ℕ → List ℕ) → List ℕ → Option ℕ → Type 0
+IsParentFor tree pages key None = lows_of tree pages ≡ []
+IsParentFor tree pages key (Some page) = IsParent tree pages key page
 
 -- The leaf of the key is the child of this parent's record of that number.
 pub record IsLeafUnder (tree : Tree) (pages : ℕ → List ℕ) (key : List ℕ) (u j : ℕ) : Type 0 where

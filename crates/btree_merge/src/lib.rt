@@ -2,6 +2,7 @@
 //! the right is free again (`merge_in`). `tidy` does so where the leaf of a key holds few records.
 #![tactic(auto)]
 
+mod descent;
 mod free;
 mod join;
 mod look;

@@ -1,12 +1,10 @@
 -- A placed tree of which two leaves under one parent became one is placed, with the same pairs.
-use Rattle.std.proofs.Common.{◌≡◌, ◌≢◌, inl, ℕ, suc, ◌+◌, ◌/◌, ◌%◌, ◌<◌, ◌≤◌, true, ◌==◌, List, [], ◌∷◌, ◌++◌}
+use Rattle.std.proofs.Common.{◌≡◌, ◌≢◌, inl, ℕ, suc, ◌+◌, ◌/◌, ◌%◌, ◌<◌, ◌≤◌, ◌==◌, List, [], ◌∷◌, ◌++◌}
 use Rattle.std.proofs.Common.{length, take, drop, map, get_or, remove, refl, sym, ◌∙◌, ap, subst, append_assoc, arith}
 use Rattle.std.specs.Int.{bit_at}
-use Rattle.std.specs.Ordering.{is_le}
 use Rattle.std.specs.Prelude.{slice_index}
 use Rattle.std.specs.List.{AllByRecursion}
 use Rattle.std.proofs.lemmas.List.{length-take-le}
-use Rattle.entries.specs.Pairs.{key_cmp}
 use Rattle.page_format.specs.Words.{u32_at, level_of, low_of, count_of, record_len_of, records_of}
 use Rattle.page_format.specs.Shape.{AreRising}
 use Rattle.page_format.proofs.Edited.{same_byte, same_width}
@@ -14,7 +12,7 @@ use Rattle.page_format.proofs.Orders.{rising_remove}
 use Rattle.page_format.proofs.Pieces.{length-pieces}
 use Rattle.law_flat_tree.specs.Levels.{Fence, IsAbove, IsRow, AreLevels, children}
 use Rattle.law_flat_tree.specs.Levels.Fence.{First, Last}
-use Rattle.law_flat_tree.specs.Leaves.{IsLeaf, IsFrom, HaveRoom, AreOthers, AreLeaves}
+use Rattle.law_flat_tree.specs.Leaves.{IsLeaf, HaveRoom, AreOthers, AreLeaves}
 use Rattle.law_flat_tree.specs.Descents.{AreInner, AreAllInner, leaves_of}
 use Rattle.law_flat_tree.specs.Pages.{low_fence, entries_of, leaf_pairs}
 use Rattle.law_flat_tree.specs.PageMerges.{AreChildrenAt, MergesPages, IsMergedTree}
@@ -264,9 +262,7 @@ module _ (tree : Tree) (old : ℕ → List ℕ) (u : ℕ) (placed : IsPlacedTree
       -- an inner page whose first record and low fence are the same begins as it did
       begins_still : (a b : List ℕ) → level_of b ≡ level_of a → low_of b ≡ low_of a → get_or (records_of b) 0 [] ≡ get_or (records_of a) 0 []
           → BeginsLow n a → BeginsLow n b
-      begins_still a b level low first begins inner key short from =
-          subst (λ r. is_le (key_cmp (take n r) key) ≡ true) (sym first)
-          (begins (λ leaf'. inner (level ∙ leaf')) key short (subst (λ f. IsFrom (low_fence f) key) low from))
+      begins_still a b level low first begins = rw (level, low, first) begins
 
       placed_new : (r : ℕ) → IsTreePage tree old r → IsPlacedPage n old r → IsPlacedPage n new r
       placed_new =

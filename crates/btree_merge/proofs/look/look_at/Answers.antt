@@ -6,25 +6,26 @@ use Rattle.btree_merge.proofs.look.look_at.Goals as goal
 
 pub returns-in_err-above-clause-reads : goal.returns-in_err-above-clause-reads
 returns-in_err-above-clause-reads g c =
-    reads_more 1 3 (g.M.Mtr.state c.args.m.now) (g.M.Mtr.state c.copy_of.new.m) (omega arith) (reads_one c.args.parent (g.M.Mtr.state c.args.m.now) (g.M.Mtr.state c.copy_of.new.m)
-    c.copy_of.ensures.looks)
+    reads_more 1 3 (g.M.Mtr.state c.args.m.now) (g.M.Mtr.state c.copy_of.new.m) (omega arith)
+    (reads_one c.args.parent (g.M.Mtr.state c.args.m.now) (g.M.Mtr.state c.copy_of.new.m) c.copy_of.ensures.looks)
 
 pub returns-in_err-couple-clause-reads : goal.returns-in_err-couple-clause-reads
 returns-in_err-couple-clause-reads g c =
-    reads_more 1 3 (g.M.Mtr.state c.args.m.now) (g.M.Mtr.state c.copy_of.new.m) (omega arith) (reads_one c.args.parent (g.M.Mtr.state c.args.m.now) (g.M.Mtr.state c.copy_of.new.m)
-    c.copy_of.ensures.looks)
+    reads_more 1 3 (g.M.Mtr.state c.args.m.now) (g.M.Mtr.state c.copy_of.new.m) (omega arith)
+    (reads_one c.args.parent (g.M.Mtr.state c.args.m.now) (g.M.Mtr.state c.copy_of.new.m) c.copy_of.ensures.looks)
 
 pub returns-in_err-couple-clause-reason : goal.returns-in_err-couple-clause-reason
 returns-in_err-couple-clause-reason g c =
     let p = err_from_is_err_and c.from_residual-in_err-couple.result c.from_residual-in_err-couple.ensures.1 in
-    rw (p.1, p.2) (looked.refused c.args.tree c.args.parent c.args.place (g.M.Mtr.state c.args.m.now) (g.M.Mtr.state c.copy_of.new.m) c.requires.tree c.requires.parent
+    rw (p.1, p.2) (looked.refused c.args.tree c.args.parent c.args.place (g.M.Mtr.state c.args.m.now) (g.M.Mtr.state c.copy_of.new.m)
+    c.requires.tree c.requires.parent
     c.in_ok-above.ensures.looks c.in_ok-above.above c.in_ok-above.ensures.shown
     g.M.Mtr.state c.in_err-couple.field-0.0 c.in_err-couple.ensures.refused)
 
 pub returns-in-None-clause-reads : goal.returns-in-None-clause-reads
 returns-in-None-clause-reads g c =
-    reads_more 1 3 (g.M.Mtr.state c.args.m.now) (g.M.Mtr.state c.copy_of.new.m) (omega arith) (reads_one c.args.parent (g.M.Mtr.state c.args.m.now) (g.M.Mtr.state c.copy_of.new.m)
-    c.copy_of.ensures.looks)
+    reads_more 1 3 (g.M.Mtr.state c.args.m.now) (g.M.Mtr.state c.copy_of.new.m) (omega arith)
+    (reads_one c.args.parent (g.M.Mtr.state c.args.m.now) (g.M.Mtr.state c.copy_of.new.m) c.copy_of.ensures.looks)
 
 pub returns-in-None-clause-found : goal.returns-in-None-clause-found
 returns-in-None-clause-found g c =
@@ -46,14 +47,14 @@ leaf_copy-requires-clause-leaf g c =
 
 pub returns-in_err-left-clause-reads : goal.returns-in_err-left-clause-reads
 returns-in_err-left-clause-reads g c =
-    looked.reads_two 3 c.args.parent c.in-Some.couple.left (g.M.Mtr.state c.args.m.now) (g.M.Mtr.state c.copy_of.new.m) (g.M.Mtr.state c.leaf_copy.new.m) (omega arith)
-    c.copy_of.ensures.looks c.leaf_copy.ensures.looks
+    looked.reads_two 3 c.args.parent c.in-Some.couple.left (g.M.Mtr.state c.args.m.now) (g.M.Mtr.state c.copy_of.new.m)
+    (g.M.Mtr.state c.leaf_copy.new.m) (omega arith) c.copy_of.ensures.looks c.leaf_copy.ensures.looks
 
 pub leaf_copy-requires-2-clause-few : goal.leaf_copy-requires-2-clause-few
 leaf_copy-requires-2-clause-few g c =
     looked.few_after 2 c.in-Some.couple.right (g.M.Mtr.state c.args.m.now) (g.M.Mtr.state c.leaf_copy.new.m)
-    (looked.reads_two 2 c.args.parent c.in-Some.couple.left (g.M.Mtr.state c.args.m.now) (g.M.Mtr.state c.copy_of.new.m) (g.M.Mtr.state c.leaf_copy.new.m) (omega arith)
-    c.copy_of.ensures.looks c.leaf_copy.ensures.looks)
+    (looked.reads_two 2 c.args.parent c.in-Some.couple.left (g.M.Mtr.state c.args.m.now) (g.M.Mtr.state c.copy_of.new.m)
+    (g.M.Mtr.state c.leaf_copy.new.m) (omega arith) c.copy_of.ensures.looks c.leaf_copy.ensures.looks)
     c.requires.few
 
 pub leaf_copy-requires-2-clause-leaf : goal.leaf_copy-requires-2-clause-leaf

@@ -46,3 +46,9 @@ pub returns-in-Err-clause-kept : goal.returns-in-Err-clause-kept
 returns-in-Err-clause-kept g c =
     given_up 18 (g.M.Mtr.state c.args.m.now) (g.M.Mtr.state c.parent_of.new.m) (g.M.Mtr.state c.tidy_in.new.m) (g.M.Mtr.state c.give_up-in-Err.new.self)
     c.parent_of.ensures.reads c.tidy_in.ensures.goes_on c.give_up-in-Err.ensures
+
+pub returns-in-Err-clause-ends : goal.returns-in-Err-clause-ends
+returns-in-Err-clause-ends g c =
+    ends_given_up (g.M.Mtr.state c.args.m.now) (g.M.Mtr.state c.give_up-in-Err.new.self)
+    (given_up 18 (g.M.Mtr.state c.args.m.now) (g.M.Mtr.state c.parent_of.new.m) (g.M.Mtr.state c.tidy_in.new.m) (g.M.Mtr.state c.give_up-in-Err.new.self)
+    c.parent_of.ensures.reads c.tidy_in.ensures.goes_on c.give_up-in-Err.ensures)
