@@ -6,9 +6,9 @@ use Rattle.std.specs.Ordering.{nat_cmp, is_lt}
 use Rattle.std.specs.Cmp.Lexicographic.{slice_cmp}
 use Rattle.std.specs.declared.cmp.Ordering.{Ordering}
 use Rattle.std.specs.declared.cmp.Ordering.TheVariants.{Less, Equal, Greater}
-use Rattle.std.proofs.lemmas.Bool.{false≢true}
+use Rattle.std.proofs.lemmas.Bool.{false≢true, ne_eqb}
 use Rattle.std.proofs.lemmas.Bool.Decides.{eqb_tells}
-use Rattle.std.proofs.lemmas.List.{length-take-le, length-drop}
+use Rattle.std.proofs.lemmas.List.{length-take-le, length-drop, take-take}
 use Rattle.page_format.specs.Words.{level_of, record_len_of, low_of, high_of, fence}
 use Rattle.page_format.specs.Shape.{AreRising, HasTreeFields, IsFence}
 use Rattle.btree.specs.declared.tree.Tree.{Tree}
@@ -101,3 +101,12 @@ module _ (tree : Tree) (bytes : List ℕ) (size : length bytes ≡ 4096) (fields
       → MatchBool r (HasLengths tree bytes) (HasLengths tree bytes → ⊥)
   lengths_told width low true high = record { width = width; low = low_told true low; high = high_told true high }
   lengths_told width low false high = λ lengths. high_told false high lengths.high
+
+-- the bytes of a fence that is there
+pub fence_shown : (len at k : ℕ) (bytes : List ℕ) → len ≢ 255 → IsFence len (take 80 (drop at bytes)) → k ≡ len
+    → fence len (take 80 (drop at bytes)) ≡ Some (take k (drop at bytes))
+fence_shown len at k bytes there is k_is =
+    let plain : (len == 255) ≡ false = ne_eqb len 255 there in
+    let short : len ≤ 80 = subst (λ n. n ≤ 80) (ap (λ (b : Bool). if b then 0 else len) plain) is.fits in
+    ap (λ (b : Bool). if b then None else Some (take len (take 80 (drop at bytes)))) plain
+    ∙ ap Some (take-take len 80 (drop at bytes) short) ∙ ap (λ n. Some (take n (drop at bytes))) (sym k_is)

@@ -4,6 +4,8 @@
 
 mod laws;
 mod node;
+mod pages;
 
 pub use laws::a_node_is_a_page_of_its_tree;
 pub use node::{NodeBad, check_node};
+pub use pages::{PageFault, do_meet, high_fence_of, low_fence_of, read_node};
