@@ -1,0 +1,4 @@
+pub mod Descended
+pub mod Leaf
+pub mod Nodes
+pub mod Walking

@@ -1,0 +1,33 @@
+use Rattle.std.proofs.Common.{refl}
+use Rattle.tree_check.proofs.Walking.{upper_node, walk_begins, walk_on, walk_ends, tree_fields}
+use Rattle.tree_check.proofs.rows.check_level.Goals as goal
+
+pub loop-init : goal.loop-init
+loop-init c = λ us above. walk_begins c.args.tree c.args.pages.now c.args.level c.args.first us c.args.top above
+
+pub ends_with-requires : goal.ends_with-requires
+ends_with-requires c = λ some.
+    let is = (c.loop.invariant c.requires.above.us c.requires.above.checked).last_node some in
+    (is.within, tree_fields c.args.tree c.args.pages.now c.args.level c.loop.walk.last is)
+
+pub returns-then-ends_with-clause-rows : goal.returns-then-ends_with-clause-rows
+returns-then-ends_with-clause-rows c = λ us above.
+    walk_ends c.args.tree c.args.pages.now c.args.level c.args.first us c.args.top above c.loop.walk (c.loop.invariant us above) c.if-walk-eq0.true
+    (c.if-ends_with.ensures refl)
+
+pub step-requires-clause-upper : goal.step-requires-clause-upper
+step-requires-clause-upper c =
+    upper_node c.args.tree c.args.pages.now c.args.level c.args.first c.requires.above.us c.args.top c.requires.above.checked c.loop.walk
+    (c.loop.invariant c.requires.above.us c.requires.above.checked) c.if-walk-eq0.false
+
+pub step-requires-clause-last : goal.step-requires-clause-last
+step-requires-clause-last c = (c.loop.invariant c.requires.above.us c.requires.above.checked).last_node
+
+pub step-requires-clause-place : goal.step-requires-clause-place
+step-requires-clause-place c = (c.loop.invariant c.requires.above.us c.requires.above.checked).place c.if-walk-eq0.false
+
+pub loop-preserved : goal.loop-preserved
+loop-preserved c = λ us above.
+    walk_on c.args.tree c.args.pages.now c.args.level c.args.first us c.args.top above c.loop.walk c.in_ok-walk.walk
+    (upper_node c.args.tree c.args.pages.now c.args.level c.args.first us c.args.top above c.loop.walk (c.loop.invariant us above) c.if-walk-eq0.false)
+    c.in_ok-walk.ensures.step (c.loop.invariant us above)

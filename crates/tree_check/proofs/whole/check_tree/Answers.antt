@@ -1,0 +1,63 @@
+use Rattle.std.proofs.Common.{◌≡◌, ◌+◌, ◌-◌, arith}
+use Rattle.tree_check.proofs.Descended.{descent_begins, goes_down, descent_ends, all_within, top_node, top_laid_out, row_above}
+use Rattle.tree_check.proofs.whole.check_tree.Goals as goal
+
+pub loop-down-init : goal.loop-down-init
+loop-down-init c = record {
+  within = omega arith;
+  came = descent_begins c.args.tree c.args.pages.now c.in_ok-height.height c.in_ok-height.ensures.row;
+}
+
+pub bounds-pages-top : goal.bounds-pages-top
+bounds-pages-top c =
+    (top_node c.args.tree c.args.pages.now c.in_ok-height.height c.loop-down.down c.loop-down.top c.loop-down.invariant.came).within
+
+pub child_at-first-requires-clause-laid_out : goal.child_at-first-requires-clause-laid_out
+child_at-first-requires-clause-laid_out c =
+    top_laid_out c.args.tree c.args.pages.now c.in_ok-height.height c.loop-down.down c.loop-down.top c.loop-down.invariant.came
+
+pub child_at-first-requires-clause-inner : goal.child_at-first-requires-clause-inner
+child_at-first-requires-clause-inner c = λ none.
+    let is = top_node c.args.tree c.args.pages.now c.in_ok-height.height c.loop-down.down c.loop-down.top c.loop-down.invariant.came in
+    omega (arith, none, is.node.stands.level_is, c.loop-down-test.true)
+
+pub child_at-first-requires-clause-place : goal.child_at-first-requires-clause-place
+child_at-first-requires-clause-place c =
+    let is = top_node c.args.tree c.args.pages.now c.in_ok-height.height c.loop-down.down c.loop-down.top c.loop-down.invariant.came in
+    is.node.stands.some (λ none. omega (arith, none, c.loop-down-test.true))
+
+pub check_level-requires : goal.check_level-requires
+check_level-requires c =
+    let came = c.loop-down.invariant.came in
+    record {
+      above =
+          record {
+            us = came.us;
+            checked =
+                row_above c.args.tree c.args.pages.now c.in_ok-height.height c.loop-down.down c.loop-down.top (c.in_ok-height.height - 1 - c.loop-down.down)
+                (omega (arith, c.loop-down-test.true)) came;
+          };
+    }
+
+pub loop-down-preserved : goal.loop-down-preserved
+loop-down-preserved c =
+    let came = c.loop-down.invariant.came in
+    let level = c.in_ok-height.height - 1 - c.loop-down.down in
+    let level_is : level + 1 ≡ c.in_ok-height.height - c.loop-down.down = omega (arith, c.loop-down-test.true) in
+    record {
+      within = omega (arith, c.loop-down-test.true);
+      came =
+          goes_down c.args.tree c.args.pages.now c.in_ok-height.height c.loop-down.down c.loop-down.top c.child_at-first.result level c.loop-down-test.true
+          level_is came (c.in_ok-check_level.ensures.rows came.us
+          (row_above c.args.tree c.args.pages.now c.in_ok-height.height c.loop-down.down c.loop-down.top level level_is came));
+    }
+
+pub returns-clause-tree : goal.returns-clause-tree
+returns-clause-tree c =
+    descent_ends c.args.tree c.args.pages.now c.requires.some c.in_ok-height.height c.loop-down.down c.loop-down.top
+    (omega (arith, c.loop-down-test.false, c.loop-down.invariant.within)) c.loop-down.invariant.came c.requires.few
+
+pub returns-clause-within : goal.returns-clause-within
+returns-clause-within c =
+    all_within c.args.tree c.args.pages.now c.requires.some c.in_ok-height.height c.loop-down.down c.loop-down.top
+    (omega (arith, c.loop-down-test.false, c.loop-down.invariant.within)) c.loop-down.invariant.came

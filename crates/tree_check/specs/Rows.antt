@@ -1,0 +1,83 @@
+-- Pages of a file, and rows of them as a check has walked them.
+use Rattle.std.specs.Prelude.{◌≡◌, ◌≢◌, ℕ, suc, ◌<◌, ◌≤◌, List, [], length, take, slice_index_or, ◌==◌, if◌then◌else◌}
+use Rattle.std.specs.List.{AllByRecursion}
+use Rattle.page_format.specs.Shape.{IsPage}
+use Rattle.page_format.specs.Refused.{IsRefused}
+use Rattle.page_format.specs.Words.{low_of, right_of, count_of, records_of}
+use Rattle.law_flat_tree.specs.Levels.{Fence, Node, IsRow, heads, children, head_or}
+use Rattle.law_flat_tree.specs.Levels.Fence.{First, Key, Last}
+use Rattle.law_flat_tree.specs.Pages.{low_fence, child_of, node_of}
+use Rattle.btree.specs.declared.tree.Tree.{Tree}
+use Rattle.tree_check.specs.declared.rows.Walk.{Walk}
+use Rattle.tree_check.specs.declared.rows.RowFault.{RowFault}
+use Rattle.tree_check.specs.declared.rows.RowFault.TheVariants.{Page, Child, Neighbour, Endless}
+use Rattle.tree_check.specs.declared.pages.PageFault.{PageFault}
+use Rattle.tree_check.specs.declared.pages.PageFault.TheVariants.{Missing, Unread, Wrong}
+use Rattle.tree_check.specs.Nodes.{IsNode, IsBroken}
+
+-- the page of that number
+abbrev pub page_in : List (List ℕ) → ℕ → List ℕ
+page_in pages number = slice_index_or pages number []
+
+abbrev pub node_in : Tree → List (List ℕ) → ℕ → Node
+node_in tree pages number = node_of tree.key_len (page_in pages number)
+
+-- The file has a page of that number, which may stand on the level.
+pub record IsNodeAt (tree : Tree) (pages : List (List ℕ)) (level number : ℕ) : Type 0 where
+  pub some : number ≢ 0
+  pub within : number < length pages
+  pub page : IsPage number (page_in pages number)
+  pub node : IsNode tree level (page_in pages number)
+
+-- why it may not
+abbrev pub IsFaulty : Tree → List (List ℕ) → ℕ → ℕ → PageFault → Type 0
+IsFaulty tree pages level number Missing = 0 < number → length pages ≤ number
+IsFaulty tree pages level number (Unread bad) = IsRefused number (page_in pages number) bad
+IsFaulty tree pages level number (Wrong bad) = IsBroken tree level (page_in pages number) bad
+
+-- the fence and the page that a parent's record of that number tells
+abbrev pub entry_fence : ℕ → List ℕ → ℕ → Fence
+entry_fence key_len bytes place =
+    if place == 0 then low_fence (low_of bytes) else Key (take key_len (slice_index_or (records_of bytes) place []))
+
+-- where the page before ended, or the beginning of the row
+abbrev pub end_before : Tree → List (List ℕ) → ℕ → Fence
+end_before tree pages last = if last == 0 then First else (node_in tree pages last).high
+
+-- The page that comes next below may stand there: the parent's record leads to it, and it begins where that record says and where
+-- the page before ends. Then the next one is its right neighbour, and the record behind, or the first one of the parent's neighbour.
+pub record IsStep (tree : Tree) (pages : List (List ℕ)) (level : ℕ) (now next : Walk) : Type 0 where
+  pub inside : now.place < count_of (page_in pages now.upper)
+  pub leads : child_of tree.key_len (slice_index_or (records_of (page_in pages now.upper)) now.place []) ≡ now.lower
+  pub node : IsNodeAt tree pages level now.lower
+  pub begins : (node_in tree pages now.lower).low ≡ entry_fence tree.key_len (page_in pages now.upper) now.place
+  pub meets : (node_in tree pages now.lower).low ≡ end_before tree pages now.last
+  pub last_is : next.last ≡ now.lower
+  pub lower_is : next.lower ≡ right_of (page_in pages now.lower)
+  pub behind : suc now.place < count_of (page_in pages now.upper) → (next.upper ≡ now.upper) × (next.place ≡ suc now.place)
+  pub over : count_of (page_in pages now.upper) ≤ suc now.place
+      → (next.upper ≡ right_of (page_in pages now.upper)) × (next.place ≡ 0)
+
+-- These pages are a row of that level, from the first one on.
+pub record IsCheckedRow (tree : Tree) (pages : List (List ℕ)) (level first : ℕ) (us : List ℕ) : Type 0 where
+  pub first_is : head_or 0 us ≡ first
+  pub row : IsRow (node_in tree pages) First us Last 0
+  pub each : AllByRecursion (IsNodeAt tree pages level) us
+
+-- some pages are
+pub record IsRowFrom (tree : Tree) (pages : List (List ℕ)) (level first : ℕ) : Type 0 where
+  pub us : List ℕ
+  pub checked : IsCheckedRow tree pages level first us
+
+-- The pages of the level below are a row, and the children of the upper row, in order.
+pub record HasRowBelow (tree : Tree) (pages : List (List ℕ)) (level first : ℕ) (us : List ℕ) : Type 0 where
+  pub ls : List ℕ
+  pub checked : IsCheckedRow tree pages level first ls
+  pub are_children : children (node_in tree pages) us ≡ heads (node_in tree pages) ls
+
+-- why a page may not stand where it is; of the others it isn't said yet that rows that stand so never have them
+abbrev pub IsRowFault : Tree → List (List ℕ) → ℕ → RowFault → Type 0
+IsRowFault tree pages level (Page page fault) = IsFaulty tree pages level page fault
+IsRowFault tree pages level (Child page) = Unit {0}
+IsRowFault tree pages level (Neighbour page) = Unit {0}
+IsRowFault tree pages level Endless = Unit {0}

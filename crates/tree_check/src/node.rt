@@ -1,0 +1,127 @@
+//! Whether a page that was read may stand on a level of a tree. Nothing here asks for a page.
+
+ghost use Rattle.std.specs.Prelude.{◌≡◌, ◌==◌, ◌||◌, length, MatchBool, OnOk, IfErr};
+ghost use Rattle.page_format.specs.Shape.{HasFields, HasTreeFields};
+ghost use Rattle.btree.specs.Layout.{width_of, IsLaidOut};
+ghost use Rattle.tree_check.specs.Nodes.{StandsOn, HasLengths, DoKeysRise, IsNode, IsBroken};
+
+use btree::{Tree, key_at};
+use page_format::{read_u16, read_u32};
+
+/// How many bytes the number of a child has.
+const CHILD: usize = 4;
+
+const KIND: usize = 20;
+
+const LEVEL: usize = 21;
+
+const COUNT: usize = 22;
+
+const INDEX: usize = 24;
+
+const WIDTH: usize = 32;
+
+const LOW_LEN: usize = 34;
+
+const HIGH_LEN: usize = 35;
+
+/// The length of a fence that isn't there.
+const NO_FENCE: u8 = 255;
+
+/// What is wrong with a page in a tree.
+#[derive(Clone, Copy, Debug, PartialEq, Eq)]
+pub enum NodeBad {
+    /// A record or a fence has another length than the tree's.
+    Field,
+    /// Its keys don't rise.
+    Order,
+    /// It is of another index or level, or has no child.
+    Place,
+}
+
+/// Whether the page is of that index and level, with a child if it is an inner one.
+fn stands_on(bytes: &[u8], tree: Tree, level: u8) -> bool
+    requires { length bytes.now ≡ 4096 }
+    ensures { MatchBool result (StandsOn tree level bytes.now) (StandsOn tree level bytes.now → ⊥) }
+{
+    if bytes[KIND] != 3 && bytes[KIND] != 4 {
+        return false;
+    }
+    if read_u32(bytes, INDEX) != tree.index {
+        return false;
+    }
+    if bytes[LEVEL] != level {
+        return false;
+    }
+    level == 0 || read_u16(bytes, COUNT) > 0
+}
+
+/// How many bytes a record has on that level.
+fn width_for(tree: Tree, level: u8) -> usize
+    ensures { result ≡ width_of tree level }
+{
+    let behind_key = if level == 0 {
+        usize::from(tree.value_len)
+    } else {
+        CHILD
+    };
+    usize::from(tree.key_len) + behind_key
+}
+
+/// Whether a fence of that length is none, or as long as a key.
+fn is_fence_of(len: u8, key_len: u8) -> bool
+    ensures { result ≡ (len == 255 || len == key_len) }
+{
+    len == NO_FENCE || len == key_len
+}
+
+/// Whether the records are as long as the tree's on the page's level, and the fences as long as a key.
+fn has_lengths(bytes: &[u8], tree: Tree) -> bool
+    requires size { length bytes.now ≡ 4096 }
+    requires fields { HasTreeFields bytes.now }
+    ensures { MatchBool result (HasLengths tree bytes.now) (HasLengths tree bytes.now → ⊥) }
+{
+    if usize::from(read_u16(bytes, WIDTH)) != width_for(tree, bytes[LEVEL]) {
+        return false;
+    }
+    if !is_fence_of(bytes[LOW_LEN], tree.key_len) {
+        return false;
+    }
+    is_fence_of(bytes[HIGH_LEN], tree.key_len)
+}
+
+/// Whether the keys that the records begin with rise.
+fn keys_rise(bytes: &[u8], tree: Tree) -> bool
+    requires size { length bytes.now ≡ 4096 }
+    requires laid_out { IsLaidOut tree bytes.now }
+    ensures { MatchBool result (DoKeysRise tree bytes.now) (DoKeysRise tree bytes.now → ⊥) }
+{
+    for i in 1..read_u16(bytes, COUNT) {
+        if !key_at(bytes, tree, i - 1)
+            .cmp(key_at(bytes, tree, i))
+            .is_lt()
+        {
+            return false;
+        }
+    }
+    true
+}
+
+/// Whether a page that was read may stand on that level of the tree, or what is wrong with it.
+pub fn check_node(bytes: &[u8], tree: Tree, level: u8) -> Result<(), NodeBad>
+    requires size { length bytes.now ≡ 4096 }
+    requires fields { HasFields bytes.now }
+    ensures node { OnOk result (IsNode tree level bytes.now) }
+    ensures broken { IfErr result (IsBroken tree level bytes.now) }
+{
+    if !stands_on(bytes, tree, level) {
+        return Err(NodeBad::Place);
+    }
+    if !has_lengths(bytes, tree) {
+        return Err(NodeBad::Field);
+    }
+    if !keys_rise(bytes, tree) {
+        return Err(NodeBad::Order);
+    }
+    Ok(())
+}

@@ -1,0 +1,60 @@
+//! All levels of a tree over the pages of a file, from the root down.
+
+ghost use Rattle.std.specs.Prelude.{◌≡◌, ◌<◌, ◌≤◌, ℕ, [], ◌∷◌, length, IfOk, IfErr, OnOk};
+ghost use Rattle.std.specs.List.{AllByRecursion};
+ghost use Rattle.btree.specs.Sound.{IsSoundTree, levels_of};
+ghost use Rattle.tree_check.specs.Rows.{page_in, IsCheckedRow, IsRowFault};
+
+use crate::pages::{PageFault, high_fence_of, low_fence_of, read_node};
+use crate::rows::{RowFault, check_level};
+use btree::{Tree, child_at};
+use page_format::read_u32;
+
+const LEVEL: usize = 21;
+
+const RIGHT: usize = 28;
+
+/// The root's level, where it is a row by itself.
+fn read_root(pages: &[[u8; 4096]], tree: Tree) -> Result<u8, RowFault>
+    ensures row { IfOk result (λ level. IsCheckedRow tree pages.now level tree.root (tree.root ∷ [])) }
+    ensures fault { IfErr result (λ fault. (level : ℕ) × IsRowFault tree pages.now level fault) }
+{
+    let page = tree.root;
+    if page as usize >= pages.len() {
+        return Err(RowFault::Page {
+            page,
+            fault: PageFault::Missing,
+        });
+    }
+    let bytes = &pages[page as usize];
+    let level = bytes[LEVEL];
+    match read_node(pages, tree, level, page) {
+        Ok(()) => {}
+        Err(fault) => return Err(RowFault::Page { page, fault }),
+    }
+    if low_fence_of(bytes).is_some() || high_fence_of(bytes).is_some() {
+        return Err(RowFault::Neighbour { page });
+    }
+    if read_u32(bytes, RIGHT) != 0 {
+        return Err(RowFault::Neighbour { page });
+    }
+    Ok(level)
+}
+
+/// Checks that the pages of a file from the root on are a tree, each of them one of the file's.
+pub fn check_tree(pages: &[[u8; 4096]], tree: Tree) -> Result<(), RowFault>
+    requires some { 0 < tree.key_len }
+    requires few { length pages.now ≤ 65536 }
+    ensures tree { OnOk result (IsSoundTree tree (page_in pages.now)) }
+    ensures within { OnOk result (AllByRecursion (AllByRecursion (λ page. page < length pages.now)) (levels_of tree (page_in pages.now))) }
+    ensures fault { IfErr result (λ fault. (level : ℕ) × IsRowFault tree pages.now level fault) }
+{
+    let height = read_root(pages, tree)?;
+    let mut top = tree.root;
+    for down in 0..height {
+        let first = child_at(&pages[top as usize], tree, 0);
+        check_level(pages, tree, height - 1 - down, top, first)?;
+        top = first;
+    }
+    Ok(())
+}
