@@ -23,7 +23,7 @@ const TREE: Tree = Tree {
     value_len: 140,
 };
 
-/// How many pages the file has.
+/// How many pages the file has in which both grow.
 const PAGES: u8 = 250;
 
 /// How many calls are made, or pairs of calls.
@@ -233,15 +233,15 @@ fn make<E: Entries>(index: &mut E, calls: &Calls, into: &mut Vec<u8>) -> Answers
     }
 }
 
-/// The pages of a file, of which those up to the root are in use; the root is an empty leaf.
-fn file_of(alloc: Global) -> Result<Vec<[u8; 4096]>, AllocError> {
+/// So many pages of a file, of which those up to the root are in use; the root is an empty leaf.
+fn file_of(alloc: Global, count: u8) -> Result<Vec<[u8; 4096]>, AllocError> {
     let mut header = [0; 4096];
-    header[47] = PAGES;
+    header[47] = count;
     let mut map = [0; 4096];
     map[32] = 255;
     map[33] = 255;
     map[34] = 63;
-    let mut pages = Vec::with_capacity(alloc, usize::from(PAGES))?;
+    let mut pages = Vec::with_capacity(alloc, usize::from(count))?;
     pages.push(header)?;
     pages.push([0; 4096])?;
     pages.push(map)?;
@@ -249,7 +249,7 @@ fn file_of(alloc: Global) -> Result<Vec<[u8; 4096]>, AllocError> {
         pages.push([0; 4096])?;
     }
     pages.push(page_of(0, 0, 0, 0, 200, &[]))?;
-    for _ in 22..PAGES {
+    for _ in 22..count {
         pages.push([0; 4096])?;
     }
     Ok(pages)
@@ -325,13 +325,47 @@ fn compare(
 #[test]
 fn a_tree_answers_three_actors_as_a_list_does(rt: HostRuntime) -> Result<(), Fail> {
     let mut list = ListIndex::new(rt.alloc())?;
-    match begin(rt.alloc(), file_of(rt.alloc())?)? {
+    match begin(rt.alloc(), file_of(rt.alloc(), PAGES)?)? {
         None => assert!(rt; false),
         Some(mut tree) => {
             assert!(rt; play(rt.alloc(), &mut list, &mut tree)?);
             let (count, alike) = compare(rt.alloc(), &mut list, &mut tree)?;
             assert!(rt; alike);
             assert!(rt; count > 100);
+        }
+    }
+    Ok(())
+}
+
+/// Fills the root, and answers what one row more is answered, and how many rows there are then.
+fn fill_root(alloc: Global, tree: &mut TreeUse<ListedPages>) -> Result<(Move, u32), Fail>
+    requires { AreWide (⟦<TreeUse<ListedPages> as Entries>⟧.index tree.old) }
+{
+    let value = value_of(alloc, 7)?;
+    let mut count = 0u32;
+    for number in 0..20 {
+        let key = key_of(alloc, number)?;
+        let answer = tree.insert(1, &key, &value);
+        if let Move::Done = answer {
+            count = count.saturating_add(1);
+        } else {
+            return Ok((answer, count));
+        }
+    }
+    Ok((Move::End, count))
+}
+
+#[test]
+fn a_full_root_stays_where_no_page_is_free(rt: HostRuntime) -> Result<(), Fail> {
+    match begin(rt.alloc(), file_of(rt.alloc(), 22)?)? {
+        None => assert!(rt; false),
+        Some(mut tree) => {
+            let (answer, count) = fill_root(rt.alloc(), &mut tree)?;
+            assert!(rt; matches!(answer, Move::Full { need: 2, free: 0 }));
+            assert_eq!(rt; count, 19);
+            let mut into = Vec::with_capacity(rt.alloc(), 1024)?;
+            let key = key_of(rt.alloc(), 19)?;
+            assert!(rt; matches!(tree.fetch(1, &key, &mut into), Move::End));
         }
     }
     Ok(())
