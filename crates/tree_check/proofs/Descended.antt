@@ -39,7 +39,7 @@ AreChecked tree pages k (us ∷ ls ∷ more) =
     Stands tree pages k us × (children (node_in tree pages) us ≡ heads (node_in tree pages) ls) × AreChecked tree pages (k - 1) (ls ∷ more)
 
 module _ (tree : Tree) (pages : List (List ℕ)) where
-  first_stands : (k : ℕ) (ls : List ℕ) (more : List (List ℕ)) → AreChecked tree pages k (ls ∷ more) → Stands tree pages k ls
+  pub first_stands : (k : ℕ) (ls : List ℕ) (more : List (List ℕ)) → AreChecked tree pages k (ls ∷ more) → Stands tree pages k ls
   first_stands k ls [] checked = checked
   first_stands k ls (next ∷ more) checked = checked.0
 

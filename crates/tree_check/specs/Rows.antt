@@ -1,13 +1,14 @@
 -- Pages of a file, and rows of them as a check has walked them.
-use Rattle.std.specs.Prelude.{◌≡◌, ◌≢◌, ℕ, suc, ◌<◌, ◌≤◌, List, [], length, take, slice_index_or, ◌==◌, if◌then◌else◌}
+use Rattle.std.specs.Prelude.{◌≡◌, ◌≢◌, ℕ, suc, ◌<◌, ◌≤◌, List, [], length, take, slice_index_or, None, ◌==◌, if◌then◌else◌}
 use Rattle.std.specs.List.{AllByRecursion}
 use Rattle.page_format.specs.Shape.{IsPage}
 use Rattle.page_format.specs.Refused.{IsRefused}
-use Rattle.page_format.specs.Words.{low_of, right_of, count_of, records_of}
+use Rattle.page_format.specs.Words.{low_of, high_of, right_of, count_of, records_of}
 use Rattle.law_flat_tree.specs.Levels.{Fence, Node, IsRow, heads, children, head_or}
 use Rattle.law_flat_tree.specs.Levels.Fence.{First, Key, Last}
 use Rattle.law_flat_tree.specs.Pages.{low_fence, child_of, node_of}
 use Rattle.btree.specs.declared.tree.Tree.{Tree}
+use Rattle.btree.specs.Sound.{levels_of}
 use Rattle.tree_check.specs.declared.rows.Walk.{Walk}
 use Rattle.tree_check.specs.declared.rows.RowFault.{RowFault}
 use Rattle.tree_check.specs.declared.rows.RowFault.TheVariants.{Page, Child, Neighbour, Endless}
@@ -44,19 +45,29 @@ entry_fence key_len bytes place =
 abbrev pub end_before : Tree → List (List ℕ) → ℕ → Fence
 end_before tree pages last = if last == 0 then First else (node_in tree pages last).high
 
--- The page that comes next below may stand there: the parent's record leads to it, and it begins where that record says and where
--- the page before ends. Then the next one is its right neighbour, and the record behind, or the first one of the parent's neighbour.
-pub record IsStep (tree : Tree) (pages : List (List ℕ)) (level : ℕ) (now next : Walk) : Type 0 where
-  pub inside : now.place < count_of (page_in pages now.upper)
+-- The page that comes next below stands there: the parent's record leads to it, and it begins where that record says and where the
+-- page before ends.
+pub record IsNextChild (tree : Tree) (pages : List (List ℕ)) (level : ℕ) (now : Walk) : Type 0 where
   pub leads : child_of tree.key_len (slice_index_or (records_of (page_in pages now.upper)) now.place []) ≡ now.lower
   pub node : IsNodeAt tree pages level now.lower
   pub begins : (node_in tree pages now.lower).low ≡ entry_fence tree.key_len (page_in pages now.upper) now.place
   pub meets : (node_in tree pages now.lower).low ≡ end_before tree pages now.last
+
+-- It does. Then the next one is its right neighbour, and the record behind, or the first one of the parent's neighbour.
+pub record IsStep (tree : Tree) (pages : List (List ℕ)) (level : ℕ) (now next : Walk) : Type 0 where
+  pub inside : now.place < count_of (page_in pages now.upper)
+  pub child : IsNextChild tree pages level now
   pub last_is : next.last ≡ now.lower
   pub lower_is : next.lower ≡ right_of (page_in pages now.lower)
   pub behind : suc now.place < count_of (page_in pages now.upper) → (next.upper ≡ now.upper) × (next.place ≡ suc now.place)
   pub over : count_of (page_in pages now.upper) ≤ suc now.place
       → (next.upper ≡ right_of (page_in pages now.upper)) × (next.place ≡ 0)
+
+-- The row below ends with this last page: it has no neighbour, and nothing above it.
+pub record IsRowEnd (pages : List (List ℕ)) (last lower : ℕ) : Type 0 where
+  pub lower_is : lower ≡ 0
+  pub some : last ≢ 0
+  pub high : high_of (page_in pages last) ≡ None
 
 -- These pages are a row of that level, from the first one on.
 pub record IsCheckedRow (tree : Tree) (pages : List (List ℕ)) (level first : ℕ) (us : List ℕ) : Type 0 where
@@ -74,6 +85,11 @@ pub record HasRowBelow (tree : Tree) (pages : List (List ℕ)) (level first : �
   pub ls : List ℕ
   pub checked : IsCheckedRow tree pages level first ls
   pub are_children : children (node_in tree pages) us ≡ heads (node_in tree pages) ls
+
+-- Each page that the tree leads to is one of the file's, and its bytes are that page.
+abbrev pub AreFilePages : Tree → List (List ℕ) → Type 0
+AreFilePages tree pages =
+    AllByRecursion (AllByRecursion (λ page. (page < length pages) × IsPage page (page_in pages page))) (levels_of tree (page_in pages))
 
 -- why a page may not stand where it is; of the others it isn't said yet that rows that stand so never have them
 abbrev pub IsRowFault : Tree → List (List ℕ) → ℕ → RowFault → Type 0

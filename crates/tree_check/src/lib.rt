@@ -1,6 +1,5 @@
-//! Towards the check of trees when a file is mounted, over the pages of the file: `check_tree` walks each level beside the one
-//! above it, and pages that pass are a sound tree. That a sound tree never fails isn't said yet: of a fault it is said only
-//! what is wrong with a page by itself.
+//! The check of a tree when a file is mounted, over the pages of the file: `check_tree` walks each level beside the one above
+//! it. Pages that pass are a sound tree, and a sound tree on pages of the file passes.
 #![tactic(auto)]
 
 mod laws;

@@ -1,13 +1,13 @@
 //! Two levels of a tree, walked side by side: the pages of the lower one are to be the children of the upper one's, in order,
 //! and each begins where the one before ends. It takes no memory.
 
-ghost use Rattle.std.specs.Prelude.{◌≡◌, ◌≢◌, ◌<◌, ◌≤◌, ℕ, suc, List, length, IfOk, IfErr, OnOk, IsTrue, None, ◌==◌, if◌then◌else◌};
+ghost use Rattle.std.specs.Prelude.{◌≡◌, ◌≢◌, ◌<◌, ◌≤◌, ℕ, suc, List, length, IfOk, IfErr, OnOk, OnErr, MatchBool};
 ghost use Rattle.page_format.specs.Shape.{HasTreeFields};
-ghost use Rattle.page_format.specs.Words.{low_of, high_of, right_of, count_of};
-ghost use Rattle.law_flat_tree.specs.Levels.Fence.{First, Key};
-ghost use Rattle.law_flat_tree.specs.Pages.{low_fence, high_fence};
+ghost use Rattle.page_format.specs.Words.{low_of, right_of, count_of};
+ghost use Rattle.law_flat_tree.specs.Levels.Fence.{Key};
+ghost use Rattle.law_flat_tree.specs.Pages.{low_fence};
 ghost use Rattle.btree.specs.Layout.{IsLaidOut};
-ghost use Rattle.tree_check.specs.Rows.{page_in, entry_fence, IsNodeAt, IsStep, IsCheckedRow, IsRowFrom, HasRowBelow, IsRowFault};
+ghost use Rattle.tree_check.specs.Rows.{page_in, entry_fence, end_before, IsNodeAt, IsNextChild, IsStep, IsRowEnd, IsCheckedRow, IsRowFrom, HasRowBelow, IsRowFault};
 
 use crate::pages::{PageFault, do_meet, high_fence_of, low_fence_of, read_node};
 use btree::{Tree, child_at, is_laid_out, key_at};
@@ -48,7 +48,8 @@ fn begin_alike(above: &[u8], child: &[u8]) -> bool
     requires size { length child.now ≡ 4096 }
     requires above_fields { HasTreeFields above.now }
     requires fields { HasTreeFields child.now }
-    ensures { IsTrue result → low_fence (low_of child.now) ≡ low_fence (low_of above.now) }
+    ensures { MatchBool result (low_fence (low_of child.now) ≡ low_fence (low_of above.now))
+        (low_fence (low_of child.now) ≡ low_fence (low_of above.now) → ⊥) }
 {
     match low_fence_of(child) {
         Some(low) => match low_fence_of(above) {
@@ -63,7 +64,7 @@ fn begin_alike(above: &[u8], child: &[u8]) -> bool
 fn begins_at(child: &[u8], key: &[u8]) -> bool
     requires size { length child.now ≡ 4096 }
     requires fields { HasTreeFields child.now }
-    ensures { IsTrue result → low_fence (low_of child.now) ≡ Key key.now }
+    ensures { MatchBool result (low_fence (low_of child.now) ≡ Key key.now) (low_fence (low_of child.now) ≡ Key key.now → ⊥) }
 {
     match low_fence_of(child) {
         Some(low) => low == key,
@@ -79,7 +80,8 @@ fn begins_there(above: &[u8], tree: Tree, place: u16, child: &[u8]) -> bool
     requires fields { HasTreeFields child.now }
     requires laid_out { IsLaidOut tree above.now }
     requires place { place < count_of above.now }
-    ensures { IsTrue result → low_fence (low_of child.now) ≡ entry_fence tree.key_len above.now place }
+    ensures { MatchBool result (low_fence (low_of child.now) ≡ entry_fence tree.key_len above.now place)
+        (low_fence (low_of child.now) ≡ entry_fence tree.key_len above.now place → ⊥) }
 {
     if place == 0 {
         begin_alike(above, child)
@@ -89,12 +91,12 @@ fn begins_there(above: &[u8], tree: Tree, place: u16, child: &[u8]) -> bool
 }
 
 /// Whether the page begins where the one before ends, or has no low fence where it is the first of its row.
-fn follows(pages: &[[u8; 4096]], last: u32, page: u32) -> bool
+fn follows(pages: &[[u8; 4096]], tree: Tree, last: u32, page: u32) -> bool
     requires last { last ≢ 0 → (last < length pages.now) × HasTreeFields (page_in pages.now last) }
     requires within { page < length pages.now }
     requires fields { HasTreeFields (page_in pages.now page) }
-    ensures { IsTrue result → low_fence (low_of (page_in pages.now page))
-        ≡ (if last == 0 then First else high_fence (high_of (page_in pages.now last))) }
+    ensures { MatchBool result (low_fence (low_of (page_in pages.now page)) ≡ end_before tree pages.now last)
+        (low_fence (low_of (page_in pages.now page)) ≡ end_before tree pages.now last → ⊥) }
 {
     if last == 0 {
         low_fence_of(&pages[page as usize]).is_none()
@@ -139,6 +141,7 @@ fn step(pages: &[[u8; 4096]], tree: Tree, level: u8, now: Walk) -> Result<Walk, 
     requires place { now.place < count_of (page_in pages.now now.upper) }
     ensures step { IfOk result (IsStep tree pages.now level now) }
     ensures fault { IfErr result (IsRowFault tree pages.now level) }
+    ensures refused { OnErr result (IsNextChild tree pages.now level now → ⊥) }
 {
     let above = &pages[now.upper as usize];
     if child_at(above, tree, now.place) != now.lower {
@@ -157,7 +160,7 @@ fn step(pages: &[[u8; 4096]], tree: Tree, level: u8, now: Walk) -> Result<Walk, 
     if !begins_there(above, tree, now.place, child) {
         return Err(RowFault::Child { page: now.lower });
     }
-    if !follows(pages, now.last, now.lower) {
+    if !follows(pages, tree, now.last, now.lower) {
         return Err(RowFault::Neighbour { page: now.lower });
     }
     Ok(next_of(above, child, now))
@@ -166,7 +169,7 @@ fn step(pages: &[[u8; 4096]], tree: Tree, level: u8, now: Walk) -> Result<Walk, 
 /// Whether the row below ends with the last page.
 fn ends_with(pages: &[[u8; 4096]], last: u32, lower: u32) -> bool
     requires { last ≢ 0 → (last < length pages.now) × HasTreeFields (page_in pages.now last) }
-    ensures { IsTrue result → (lower ≡ 0) × (last ≢ 0) × (high_of (page_in pages.now last) ≡ None) }
+    ensures { MatchBool result (IsRowEnd pages.now last lower) (IsRowEnd pages.now last lower → ⊥) }
 {
     if lower != 0 {
         return false;
@@ -185,9 +188,11 @@ pub fn check_level(
     top: u32,
     first: u32,
 ) -> Result<(), RowFault>
+    requires some { 0 < tree.key_len }
     requires above { IsRowFrom tree pages.now (suc level) top }
     ensures rows { OnOk result ((us : List ℕ) → IsCheckedRow tree pages.now (suc level) top us → HasRowBelow tree pages.now level first us) }
     ensures fault { IfErr result (IsRowFault tree pages.now level) }
+    ensures refused { OnErr result ((us : List ℕ) → IsCheckedRow tree pages.now (suc level) top us → HasRowBelow tree pages.now level first us → ⊥) }
 {
     let mut walk = Walk {
         upper: top,

@@ -1,9 +1,10 @@
 //! All levels of a tree over the pages of a file, from the root down.
 
-ghost use Rattle.std.specs.Prelude.{◌≡◌, ◌<◌, ◌≤◌, ℕ, [], ◌∷◌, length, IfOk, IfErr, OnOk};
+ghost use Rattle.std.specs.Prelude.{◌≡◌, ◌<◌, ◌≤◌, ℕ, [], ◌∷◌, length, IfOk, IfErr, OnOk, OnErr};
 ghost use Rattle.std.specs.List.{AllByRecursion};
+ghost use Rattle.page_format.specs.Words.{level_of};
 ghost use Rattle.btree.specs.Sound.{IsSoundTree, levels_of};
-ghost use Rattle.tree_check.specs.Rows.{page_in, IsCheckedRow, IsRowFault};
+ghost use Rattle.tree_check.specs.Rows.{page_in, AreFilePages, IsCheckedRow, IsRowFault};
 
 use crate::pages::{PageFault, high_fence_of, low_fence_of, read_node};
 use crate::rows::{RowFault, check_level};
@@ -18,6 +19,7 @@ const RIGHT: usize = 28;
 fn read_root(pages: &[[u8; 4096]], tree: Tree) -> Result<u8, RowFault>
     ensures row { IfOk result (λ level. IsCheckedRow tree pages.now level tree.root (tree.root ∷ [])) }
     ensures fault { IfErr result (λ fault. (level : ℕ) × IsRowFault tree pages.now level fault) }
+    ensures refused { OnErr result (IsCheckedRow tree pages.now (level_of (page_in pages.now tree.root)) tree.root (tree.root ∷ []) → ⊥) }
 {
     let page = tree.root;
     if page as usize >= pages.len() {
@@ -48,6 +50,7 @@ pub fn check_tree(pages: &[[u8; 4096]], tree: Tree) -> Result<(), RowFault>
     ensures tree { OnOk result (IsSoundTree tree (page_in pages.now)) }
     ensures within { OnOk result (AllByRecursion (AllByRecursion (λ page. page < length pages.now)) (levels_of tree (page_in pages.now))) }
     ensures fault { IfErr result (λ fault. (level : ℕ) × IsRowFault tree pages.now level fault) }
+    ensures refused { OnErr result (IsSoundTree tree (page_in pages.now) → AreFilePages tree pages.now → ⊥) }
 {
     let height = read_root(pages, tree)?;
     let mut top = tree.root;

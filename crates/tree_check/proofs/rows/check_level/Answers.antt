@@ -1,5 +1,7 @@
-use Rattle.std.proofs.Common.{refl}
+use Rattle.std.proofs.Common.{arith}
+use Rattle.entries.proofs.Edits.{on_err}
 use Rattle.tree_check.proofs.Walking.{upper_node, walk_begins, walk_on, walk_ends, tree_fields}
+use Rattle.tree_check.proofs.Exact.{must_fit, must_end, never_endless}
 use Rattle.tree_check.proofs.rows.check_level.Goals as goal
 
 pub loop-init : goal.loop-init
@@ -12,12 +14,17 @@ ends_with-requires c = λ some.
 
 pub returns-then-ends_with-clause-rows : goal.returns-then-ends_with-clause-rows
 returns-then-ends_with-clause-rows c = λ us above.
-    walk_ends c.args.tree c.args.pages.now c.args.level c.args.first us c.args.top above c.loop.walk (c.loop.invariant us above) c.if-walk-eq0.true
-    (c.if-ends_with.ensures refl)
+    walk_ends c.args.tree c.args.pages.now c.args.level c.args.first us c.args.top above c.loop.walk c.loop.counter (c.loop.invariant us above)
+    c.if-walk-eq0.true c.if-ends_with.ensures
+
+pub returns-then-walk-eq0-clause-refused : goal.returns-then-walk-eq0-clause-refused
+returns-then-walk-eq0-clause-refused c = λ us above below.
+    c.if-ends_with.ensures (must_end c.args.tree c.args.pages.now c.args.level c.args.first us c.args.top above c.loop.walk c.loop.counter
+    (c.loop.invariant us above) below c.if-walk-eq0.true)
 
 pub step-requires-clause-upper : goal.step-requires-clause-upper
 step-requires-clause-upper c =
-    upper_node c.args.tree c.args.pages.now c.args.level c.args.first c.requires.above.us c.args.top c.requires.above.checked c.loop.walk
+    upper_node c.args.tree c.args.pages.now c.args.level c.args.first c.requires.above.us c.args.top c.requires.above.checked c.loop.walk c.loop.counter
     (c.loop.invariant c.requires.above.us c.requires.above.checked) c.if-walk-eq0.false
 
 pub step-requires-clause-last : goal.step-requires-clause-last
@@ -26,8 +33,19 @@ step-requires-clause-last c = (c.loop.invariant c.requires.above.us c.requires.a
 pub step-requires-clause-place : goal.step-requires-clause-place
 step-requires-clause-place c = (c.loop.invariant c.requires.above.us c.requires.above.checked).place c.if-walk-eq0.false
 
+pub returns-in_err-walk-clause-refused : goal.returns-in_err-walk-clause-refused
+returns-in_err-walk-clause-refused c =
+    on_err c.from_residual.result (λ us above below.
+    c.in_err-walk.ensures.refused (must_fit c.args.tree c.args.pages.now c.args.level c.args.first us c.args.top above c.loop.walk c.loop.counter
+    (c.loop.invariant us above) below c.if-walk-eq0.false))
+
 pub loop-preserved : goal.loop-preserved
 loop-preserved c = λ us above.
     walk_on c.args.tree c.args.pages.now c.args.level c.args.first us c.args.top above c.loop.walk c.in_ok-walk.walk
-    (upper_node c.args.tree c.args.pages.now c.args.level c.args.first us c.args.top above c.loop.walk (c.loop.invariant us above) c.if-walk-eq0.false)
-    c.in_ok-walk.ensures.step (c.loop.invariant us above)
+    (upper_node c.args.tree c.args.pages.now c.args.level c.args.first us c.args.top above c.loop.walk c.loop.counter (c.loop.invariant us above)
+    c.if-walk-eq0.false) c.in_ok-walk.ensures.step c.loop.counter (c.loop.invariant us above)
+
+pub returns-clause-refused : goal.returns-clause-refused
+returns-clause-refused c = λ us above below.
+    never_endless c.args.tree c.args.pages.now c.args.level c.args.first us c.args.top above c.loop.walk c.loop.counter c.requires.some
+    (c.loop.invariant us above) (omega (arith, c.loop-test.false))

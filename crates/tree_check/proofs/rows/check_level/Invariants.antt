@@ -4,4 +4,4 @@ use Rattle.tree_check.proofs.Walking.{Walked}
 use Rattle.tree_check.proofs.rows.check_level.Given as goal
 
 abbrev pub invariant-loop : goal.invariant-loop
-invariant-loop l = (us : List ℕ) → IsCheckedRow l.tree l.pages (suc l.level) l.top us → Walked l.tree l.pages l.level l.first us l.walk
+invariant-loop l = (us : List ℕ) → IsCheckedRow l.tree l.pages (suc l.level) l.top us → Walked l.tree l.pages l.level l.first us l.walk l.counter

@@ -1,4 +1,6 @@
 use Rattle.std.proofs.Common.{◌≡◌, ◌+◌, ◌-◌, arith}
+use Rattle.entries.proofs.Edits.{on_err}
+use Rattle.tree_check.proofs.Complete.{root_row, has_row_below}
 use Rattle.tree_check.proofs.Descended.{descent_begins, goes_down, descent_ends, all_within, top_node, top_laid_out, row_above}
 use Rattle.tree_check.proofs.whole.check_tree.Goals as goal
 
@@ -30,6 +32,7 @@ pub check_level-requires : goal.check_level-requires
 check_level-requires c =
     let came = c.loop-down.invariant.came in
     record {
+      some = c.requires.some;
       above =
           record {
             us = came.us;
@@ -61,3 +64,18 @@ pub returns-clause-within : goal.returns-clause-within
 returns-clause-within c =
     all_within c.args.tree c.args.pages.now c.requires.some c.in_ok-height.height c.loop-down.down c.loop-down.top
     (omega (arith, c.loop-down-test.false, c.loop-down.invariant.within)) c.loop-down.invariant.came
+
+pub returns-in_err-height-clause-refused : goal.returns-in_err-height-clause-refused
+returns-in_err-height-clause-refused c =
+    on_err c.from_residual.result (λ sound files. c.in_err-height.ensures.refused (root_row c.args.tree c.args.pages.now c.told-pages sound files))
+
+pub returns-in_err-check_level-clause-refused : goal.returns-in_err-check_level-clause-refused
+returns-in_err-check_level-clause-refused c =
+    on_err c.from_residual-in_err-check_level.result (λ sound files.
+    let came = c.loop-down.invariant.came in
+    let level = c.in_ok-height.height - 1 - c.loop-down.down in
+    let level_is : level + 1 ≡ c.in_ok-height.height - c.loop-down.down = omega (arith, c.loop-down-test.true) in
+    c.in_err-check_level.ensures.refused came.us
+    (row_above c.args.tree c.args.pages.now c.in_ok-height.height c.loop-down.down c.loop-down.top level level_is came)
+    (has_row_below c.args.tree c.args.pages.now c.told-pages c.in_ok-height.height c.loop-down.down c.loop-down.top c.child_at-first.result level
+    c.in_ok-height.ensures.row.each.0.node.stands.level_is c.loop-down-test.true level_is sound files came c.child_at-first.ensures))
