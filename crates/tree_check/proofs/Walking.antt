@@ -16,7 +16,7 @@ use Rattle.law_flat_tree.proofs.PageSplits.{all_in}
 use Rattle.law_flat_tree.proofs.Rows.{cut}
 use Rattle.btree.specs.declared.tree.Tree.{Tree}
 use Rattle.tree_check.specs.declared.rows.Walk.{Walk}
-use Rattle.tree_check.specs.Rows.{page_in, node_in, end_before, IsNodeAt, IsStep, IsRowEnd, IsCheckedRow, HasRowBelow}
+use Rattle.tree_check.specs.Rows.{page_in, node_in, end_before, IsNodeAt, IsStep, IsRowEnd, IsCheckedRow, HasRowBelow, AreSteps, Comes}
 
 -- ---- rows with one page more
 
@@ -265,3 +265,13 @@ module _ (tree : Tree) (pages : List (List ℕ)) (level first : ℕ) (us : List 
 pub tree_fields : (tree : Tree) (pages : List (List ℕ)) (level page : ℕ) → IsNodeAt tree pages level page → HasTreeFields (page_in pages page)
 tree_fields tree pages level page is =
     subst (λ b. MatchBool b (HasTreeFields (page_in pages page)) (HasPlainFields (page_in pages page))) is.node.stands.kind is.page.fields
+
+steps_on : (tree : Tree) (pages : List (List ℕ)) (level : ℕ) (start now next : Walk) (way : List Walk) → AreSteps tree pages level start way now
+    → IsStep tree pages level now next → AreSteps tree pages level start (way ++ next ∷ []) next
+steps_on tree pages level start now next [] steps step = (subst (λ w. IsStep tree pages level w next) (sym steps) step, refl)
+steps_on tree pages level start now next (walk ∷ way) steps step = (steps.0, steps_on tree pages level walk now next way steps.1 step)
+
+pub comes_on : (tree : Tree) (pages : List (List ℕ)) (level top first : ℕ) (now next : Walk) → Comes tree pages level top first now
+    → IsStep tree pages level now next → Comes tree pages level top first next
+comes_on tree pages level top first now next comes step =
+    record { way = comes.way ++ next ∷ []; steps = steps_on tree pages level _ now next comes.way comes.steps step }

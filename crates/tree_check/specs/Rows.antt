@@ -1,9 +1,9 @@
 -- Pages of a file, and rows of them as a check has walked them.
-use Rattle.std.specs.Prelude.{◌≡◌, ◌≢◌, ℕ, suc, ◌<◌, ◌≤◌, List, [], length, take, slice_index_or, None, ◌==◌, if◌then◌else◌}
+use Rattle.std.specs.Prelude.{◌≡◌, ◌≢◌, ℕ, suc, ◌<◌, ◌≤◌, List, [], ◌∷◌, length, take, slice_index_or, None, ◌⊎◌, ◌==◌, if◌then◌else◌}
 use Rattle.std.specs.List.{AllByRecursion}
 use Rattle.page_format.specs.Shape.{IsPage}
 use Rattle.page_format.specs.Refused.{IsRefused}
-use Rattle.page_format.specs.Words.{low_of, high_of, right_of, count_of, records_of}
+use Rattle.page_format.specs.Words.{level_of, low_of, high_of, right_of, count_of, records_of}
 use Rattle.law_flat_tree.specs.Levels.{Fence, Node, IsRow, heads, children, head_or}
 use Rattle.law_flat_tree.specs.Levels.Fence.{First, Key, Last}
 use Rattle.law_flat_tree.specs.Pages.{low_fence, child_of, node_of}
@@ -11,7 +11,7 @@ use Rattle.btree.specs.declared.tree.Tree.{Tree}
 use Rattle.btree.specs.Sound.{levels_of}
 use Rattle.tree_check.specs.declared.rows.Walk.{Walk}
 use Rattle.tree_check.specs.declared.rows.RowFault.{RowFault}
-use Rattle.tree_check.specs.declared.rows.RowFault.TheVariants.{Page, Child, Neighbour, Endless}
+use Rattle.tree_check.specs.declared.rows.RowFault.TheVariants.{Page, Child, Neighbour}
 use Rattle.tree_check.specs.declared.pages.PageFault.{PageFault}
 use Rattle.tree_check.specs.declared.pages.PageFault.TheVariants.{Missing, Unread, Wrong}
 use Rattle.tree_check.specs.Nodes.{IsNode, IsBroken}
@@ -91,9 +91,41 @@ abbrev pub AreFilePages : Tree → List (List ℕ) → Type 0
 AreFilePages tree pages =
     AllByRecursion (AllByRecursion (λ page. (page < length pages) × IsPage page (page_in pages page))) (levels_of tree (page_in pages))
 
--- why a page may not stand where it is; of the others it isn't said yet that rows that stand so never have them
-abbrev pub IsRowFault : Tree → List (List ℕ) → ℕ → RowFault → Type 0
-IsRowFault tree pages level (Page page fault) = IsFaulty tree pages level page fault
-IsRowFault tree pages level (Child page) = Unit {0}
-IsRowFault tree pages level (Neighbour page) = Unit {0}
-IsRowFault tree pages level Endless = Unit {0}
+-- a walk goes from one step to the next
+abbrev pub AreSteps : Tree → List (List ℕ) → ℕ → Walk → List Walk → Walk → Type 0
+AreSteps tree pages level now [] end = now ≡ end
+AreSteps tree pages level now (next ∷ more) end = IsStep tree pages level now next × AreSteps tree pages level next more end
+
+-- From the first pages of two levels a walk comes here.
+pub record Comes (tree : Tree) (pages : List (List ℕ)) (level top first : ℕ) (now : Walk) : Type 0 where
+  pub way : List Walk
+  pub steps : AreSteps tree pages level (record { upper = top; place = 0; lower = first; last = 0 }) way now
+
+-- Why it can't go on from here: the page that comes next may not stand on the level, or it begins elsewhere than its parent's record
+-- says or the page before ends; or the page before has another neighbour than the next child, or isn't the end of its row.
+abbrev pub IsStop : Tree → List (List ℕ) → ℕ → Walk → RowFault → Type 0
+IsStop tree pages level now (Page page fault) = (now.upper ≢ 0) × (page ≡ now.lower) × IsFaulty tree pages level page fault
+IsStop tree pages level now (Child page) =
+    (now.upper ≢ 0) × (page ≡ now.lower)
+    × (((node_in tree pages page).low ≢ entry_fence tree.key_len (page_in pages now.upper) now.place)
+    ⊎ ((node_in tree pages page).low ≢ end_before tree pages now.last))
+IsStop tree pages level now (Neighbour page) =
+    (page ≡ now.last)
+    × (now.upper ≢ 0 → child_of tree.key_len (slice_index_or (records_of (page_in pages now.upper)) now.place []) ≢ now.lower)
+    × (now.upper ≡ 0 → IsRowEnd pages now.last now.lower → ⊥)
+
+-- A walk comes to where it can't go on.
+pub record IsRowFault (tree : Tree) (pages : List (List ℕ)) (level top first : ℕ) (fault : RowFault) : Type 0 where
+  pub now : Walk
+  pub comes : Comes tree pages level top first now
+  pub stop : IsStop tree pages level now fault
+
+-- why the root isn't a row by itself
+abbrev pub IsRootFault : Tree → List (List ℕ) → RowFault → Type 0
+IsRootFault tree pages (Page page fault) = (page ≡ tree.root) × IsFaulty tree pages (level_of (page_in pages page)) page fault
+IsRootFault tree pages (Child page) = (page ≡ tree.root) × (((node_in tree pages page).low ≢ First) ⊎ ((node_in tree pages page).high ≢ Last))
+IsRootFault tree pages (Neighbour page) = (page ≡ tree.root) × (right_of (page_in pages page) ≢ 0)
+
+-- what is wrong with the root, or with two levels below it
+abbrev pub IsTreeFault : Tree → List (List ℕ) → RowFault → Type 0
+IsTreeFault tree pages fault = IsRootFault tree pages fault ⊎ ((level top first : ℕ) × IsRowFault tree pages level top first fault)

@@ -7,7 +7,7 @@ ghost use Rattle.page_format.specs.Words.{low_of, right_of, count_of};
 ghost use Rattle.law_flat_tree.specs.Levels.Fence.{Key};
 ghost use Rattle.law_flat_tree.specs.Pages.{low_fence};
 ghost use Rattle.btree.specs.Layout.{IsLaidOut};
-ghost use Rattle.tree_check.specs.Rows.{page_in, entry_fence, end_before, IsNodeAt, IsNextChild, IsStep, IsRowEnd, IsCheckedRow, IsRowFrom, HasRowBelow, IsRowFault};
+ghost use Rattle.tree_check.specs.Rows.{page_in, entry_fence, end_before, IsNodeAt, IsNextChild, IsStep, IsRowEnd, IsCheckedRow, IsRowFrom, HasRowBelow, IsStop, IsRowFault};
 
 use crate::pages::{PageFault, do_meet, high_fence_of, low_fence_of, read_node};
 use btree::{Tree, child_at, is_laid_out, key_at};
@@ -34,12 +34,11 @@ pub struct Walk {
 pub enum RowFault {
     /// This page may not stand where it is.
     Page { page: u32, fault: PageFault },
-    /// This page isn't the child that comes next, or it doesn't begin where its parent's record says.
+    /// This page begins elsewhere than its parent's record says, or than the page before ends: it breaks the third rule.
     Child { page: u32 },
-    /// This page isn't where the one before ends, or the row doesn't end with it.
+    /// This page's neighbour isn't the next page of its level, or the level doesn't end with it: it breaks the fourth rule. It is
+    /// page 0 where the first page isn't the one that comes next.
     Neighbour { page: u32 },
-    /// The row below is longer than the file.
-    Endless,
 }
 
 /// Whether both pages begin at the same fence.
@@ -140,12 +139,12 @@ fn step(pages: &[[u8; 4096]], tree: Tree, level: u8, now: Walk) -> Result<Walk, 
     requires last { now.last ≢ 0 → IsNodeAt tree pages.now level now.last }
     requires place { now.place < count_of (page_in pages.now now.upper) }
     ensures step { IfOk result (IsStep tree pages.now level now) }
-    ensures fault { IfErr result (IsRowFault tree pages.now level) }
+    ensures fault { IfErr result (IsStop tree pages.now level now) }
     ensures refused { OnErr result (IsNextChild tree pages.now level now → ⊥) }
 {
     let above = &pages[now.upper as usize];
     if child_at(above, tree, now.place) != now.lower {
-        return Err(RowFault::Child { page: now.lower });
+        return Err(RowFault::Neighbour { page: now.last });
     }
     match read_node(pages, tree, level, now.lower) {
         Ok(()) => {}
@@ -161,7 +160,7 @@ fn step(pages: &[[u8; 4096]], tree: Tree, level: u8, now: Walk) -> Result<Walk, 
         return Err(RowFault::Child { page: now.lower });
     }
     if !follows(pages, tree, now.last, now.lower) {
-        return Err(RowFault::Neighbour { page: now.lower });
+        return Err(RowFault::Child { page: now.lower });
     }
     Ok(next_of(above, child, now))
 }
@@ -191,7 +190,7 @@ pub fn check_level(
     requires some { 0 < tree.key_len }
     requires above { IsRowFrom tree pages.now (suc level) top }
     ensures rows { OnOk result ((us : List ℕ) → IsCheckedRow tree pages.now (suc level) top us → HasRowBelow tree pages.now level first us) }
-    ensures fault { IfErr result (IsRowFault tree pages.now level) }
+    ensures fault { IfErr result (IsRowFault tree pages.now level top first) }
     ensures refused { OnErr result ((us : List ℕ) → IsCheckedRow tree pages.now (suc level) top us → HasRowBelow tree pages.now level first us → ⊥) }
 {
     let mut walk = Walk {
@@ -209,5 +208,6 @@ pub fn check_level(
         }
         walk = step(pages, tree, level, walk)?;
     }
-    Err(RowFault::Endless)
+    // no page stands twice in a row, and page 0 in none
+    unreachable!()
 }

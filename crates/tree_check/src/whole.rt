@@ -4,7 +4,7 @@ ghost use Rattle.std.specs.Prelude.{◌≡◌, ◌<◌, ◌≤◌, ℕ, [], ◌�
 ghost use Rattle.std.specs.List.{AllByRecursion};
 ghost use Rattle.page_format.specs.Words.{level_of};
 ghost use Rattle.btree.specs.Sound.{IsSoundTree, levels_of};
-ghost use Rattle.tree_check.specs.Rows.{page_in, AreFilePages, IsCheckedRow, IsRowFault};
+ghost use Rattle.tree_check.specs.Rows.{page_in, AreFilePages, IsCheckedRow, IsRootFault, IsTreeFault};
 
 use crate::pages::{PageFault, high_fence_of, low_fence_of, read_node};
 use crate::rows::{RowFault, check_level};
@@ -18,7 +18,7 @@ const RIGHT: usize = 28;
 /// The root's level, where it is a row by itself.
 fn read_root(pages: &[[u8; 4096]], tree: Tree) -> Result<u8, RowFault>
     ensures row { IfOk result (λ level. IsCheckedRow tree pages.now level tree.root (tree.root ∷ [])) }
-    ensures fault { IfErr result (λ fault. (level : ℕ) × IsRowFault tree pages.now level fault) }
+    ensures fault { IfErr result (IsRootFault tree pages.now) }
     ensures refused { OnErr result (IsCheckedRow tree pages.now (level_of (page_in pages.now tree.root)) tree.root (tree.root ∷ []) → ⊥) }
 {
     let page = tree.root;
@@ -35,7 +35,7 @@ fn read_root(pages: &[[u8; 4096]], tree: Tree) -> Result<u8, RowFault>
         Err(fault) => return Err(RowFault::Page { page, fault }),
     }
     if low_fence_of(bytes).is_some() || high_fence_of(bytes).is_some() {
-        return Err(RowFault::Neighbour { page });
+        return Err(RowFault::Child { page });
     }
     if read_u32(bytes, RIGHT) != 0 {
         return Err(RowFault::Neighbour { page });
@@ -49,7 +49,7 @@ pub fn check_tree(pages: &[[u8; 4096]], tree: Tree) -> Result<(), RowFault>
     requires few { length pages.now ≤ 65536 }
     ensures tree { OnOk result (IsSoundTree tree (page_in pages.now)) }
     ensures within { OnOk result (AllByRecursion (AllByRecursion (λ page. page < length pages.now)) (levels_of tree (page_in pages.now))) }
-    ensures fault { IfErr result (λ fault. (level : ℕ) × IsRowFault tree pages.now level fault) }
+    ensures fault { IfErr result (IsTreeFault tree pages.now) }
     ensures refused { OnErr result (IsSoundTree tree (page_in pages.now) → AreFilePages tree pages.now → ⊥) }
 {
     let height = read_root(pages, tree)?;
