@@ -4,7 +4,7 @@ use Rattle.std.proofs.Common.{List, [], ◌∷◌, ◌++◌, length, drop, map, 
 use Rattle.std.specs.Prelude.{Option, None, Some, IsTrue}
 use Rattle.std.specs.List.{AllByRecursion}
 use Rattle.std.proofs.lemmas.List.{length-take-le, length-drop}
-use Rattle.page_format.specs.Words.{kind_of, level_of, count_of, record_len_of, low_of, high_of, records_of}
+use Rattle.page_format.specs.Words.{u32_at, kind_of, level_of, count_of, record_len_of, low_of, high_of, records_of}
 use Rattle.page_format.specs.Shape.{is_tree, IsPage}
 use Rattle.page_format.proofs.Pieces.{wide-pieces}
 use Rattle.law_flat_tree.specs.Levels.{Fence, Node, IsRow, AreLevels, heads, children, head_or, named}
@@ -12,9 +12,12 @@ use Rattle.law_flat_tree.specs.Levels.Fence.{First, Key, Last}
 use Rattle.law_flat_tree.specs.Descents.{BeginsAt, AreInner, AreAllInner}
 use Rattle.law_flat_tree.specs.Pages.{low_fence, high_fence, child_of, entry_of, entries_of}
 use Rattle.law_flat_tree.specs.Trees.{AreNumbered}
+use Rattle.law_flat_tree.proofs.Apart.{with_both}
 use Rattle.law_flat_tree.proofs.Leaves.{both}
 use Rattle.btree.specs.declared.tree.Tree.{Tree}
-use Rattle.btree.specs.Sound.{lows_of, levels_of, IsTreePage, IsSoundTree}
+use Rattle.btree.specs.Sound.{lows_of, levels_of, IsTreePage}
+use Rattle.btree_split.specs.Placed.{IsPlacedPage, IsPlacedTree}
+use Rattle.tree_check.specs.Space.{HasFirstPages}
 use Rattle.tree_check.specs.Nodes.{IsFenceOf}
 use Rattle.tree_check.specs.Rows.{page_in, node_in, IsNodeAt, IsCheckedRow, HasRowBelow, AreFilePages}
 use Rattle.tree_check.proofs.Descended.{Stands, AreChecked, Descended, first_stands}
@@ -83,17 +86,38 @@ module _ (tree : Tree) (pages : List (List ℕ)) where
   abbrev IsTreesPage : ℕ → Type 0
   IsTreesPage = IsTreePage tree (page_in pages)
 
-  abbrev IsFilePage : ℕ → Type 0
-  IsFilePage page = (page < length pages) × IsPage page (page_in pages page)
+  -- what is known of a page beside
+  record IsFilePage (page : ℕ) : Type 0 where
+    counted : page < u32_at 44 (page_in pages 0)
+    within : page < length pages
+    page_is : IsPage page (page_in pages page)
+    placed : IsPlacedPage n (page_in pages) page
+
+  all_known : HasFirstPages pages → IsPlacedTree tree (page_in pages) → AreFilePages tree pages
+      → AllByRecursion (AllByRecursion IsFilePage) (levels_of tree (page_in pages))
+  all_known file tree_is are =
+      let counted : ℕ → Type 0 = λ page. page < u32_at 44 (page_in pages 0) in
+      let is_page : ℕ → Type 0 = λ page. IsPage page (page_in pages page) in
+      let placed : ℕ → Type 0 = IsPlacedPage n (page_in pages) in
+      let both_of : ℕ → Type 0 = λ page. counted page × is_page page in
+      with_both (AllByRecursion both_of) (AllByRecursion placed) (AllByRecursion IsFilePage)
+      (λ level. with_both both_of placed IsFilePage
+      (λ page known at. record { counted = known.0; within = omega (arith, known.0, file.count.few); page_is = known.1; placed = at }) level)
+      (levels_of tree (page_in pages))
+      (with_both (AllByRecursion counted) (AllByRecursion is_page) (AllByRecursion both_of)
+      (λ level. with_both counted is_page both_of (λ page one other. (one, other)) level)
+      (levels_of tree (page_in pages)) tree_is.whole.counted are) tree_is.placed
 
   may_stand : (k page : ℕ) → IsTreesPage page → IsFilePage page → level_of (page_in pages page) ≡ k
       → (k ≢ 0 → BeginsAt (node page).low (node page).entries) → IsLong n (node page).low → IsLong n (node page).high → IsNodeAt tree pages k page
   may_stand k page is file level begins low high =
       let bytes = page_in pages page in
       record {
-        some = is.some;
-        within = file.0;
-        page = file.1;
+        beyond = file.placed.beyond;
+        counted = file.counted;
+        within = file.within;
+        used = file.placed.used;
+        page = file.page_is;
         node =
             record {
               stands = record {
@@ -105,6 +129,7 @@ module _ (tree : Tree) (pages : List (List ℕ)) where
               };
               lengths = record { width = is.width; low = long_low n (low_of bytes) low; high = long_high n (high_of bytes) high };
               rising = is.rising;
+              first = file.placed.first;
             };
       }
 
@@ -124,7 +149,7 @@ module _ (tree : Tree) (pages : List (List ℕ)) where
         → AllByRecursion (λ (e : Fence × ℕ). IsLong n e.0) (node page).entries
     node_long page is file low =
         let bytes = page_in pages page in
-        let behind : length (drop 208 bytes) ≡ 4096 - 208 = length-drop 208 bytes ∙ ap (λ m. m - 208) (sizes page file.0) in
+        let behind : length (drop 208 bytes) ≡ 4096 - 208 = length-drop 208 bytes ∙ ap (λ m. m - 208) (sizes page file.within) in
         unless (level_of bytes == 0) n (entries_of n (low_fence (low_of bytes)) (records_of bytes))
         (entries_long n (record_len_of bytes) (low_fence (low_of bytes)) (records_of bytes) (omega (arith, is.width)) low
         (wide-pieces (record_len_of bytes) (count_of bytes) (drop 208 bytes) (omega (arith, is.fields.inside, behind))))
@@ -155,23 +180,24 @@ module _ (tree : Tree) (pages : List (List ℕ)) where
           subst (λ k. AreChecked tree pages k (ls ∷ more)) back (rows_stand ls more levels.1 inner.1 numbered.1 are.1 files.1 below),
         )
 
-    pub sound_rows : IsSoundTree tree (page_in pages) → AreFilePages tree pages → AreChecked tree pages (length (lows_of tree (page_in pages)))
+    pub sound_rows : HasFirstPages pages → IsPlacedTree tree (page_in pages) → AreFilePages tree pages → AreChecked tree pages (length (lows_of tree (page_in pages)))
         (levels_of tree (page_in pages))
-    sound_rows sound files =
+    sound_rows file placed files =
+        let sound = placed.whole.sound in
         let lows = lows_of tree (page_in pages) in
-        rows_stand (tree.root ∷ []) lows sound.stands.levels sound.stands.inner sound.stands.numbered sound.each files
+        rows_stand (tree.root ∷ []) lows sound.stands.levels sound.stands.inner sound.stands.numbered sound.each (all_known file placed files)
         (subst (IsLong n) (sym (top_low lows sound.stands.levels)) tt, tt)
       where
         top_low : (more : List (List ℕ)) → AreLevels node ((tree.root ∷ []) ∷ more) → (node tree.root).low ≡ First
         top_low [] levels = levels.0
         top_low (ls ∷ more) levels = levels.0.up.0
 
-    pub root_row : IsSoundTree tree (page_in pages) → AreFilePages tree pages
+    pub root_row : HasFirstPages pages → IsPlacedTree tree (page_in pages) → AreFilePages tree pages
         → IsCheckedRow tree pages (level_of (page_in pages tree.root)) tree.root (tree.root ∷ [])
-    root_row sound files =
+    root_row file placed files =
         let lows = lows_of tree (page_in pages) in
-        let top = first_stands tree pages (length lows) (tree.root ∷ []) lows (sound_rows sound files) in
-        subst (λ k. IsCheckedRow tree pages k tree.root (tree.root ∷ [])) (sym sound.stands.numbered.0.0)
+        let top = first_stands tree pages (length lows) (tree.root ∷ []) lows (sound_rows file placed files) in
+        subst (λ k. IsCheckedRow tree pages k tree.root (tree.root ∷ [])) (sym placed.whole.sound.stands.numbered.0.0)
         (record { first_is = refl; row = top.row; each = top.each })
 
     -- ---- the row below one that was reached
@@ -239,14 +265,14 @@ module _ (tree : Tree) (pages : List (List ℕ)) where
         ∙ ap (λ p. child_of n (get_or (records_of (page_in pages p)) 0 [])) row.first_is
 
     pub has_row_below : (height down top first level : ℕ) → level_of (page_in pages tree.root) ≡ height → down < height → level + 1 ≡ height - down
-        → IsSoundTree tree (page_in pages) → AreFilePages tree pages → (came : Descended tree pages height down top)
+        → HasFirstPages pages → IsPlacedTree tree (page_in pages) → AreFilePages tree pages → (came : Descended tree pages height down top)
         → first ≡ child_of n (get_or (records_of (page_in pages top)) 0 []) → HasRowBelow tree pages level first came.us
-    has_row_below height down top first level height_is within level_is sound files came first_is =
+    has_row_below height down top first level height_is within level_is file placed files came first_is =
         let lows = lows_of tree (page_in pages) in
-        let all : length lows ≡ height = sym sound.stands.numbered.0.0 ∙ height_is in
+        let all : length lows ≡ height = sym placed.whole.sound.stands.numbered.0.0 ∙ height_is in
         let at : height ≡ length came.tops + suc level = omega (arith, came.depth, within, level_is) in
         let below = below_of height level came.tops came.us (tree.root ∷ []) lows at came.checked
-        (subst (λ k. AreChecked tree pages k (levels_of tree (page_in pages))) all (sound_rows sound files))
+        (subst (λ k. AreChecked tree pages k (levels_of tree (page_in pages))) all (sound_rows file placed files))
         (sym (ap head_row came.whole)) (omega (arith, came.depth, within, all)) in
         let row : IsCheckedRow tree pages (suc level) top came.us =
         subst (λ k. IsCheckedRow tree pages k top came.us) (omega (arith, level_is)) came.row in

@@ -20,6 +20,7 @@ use Rattle.law_flat_tree.proofs.Rows.{cut, children_cut}
 use Rattle.btree.specs.declared.tree.Tree.{Tree}
 use Rattle.tree_check.specs.declared.rows.Walk.{Walk}
 use Rattle.tree_check.specs.Rows.{page_in, node_in, entry_fence, end_before, IsNodeAt, IsNextChild, IsRowEnd, IsCheckedRow, HasRowBelow}
+use Rattle.tree_check.proofs.Nodes.{not_header}
 use Rattle.tree_check.proofs.Leaf.{room_of}
 use Rattle.tree_check.proofs.Walking.{Walked, first_entries, entry_more, all_records, inner_entries, upper_node}
 
@@ -73,7 +74,7 @@ module _ (tree : Tree) (pages : List (List ℕ)) (level : ℕ) where
       omega (
         arith,
         length-le_from_distinct_below (0 ∷ ls) (length pages) (
-          each_of (IsNodeAt tree pages level) (λ y. eqb 0 y ≡ false) (λ y is. ne_eqb 0 y (λ same. is.some (sym same))) ls all,
+          each_of (IsNodeAt tree pages level) (λ y. eqb 0 y ≡ false) (λ y is. ne_eqb 0 y (λ same. not_header is.beyond (sym same))) ls all,
           all_apart (node_in tree pages) low high next ls row (have_room some ls all),
         )
             (λ q is. member_below (0 ∷ ls) (length pages) q (file, each_of (IsNodeAt tree pages level) (λ y. y < length pages) (λ y at. at.within) ls all) is),
@@ -130,7 +131,7 @@ module _ (tree : Tree) (pages : List (List ℕ)) (level first : ℕ) (us : List 
     follows : Follows now.lower walked.ls below.ls
     follows =
         same_way node First First (end_before tree pages now.last) now.lower walked.ls below.ls walked.row below.checked.row
-        (each_of (IsNodeAt tree pages level) (λ l. l ≢ 0) (λ l is. is.some) walked.ls walked.each) (walked.first_is ∙ sym below.checked.first_is)
+        (each_of (IsNodeAt tree pages level) (λ l. l ≢ 0) (λ l is. not_header is.beyond) walked.ls walked.each) (walked.first_is ∙ sym below.checked.first_is)
 
     abbrev rest : List ℕ
     rest = follows.rest
@@ -222,7 +223,7 @@ module _ (tree : Tree) (pages : List (List ℕ)) (level first : ℕ) (us : List 
 
     none_left : (vs : List ℕ) → now.upper ≡ 0 → now.upper ≡ head_or 0 vs → AllByRecursion (IsNodeAt tree pages (suc level)) vs → vs ≡ []
     none_left [] none is all = refl
-    none_left (v ∷ vs) none is all = absurd (all.0.some (sym is ∙ none))
+    none_left (v ∷ vs) none is all = absurd (not_header all.0.beyond (sym is ∙ none))
 
     pub must_end : now.upper ≡ 0 → IsRowEnd pages now.last now.lower
     must_end none = ends rest nothing follows.next_is row_left.2 where

@@ -17,6 +17,7 @@ use Rattle.law_flat_tree.proofs.Rows.{cut}
 use Rattle.btree.specs.declared.tree.Tree.{Tree}
 use Rattle.tree_check.specs.declared.rows.Walk.{Walk}
 use Rattle.tree_check.specs.Rows.{page_in, node_in, end_before, IsNodeAt, IsStep, IsRowEnd, IsCheckedRow, HasRowBelow, AreSteps, Comes}
+use Rattle.tree_check.proofs.Nodes.{not_header}
 
 -- ---- rows with one page more
 
@@ -153,7 +154,7 @@ module _ (tree : Tree) (pages : List (List ℕ)) (level first : ℕ) (us : List 
       end_is : end_before tree pages next.last ≡ (node c).high
       end_is =
           ap (end_before tree pages) stepped.last_is
-          ∙ cond-false (c == 0) First (node c).high (ne_eqb c 0 stepped.child.node.some)
+          ∙ cond-false (c == 0) First (node c).high (ne_eqb c 0 (not_header stepped.child.node.beyond))
 
       one_more : (ls : List ℕ) → IsRow node First ls (end_before tree pages now.last) c
           → IsRow node First (ls ++ c ∷ []) (end_before tree pages next.last) next.lower
@@ -180,7 +181,7 @@ module _ (tree : Tree) (pages : List (List ℕ)) (level first : ℕ) (us : List 
           → IsRow node First ls (end_before tree pages now.last) c
           → heads node ls ≡ children node done ++ take now.place (first_entries node rest)
           → AllByRecursion (IsNodeAt tree pages level) ls → Walked tree pages level first us next (k + 1)
-      go k done [] ls long whole is first_is row are each = absurd (upper.some is)
+      go k done [] ls long whole is first_is row are each = absurd (not_header upper.beyond is)
       go k done (v ∷ rest) ls long whole is first_is row are each = elim (cases_lt (suc now.place) (count_of (page_in pages u))) [
         | inl behind ↦
             let same = stepped.behind behind in
@@ -243,8 +244,8 @@ module _ (tree : Tree) (pages : List (List ℕ)) (level first : ℕ) (us : List 
       finish : (done rest : List ℕ) → us ≡ done ++ rest → now.upper ≡ head_or 0 rest
           → heads node walked.ls ≡ children node done ++ take now.place (first_entries node rest) → HasRowBelow tree pages level first us
       finish done (v ∷ rest) whole is are =
-          absurd ((all_in (IsNodeAt tree pages (suc level)) done rest v
-          (subst (λ l. AllByRecursion (IsNodeAt tree pages (suc level)) l) whole above.each)).some (sym is ∙ none))
+          absurd (not_header (all_in (IsNodeAt tree pages (suc level)) done rest v
+          (subst (λ l. AllByRecursion (IsNodeAt tree pages (suc level)) l) whole above.each)).beyond (sym is ∙ none))
       finish done [] whole is are =
           let end : end_before tree pages now.last ≡ Last =
           cond-false (now.last == 0) First (node now.last).high (ne_eqb now.last 0 ends.some) ∙ ap high_fence ends.high in

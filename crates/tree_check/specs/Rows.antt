@@ -3,17 +3,18 @@ use Rattle.std.specs.Prelude.{◌≡◌, ◌≢◌, ℕ, suc, ◌<◌, ◌≤◌
 use Rattle.std.specs.List.{AllByRecursion}
 use Rattle.page_format.specs.Shape.{IsPage}
 use Rattle.page_format.specs.Refused.{IsRefused}
-use Rattle.page_format.specs.Words.{level_of, low_of, high_of, right_of, count_of, records_of}
+use Rattle.page_format.specs.Words.{u32_at, level_of, low_of, high_of, right_of, count_of, records_of}
 use Rattle.law_flat_tree.specs.Levels.{Fence, Node, IsRow, heads, children, head_or}
 use Rattle.law_flat_tree.specs.Levels.Fence.{First, Key, Last}
 use Rattle.law_flat_tree.specs.Pages.{low_fence, child_of, node_of}
+use Rattle.space_map.specs.Map.{mark_of}
 use Rattle.btree.specs.declared.tree.Tree.{Tree}
 use Rattle.btree.specs.Sound.{levels_of}
 use Rattle.tree_check.specs.declared.rows.Walk.{Walk}
 use Rattle.tree_check.specs.declared.rows.RowFault.{RowFault}
 use Rattle.tree_check.specs.declared.rows.RowFault.TheVariants.{Page, Child, Neighbour}
 use Rattle.tree_check.specs.declared.pages.PageFault.{PageFault}
-use Rattle.tree_check.specs.declared.pages.PageFault.TheVariants.{Missing, Unread, Wrong}
+use Rattle.tree_check.specs.declared.pages.PageFault.TheVariants.{Missing, Free, Unread, Wrong}
 use Rattle.tree_check.specs.Nodes.{IsNode, IsBroken}
 
 -- the page of that number
@@ -23,16 +24,19 @@ page_in pages number = slice_index_or pages number []
 abbrev pub node_in : Tree → List (List ℕ) → ℕ → Node
 node_in tree pages number = node_of tree.key_len (page_in pages number)
 
--- The file has a page of that number, which may stand on the level.
+-- Page 0 counts a page of that number behind the first ones, the map says that it is in use, and it may stand on the level.
 pub record IsNodeAt (tree : Tree) (pages : List (List ℕ)) (level number : ℕ) : Type 0 where
-  pub some : number ≢ 0
+  pub beyond : 20 < number
+  pub counted : number < u32_at 44 (page_in pages 0)
   pub within : number < length pages
+  pub used : mark_of (page_in pages) number ≡ 1
   pub page : IsPage number (page_in pages number)
   pub node : IsNode tree level (page_in pages number)
 
 -- why it may not
 abbrev pub IsFaulty : Tree → List (List ℕ) → ℕ → ℕ → PageFault → Type 0
-IsFaulty tree pages level number Missing = 0 < number → length pages ≤ number
+IsFaulty tree pages level number Missing = 20 < number → u32_at 44 (page_in pages 0) ≤ number
+IsFaulty tree pages level number Free = mark_of (page_in pages) number ≡ 0
 IsFaulty tree pages level number (Unread bad) = IsRefused number (page_in pages number) bad
 IsFaulty tree pages level number (Wrong bad) = IsBroken tree level (page_in pages number) bad
 
@@ -86,10 +90,9 @@ pub record HasRowBelow (tree : Tree) (pages : List (List ℕ)) (level first : �
   pub checked : IsCheckedRow tree pages level first ls
   pub are_children : children (node_in tree pages) us ≡ heads (node_in tree pages) ls
 
--- Each page that the tree leads to is one of the file's, and its bytes are that page.
+-- the bytes of each page that the tree leads to are that page
 abbrev pub AreFilePages : Tree → List (List ℕ) → Type 0
-AreFilePages tree pages =
-    AllByRecursion (AllByRecursion (λ page. (page < length pages) × IsPage page (page_in pages page))) (levels_of tree (page_in pages))
+AreFilePages tree pages = AllByRecursion (AllByRecursion (λ page. IsPage page (page_in pages page))) (levels_of tree (page_in pages))
 
 -- a walk goes from one step to the next
 abbrev pub AreSteps : Tree → List (List ℕ) → ℕ → Walk → List Walk → Walk → Type 0

@@ -7,9 +7,11 @@ ghost use Rattle.page_format.specs.Words.{low_of, right_of, count_of};
 ghost use Rattle.law_flat_tree.specs.Levels.Fence.{Key};
 ghost use Rattle.law_flat_tree.specs.Pages.{low_fence};
 ghost use Rattle.btree.specs.Layout.{IsLaidOut};
+ghost use Rattle.tree_check.specs.Space.{HasFirstPages};
 ghost use Rattle.tree_check.specs.Rows.{page_in, entry_fence, end_before, IsNodeAt, IsNextChild, IsStep, IsRowEnd, IsCheckedRow, IsRowFrom, HasRowBelow, IsStop, IsRowFault};
 
-use crate::pages::{PageFault, do_meet, high_fence_of, low_fence_of, read_node};
+use crate::fences::{do_meet, high_fence_of, low_fence_of};
+use crate::pages::{PageFault, read_node};
 use btree::{Tree, child_at, is_laid_out, key_at};
 use page_format::{read_u16, read_u32};
 
@@ -135,6 +137,7 @@ fn next_of(above: &[u8], child: &[u8], now: Walk) -> Walk
 
 /// Checks the page that comes next below, and answers what comes next then.
 fn step(pages: &[[u8; 4096]], tree: Tree, level: u8, now: Walk) -> Result<Walk, RowFault>
+    requires file { HasFirstPages pages.now }
     requires upper { IsNodeAt tree pages.now (suc level) now.upper }
     requires last { now.last ≢ 0 → IsNodeAt tree pages.now level now.last }
     requires place { now.place < count_of (page_in pages.now now.upper) }
@@ -187,6 +190,7 @@ pub fn check_level(
     top: u32,
     first: u32,
 ) -> Result<(), RowFault>
+    requires file { HasFirstPages pages.now }
     requires some { 0 < tree.key_len }
     requires above { IsRowFrom tree pages.now (suc level) top }
     ensures rows { OnOk result ((us : List ℕ) → IsCheckedRow tree pages.now (suc level) top us → HasRowBelow tree pages.now level first us) }
