@@ -7,6 +7,8 @@ mod both;
 #[cfg(test)]
 mod changing;
 #[cfg(test)]
+mod checking;
+#[cfg(test)]
 mod comparing;
 #[cfg(test)]
 mod deepening;

@@ -1,9 +1,9 @@
 -- Rows that were checked, from the root down, are a sound tree.
-use Rattle.std.proofs.Common.{◌≡◌, ◌≢◌, ℕ, suc, ◌+◌, ◌-◌, ◌<◌, ◌≤◌, ◌==◌, Bool, true, false, if◌then◌else◌}
+use Rattle.std.proofs.Common.{◌≡◌, ◌≢◌, ℕ, suc, ◌+◌, ◌-◌, ◌<◌, ◌==◌, Bool, true, false, if◌then◌else◌}
 use Rattle.std.proofs.Common.{List, [], ◌∷◌, ◌++◌, length, drop, refl, sym, ◌∙◌, ap, subst, length-append, arith}
 use Rattle.std.specs.List.{AllByRecursion}
 use Rattle.std.proofs.lemmas.Bool.{ne_eqb}
-use Rattle.page_format.specs.Words.{level_of, count_of, record_len_of, low_of, records_of}
+use Rattle.page_format.specs.Words.{u32_at, level_of, count_of, record_len_of, low_of, records_of}
 use Rattle.page_format.proofs.Pieces.{length-pieces}
 use Rattle.law_flat_tree.specs.Levels.{Fence, IsRow, AreLevels, heads, children}
 use Rattle.law_flat_tree.specs.Levels.Fence.{First, Key, Last}
@@ -16,6 +16,9 @@ use Rattle.law_flat_tree.proofs.Reading.{one_shape}
 use Rattle.btree.specs.declared.tree.Tree.{Tree}
 use Rattle.btree.specs.Layout.{IsLaidOut}
 use Rattle.btree.specs.Sound.{levels_of, IsTreePage, IsSoundTree}
+use Rattle.btree_split.specs.Placed.{IsPlacedPage, IsPlacedTree}
+use Rattle.tree_check.specs.Space.{HasFirstPages}
+use Rattle.tree_check.proofs.Nodes.{not_header}
 use Rattle.tree_check.specs.Rows.{page_in, node_in, IsNodeAt, IsCheckedRow, HasRowBelow}
 use Rattle.tree_check.proofs.Leaf.{tree_page, leaf_page}
 use Rattle.tree_check.proofs.Walking.{tree_fields}
@@ -39,7 +42,7 @@ AreChecked tree pages k (us ∷ ls ∷ more) =
     Stands tree pages k us × (children (node_in tree pages) us ≡ heads (node_in tree pages) ls) × AreChecked tree pages (k - 1) (ls ∷ more)
 
 module _ (tree : Tree) (pages : List (List ℕ)) where
-  first_stands : (k : ℕ) (ls : List ℕ) (more : List (List ℕ)) → AreChecked tree pages k (ls ∷ more) → Stands tree pages k ls
+  pub first_stands : (k : ℕ) (ls : List ℕ) (more : List (List ℕ)) → AreChecked tree pages k (ls ∷ more) → Stands tree pages k ls
   first_stands k ls [] checked = checked
   first_stands k ls (next ∷ more) checked = checked.0
 
@@ -110,8 +113,9 @@ module _ (tree : Tree) (pages : List (List ℕ)) where
       all_leaves some us (subst (λ m. AllByRecursion (IsNodeAt tree pages m) us) (omega (arith, long)) checked.each)
   leaves_stand some k (us ∷ ls ∷ more) long checked = leaves_stand some (k - 1) (ls ∷ more) (omega (arith, long)) checked.2
 
-  one_page : length pages ≤ 65536 → (k page : ℕ) → IsNodeAt tree pages k page → IsTreePage tree (page_in pages) page
-  one_page few k page is = tree_page tree (page_in pages) page k is.some (omega (arith, is.within, few)) is.page.fields is.node
+  one_page : HasFirstPages pages → (k page : ℕ) → IsNodeAt tree pages k page → IsTreePage tree (page_in pages) page
+  one_page file k page is =
+      tree_page tree (page_in pages) page k (not_header is.beyond) (omega (arith, is.counted, file.count.counted.1)) is.page.fields is.node
 
   -- what holds of a page that was checked holds of all
   on_pages : (P : ℕ → Type 0) → ((k page : ℕ) → IsNodeAt tree pages k page → P page) → (k : ℕ) (rows : List (List ℕ)) → AreChecked tree pages k rows
@@ -193,15 +197,23 @@ module _ (tree : Tree) (pages : List (List ℕ)) where
         subst (λ l. AllByRecursion (AllByRecursion P) (levels_from tree.root l))
         (one_shape tree.key_len (page_in pages) tree.root came.lows stands) (on_pages P on height rows checked)
 
-    pub descent_ends : length pages ≤ 65536 → IsSoundTree tree (page_in pages)
-    descent_ends few = record {
+    sound : HasFirstPages pages → IsSoundTree tree (page_in pages)
+    sound file = record {
       stands =
           subst (λ l. IsTree tree.key_len (page_in pages) tree.root l) (one_shape tree.key_len (page_in pages) tree.root came.lows stands) stands;
-      each = on_levels (IsTreePage tree (page_in pages)) (one_page few);
+      each = on_levels (IsTreePage tree (page_in pages)) (one_page file);
     }
 
-    pub all_within : AllByRecursion (AllByRecursion (λ page. page < length pages)) (levels_of tree (page_in pages))
-    all_within = on_levels (λ page. page < length pages) (λ k page is. is.within)
+    pub descent_ends : HasFirstPages pages → IsPlacedTree tree (page_in pages)
+    descent_ends file = record {
+      whole = record {
+        sound = sound file;
+        counted = on_levels (λ page. page < u32_at 44 (page_in pages 0)) (λ k page is. is.counted);
+      };
+      reserved = file.reserved;
+      placed = on_levels (IsPlacedPage tree.key_len (page_in pages))
+          (λ k page is. record { beyond = is.beyond; used = is.used; first = is.node.first });
+    }
 
   -- the first page of the lowest row so far
   top_is : (k top : ℕ) (us : List ℕ) → us ≢ [] → IsCheckedRow tree pages k top us → IsNodeAt tree pages k top

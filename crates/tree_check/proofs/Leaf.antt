@@ -33,7 +33,7 @@ tree_page tree pages page level some within fields node = record {
 
 -- ---- between the fences
 
-room_of : (n : ℕ) (low high : Option (List ℕ)) → 0 < n → IsFenceOf n high → DoFencesRise low high → HasRoom (low_fence low) (high_fence high)
+pub room_of : (n : ℕ) (low high : Option (List ℕ)) → 0 < n → IsFenceOf n high → DoFencesRise low high → HasRoom (low_fence low) (high_fence high)
 room_of n None None some long rise = record { key = []; from = tt; under = tt }
 room_of n None (Some []) some long rise = absurd (omega (arith, some, long))
 room_of n None (Some (x ∷ xs)) some long rise = record { key = []; from = tt; under = key_cmp_is [] (x ∷ xs) }

@@ -1,6 +1,6 @@
 -- Fences, keys that rise, and a leaf as its records tell it.
 use Rattle.std.proofs.Common.{◌≡◌, ◌≢◌, ◌⊎◌, inl, inr, ℕ, zero, suc, ◌+◌, ◌-◌, ◌<◌, ◌≤◌, ◌==◌, ◌||◌, Bool, true, false, if◌then◌else◌}
-use Rattle.std.proofs.Common.{List, [], ◌∷◌, length, take, drop, map, get_or, eqb, refl, sym, ◌∙◌, ap, subst, arith}
+use Rattle.std.proofs.Common.{List, [], ◌∷◌, length, take, drop, map, replicate, get_or, eqb, refl, sym, ◌∙◌, ap, subst, arith}
 use Rattle.std.specs.Prelude.{None, Some, MatchBool, slice_index}
 use Rattle.std.specs.Ordering.{nat_cmp, is_lt}
 use Rattle.std.specs.Cmp.Lexicographic.{slice_cmp}
@@ -9,11 +9,18 @@ use Rattle.std.specs.declared.cmp.Ordering.TheVariants.{Less, Equal, Greater}
 use Rattle.std.proofs.lemmas.Bool.{false≢true, ne_eqb}
 use Rattle.std.proofs.lemmas.Bool.Decides.{eqb_tells}
 use Rattle.std.proofs.lemmas.List.{length-take-le, length-drop, take-take}
-use Rattle.page_format.specs.Words.{level_of, record_len_of, low_of, high_of, fence}
-use Rattle.page_format.specs.Shape.{AreRising, HasTreeFields, IsFence}
+use Rattle.page_format.specs.Words.{level_of, count_of, record_len_of, low_of, high_of, fence, pieces, records_of}
+use Rattle.page_format.specs.Shape.{AreZeros, AreRising, HasTreeFields, IsFence}
+use Rattle.page_format.proofs.Pieces.{AreWide, wide-pieces}
+use Rattle.std.specs.List.{AllByRecursion}
+use Rattle.std.proofs.lemmas.List.Elements.{recursion_from_All, All-replicate}
+use Rattle.btree_split.specs.Placed.{least_key, BeginsLow}
 use Rattle.btree.specs.declared.tree.Tree.{Tree}
-use Rattle.btree.specs.Layout.{width_of}
+use Rattle.btree.specs.Layout.{width_of, IsLaidOut}
 use Rattle.tree_check.specs.Nodes.{IsFenceOf, HasLengths}
+
+pub not_header : {page : ℕ} → 20 < page → page ≢ 0
+not_header beyond none = omega (arith, beyond, none)
 
 -- ---- fences
 
@@ -110,3 +117,34 @@ fence_shown len at k bytes there is k_is =
     let short : len ≤ 80 = subst (λ n. n ≤ 80) (ap (λ (b : Bool). if b then 0 else len) plain) is.fits in
     ap (λ (b : Bool). if b then None else Some (take len (take 80 (drop at bytes)))) plain
     ∙ ap Some (take-take len 80 (drop at bytes) short) ∙ ap (λ n. Some (take n (drop at bytes))) (sym k_is)
+
+-- ---- the least key
+
+all_zero : (bytes : List ℕ) → AllByRecursion (λ byte. byte ≡ 0) bytes → bytes ≡ replicate (length bytes) 0
+all_zero [] all = refl
+all_zero (byte ∷ bytes) all = (λ j. all.0 j ∷ all_zero bytes all.1 j)
+
+first_long : (n width count : ℕ) (bytes : List ℕ) → 0 < count → n ≤ width → AreWide width (pieces width count bytes)
+    → length (take n (get_or (pieces width count bytes) 0 [])) ≡ n
+first_long n width zero bytes some fits wide = absurd (omega (arith, some))
+first_long n width (suc count) bytes some fits wide = length-take-le n (take width bytes) (omega (arith, fits, wide.0))
+
+pub no_low_told : (tree : Tree) (bytes first : List ℕ) → length bytes ≡ 4096 → IsLaidOut tree bytes → (level_of bytes ≢ 0 → 0 < count_of bytes)
+    → level_of bytes ≢ 0 → first ≡ take tree.key_len (get_or (records_of bytes) 0 []) → low_of bytes ≡ None → (r : Bool)
+    → MatchBool r (AreZeros first) (AreZeros first → ⊥) → MatchBool r (BeginsLow tree.key_len bytes) (BeginsLow tree.key_len bytes → ⊥)
+no_low_told tree bytes first size laid some inner first_is none r told = go r told where
+  key : List ℕ
+  key = take tree.key_len (get_or (records_of bytes) 0 [])
+
+  long : length key ≡ tree.key_len
+  long =
+      first_long tree.key_len (record_len_of bytes) (count_of bytes) (drop 208 bytes) (some inner) (omega (arith, laid.width))
+      (wide-pieces (record_len_of bytes) (count_of bytes) (drop 208 bytes) (omega (arith, laid.inside, length-drop 208 bytes, size)))
+
+  go : (r : Bool) → MatchBool r (AreZeros first) (AreZeros first → ⊥) → MatchBool r (BeginsLow tree.key_len bytes) (BeginsLow tree.key_len bytes → ⊥)
+  go true zeros = λ _.
+      all_zero key (recursion_from_All (λ byte. byte ≡ 0) key (subst AreZeros first_is zeros)) ∙ ap (λ n. replicate n 0) long
+      ∙ ap (least_key tree.key_len) (sym none)
+  go false others = λ begins.
+      others (subst AreZeros (sym first_is) (subst AreZeros (sym (begins inner ∙ ap (least_key tree.key_len) none))
+      (All-replicate (λ byte. byte ≡ 0) tree.key_len 0 refl)))

@@ -1,11 +1,11 @@
 -- Two levels that are walked side by side.
-use Rattle.std.proofs.Common.{◌≡◌, ◌≢◌, inl, inr, ℕ, zero, suc, ◌<◌, ◌==◌, Bool, false, if◌then◌else◌}
-use Rattle.std.proofs.Common.{List, [], ◌∷◌, ◌++◌, length, take, drop, map, get_or, refl, sym, ◌∙◌, ap, subst, append_assoc, append-nil, arith}
-use Rattle.std.specs.Prelude.{None, MatchBool}
+use Rattle.std.proofs.Common.{◌≡◌, ◌≢◌, inl, inr, ℕ, zero, suc, ◌+◌, ◌<◌, ◌==◌, Bool, false, if◌then◌else◌}
+use Rattle.std.proofs.Common.{List, [], ◌∷◌, ◌++◌, length, take, drop, map, get_or, refl, sym, ◌∙◌, ap, subst, append_assoc, append-nil, length-append, arith}
+use Rattle.std.specs.Prelude.{MatchBool}
 use Rattle.std.specs.List.{AllByRecursion}
 use Rattle.std.proofs.lemmas.Bool.{cond-false, ne_eqb, cases_lt}
 use Rattle.std.proofs.lemmas.List.{take_all}
-use Rattle.page_format.specs.Words.{level_of, count_of, record_len_of, low_of, high_of, right_of, records_of}
+use Rattle.page_format.specs.Words.{level_of, count_of, record_len_of, low_of, right_of, records_of}
 use Rattle.page_format.specs.Shape.{HasTreeFields, HasPlainFields}
 use Rattle.page_format.proofs.Pieces.{length-pieces}
 use Rattle.law_flat_tree.specs.Levels.{Fence, Node, IsRow, heads, children, head_or}
@@ -16,7 +16,8 @@ use Rattle.law_flat_tree.proofs.PageSplits.{all_in}
 use Rattle.law_flat_tree.proofs.Rows.{cut}
 use Rattle.btree.specs.declared.tree.Tree.{Tree}
 use Rattle.tree_check.specs.declared.rows.Walk.{Walk}
-use Rattle.tree_check.specs.Rows.{page_in, node_in, end_before, IsNodeAt, IsStep, IsCheckedRow, HasRowBelow}
+use Rattle.tree_check.specs.Rows.{page_in, node_in, end_before, IsNodeAt, IsStep, IsRowEnd, IsCheckedRow, HasRowBelow, AreSteps, Comes}
+use Rattle.tree_check.proofs.Nodes.{not_header}
 
 -- ---- rows with one page more
 
@@ -47,7 +48,7 @@ map_more n [] k within = absurd (omega (arith, within))
 map_more n (r ∷ rs) zero within = refl
 map_more n (r ∷ rs) (suc k) within = ap (λ l. entry_of n r ∷ l) (map_more n rs k (omega (arith, within)))
 
-entry_more : (n : ℕ) (low : Fence) (rs : List (List ℕ)) (i : ℕ) → i < length rs
+pub entry_more : (n : ℕ) (low : Fence) (rs : List (List ℕ)) (i : ℕ) → i < length rs
     → take (suc i) (entries_of n low rs)
     ≡ take i (entries_of n low rs) ++ ((if i == 0 then low else Key (take n (get_or rs i []))), child_of n (get_or rs i [])) ∷ []
 entry_more n low [] i within = absurd (omega (arith, within))
@@ -58,20 +59,23 @@ entry_more n low (r ∷ rs) (suc k) within =
     ∙ ap (λ (b : Bool). (low, child_of n r) ∷ (take k (map (entry_of n) rs)
     ++ ((if b then low else Key (take n (get_or rs k []))), child_of n (get_or rs k [])) ∷ [])) (sym behind)
 
-length-entries : (n : ℕ) (low : Fence) (rs : List (List ℕ)) → length (entries_of n low rs) ≡ length rs
+pub length-entries : (n : ℕ) (low : Fence) (rs : List (List ℕ)) → length (entries_of n low rs) ≡ length rs
 length-entries n low [] = refl
 length-entries n low (r ∷ rs) = ap suc (mapped rs) where
   mapped : (ss : List (List ℕ)) → length (map (entry_of n) ss) ≡ length ss
   mapped [] = refl
   mapped (s ∷ ss) = ap suc (mapped ss)
 
+pub all_records : (bytes : List ℕ) → length (records_of bytes) ≡ count_of bytes
+all_records bytes = length-pieces (record_len_of bytes) (count_of bytes) (drop 208 bytes)
+
 -- ---- how far the walk has come
 
-abbrev first_entries : (ℕ → Node) → List ℕ → List (Fence × ℕ)
+abbrev pub first_entries : (ℕ → Node) → List ℕ → List (Fence × ℕ)
 first_entries node [] = []
 first_entries node (u ∷ us) = (node u).entries
 
-pub record Walked (tree : Tree) (pages : List (List ℕ)) (level first : ℕ) (us : List ℕ) (now : Walk) : Type 0 where
+pub record Walked (tree : Tree) (pages : List (List ℕ)) (level first : ℕ) (us : List ℕ) (now : Walk) (steps : ℕ) : Type 0 where
   pub done : List ℕ
   pub rest : List ℕ
   pub ls : List ℕ
@@ -83,6 +87,7 @@ pub record Walked (tree : Tree) (pages : List (List ℕ)) (level first : ℕ) (u
   pub each : AllByRecursion (IsNodeAt tree pages level) ls
   pub place : now.upper ≢ 0 → now.place < count_of (page_in pages now.upper)
   pub last_node : now.last ≢ 0 → IsNodeAt tree pages level now.last
+  pub counted : length ls ≡ steps
 
 module _ (tree : Tree) (pages : List (List ℕ)) (level first : ℕ) (us : List ℕ) where
   abbrev node : ℕ → Node
@@ -91,6 +96,13 @@ module _ (tree : Tree) (pages : List (List ℕ)) (level first : ℕ) (us : List 
   abbrev n : ℕ
   n = tree.key_len
 
+  pub inner_entries : (u : ℕ) → IsNodeAt tree pages (suc level) u
+      → (node u).entries ≡ entries_of n (low_fence (low_of (page_in pages u))) (records_of (page_in pages u))
+  inner_entries u is =
+      let inner : (level_of (page_in pages u) == 0) ≡ false =
+      ne_eqb (level_of (page_in pages u)) 0 (λ none. omega (arith, none, is.node.stands.level_is)) in
+      ap (λ (b : Bool). if b then [] else entries_of n (low_fence (low_of (page_in pages u))) (records_of (page_in pages u))) inner
+
   module _ (top : ℕ) (above : IsCheckedRow tree pages (suc level) top us) where
     first_page : (done rest : List ℕ) → us ≡ done ++ rest → (upper : ℕ) → upper ≡ head_or 0 rest → upper ≢ 0 → IsNodeAt tree pages (suc level) upper
     first_page done [] whole upper is some = absurd (some is)
@@ -98,13 +110,13 @@ module _ (tree : Tree) (pages : List (List ℕ)) (level first : ℕ) (us : List 
         subst (IsNodeAt tree pages (suc level)) (sym is)
         (all_in (IsNodeAt tree pages (suc level)) done rest u (subst (λ l. AllByRecursion (IsNodeAt tree pages (suc level)) l) whole above.each))
 
-    pub upper_node : (now : Walk) → Walked tree pages level first us now → now.upper ≢ 0 → IsNodeAt tree pages (suc level) now.upper
-    upper_node now walked some = first_page walked.done walked.rest walked.whole now.upper walked.upper_is some
+    pub upper_node : (now : Walk) (k : ℕ) → Walked tree pages level first us now k → now.upper ≢ 0 → IsNodeAt tree pages (suc level) now.upper
+    upper_node now k walked some = first_page walked.done walked.rest walked.whole now.upper walked.upper_is some
 
-    counted : (u : ℕ) → IsNodeAt tree pages (suc level) u → 0 < count_of (page_in pages u)
-    counted u is = is.node.stands.some (λ none. omega (arith, none))
+    has_child : (u : ℕ) → IsNodeAt tree pages (suc level) u → 0 < count_of (page_in pages u)
+    has_child u is = is.node.stands.some (λ none. omega (arith, none))
 
-    pub walk_begins : Walked tree pages level first us (record { upper = top; place = 0; lower = first; last = 0 })
+    pub walk_begins : Walked tree pages level first us (record { upper = top; place = 0; lower = first; last = 0 }) 0
     walk_begins = record {
       done = [];
       rest = us;
@@ -115,8 +127,9 @@ module _ (tree : Tree) (pages : List (List ℕ)) (level first : ℕ) (us : List 
       row = refl;
       heads_are = refl;
       each = tt;
-      place = λ some. counted top (first_page [] us refl top (sym above.first_is) some);
+      place = λ some. has_child top (first_page [] us refl top (sym above.first_is) some);
       last_node = λ some. absurd (some refl);
+      counted = refl;
     }
 
     module _ (now next : Walk) (upper : IsNodeAt tree pages (suc level) now.upper) (stepped : IsStep tree pages level now next) where
@@ -130,28 +143,25 @@ module _ (tree : Tree) (pages : List (List ℕ)) (level first : ℕ) (us : List 
       rs = records_of (page_in pages u)
 
       all_rs : length rs ≡ count_of (page_in pages u)
-      all_rs = length-pieces (record_len_of (page_in pages u)) (count_of (page_in pages u)) (drop 208 (page_in pages u))
+      all_rs = all_records (page_in pages u)
 
       abbrev es : List (Fence × ℕ)
       es = entries_of n (low_fence (low_of (page_in pages u))) rs
 
       es_are : (node u).entries ≡ es
-      es_are =
-          let inner : (level_of (page_in pages u) == 0) ≡ false =
-          ne_eqb (level_of (page_in pages u)) 0 (λ none. omega (arith, none, upper.node.stands.level_is)) in
-          ap (λ (b : Bool). if b then [] else es) inner
+      es_are = inner_entries u upper
 
       end_is : end_before tree pages next.last ≡ (node c).high
       end_is =
           ap (end_before tree pages) stepped.last_is
-          ∙ cond-false (c == 0) First (node c).high (ne_eqb c 0 stepped.node.some)
+          ∙ cond-false (c == 0) First (node c).high (ne_eqb c 0 (not_header stepped.child.node.beyond))
 
       one_more : (ls : List ℕ) → IsRow node First ls (end_before tree pages now.last) c
           → IsRow node First (ls ++ c ∷ []) (end_before tree pages next.last) next.lower
       one_more ls row =
           subst (λ r. IsRow node First (ls ++ c ∷ []) (end_before tree pages next.last) r) (sym stepped.lower_is)
           (subst (λ f. IsRow node First (ls ++ c ∷ []) f (node c).right) (sym end_is)
-          (row_more node First (end_before tree pages now.last) ls c row stepped.meets))
+          (row_more node First (end_before tree pages now.last) ls c row stepped.child.meets))
 
       -- the children so far, with this one
       more_heads : (ls done : List ℕ) → heads node ls ≡ children node done ++ take now.place (node u).entries
@@ -160,19 +170,19 @@ module _ (tree : Tree) (pages : List (List ℕ)) (level first : ℕ) (us : List 
           heads_more node ls c
           ∙ ap (λ l. l ++ ((node c).low, c) ∷ []) (are ∙ ap (λ l. children node done ++ take now.place l) es_are)
           ∙ append_assoc (children node done) (take now.place es) (((node c).low, c) ∷ [])
-          ∙ (λ j. children node done ++ (take now.place es ++ (stepped.begins j, sym stepped.leads j) ∷ []))
+          ∙ (λ j. children node done ++ (take now.place es ++ (stepped.child.begins j, sym stepped.child.leads j) ∷ []))
           ∙ ap (λ l. children node done ++ l)
           (sym (entry_more n (low_fence (low_of (page_in pages u))) rs now.place (omega (arith, stepped.inside, all_rs))))
 
       last_there : next.last ≢ 0 → IsNodeAt tree pages level next.last
-      last_there some = subst (IsNodeAt tree pages level) (sym stepped.last_is) stepped.node
+      last_there some = subst (IsNodeAt tree pages level) (sym stepped.last_is) stepped.child.node
 
-      go : (done rest ls : List ℕ) → us ≡ done ++ rest → u ≡ head_or 0 rest → head_or c ls ≡ first
+      go : (k : ℕ) (done rest ls : List ℕ) → length ls ≡ k → us ≡ done ++ rest → u ≡ head_or 0 rest → head_or c ls ≡ first
           → IsRow node First ls (end_before tree pages now.last) c
           → heads node ls ≡ children node done ++ take now.place (first_entries node rest)
-          → AllByRecursion (IsNodeAt tree pages level) ls → Walked tree pages level first us next
-      go done [] ls whole is first_is row are each = absurd (upper.some is)
-      go done (v ∷ rest) ls whole is first_is row are each = elim (cases_lt (suc now.place) (count_of (page_in pages u))) [
+          → AllByRecursion (IsNodeAt tree pages level) ls → Walked tree pages level first us next (k + 1)
+      go k done [] ls long whole is first_is row are each = absurd (not_header upper.beyond is)
+      go k done (v ∷ rest) ls long whole is first_is row are each = elim (cases_lt (suc now.place) (count_of (page_in pages u))) [
         | inl behind ↦
             let same = stepped.behind behind in
             record {
@@ -186,9 +196,10 @@ module _ (tree : Tree) (pages : List (List ℕ)) (level first : ℕ) (us : List 
               heads_are =
                   made ∙ (λ j. children node done ++ take (sym same.1 j) (sym es_are j))
                   ∙ ap (λ r. children node done ++ take next.place (node r).entries) is;
-              each = both (IsNodeAt tree pages level) ls (c ∷ []) each (stepped.node, tt);
+              each = both (IsNodeAt tree pages level) ls (c ∷ []) each (stepped.child.node, tt);
               place = λ some. subst (λ r. next.place < count_of (page_in pages r)) (sym same.0) (omega (arith, behind, same.1));
               last_node = last_there;
+              counted = length-append ls (c ∷ []) ∙ ap (λ m. m + 1) long;
             }
         | inr end ↦
             let over = stepped.over (omega (arith, end)) in
@@ -210,41 +221,43 @@ module _ (tree : Tree) (pages : List (List ℕ)) (level first : ℕ) (us : List 
                   made ∙ ap (λ l. children node done ++ l) (all ∙ sym es_are ∙ ap (λ r. (node r).entries) is)
                   ∙ sym (children_more node done v) ∙ sym (append-nil (children node (done ++ v ∷ [])))
                   ∙ ap (λ k. children node (done ++ v ∷ []) ++ take k (first_entries node rest)) (sym over.1);
-              each = both (IsNodeAt tree pages level) ls (c ∷ []) each (stepped.node, tt);
+              each = both (IsNodeAt tree pages level) ls (c ∷ []) each (stepped.child.node, tt);
               place = λ some.
                   subst (λ k. k < count_of (page_in pages next.upper)) (sym over.1)
-                  (counted next.upper (first_page (done ++ v ∷ []) rest whole' next.upper upper' some));
+                  (has_child next.upper (first_page (done ++ v ∷ []) rest whole' next.upper upper' some));
               last_node = last_there;
+              counted = length-append ls (c ∷ []) ∙ ap (λ m. m + 1) long;
             }
       ]
         where
           made : heads node (ls ++ c ∷ []) ≡ children node done ++ take (suc now.place) es
           made = more_heads ls done (are ∙ ap (λ r. children node done ++ take now.place (node r).entries) (sym is))
 
-      pub walk_on : Walked tree pages level first us now → Walked tree pages level first us next
-      walk_on walked = go walked.done walked.rest walked.ls walked.whole walked.upper_is walked.first_is walked.row walked.heads_are walked.each
+      pub walk_on : (k : ℕ) → Walked tree pages level first us now k → Walked tree pages level first us next (k + 1)
+      walk_on k walked =
+          go k walked.done walked.rest walked.ls walked.counted walked.whole walked.upper_is walked.first_is walked.row walked.heads_are walked.each
 
     -- the upper row is at its end, and so is the lower one
-    pub walk_ends : (now : Walk) → Walked tree pages level first us now → now.upper ≡ 0
-        → (now.lower ≡ 0) × (now.last ≢ 0) × (high_of (page_in pages now.last) ≡ None) → HasRowBelow tree pages level first us
-    walk_ends now walked none ends = finish walked.done walked.rest walked.whole walked.upper_is walked.heads_are where
+    pub walk_ends : (now : Walk) (k : ℕ) → Walked tree pages level first us now k → now.upper ≡ 0
+        → IsRowEnd pages now.last now.lower → HasRowBelow tree pages level first us
+    walk_ends now k walked none ends = finish walked.done walked.rest walked.whole walked.upper_is walked.heads_are where
       finish : (done rest : List ℕ) → us ≡ done ++ rest → now.upper ≡ head_or 0 rest
           → heads node walked.ls ≡ children node done ++ take now.place (first_entries node rest) → HasRowBelow tree pages level first us
       finish done (v ∷ rest) whole is are =
-          absurd ((all_in (IsNodeAt tree pages (suc level)) done rest v
-          (subst (λ l. AllByRecursion (IsNodeAt tree pages (suc level)) l) whole above.each)).some (sym is ∙ none))
+          absurd (not_header (all_in (IsNodeAt tree pages (suc level)) done rest v
+          (subst (λ l. AllByRecursion (IsNodeAt tree pages (suc level)) l) whole above.each)).beyond (sym is ∙ none))
       finish done [] whole is are =
           let end : end_before tree pages now.last ≡ Last =
-          cond-false (now.last == 0) First (node now.last).high (ne_eqb now.last 0 ends.1) ∙ ap high_fence ends.2 in
+          cond-false (now.last == 0) First (node now.last).high (ne_eqb now.last 0 ends.some) ∙ ap high_fence ends.high in
           let us_is : us ≡ done = whole ∙ append-nil done in
           let nothing : take now.place (first_entries node []) ≡ [] = take_all now.place [] (omega arith) in
           record {
             ls = walked.ls;
             checked =
                 record {
-                  first_is = subst (λ k. head_or k walked.ls ≡ first) ends.0 walked.first_is;
+                  first_is = subst (λ k. head_or k walked.ls ≡ first) ends.lower_is walked.first_is;
                   row = subst (λ f. IsRow node First walked.ls f 0) end
-                      (subst (λ k. IsRow node First walked.ls (end_before tree pages now.last) k) ends.0 walked.row);
+                      (subst (λ k. IsRow node First walked.ls (end_before tree pages now.last) k) ends.lower_is walked.row);
                   each = walked.each;
                 };
             are_children = ap (children node) us_is ∙ sym (are ∙ ap (λ l. children node done ++ l) nothing ∙ append-nil (children node done));
@@ -253,3 +266,13 @@ module _ (tree : Tree) (pages : List (List ℕ)) (level first : ℕ) (us : List 
 pub tree_fields : (tree : Tree) (pages : List (List ℕ)) (level page : ℕ) → IsNodeAt tree pages level page → HasTreeFields (page_in pages page)
 tree_fields tree pages level page is =
     subst (λ b. MatchBool b (HasTreeFields (page_in pages page)) (HasPlainFields (page_in pages page))) is.node.stands.kind is.page.fields
+
+steps_on : (tree : Tree) (pages : List (List ℕ)) (level : ℕ) (start now next : Walk) (way : List Walk) → AreSteps tree pages level start way now
+    → IsStep tree pages level now next → AreSteps tree pages level start (way ++ next ∷ []) next
+steps_on tree pages level start now next [] steps step = (subst (λ w. IsStep tree pages level w next) (sym steps) step, refl)
+steps_on tree pages level start now next (walk ∷ way) steps step = (steps.0, steps_on tree pages level walk now next way steps.1 step)
+
+pub comes_on : (tree : Tree) (pages : List (List ℕ)) (level top first : ℕ) (now next : Walk) → Comes tree pages level top first now
+    → IsStep tree pages level now next → Comes tree pages level top first next
+comes_on tree pages level top first now next comes step =
+    record { way = comes.way ++ next ∷ []; steps = steps_on tree pages level _ now next comes.way comes.steps step }

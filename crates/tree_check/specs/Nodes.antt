@@ -4,8 +4,9 @@ use Rattle.page_format.specs.Words.{kind_of, level_of, count_of, index_of, recor
 use Rattle.page_format.specs.Shape.{is_tree, AreRising}
 use Rattle.btree.specs.declared.tree.Tree.{Tree}
 use Rattle.btree.specs.Layout.{width_of}
+use Rattle.btree_split.specs.Placed.{BeginsLow}
 use Rattle.tree_check.specs.declared.node.NodeBad.{NodeBad}
-use Rattle.tree_check.specs.declared.node.NodeBad.TheVariants.{Field, Order, Place}
+use Rattle.tree_check.specs.declared.node.NodeBad.TheVariants.{Field, Order, Place, First}
 
 -- there is no such fence, or it is as long as a key
 abbrev pub IsFenceOf : ℕ → Option (List ℕ) → Type 0
@@ -32,9 +33,11 @@ pub record IsNode (tree : Tree) (level : ℕ) (bytes : List ℕ) : Type 0 where
   pub stands : StandsOn tree level bytes
   pub lengths : HasLengths tree bytes
   pub rising : DoKeysRise tree bytes
+  pub first : BeginsLow tree.key_len bytes
 
 -- what is wrong with the page
 abbrev pub IsBroken : Tree → ℕ → List ℕ → NodeBad → Type 0
 IsBroken tree level bytes Place = StandsOn tree level bytes → ⊥
 IsBroken tree level bytes Field = HasLengths tree bytes → ⊥
 IsBroken tree level bytes Order = DoKeysRise tree bytes → ⊥
+IsBroken tree level bytes First = BeginsLow tree.key_len bytes → ⊥

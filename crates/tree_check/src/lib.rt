@@ -1,16 +1,20 @@
-//! Towards the check of trees when a file is mounted, over the pages of the file: `check_tree` walks each level beside the one
-//! above it, and pages that pass are a sound tree. That a sound tree never fails isn't said yet: of a fault it is said only
-//! what is wrong with a page by itself.
+//! The check of trees when a file is mounted, over the pages of the file. `check_space` looks at the first pages, and `check_tree`
+//! walks each level of a tree beside the one above it, without memory. Pages that pass are a tree as it should be, on pages that
+//! are in use; and such a tree always passes, where the bytes of its pages are those pages.
 #![tactic(auto)]
 
+mod fences;
 mod laws;
 mod node;
 mod pages;
 mod rows;
+mod space;
 mod whole;
 
+pub use fences::{do_meet, high_fence_of, low_fence_of};
 pub use laws::a_node_is_a_page_of_its_tree;
 pub use node::{NodeBad, check_node};
-pub use pages::{PageFault, do_meet, high_fence_of, low_fence_of, read_node};
+pub use pages::{PageFault, read_node};
 pub use rows::{RowFault, Walk, check_level};
+pub use space::{SpaceFault, check_space, is_used, page_count};
 pub use whole::check_tree;

@@ -1,10 +1,13 @@
 //! Whether a page that was read may stand on a level of a tree. Nothing here asks for a page.
 
-ghost use Rattle.std.specs.Prelude.{◌≡◌, ◌==◌, ◌||◌, length, MatchBool, OnOk, IfErr};
-ghost use Rattle.page_format.specs.Shape.{HasFields, HasTreeFields};
+ghost use Rattle.std.specs.Prelude.{◌≡◌, ◌≢◌, ◌<◌, ◌==◌, ◌||◌, length, MatchBool, OnOk, IfErr};
+ghost use Rattle.page_format.specs.Shape.{AreZeros, HasFields, HasTreeFields};
+ghost use Rattle.page_format.specs.Words.{level_of, count_of};
 ghost use Rattle.btree.specs.Layout.{width_of, IsLaidOut};
+ghost use Rattle.btree_split.specs.Placed.{BeginsLow};
 ghost use Rattle.tree_check.specs.Nodes.{StandsOn, HasLengths, DoKeysRise, IsNode, IsBroken};
 
+use crate::fences::low_fence_of;
 use btree::{Tree, key_at};
 use page_format::{read_u16, read_u32};
 
@@ -37,6 +40,8 @@ pub enum NodeBad {
     Order,
     /// It is of another index or level, or has no child.
     Place,
+    /// Its first child isn't under the least key that the page may have.
+    First,
 }
 
 /// Whether the page is of that index and level, with a child if it is an inner one.
@@ -107,6 +112,30 @@ fn keys_rise(bytes: &[u8], tree: Tree) -> bool
     true
 }
 
+fn are_zeros(bytes: &[u8]) -> bool
+    ensures { MatchBool result (AreZeros bytes.now) (AreZeros bytes.now → ⊥) }
+{
+    bytes.iter().all(|byte| *byte == 0)
+}
+
+/// Whether an inner page's first key is its low fence, or zeros where it has none.
+fn begins_low(bytes: &[u8], tree: Tree) -> bool
+    requires size { length bytes.now ≡ 4096 }
+    requires fields { HasTreeFields bytes.now }
+    requires laid_out { IsLaidOut tree bytes.now }
+    requires some { level_of bytes.now ≢ 0 → 0 < count_of bytes.now }
+    ensures { MatchBool result (BeginsLow tree.key_len bytes.now) (BeginsLow tree.key_len bytes.now → ⊥) }
+{
+    if bytes[LEVEL] == 0 {
+        return true;
+    }
+    let first = key_at(bytes, tree, 0);
+    match low_fence_of(bytes) {
+        Some(low) => first == low,
+        None => are_zeros(first),
+    }
+}
+
 /// Whether a page that was read may stand on that level of the tree, or what is wrong with it.
 pub fn check_node(bytes: &[u8], tree: Tree, level: u8) -> Result<(), NodeBad>
     requires size { length bytes.now ≡ 4096 }
@@ -122,6 +151,9 @@ pub fn check_node(bytes: &[u8], tree: Tree, level: u8) -> Result<(), NodeBad>
     }
     if !keys_rise(bytes, tree) {
         return Err(NodeBad::Order);
+    }
+    if !begins_low(bytes, tree) {
+        return Err(NodeBad::First);
     }
     Ok(())
 }

@@ -1,31 +1,23 @@
-//! A page of a file, read where a tree leads to it: whether it may stand there, and whether two pages meet at a fence.
+//! A page of a file, read where a tree leads to it: whether it may stand there.
 
-ghost use Rattle.std.specs.Prelude.{◌≡◌, length, take, MatchBool, MatchOption, OnOk, IfErr, None, Some};
-ghost use Rattle.page_format.specs.Shape.{HasTreeFields};
-ghost use Rattle.page_format.specs.Words.{low_of, high_of};
-ghost use Rattle.law_flat_tree.specs.Pages.{low_fence, high_fence};
-ghost use Rattle.tree_check.specs.Rows.{IsNodeAt, IsFaulty};
+ghost use Rattle.std.specs.Prelude.{◌≡◌, ◌<◌, ◌≤◌, length, MatchBool, OnOk, IfErr};
+ghost use Rattle.page_format.specs.Words.{u32_at};
+ghost use Rattle.space_map.specs.Map.{mark_of};
+ghost use Rattle.tree_check.specs.Rows.{page_in, IsNodeAt, IsFaulty};
+ghost use Rattle.tree_check.specs.Space.{HasFirstPages};
 
 use crate::node::{NodeBad, check_node};
+use crate::space::{FIRST_TREE_PAGE, is_used, page_count};
 use btree::Tree;
 use page_format::{Page, PageBad};
-
-const LOW_LEN: usize = 34;
-
-const HIGH_LEN: usize = 35;
-
-const LOW: usize = 36;
-
-const HIGH: usize = 116;
-
-/// The length of a fence that isn't there.
-const NO_FENCE: u8 = 255;
 
 /// Why a page may not stand where a tree leads to it.
 #[derive(Clone, Copy, Debug, PartialEq, Eq)]
 pub enum PageFault {
-    /// The file has no such page, or it is the header.
+    /// Page 0 doesn't count the page, or it is one of the first ones, which are no tree's.
     Missing,
+    /// The map says that it is free.
+    Free,
     /// Its bytes are no page of that number.
     Unread(PageBad),
     /// It is no page of that level of the tree.
@@ -34,11 +26,15 @@ pub enum PageFault {
 
 /// Whether the file has a page of that number that may stand on that level.
 pub fn read_node(pages: &[[u8; 4096]], tree: Tree, level: u8, number: u32) -> Result<(), PageFault>
+    requires { HasFirstPages pages.now }
     ensures node { OnOk result (IsNodeAt tree pages.now level number) }
     ensures faulty { IfErr result (IsFaulty tree pages.now level number) }
 {
-    if number == 0 || number as usize >= pages.len() {
+    if number < FIRST_TREE_PAGE || number >= page_count(pages) {
         return Err(PageFault::Missing);
+    }
+    if !is_used(pages, number) {
+        return Err(PageFault::Free);
     }
     let bytes = &pages[number as usize];
     match Page::read(bytes, number) {
@@ -48,50 +44,5 @@ pub fn read_node(pages: &[[u8; 4096]], tree: Tree, level: u8, number: u32) -> Re
     match check_node(bytes, tree, level) {
         Ok(()) => Ok(()),
         Err(bad) => Err(PageFault::Wrong(bad)),
-    }
-}
-
-/// The low fence, if there is one.
-pub fn low_fence_of(bytes: &[u8]) -> Option<&[u8]>
-    requires size { length bytes.now ≡ 4096 }
-    requires fields { HasTreeFields bytes.now }
-    ensures { MatchOption result (low_of bytes.now ≡ None) (λ key. low_of bytes.now ≡ Some key.now) }
-{
-    let len = bytes[LOW_LEN];
-    if len == NO_FENCE {
-        return None;
-    }
-    Some(&bytes[LOW..LOW + usize::from(len)])
-}
-
-/// The high fence, if there is one.
-pub fn high_fence_of(bytes: &[u8]) -> Option<&[u8]>
-    requires size { length bytes.now ≡ 4096 }
-    requires fields { HasTreeFields bytes.now }
-    ensures { MatchOption result (high_of bytes.now ≡ None) (λ key. high_of bytes.now ≡ Some key.now) }
-{
-    let len = bytes[HIGH_LEN];
-    if len == NO_FENCE {
-        return None;
-    }
-    Some(&bytes[HIGH..HIGH + usize::from(len)])
-}
-
-/// Whether the right page begins where the left one ends.
-pub fn do_meet(left: &[u8], right: &[u8]) -> bool
-    requires left_size { length left.now ≡ 4096 }
-    requires right_size { length right.now ≡ 4096 }
-    requires left_fields { HasTreeFields left.now }
-    requires right_fields { HasTreeFields right.now }
-    ensures { MatchBool result (low_fence (low_of right.now) ≡ high_fence (high_of left.now))
-        (low_fence (low_of right.now) ≡ high_fence (high_of left.now) → ⊥) }
-{
-    let end = match high_fence_of(left) {
-        Some(key) => key,
-        None => return false,
-    };
-    match low_fence_of(right) {
-        Some(key) => key == end,
-        None => false,
     }
 }

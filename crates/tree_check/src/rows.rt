@@ -1,15 +1,17 @@
 //! Two levels of a tree, walked side by side: the pages of the lower one are to be the children of the upper one's, in order,
 //! and each begins where the one before ends. It takes no memory.
 
-ghost use Rattle.std.specs.Prelude.{◌≡◌, ◌≢◌, ◌<◌, ◌≤◌, ℕ, suc, List, length, IfOk, IfErr, OnOk, IsTrue, None, ◌==◌, if◌then◌else◌};
+ghost use Rattle.std.specs.Prelude.{◌≡◌, ◌≢◌, ◌<◌, ◌≤◌, ℕ, suc, List, length, IfOk, IfErr, OnOk, OnErr, MatchBool};
 ghost use Rattle.page_format.specs.Shape.{HasTreeFields};
-ghost use Rattle.page_format.specs.Words.{low_of, high_of, right_of, count_of};
-ghost use Rattle.law_flat_tree.specs.Levels.Fence.{First, Key};
-ghost use Rattle.law_flat_tree.specs.Pages.{low_fence, high_fence};
+ghost use Rattle.page_format.specs.Words.{low_of, right_of, count_of};
+ghost use Rattle.law_flat_tree.specs.Levels.Fence.{Key};
+ghost use Rattle.law_flat_tree.specs.Pages.{low_fence};
 ghost use Rattle.btree.specs.Layout.{IsLaidOut};
-ghost use Rattle.tree_check.specs.Rows.{page_in, entry_fence, IsNodeAt, IsStep, IsCheckedRow, IsRowFrom, HasRowBelow, IsRowFault};
+ghost use Rattle.tree_check.specs.Space.{HasFirstPages};
+ghost use Rattle.tree_check.specs.Rows.{page_in, entry_fence, end_before, IsNodeAt, IsNextChild, IsStep, IsRowEnd, IsCheckedRow, IsRowFrom, HasRowBelow, IsStop, IsRowFault};
 
-use crate::pages::{PageFault, do_meet, high_fence_of, low_fence_of, read_node};
+use crate::fences::{do_meet, high_fence_of, low_fence_of};
+use crate::pages::{PageFault, read_node};
 use btree::{Tree, child_at, is_laid_out, key_at};
 use page_format::{read_u16, read_u32};
 
@@ -34,12 +36,11 @@ pub struct Walk {
 pub enum RowFault {
     /// This page may not stand where it is.
     Page { page: u32, fault: PageFault },
-    /// This page isn't the child that comes next, or it doesn't begin where its parent's record says.
+    /// This page begins elsewhere than its parent's record says, or than the page before ends: it breaks the third rule.
     Child { page: u32 },
-    /// This page isn't where the one before ends, or the row doesn't end with it.
+    /// This page's neighbour isn't the next page of its level, or the level doesn't end with it: it breaks the fourth rule. It is
+    /// page 0 where the first page isn't the one that comes next.
     Neighbour { page: u32 },
-    /// The row below is longer than the file.
-    Endless,
 }
 
 /// Whether both pages begin at the same fence.
@@ -48,7 +49,8 @@ fn begin_alike(above: &[u8], child: &[u8]) -> bool
     requires size { length child.now ≡ 4096 }
     requires above_fields { HasTreeFields above.now }
     requires fields { HasTreeFields child.now }
-    ensures { IsTrue result → low_fence (low_of child.now) ≡ low_fence (low_of above.now) }
+    ensures { MatchBool result (low_fence (low_of child.now) ≡ low_fence (low_of above.now))
+        (low_fence (low_of child.now) ≡ low_fence (low_of above.now) → ⊥) }
 {
     match low_fence_of(child) {
         Some(low) => match low_fence_of(above) {
@@ -63,7 +65,7 @@ fn begin_alike(above: &[u8], child: &[u8]) -> bool
 fn begins_at(child: &[u8], key: &[u8]) -> bool
     requires size { length child.now ≡ 4096 }
     requires fields { HasTreeFields child.now }
-    ensures { IsTrue result → low_fence (low_of child.now) ≡ Key key.now }
+    ensures { MatchBool result (low_fence (low_of child.now) ≡ Key key.now) (low_fence (low_of child.now) ≡ Key key.now → ⊥) }
 {
     match low_fence_of(child) {
         Some(low) => low == key,
@@ -79,7 +81,8 @@ fn begins_there(above: &[u8], tree: Tree, place: u16, child: &[u8]) -> bool
     requires fields { HasTreeFields child.now }
     requires laid_out { IsLaidOut tree above.now }
     requires place { place < count_of above.now }
-    ensures { IsTrue result → low_fence (low_of child.now) ≡ entry_fence tree.key_len above.now place }
+    ensures { MatchBool result (low_fence (low_of child.now) ≡ entry_fence tree.key_len above.now place)
+        (low_fence (low_of child.now) ≡ entry_fence tree.key_len above.now place → ⊥) }
 {
     if place == 0 {
         begin_alike(above, child)
@@ -89,12 +92,12 @@ fn begins_there(above: &[u8], tree: Tree, place: u16, child: &[u8]) -> bool
 }
 
 /// Whether the page begins where the one before ends, or has no low fence where it is the first of its row.
-fn follows(pages: &[[u8; 4096]], last: u32, page: u32) -> bool
+fn follows(pages: &[[u8; 4096]], tree: Tree, last: u32, page: u32) -> bool
     requires last { last ≢ 0 → (last < length pages.now) × HasTreeFields (page_in pages.now last) }
     requires within { page < length pages.now }
     requires fields { HasTreeFields (page_in pages.now page) }
-    ensures { IsTrue result → low_fence (low_of (page_in pages.now page))
-        ≡ (if last == 0 then First else high_fence (high_of (page_in pages.now last))) }
+    ensures { MatchBool result (low_fence (low_of (page_in pages.now page)) ≡ end_before tree pages.now last)
+        (low_fence (low_of (page_in pages.now page)) ≡ end_before tree pages.now last → ⊥) }
 {
     if last == 0 {
         low_fence_of(&pages[page as usize]).is_none()
@@ -134,15 +137,17 @@ fn next_of(above: &[u8], child: &[u8], now: Walk) -> Walk
 
 /// Checks the page that comes next below, and answers what comes next then.
 fn step(pages: &[[u8; 4096]], tree: Tree, level: u8, now: Walk) -> Result<Walk, RowFault>
+    requires file { HasFirstPages pages.now }
     requires upper { IsNodeAt tree pages.now (suc level) now.upper }
     requires last { now.last ≢ 0 → IsNodeAt tree pages.now level now.last }
     requires place { now.place < count_of (page_in pages.now now.upper) }
     ensures step { IfOk result (IsStep tree pages.now level now) }
-    ensures fault { IfErr result (IsRowFault tree pages.now level) }
+    ensures fault { IfErr result (IsStop tree pages.now level now) }
+    ensures refused { OnErr result (IsNextChild tree pages.now level now → ⊥) }
 {
     let above = &pages[now.upper as usize];
     if child_at(above, tree, now.place) != now.lower {
-        return Err(RowFault::Child { page: now.lower });
+        return Err(RowFault::Neighbour { page: now.last });
     }
     match read_node(pages, tree, level, now.lower) {
         Ok(()) => {}
@@ -157,8 +162,8 @@ fn step(pages: &[[u8; 4096]], tree: Tree, level: u8, now: Walk) -> Result<Walk, 
     if !begins_there(above, tree, now.place, child) {
         return Err(RowFault::Child { page: now.lower });
     }
-    if !follows(pages, now.last, now.lower) {
-        return Err(RowFault::Neighbour { page: now.lower });
+    if !follows(pages, tree, now.last, now.lower) {
+        return Err(RowFault::Child { page: now.lower });
     }
     Ok(next_of(above, child, now))
 }
@@ -166,7 +171,7 @@ fn step(pages: &[[u8; 4096]], tree: Tree, level: u8, now: Walk) -> Result<Walk, 
 /// Whether the row below ends with the last page.
 fn ends_with(pages: &[[u8; 4096]], last: u32, lower: u32) -> bool
     requires { last ≢ 0 → (last < length pages.now) × HasTreeFields (page_in pages.now last) }
-    ensures { IsTrue result → (lower ≡ 0) × (last ≢ 0) × (high_of (page_in pages.now last) ≡ None) }
+    ensures { MatchBool result (IsRowEnd pages.now last lower) (IsRowEnd pages.now last lower → ⊥) }
 {
     if lower != 0 {
         return false;
@@ -185,9 +190,12 @@ pub fn check_level(
     top: u32,
     first: u32,
 ) -> Result<(), RowFault>
+    requires file { HasFirstPages pages.now }
+    requires some { 0 < tree.key_len }
     requires above { IsRowFrom tree pages.now (suc level) top }
     ensures rows { OnOk result ((us : List ℕ) → IsCheckedRow tree pages.now (suc level) top us → HasRowBelow tree pages.now level first us) }
-    ensures fault { IfErr result (IsRowFault tree pages.now level) }
+    ensures fault { IfErr result (IsRowFault tree pages.now level top first) }
+    ensures refused { OnErr result ((us : List ℕ) → IsCheckedRow tree pages.now (suc level) top us → HasRowBelow tree pages.now level first us → ⊥) }
 {
     let mut walk = Walk {
         upper: top,
@@ -204,5 +212,6 @@ pub fn check_level(
         }
         walk = step(pages, tree, level, walk)?;
     }
-    Err(RowFault::Endless)
+    // no page stands twice in a row, and page 0 in none
+    unreachable!()
 }

@@ -1,12 +1,15 @@
 //! All levels of a tree over the pages of a file, from the root down.
 
-ghost use Rattle.std.specs.Prelude.{◌≡◌, ◌<◌, ◌≤◌, ℕ, [], ◌∷◌, length, IfOk, IfErr, OnOk};
-ghost use Rattle.std.specs.List.{AllByRecursion};
-ghost use Rattle.btree.specs.Sound.{IsSoundTree, levels_of};
-ghost use Rattle.tree_check.specs.Rows.{page_in, IsCheckedRow, IsRowFault};
+ghost use Rattle.std.specs.Prelude.{◌≡◌, ◌<◌, ◌≤◌, ℕ, [], ◌∷◌, length, IfOk, IfErr, OnOk, OnErr};
+ghost use Rattle.page_format.specs.Words.{level_of};
+ghost use Rattle.btree_split.specs.Placed.{IsPlacedTree};
+ghost use Rattle.tree_check.specs.Space.{HasFirstPages};
+ghost use Rattle.tree_check.specs.Rows.{page_in, AreFilePages, IsCheckedRow, IsRootFault, IsTreeFault};
 
-use crate::pages::{PageFault, high_fence_of, low_fence_of, read_node};
+use crate::fences::{high_fence_of, low_fence_of};
+use crate::pages::{PageFault, read_node};
 use crate::rows::{RowFault, check_level};
+use crate::space::page_count;
 use btree::{Tree, child_at};
 use page_format::read_u32;
 
@@ -16,11 +19,13 @@ const RIGHT: usize = 28;
 
 /// The root's level, where it is a row by itself.
 fn read_root(pages: &[[u8; 4096]], tree: Tree) -> Result<u8, RowFault>
+    requires { HasFirstPages pages.now }
     ensures row { IfOk result (λ level. IsCheckedRow tree pages.now level tree.root (tree.root ∷ [])) }
-    ensures fault { IfErr result (λ fault. (level : ℕ) × IsRowFault tree pages.now level fault) }
+    ensures fault { IfErr result (IsRootFault tree pages.now) }
+    ensures refused { OnErr result (IsCheckedRow tree pages.now (level_of (page_in pages.now tree.root)) tree.root (tree.root ∷ []) → ⊥) }
 {
     let page = tree.root;
-    if page as usize >= pages.len() {
+    if page >= page_count(pages) {
         return Err(RowFault::Page {
             page,
             fault: PageFault::Missing,
@@ -33,7 +38,7 @@ fn read_root(pages: &[[u8; 4096]], tree: Tree) -> Result<u8, RowFault>
         Err(fault) => return Err(RowFault::Page { page, fault }),
     }
     if low_fence_of(bytes).is_some() || high_fence_of(bytes).is_some() {
-        return Err(RowFault::Neighbour { page });
+        return Err(RowFault::Child { page });
     }
     if read_u32(bytes, RIGHT) != 0 {
         return Err(RowFault::Neighbour { page });
@@ -41,13 +46,13 @@ fn read_root(pages: &[[u8; 4096]], tree: Tree) -> Result<u8, RowFault>
     Ok(level)
 }
 
-/// Checks that the pages of a file from the root on are a tree, each of them one of the file's.
+/// Checks that the pages of a file from the root on are a tree, each of them one of the file's, and in use.
 pub fn check_tree(pages: &[[u8; 4096]], tree: Tree) -> Result<(), RowFault>
     requires some { 0 < tree.key_len }
-    requires few { length pages.now ≤ 65536 }
-    ensures tree { OnOk result (IsSoundTree tree (page_in pages.now)) }
-    ensures within { OnOk result (AllByRecursion (AllByRecursion (λ page. page < length pages.now)) (levels_of tree (page_in pages.now))) }
-    ensures fault { IfErr result (λ fault. (level : ℕ) × IsRowFault tree pages.now level fault) }
+    requires file { HasFirstPages pages.now }
+    ensures tree { OnOk result (IsPlacedTree tree (page_in pages.now)) }
+    ensures fault { IfErr result (IsTreeFault tree pages.now) }
+    ensures refused { OnErr result (IsPlacedTree tree (page_in pages.now) → AreFilePages tree pages.now → ⊥) }
 {
     let height = read_root(pages, tree)?;
     let mut top = tree.root;

@@ -1,5 +1,7 @@
 use Rattle.std.proofs.Common.{◌≡◌, ◌+◌, ◌-◌, arith}
-use Rattle.tree_check.proofs.Descended.{descent_begins, goes_down, descent_ends, all_within, top_node, top_laid_out, row_above}
+use Rattle.entries.proofs.Edits.{on_err}
+use Rattle.tree_check.proofs.Complete.{root_row, has_row_below}
+use Rattle.tree_check.proofs.Descended.{descent_begins, goes_down, descent_ends, top_node, top_laid_out, row_above}
 use Rattle.tree_check.proofs.whole.check_tree.Goals as goal
 
 pub loop-down-init : goal.loop-down-init
@@ -30,6 +32,8 @@ pub check_level-requires : goal.check_level-requires
 check_level-requires c =
     let came = c.loop-down.invariant.came in
     record {
+      file = c.requires.file;
+      some = c.requires.some;
       above =
           record {
             us = came.us;
@@ -55,9 +59,19 @@ loop-down-preserved c =
 pub returns-clause-tree : goal.returns-clause-tree
 returns-clause-tree c =
     descent_ends c.args.tree c.args.pages.now c.requires.some c.in_ok-height.height c.loop-down.down c.loop-down.top
-    (omega (arith, c.loop-down-test.false, c.loop-down.invariant.within)) c.loop-down.invariant.came c.requires.few
+    (omega (arith, c.loop-down-test.false, c.loop-down.invariant.within)) c.loop-down.invariant.came c.requires.file
 
-pub returns-clause-within : goal.returns-clause-within
-returns-clause-within c =
-    all_within c.args.tree c.args.pages.now c.requires.some c.in_ok-height.height c.loop-down.down c.loop-down.top
-    (omega (arith, c.loop-down-test.false, c.loop-down.invariant.within)) c.loop-down.invariant.came
+pub returns-in_err-height-clause-refused : goal.returns-in_err-height-clause-refused
+returns-in_err-height-clause-refused c =
+    on_err c.from_residual.result (λ placed files. c.in_err-height.ensures.refused (root_row c.args.tree c.args.pages.now c.told-pages c.requires.file placed files))
+
+pub returns-in_err-check_level-clause-refused : goal.returns-in_err-check_level-clause-refused
+returns-in_err-check_level-clause-refused c =
+    on_err c.from_residual-in_err-check_level.result (λ placed files.
+    let came = c.loop-down.invariant.came in
+    let level = c.in_ok-height.height - 1 - c.loop-down.down in
+    let level_is : level + 1 ≡ c.in_ok-height.height - c.loop-down.down = omega (arith, c.loop-down-test.true) in
+    c.in_err-check_level.ensures.refused came.us
+    (row_above c.args.tree c.args.pages.now c.in_ok-height.height c.loop-down.down c.loop-down.top level level_is came)
+    (has_row_below c.args.tree c.args.pages.now c.told-pages c.in_ok-height.height c.loop-down.down c.loop-down.top c.child_at-first.result level
+    c.in_ok-height.ensures.row.each.0.node.stands.level_is c.loop-down-test.true level_is c.requires.file placed files came c.child_at-first.ensures))

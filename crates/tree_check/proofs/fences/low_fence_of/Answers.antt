@@ -1,7 +1,7 @@
 use Rattle.std.proofs.Common.{arith}
 use Rattle.std.specs.Prelude.{slice_index}
 use Rattle.tree_check.proofs.Nodes.{fence_shown}
-use Rattle.tree_check.proofs.pages.low_fence_of.Goals as goal
+use Rattle.tree_check.proofs.fences.low_fence_of.Goals as goal
 
 pub returns : goal.returns
 returns c =
