@@ -1,0 +1,6 @@
+mod Begun
+mod Ending
+mod Pooled
+mod Told
+mod Alone
+mod Headers
