@@ -1,5 +1,5 @@
 -- What the laws of checkpoints say of page 0, staged and placed.
-use Rattle.std.proofs.Common.{◌≡◌, ◌⊎◌, ℕ, ◌+◌, Some, List, [], length, refl, sym, subst}
+use Rattle.std.proofs.Common.{◌≡◌, ◌⊎◌, inl, inr, ⊎_elim, ℕ, ◌+◌, ◌<◌, Some, List, [], length, refl, sym, subst}
 use Rattle.store_api.specs.Areas.{State, Contents, Image, IsImage, IsHonest}
 use Rattle.store_api.specs.Past.{Past, Now, Meanwhile}
 use Rattle.log_format.specs.declared.group.Group.{Group}
@@ -9,15 +9,19 @@ use Rattle.buffer_pool.specs.Frames.{PoolView, bytes_of}
 use Rattle.doublewrite.specs.Batches.{BatchView, StagedView, page_at}
 use Rattle.doublewrite.specs.Kept.{IsReady, IsReadyAs, IsStaged, KeepsPages, HasPlaced}
 use Rattle.doublewrite.specs.Reading.{IsGoodPage, IsPageIn}
+use Rattle.std.proofs.lemmas.Bool.{cases_eq}
 use Rattle.law_logged_pages.specs.Stages.{AreBytes}
+use Rattle.law_logged_pages.specs.Applied.{logical}
+use Rattle.flusher.specs.Flushing.{IsHome}
 use Rattle.law_logged_pages.specs.Keeping.{IsRun, IsPlaced}
 use Rattle.page_recovery.specs.Leaving.{IsFileRun, LeavesRun}
-use Rattle.law_checkpoints.specs.Checkpoints.{begun, IsClean, IsCheckpoint}
+use Rattle.law_checkpoints.specs.Checkpoints.{begun, IsClean, IsCheckpoint, IsNowhere}
 use Rattle.page_checkpoint.specs.declared.checking.NewRun.{NewRun}
 use Rattle.page_checkpoint.specs.Header.{IsNextHeader}
 use Rattle.page_checkpoint.specs.Beginning.{IsNextRun, HoldsAll, HasBegun, IsUnused, LeavesOne, alone}
 use Rattle.page_checkpoint.proofs.Alone.{page_alone}
 use Rattle.page_checkpoint.proofs.Ending.{clean, check, run_is, last_is, next_header, new_unused}
+use Rattle.page_checkpoint.proofs.Homes.{begun_later, header_home, stays_home, stays_nowhere}
 use Rattle.page_checkpoint.proofs.Told.{meanwhile, afterwards}
 
 -- ---- the laws that the checkpoint cites
@@ -79,6 +83,19 @@ module _ (capacity first : ℕ) (groups : List Group) (base : ℕ → List ℕ) 
         (λ x s keeps. keeps.log_is) old new ready held leaves_one call
 
   module _ (begins_law : BeginsLaw) (placed_law : PlacedLaw) where
+    at_home : (b s : State) → All b → IsStaged b (alone header) s → HasPlaced (record { batch = alone header; placed = 1 }) s → (page : ℕ) → page < 65536
+        → IsHome page (begun header base groups page) s ⊎ IsNowhere page (begun header base groups page) s
+    at_home b s all staged has page below = elim (cases_eq page 0) [
+      | inl first_one ↦
+          inl (subst (λ (p : ℕ). IsHome p (begun header base groups p) s) (sym first_one) (header_home header good s has))
+      | inr later ↦
+          let same_page : logical base groups (length groups) page ≡ begun header base groups page = sym (begun_later header base groups page later) in
+          subst (λ (l : List ℕ). IsHome page l s ⊎ IsNowhere page l s) same_page
+          (⊎_elim (λ (there : IsHome page (logical base groups (length groups) page) b). inl (stays_home header good b s staged page later _ there))
+          (λ (none : IsNowhere page (logical base groups (length groups) page) b). inr (stays_nowhere header good b s staged page later _ none))
+          (all.each page below (is.clean page)))
+    ]
+
     has_begun : (b s : State) → All b → IsStaged b (alone header) s → HasPlaced (record { batch = alone header; placed = 1 }) s
         → HasBegun capacity next.run log.next (begun header base groups) s
     has_begun b s all staged has =
@@ -97,6 +114,7 @@ module _ (capacity first : ℕ) (groups : List Group) (base : ℕ → List ℕ) 
           placed =
               subst (λ (n : ℕ). IsPlaced (n + 1) n [] (begun header base groups) s) last
               (subst (λ (h : List ℕ). IsPlaced (first + length groups + 1) (first + length groups) [] (begun h base groups) s) same placed);
+          each = at_home b s all staged has;
           unused = subst (λ (n : ℕ). IsUnused n s.log) run (subst (IsUnused (log.run + 1)) (sym staged.log_is) unused);
         }
 

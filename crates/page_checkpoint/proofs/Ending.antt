@@ -1,5 +1,6 @@
 -- A run that ends: what the checkpoint's law asks holds where the disk holds all of the run.
-use Rattle.std.proofs.Common.{◌≡◌, inl, inr, ℕ, ◌+◌, ◌-◌, ◌<◌, ◌≤◌, List, [], ◌∷◌, length, take, drop, refl, sym, ap, subst, ◌∙◌, arith, length-append}
+use Rattle.std.proofs.Common.{◌≡◌, ◌⊎◌, inl, inr, ℕ, ◌+◌, ◌-◌, ◌<◌, ◌≤◌, List, [], ◌∷◌, length, take, drop, replicate, refl, sym, ap, subst, ◌∙◌}
+use Rattle.std.proofs.Common.{arith, length-append}
 use Rattle.std.specs.Int.{w32, w64, from_be_bytes}
 use Rattle.std.proofs.lemmas.Bool.{cases_lt}
 use Rattle.std.proofs.lemmas.List.{drop-drop, drop-take, take-take}
@@ -70,10 +71,10 @@ module _ (first : ℕ) (groups : List Group) (log : LogView) (c : Contents) (is 
 
   pub unused : IsUnused (log.run + 1) c
   unused = record {
-    long = let inside = (is.good 0 has_block).inside in omega (arith, inside);
     other = λ other. no_other c.synced (is.good 0 has_block) other;
     later =
-        All-weaker (WritesFront log.block log.pending) (λ (w : Write). 512 ≤ w.at) (λ (w : Write) front. omega (arith, front.place, has_block)) c.writes
+        All-weaker (WritesFront log.block log.pending) (λ (w : Write). (512 ≤ w.at) ⊎ (w.bytes ≡ replicate (length w.bytes) 0))
+        (λ (w : Write) front. inl (omega (arith, front.place, has_block))) c.writes
         is.writes;
   }
 

@@ -1,6 +1,9 @@
 mod Begun
+mod Cleared
+mod Clearing
 mod Ending
 mod Pooled
 mod Told
 mod Alone
 mod Headers
+mod Homes

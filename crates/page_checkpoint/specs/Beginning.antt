@@ -1,5 +1,5 @@
 -- When a run may end, and what the disk holds while the next one begins.
-use Rattle.std.specs.Prelude.{◌≡◌, ◌≢◌, ◌⊎◌, ℕ, ◌+◌, ◌^◌, ◌<◌, ◌≤◌, true, false, None, Some, List, [], length, All}
+use Rattle.std.specs.Prelude.{◌≡◌, ◌≢◌, ◌⊎◌, ℕ, ◌+◌, ◌^◌, ◌<◌, ◌≤◌, true, false, None, Some, List, [], length, replicate, All}
 use Rattle.store_api.specs.Areas.{State, Contents, Image, Write, IsImage, IsHonest}
 use Rattle.store_api.specs.Causes.{Rose}
 use Rattle.store_api.specs.Past.{Past}
@@ -49,6 +49,11 @@ IsFailure Failed = Unit {0}
 IsFailure NoMemory = Unit {0}
 IsFailure why = ⊥
 
+-- where it is the disk, that has counted a fault
+abbrev pub HasRisen : Past → Past → CheckpointBad → Type 0
+HasRisen old new Failed = Rose old.faults new.faults
+HasRisen old new why = Unit {0}
+
 -- the disk has counted a fault, or wasn't called
 abbrev pub IsFault : Past → Past → CheckpointBad → Type 0
 IsFault old new Failed = Rose old.faults new.faults
@@ -79,17 +84,27 @@ pub record HoldsAll (capacity first : ℕ) (groups : List Group) (base : ℕ →
 
 -- ---- the new run
 
--- At the log's beginning a block stands, which is none of that run, and nothing is being written there.
+-- At the log's beginning stands no block of that run, and what is being written there are zeros.
 pub record IsUnused (run : ℕ) (log : Contents) : Type 0 where
-  pub long : 512 ≤ length log.synced
   pub other : IsGood run 0 log.synced → ⊥
-  pub later : All (λ (w : Write). 512 ≤ w.at) log.writes
+  pub later : All (λ (w : Write). (512 ≤ w.at) ⊎ (w.bytes ≡ replicate (length w.bytes) 0)) log.writes
 
--- The disk holds a run that begins with these pages behind that LSN, and has no group.
+-- The disk holds a run that begins with these pages behind that LSN, and has no group. Each page is in its place for good as
+-- it begins, or nobody has written it.
 pub record HasBegun (capacity run last : ℕ) (base : ℕ → List ℕ) (s : State) : Type 0 where
   pub file : IsFileRun capacity run (last + 1) [] base
   pub placed : IsPlaced (last + 1) last [] base s
+  pub each : (page : ℕ) → page < 65536 → IsHome page (base page) s ⊎ IsNowhere page (base page) s
   pub unused : IsUnused run s.log
+
+-- Whatever a crash leaves now is that run.
+pub record LeavesBegun (run last : ℕ) (base : ℕ → List ℕ) (s : State) : Type 0 where
+  pub each : (image : Image) → IsImage s image → IsHonest s image → LeavesRun run (last + 1) last [] base image
+
+-- Nothing but zeros stands in the log.
+pub record IsCleared (log : Contents) : Type 0 where
+  pub rests : log.writes ≡ []
+  pub zeros : log.synced ≡ replicate (length log.synced) 0
 
 -- Whatever a crash leaves now, where page 0 is read it can be recovered: it is the old run with all its groups, or the new
 -- one without any, whose page 0 is the old one but for what it says of the run.

@@ -2,10 +2,12 @@
 //! Whoever has the pool, the log and the disk calls `checkpoint`; after it no group may be appended to the old log.
 #![tactic(auto)]
 
+mod beginning;
 mod checking;
 mod header;
 mod making;
 mod placing;
 
+pub use beginning::begin_log;
 pub use checking::{CheckpointBad, NewRun};
 pub use making::checkpoint;

@@ -42,7 +42,8 @@ returns-in-Ok-clause-crash g c = λ before ready.
     Meanwhile-join (KeepsPages before (alone c.args.header.now)) (past c.args.disk.now) (past c.stage.new.disk) (past c.place_alone.new.disk)
     (subst (λ (b : BatchView). Meanwhile (KeepsPages before b) (past c.args.disk.now) (past c.stage.new.disk)) whole (c.in-Ok.ensures.crash before ready))
     (subst
-    (λ (b : BatchView). Now (IsStagedHonestly before b) (past c.stage.new.disk) → Meanwhile (KeepsPages before b) (past c.stage.new.disk) (past c.place_alone.new.disk))
+    (λ (b : BatchView). Now (IsStagedHonestly before b) (past c.stage.new.disk)
+    → Meanwhile (KeepsPages before b) (past c.stage.new.disk) (past c.place_alone.new.disk))
     same (c.place_alone.ensures.crash before) honest)
 
 pub returns-in-Err-clause-crash : goal.returns-in-Err-clause-crash
