@@ -1,5 +1,5 @@
 -- What the laws of checkpoints say of page 0, staged and placed.
-use Rattle.std.proofs.Common.{◌≡◌, ◌⊎◌, inl, inr, ⊎_elim, ℕ, ◌+◌, ◌<◌, Some, List, [], length, refl, sym, subst}
+use Rattle.std.proofs.Common.{◌≡◌, ◌⊎◌, inl, inr, ⊎_elim, ℕ, ◌+◌, ◌<◌, Some, List, [], length, refl, sym, subst, ◌∙◌}
 use Rattle.store_api.specs.Areas.{State, Contents, Image, IsImage, IsHonest}
 use Rattle.store_api.specs.Past.{Past, Now, Meanwhile}
 use Rattle.log_format.specs.declared.group.Group.{Group}
@@ -22,6 +22,7 @@ use Rattle.page_checkpoint.specs.Beginning.{IsNextRun, HoldsAll, HasBegun, IsUnu
 use Rattle.page_checkpoint.proofs.Alone.{page_alone}
 use Rattle.page_checkpoint.proofs.Ending.{clean, check, run_is, last_is, next_header, new_unused}
 use Rattle.page_checkpoint.proofs.Homes.{begun_later, header_home, stays_home, stays_nowhere}
+use Rattle.page_checkpoint.proofs.Found.{is_read}
 use Rattle.page_checkpoint.proofs.Told.{meanwhile, afterwards}
 
 -- ---- the laws that the checkpoint cites
@@ -65,6 +66,11 @@ module _ (capacity first : ℕ) (groups : List Group) (base : ℕ → List ℕ) 
     leaves_one b s all keeps = record {
       header = header;
       is = next_header capacity first groups base pool log next is header good front becomes b all;
+      found = λ image left honest none.
+          let old = clean capacity first groups base pool log next is header good front becomes b all in
+          is_read first log.flushed groups base header good all.file.is
+          (becomes.lsn_is ∙ last_is capacity first groups base pool log next is header good front becomes b all) old.all all.file.header.marked b
+          all.held.pages s image keeps left honest none;
       each = λ image bytes left honest at.
           subst
           (λ (h : List ℕ). LeavesRun log.run first log.flushed groups base image

@@ -5,5 +5,6 @@ mod Ending
 mod Pooled
 mod Told
 mod Alone
+mod Found
 mod Headers
 mod Homes

@@ -106,11 +106,12 @@ pub record IsCleared (log : Contents) : Type 0 where
   pub rests : log.writes ≡ []
   pub zeros : log.synced ≡ replicate (length log.synced) 0
 
--- Whatever a crash leaves now, where page 0 is read it can be recovered: it is the old run with all its groups, or the new
--- one without any, whose page 0 is the old one but for what it says of the run.
+-- Whatever a crash leaves now can be recovered: page 0 is there, and however it is read, it is the old run with all its groups,
+-- or the new one without any, whose page 0 is the old one but for what it says of the run.
 pub record LeavesOne (run first flushed : ℕ) (groups : List Group) (base : ℕ → List ℕ) (page : List ℕ) (s : State) : Type 0 where
   pub header : List ℕ
   pub is : IsNextHeader (first + length groups) (run + 1) (first + length groups + 1) page header
+  pub found : (image : Image) → IsImage s image → IsHonest s image → IsPageIn image.pages image.double 0 None → ⊥
   pub each : (image : Image) (bytes : List ℕ) → IsImage s image → IsHonest s image → IsPageIn image.pages image.double 0 (Some bytes)
       → LeavesRun run first flushed groups base image
       ⊎ LeavesRun (run + 1) (first + length groups + 1) (first + length groups) [] (begun header base groups) image
