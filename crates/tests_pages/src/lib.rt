@@ -1,7 +1,9 @@
-//! The pool of pages over a disk in memory, mini-transactions over it, the flusher, and recovery, each public call once with ample memory.
+//! The pool of pages over a disk in memory, mini-transactions over it, the flusher, checkpoints, and recovery, each public call once with ample memory.
 //! There is nothing here but tests.
 #![tactic(auto)]
 
+#[cfg(test)]
+mod checkpoints;
 #[cfg(test)]
 mod flushed_pages;
 #[cfg(test)]

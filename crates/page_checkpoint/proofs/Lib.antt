@@ -1,0 +1,10 @@
+mod Begun
+mod Cleared
+mod Clearing
+mod Ending
+mod Pooled
+mod Told
+mod Alone
+mod Found
+mod Headers
+mod Homes

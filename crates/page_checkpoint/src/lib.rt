@@ -1,0 +1,13 @@
+//! A checkpoint: page 0 says a new run, so that the log begins anew. It is made once nothing is left to be flushed.
+//! Whoever has the pool, the log and the disk calls `checkpoint`; after it no group may be appended to the old log.
+#![tactic(auto)]
+
+mod beginning;
+mod checking;
+mod header;
+mod making;
+mod placing;
+
+pub use beginning::begin_log;
+pub use checking::{CheckpointBad, NewRun};
+pub use making::checkpoint;
