@@ -13,7 +13,7 @@ use std::alloc::{AllocError, Global};
 use std::test::Fail;
 use store_api::{NoMemory, SpaceBad, Visit};
 use sum64::fnv;
-use tree_check::{NodeBad, PageFault, RowFault, SpaceFault, check_space, check_tree};
+use tree_check::{NodeBad, PageFault, RowFault, SpaceFault, check_space, check_tree, rule_broken};
 
 /// Records of 1,944 bytes, of which a leaf has room for two; an inner page has room for 46 of 84 bytes.
 const TREE: Tree = Tree {
@@ -191,7 +191,7 @@ fn a_byte_of_the_first_pages_is_turned(rt: HostRuntime) -> Result<(), Fail> {
     // one of the first pages, and one of the tree's, is said to be free
     assert_eq!(rt;
         judged(rt.alloc(), &pages, 2, 32, 254)?,
-        Verdict::Space(SpaceFault::Free { page: 0 })
+        Verdict::Space(SpaceFault::Free { page: 1 })
     );
     assert_eq!(rt;
         judged(rt.alloc(), &pages, 2, 34, 224)?,
@@ -250,5 +250,23 @@ fn a_byte_of_a_page_is_turned(rt: HostRuntime) -> Result<(), Fail> {
         judged(rt.alloc(), &pages, inner, 292 + 83, 1)?,
         Verdict::Tree(RowFault::Neighbour { page: before })
     );
+    Ok(())
+}
+
+#[test]
+fn each_fault_says_its_rule(rt: HostRuntime) -> Result<(), Fail> {
+    let faults = [
+        (1, PageFault::Wrong(NodeBad::Field)),
+        (1, PageFault::Missing),
+        (2, PageFault::Wrong(NodeBad::First)),
+        (2, PageFault::Unread(PageBad::Shape { rule: 2 })),
+        (3, PageFault::Wrong(NodeBad::Place)),
+        (5, PageFault::Free),
+    ];
+    for (rule, fault) in faults {
+        assert_eq!(rt; rule_broken(RowFault::Page { page: 22, fault }), rule);
+    }
+    assert_eq!(rt; rule_broken(RowFault::Child { page: 22 }), 3);
+    assert_eq!(rt; rule_broken(RowFault::Neighbour { page: 22 }), 4);
     Ok(())
 }

@@ -180,8 +180,8 @@ module _ (tree : Tree) (pages : List (List ℕ)) where
           subst (λ k. AreChecked tree pages k (ls ∷ more)) back (rows_stand ls more levels.1 inner.1 numbered.1 are.1 files.1 below),
         )
 
-    pub sound_rows : HasFirstPages pages → IsPlacedTree tree (page_in pages) → AreFilePages tree pages → AreChecked tree pages (length (lows_of tree (page_in pages)))
-        (levels_of tree (page_in pages))
+    pub sound_rows : HasFirstPages pages → IsPlacedTree tree (page_in pages) → AreFilePages tree pages
+        → AreChecked tree pages (length (lows_of tree (page_in pages))) (levels_of tree (page_in pages))
     sound_rows file placed files =
         let sound = placed.whole.sound in
         let lows = lows_of tree (page_in pages) in

@@ -8,6 +8,7 @@ mod laws;
 mod node;
 mod pages;
 mod rows;
+mod rules;
 mod space;
 mod whole;
 
@@ -16,5 +17,6 @@ pub use laws::a_node_is_a_page_of_its_tree;
 pub use node::{NodeBad, check_node};
 pub use pages::{PageFault, read_node};
 pub use rows::{RowFault, Walk, check_level};
+pub use rules::rule_broken;
 pub use space::{SpaceFault, check_space, is_used, page_count};
 pub use whole::check_tree;

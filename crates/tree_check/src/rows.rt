@@ -8,7 +8,8 @@ ghost use Rattle.law_flat_tree.specs.Levels.Fence.{Key};
 ghost use Rattle.law_flat_tree.specs.Pages.{low_fence};
 ghost use Rattle.btree.specs.Layout.{IsLaidOut};
 ghost use Rattle.tree_check.specs.Space.{HasFirstPages};
-ghost use Rattle.tree_check.specs.Rows.{page_in, entry_fence, end_before, IsNodeAt, IsNextChild, IsStep, IsRowEnd, IsCheckedRow, IsRowFrom, HasRowBelow, IsStop, IsRowFault};
+ghost use Rattle.tree_check.specs.Rows.{page_in, entry_fence, end_before, IsNodeAt, IsNextChild, IsStep, IsRowEnd};
+ghost use Rattle.tree_check.specs.Rows.{IsCheckedRow, IsRowFrom, HasRowBelow, IsStop, IsRowFault};
 
 use crate::fences::{do_meet, high_fence_of, low_fence_of};
 use crate::pages::{PageFault, read_node};

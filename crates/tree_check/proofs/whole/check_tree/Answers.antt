@@ -63,7 +63,8 @@ returns-clause-tree c =
 
 pub returns-in_err-height-clause-refused : goal.returns-in_err-height-clause-refused
 returns-in_err-height-clause-refused c =
-    on_err c.from_residual.result (λ placed files. c.in_err-height.ensures.refused (root_row c.args.tree c.args.pages.now c.told-pages c.requires.file placed files))
+    on_err c.from_residual.result (λ placed files.
+    c.in_err-height.ensures.refused (root_row c.args.tree c.args.pages.now c.told-pages c.requires.file placed files))
 
 pub returns-in_err-check_level-clause-refused : goal.returns-in_err-check_level-clause-refused
 returns-in_err-check_level-clause-refused c =

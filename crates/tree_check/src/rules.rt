@@ -1,0 +1,51 @@
+//! Which rule of a mount a fault breaks, as a mount reports it.
+
+ghost use Rattle.std.specs.Prelude.{◌≡◌};
+ghost use Rattle.tree_check.specs.Rules.{rule_in_page, rule_on_level, rule_at_page, rule_broken};
+
+use crate::node::NodeBad;
+use crate::pages::PageFault;
+use crate::rows::RowFault;
+use page_format::PageBad;
+
+fn rule_in_page(bad: PageBad) -> u8
+    ensures { result ≡ rule_in_page bad }
+{
+    match bad {
+        PageBad::Sum { .. } | PageBad::Number { .. } => 0,
+        PageBad::Shape { rule } => rule,
+    }
+}
+
+fn rule_on_level(bad: NodeBad) -> u8
+    ensures { result ≡ rule_on_level bad }
+{
+    match bad {
+        NodeBad::Field => 1,
+        NodeBad::Order | NodeBad::First => 2,
+        NodeBad::Place => 3,
+    }
+}
+
+fn rule_at_page(fault: PageFault) -> u8
+    ensures { result ≡ rule_at_page fault }
+{
+    match fault {
+        PageFault::Missing => 1,
+        PageFault::Free => 5,
+        PageFault::Unread(bad) => rule_in_page(bad),
+        PageFault::Wrong(bad) => rule_on_level(bad),
+    }
+}
+
+/// The number of the rule that a fault breaks, or 0 where the bytes of a page can't be read as that page, by their sum or their
+/// number.
+pub fn rule_broken(fault: RowFault) -> u8
+    ensures { result ≡ rule_broken fault }
+{
+    match fault {
+        RowFault::Page { page: _, fault } => rule_at_page(fault),
+        RowFault::Child { .. } => 3,
+        RowFault::Neighbour { .. } => 4,
+    }
+}
