@@ -59,9 +59,9 @@ fn shown_as(answer: &Move, read: &[u8]) -> Seen {
     }
 }
 
-fn read<E: Entries>(
+fn read(
     alloc: Global,
-    index: &mut E,
+    index: &mut ListIndex,
     actor: u32,
     key: u8,
     next: bool,
@@ -76,12 +76,7 @@ fn read<E: Entries>(
     Ok(shown_as(&answer, &into))
 }
 
-fn make<E: Entries>(
-    alloc: Global,
-    index: &mut E,
-    actor: u32,
-    call: Call,
-) -> Result<Seen, AllocError> {
+fn make(alloc: Global, index: &mut ListIndex, actor: u32, call: Call) -> Result<Seen, AllocError> {
     match call {
         Call::Fetch(key) => read(alloc, index, actor, key, false),
         Call::NextKey(key) => read(alloc, index, actor, key, true),
@@ -105,10 +100,10 @@ fn make<E: Entries>(
     }
 }
 
-fn expect<E: Entries>(
+fn expect(
     rt: &impl Abort,
     alloc: Global,
-    index: &mut E,
+    index: &mut ListIndex,
     rows: &[(u32, Call, Seen)],
 ) -> Result<(), AllocError> {
     for (actor, call, answer) in rows {
@@ -119,9 +114,9 @@ fn expect<E: Entries>(
 }
 
 /// The first two pairs from a key on.
-fn two_from<E: Entries>(
+fn two_from(
     alloc: Global,
-    index: &mut E,
+    index: &mut ListIndex,
     actor: u32,
     from: u8,
 ) -> Result<(Seen, Seen), AllocError> {

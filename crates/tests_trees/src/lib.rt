@@ -3,8 +3,6 @@
 #![tactic(auto)]
 
 #[cfg(test)]
-mod both;
-#[cfg(test)]
 mod changing;
 #[cfg(test)]
 mod checking;

@@ -2,9 +2,8 @@
 //! and in the end both have the same pairs.
 
 ghost use Rattle.std.specs.Prelude.{◌≡◌, ◌<◌, ◌≤◌, length, IfOk, IfSome, vec_capacity};
-ghost use Rattle.tests_trees.specs.Wide.{AreWide};
+ghost use Rattle.tests_indexes.specs.Wide.{AreWide};
 
-use crate::comparing::page_of;
 use btree::Tree;
 use entries::{Entries, ListIndex};
 use inno_types::Bytes;
@@ -233,6 +232,17 @@ fn make<E: Entries>(index: &mut E, calls: &Calls, into: &mut Vec<u8>) -> Answers
     }
 }
 
+/// An empty leaf of the tree, without fences and without a neighbour.
+fn empty_leaf() -> [u8; 4096] {
+    let mut page = [0; 4096];
+    page[20] = 3;
+    page[27] = 8;
+    page[33] = 200;
+    page[34] = 255;
+    page[35] = 255;
+    page
+}
+
 /// So many pages of a file, of which those up to the root are in use; the root is an empty leaf.
 fn file_of(alloc: Global, count: u8) -> Result<Vec<[u8; 4096]>, AllocError> {
     let mut header = [0; 4096];
@@ -248,7 +258,7 @@ fn file_of(alloc: Global, count: u8) -> Result<Vec<[u8; 4096]>, AllocError> {
     for _ in 0..18 {
         pages.push([0; 4096])?;
     }
-    pages.push(page_of(0, 0, 0, 0, 200, &[]))?;
+    pages.push(empty_leaf())?;
     for _ in 22..count {
         pages.push([0; 4096])?;
     }
