@@ -1,63 +1,72 @@
-//! Lists in order: item by item, as slices are. Keys of indexes are compared so.
+//! Bytes in order: byte by byte, as keys of indexes are compared. As far as two are alike they are read eight bytes at a time.
 
-ghost use Rattle.std.specs.Prelude.{◌≡◌};
-ghost use Rattle.std.specs.Cmp.Lexicographic.{pointwise, slice_cmp, slice_partial_cmp, lists_equiv, lists_agrees, lists_total, lists_ties, lists_po, lists_per};
+ghost use Rattle.std.specs.Prelude.{◌≡◌, nat_eq, refl, Some};
+ghost use Rattle.std.specs.Int.{w64, to_be_bytes};
+ghost use Rattle.std.specs.Ordering.{nat_cmp};
+ghost use Rattle.std.specs.Cmp.Lexicographic.{pointwise, slice_cmp, nat_list_eq_equiv, nat_list_cmp_total, texts_ties, texts_po};
+ghost use Rattle.std.specs.Cmp.{partial_equiv_from_equiv};
 
 use crate::listed::Listed;
 use std::cmp::Ordering;
 
-impl<T: PartialEq> PartialEq for Listed<T> {
-    ghost eq = { pointwise T.eq };
+impl PartialEq for Listed<u8> {
+    ghost eq = { pointwise nat_eq };
 
-    ghost laws = { lists_per T.laws };
+    ghost laws = { partial_equiv_from_equiv nat_list_eq_equiv };
 
     fn eq(&self, other: &Self) -> bool {
-        equal(self.as_slice(), other.as_slice())
+        self.as_slice() == other.as_slice()
     }
 }
 
-impl<T: Eq> Eq for Listed<T> {
-    ghost laws = { lists_equiv T.Eq.laws };
+impl Eq for Listed<u8> {
+    ghost laws = { nat_list_eq_equiv };
 }
 
-impl<T: PartialOrd> PartialOrd for Listed<T> {
-    ghost partial_cmp = { slice_partial_cmp T.partial_cmp };
+impl PartialOrd for Listed<u8> {
+    ghost partial_cmp = { λ x y. Some (slice_cmp nat_cmp x y) };
 
-    ghost laws = { lists_po T.PartialOrd.laws };
+    ghost laws = { texts_po };
 
     fn partial_cmp(&self, other: &Self) -> Option<Ordering> {
-        partial_order(self.as_slice(), other.as_slice())
+        Some(self.cmp(other))
     }
 }
 
-impl<T: Ord> Ord for Listed<T> {
-    ghost cmp = { slice_cmp T.cmp };
+impl Ord for Listed<u8> {
+    ghost cmp = { slice_cmp nat_cmp };
 
-    ghost total = { lists_total T.total };
+    ghost total = { nat_list_cmp_total };
 
-    ghost matches_partial_cmp = { lists_agrees T.matches_partial_cmp };
+    ghost matches_partial_cmp = { λ x y. refl };
 
-    ghost matches_eq = { lists_ties T.cmp T.matches_eq };
+    ghost matches_eq = { texts_ties };
 
     fn cmp(&self, other: &Self) -> Ordering {
         order(self.as_slice(), other.as_slice())
     }
 }
 
-fn equal<'a, T: PartialEq>(list: &'a [T], other: &'a [T]) -> bool
-    ensures { result ≡ pointwise T.eq list.now other.now }
+fn order<'a>(bytes: &'a [u8], other: &'a [u8]) -> Ordering
+    ensures { result ≡ slice_cmp nat_cmp bytes.now other.now }
 {
-    PartialEq::eq(&list, &other)
+    let (words, _) = bytes.as_chunks::<8>();
+    let (other_words, _) = other.as_chunks::<8>();
+    let both = words.len().min(other_words.len());
+    for i in 0..both {
+        let (word, other_word) = (number_of(&words[i]), number_of(&other_words[i]));
+        if word != other_word {
+            return word.cmp(&other_word);
+        }
+    }
+    let (_, bytes) = bytes.split_at(8 * both);
+    let (_, other) = other.split_at(8 * both);
+    bytes.cmp(other)
 }
 
-fn partial_order<'a, T: PartialOrd>(list: &'a [T], other: &'a [T]) -> Option<Ordering>
-    ensures { result ≡ slice_partial_cmp T.partial_cmp list.now other.now }
+/// Eight bytes as a number, the highest first.
+fn number_of(bytes: &[u8; 8]) -> u64
+    ensures { to_be_bytes w64 result ≡ bytes.now }
 {
-    list.partial_cmp(&other)
-}
-
-fn order<'a, T: Ord>(list: &'a [T], other: &'a [T]) -> Ordering
-    ensures { result ≡ slice_cmp T.cmp list.now other.now }
-{
-    list.cmp(&other)
+    u64::from_be_bytes(*bytes)
 }

@@ -321,23 +321,9 @@ module _ (says : Language) (one : ReadsOne says) (s : ℕ) (text : List ℕ) (pa
               ∙ sym (begun_settled says s (items.Sql text) past asked begun)
         ] refl
 
-    brings_keeps : (statement : Stmt) → BringsCommit statement → keeps_changes statement ≡ true
-    brings_keeps (stmt.Begin snapshot) brings = refl
-    brings_keeps (stmt.CreateTable table skips definitions) brings = refl
-    brings_keeps other brings = absurd brings
-
     says_asked : (statement : Stmt) → Asks says s statement past → says text statement
     says_asked statement asks =
         let same : asks.0 ≡ text = (let x = sym asks.1 ∙ asked in cc) in subst (λ (t : List ℕ). says t statement) same asks.2
-
-    committed_first : CommittedFirst says s past → IsUnmoved s past
-    committed_first first =
-        closed_or (λ is_open. inr (
-        elim (did begins_txn s past) as (λ b. did begins_txn s past ≡ b → own s past ≡ settled s past) [
-          | false ↦ λ not. kept_own says one s text first.statement (says_asked first.statement first.takes.asks) (brings_keeps first.statement first.brings)
-              past legal asked not is_open
-          | true ↦ λ begun. first.nothing ∙ sym (begun_settled says s (items.Sql text) past asked begun)
-        ] refl))
 
     early_moves : (reply : Reply) → EndsEarly says s reply past → Moves says s (items.Sql text) reply past work
     early_moves (Fail (errors.Deadlock cycle)) early = idle (Fail (errors.Deadlock cycle)) refl (inl early.1.rolled_back.closed)
@@ -348,7 +334,7 @@ module _ (says : Language) (one : ReadsOne says) (s : ℕ) (text : List ℕ) (pa
         elim early.leaves [
           | inl back ↦ idle replies.NoMemory refl (inl back.closed)
           | inr (inl was) ↦ idle replies.NoMemory refl (inl was.commits.closed)
-          | inr (inr (inl first)) ↦ idle replies.NoMemory refl (committed_first first)
+          | inr (inr (inl first)) ↦ idle replies.NoMemory refl (inl first.closed)
           | inr (inr (inr leaves)) ↦ idle replies.NoMemory refl (inr (left_it leaves))
         ]
     early_moves other early = absurd early

@@ -114,6 +114,7 @@ pub record MayUndo (says : Language) (s keep : ℕ) (past : List Event) : Type 0
 -- ROLLBACK, the rollback of a victim, and a statement that is given up with its own transaction
 abbrev pub RollsBackBy : ℕ → Setting → Stmt → List Event → Type 0
 RollsBackBy s setting stmt.Rollback past = Unit {0}
+RollsBackBy s setting (stmt.Begin snapshot) past = did begins_txn s past ≡ true
 RollsBackBy s setting (stmt.CreateTable table if_not_exists definitions) past = did begins_txn s past ≡ true
 RollsBackBy s setting statement past = (is_on_rows statement ≡ true) × ((did is_victim s past ≡ true) ⊎ (is_alone s setting past ≡ true))
 
@@ -319,9 +320,9 @@ pub record IsOverfull (says : Language) (s rows : ℕ) (past : List Event) : Typ
 
 -- ---- want of memory
 
--- BEGIN may leave the transaction that it opened, and a statement without autocommit too
+-- a statement without autocommit may leave the transaction that it opened
 abbrev pub MayLeaveOpen : Setting → Stmt → Type 0
-MayLeaveOpen setting (stmt.Begin snapshot) = Unit {0}
+MayLeaveOpen setting (stmt.Begin snapshot) = ⊥
 MayLeaveOpen setting (stmt.CreateTable table if_not_exists definitions) = ⊥
 MayLeaveOpen setting statement = setting.autocommit ≡ false
 
@@ -339,12 +340,15 @@ BringsCommit (stmt.Begin snapshot) = Unit {0}
 BringsCommit (stmt.CreateTable table if_not_exists definitions) = Unit {0}
 BringsCommit other = ⊥
 
--- Such a statement finds no memory for a transaction of its own: what was open before is committed, and nothing is changed.
+-- Such a statement finds no memory for a transaction of its own: what was open before is committed, nothing is changed, and
+-- nothing is open. A transaction that it began is rolled back.
 pub record CommittedFirst (says : Language) (s : ℕ) (past : List Event) : Type 0 where
   pub statement : Stmt
   pub takes : Takes says s statement past
   pub brings : BringsCommit statement
-  pub nothing : own s past ≡ []
+  pub closed : IsClosed s past
+  pub made : own s (point s past) ≡ own_before s (point s past)
+  pub begun : (did begins_txn s past ≡ false) ⊎ (did rolls_back_txn s past ≡ true)
   pub no_victim : did is_victim s past ≡ false
 
 -- An item that finds no memory leaves none of its changes, and commits nothing but what it brings the commit of; whatever

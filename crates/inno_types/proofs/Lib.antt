@@ -1,0 +1,3 @@
+pub mod ByteOrder
+pub mod Fronts
+pub mod Words
