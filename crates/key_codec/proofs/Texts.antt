@@ -7,7 +7,7 @@ use Rattle.std.specs.Ordering.{nat_cmp, ordering_then}
 use Rattle.std.specs.Cmp.Lexicographic.{slice_cmp}
 use Rattle.std.proofs.lemmas.Bool.Decides.{nat_tests}
 use Rattle.key_codec.specs.Keys.{padded}
-use Rattle.key_codec.proofs.ByteOrder.{itself}
+use Rattle.inno_types.proofs.ByteOrder.{itself}
 use Rattle.key_codec.proofs.Lengths.{length-padded}
 
 above_zero : (z : ℕ) → nat_cmp 0 (suc z) ≡ Less

@@ -12,7 +12,8 @@ use Rattle.inno_types.specs.declared.value.Value.{Value}
 use Rattle.inno_types.specs.declared.value.Value.TheVariants.{Null, Int, Text}
 use Rattle.inno_db.specs.Database.{value_cmp}
 use Rattle.key_codec.specs.Keys.{IsOfKind, IsOfKindOrNull, Has64Bits, raised, key_code, key_width, entry_front, entry_code}
-use Rattle.key_codec.proofs.ByteOrder.{then_equal, itself, slice_cmp-append, u64_bytes-order}
+use Rattle.inno_types.proofs.ByteOrder.{then_equal, itself, slice_cmp-append}
+use Rattle.key_codec.proofs.ByteOrder.{u64_bytes-order}
 use Rattle.key_codec.proofs.Lengths.{length-entry_front}
 use Rattle.key_codec.proofs.Texts.{padded-order}
 
