@@ -17,7 +17,7 @@ use Rattle.inno_db.specs.Declarations.{is_short}
 use Rattle.inno_db.specs.Typing.{type_of}
 use Rattle.key_codec.specs.Keys.{HasKey, HasEntry, IsOfKind, Has64Bits, key_code, entry_front, entry_code}
 use Rattle.key_codec.proofs.Lengths.{length-key_code}
-use Rattle.key_codec.proofs.ByteOrder.{itself}
+use Rattle.inno_types.proofs.ByteOrder.{itself}
 use Rattle.search_range.specs.declared.interval.Limit.{Limit}
 use Rattle.search_range.specs.declared.interval.Limit.TheVariants.{Open, With, Without}
 use Rattle.search_range.specs.declared.interval.Interval.{Interval}
