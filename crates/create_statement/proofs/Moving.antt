@@ -103,7 +103,7 @@ module _ (s : ℕ) (old new : State) (statement : Stmt) (l : Level) where
   pub lacks_closed : IsRunning old s (machine.Closed statement l) → Stays s old new → Steps IsRunning s old new machine.Failed advance.NoMemory
   lacks_closed r stays =
       lacks_memory s old new machine.Failed stays
-      (subst (IsGivingUp s) (sym stays.past_is) (gives_up_closed s statement old.past r.0.0.at r.0.1.new r.0.1.made r.0.2)) r.1
+      (subst (IsGivingUp s) (sym stays.past_is) (gives_up_closed s statement old.past r.0.0.at r.0.1 r.0.2)) r.1
 
   -- ---- the table is made
 
@@ -165,7 +165,7 @@ module _ (s : ℕ) (old new : State) (statement : Stmt) (l : Level) where
     makes_none free (inl stays) = (
       moves_stays s old new stays,
       (
-        subst (IsGivingUp s) (sym stays.past_is) (gives_up_closed s statement old.past r.0.0.at r.0.1.new r.0.1.made r.0.2),
+        subst (IsGivingUp s) (sym stays.past_is) (gives_up_closed s statement old.past r.0.0.at r.0.1 r.0.2),
         stays.task_is ∙ r.1,
       ),
       ap (started s) stays.past_is,

@@ -81,7 +81,9 @@ module _ (e : Event) (h : List Event) (s : ℕ) (other : is_of s e ≡ false) wh
         statement = c.statement;
         takes = takes_on s c.statement e h (within_of_other e s other) c.takes;
         brings = c.brings;
-        nothing = same.own_is ∙ c.nothing;
+        closed = same.level_is ∙ c.closed;
+        made = made_other c.made;
+        begun = elim c.begun [ inl none ↦ inl (did_same begins_txn ∙ none) | inr back ↦ inr (did_same rolls_back_txn ∙ back) ];
         no_victim = did_same is_victim ∙ c.no_victim;
       })
   leaves_on (inr l) =

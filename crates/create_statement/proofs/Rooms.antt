@@ -12,7 +12,7 @@ use Rattle.create_statement.proofs.Stepping.{gives_up_closed}
 
 pub runs_without_room : (state : State) (s : ℕ) (m : CreateStatement) → IsRunning state s m → IsRunning state s (without_room m)
 runs_without_room state s (machine.Closed statement l) r =
-    (gives_up_closed s statement state.past r.0.0.at r.0.1.new r.0.1.made r.0.2, r.1)
+    (gives_up_closed s statement state.past r.0.0.at r.0.1 r.0.2, r.1)
 runs_without_room state s other r = r
 
 -- an entry that is no change is not counted

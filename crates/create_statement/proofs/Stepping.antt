@@ -301,8 +301,8 @@ module _ (s : ℕ) (statement : Stmt) (h : List Event) where
 
   -- ---- without memory
 
-  pub gives_up_closed : IsAt s statement h → own s h ≡ [] → HasMadeNone s h → awaits_ack (of_item s h) ≡ false → IsGivingUp s h
-  gives_up_closed at new made acked =
+  pub gives_up_closed : IsAt s statement h → IsEmptied s h → awaits_ack (of_item s h) ≡ false → IsGivingUp s h
+  gives_up_closed at empty acked =
       record {
         text = at.takes.asks.0;
         item = at.takes.asks.1;
@@ -312,12 +312,14 @@ module _ (s : ℕ) (statement : Stmt) (h : List Event) where
               statement = statement;
               takes = at.takes;
               brings = brings s h at.takes.setting statement at.kind;
-              nothing = new;
+              closed = empty.closed;
+              made = empty.made;
+              begun = inl empty.not_begun;
               no_victim =
                   at.no_victim;
             });
-        made = made;
-        rows_alone = rows_of_none s h new;
+        made = empty.made;
+        rows_alone = rows_of_none s h empty.new;
       }
 
   pub gives_up_rolled : IsAt s statement h → HasOpened s h → own s h ≡ [] → IsGivingUp s (events.RolledBack s ∷ h)
@@ -325,6 +327,9 @@ module _ (s : ℕ) (statement : Stmt) (h : List Event) where
       let over : is_over s (events.RolledBack s ∷ h) ≡ true = grind (arith, nat_tests) in
       let none : own s (events.RolledBack s ∷ h) ≡ [] = grind (arith, nat_tests) in
       let here = at_on s statement (events.RolledBack s) h refl at.rows_before (let x = at.no_victim in grind (arith, nat_tests, x)) at in
+      let kept : HasMadeNone s (events.RolledBack s ∷ h) =
+      subst (λ p. own s p ≡ own_before s p) (sym (point_before (events.RolledBack s) h s opened.not_over over)) (new ∙ sym opened.none_before)
+      in
       record {
         text = here.takes.asks.0;
         item = here.takes.asks.1;
@@ -334,11 +339,13 @@ module _ (s : ℕ) (statement : Stmt) (h : List Event) where
               statement = statement;
               takes = here.takes;
               brings = brings s h at.takes.setting statement at.kind;
-              nothing = none;
+              closed = grind (arith, nat_tests);
+              made = kept;
+              begun = inr (grind (arith, nat_tests));
               no_victim =
                   here.no_victim;
             });
-        made = subst (λ p. own s p ≡ own_before s p) (sym (point_before (events.RolledBack s) h s opened.not_over over)) (new ∙ sym opened.none_before);
+        made = kept;
         rows_alone = rows_of_none s (events.RolledBack s ∷ h) none;
       }
 

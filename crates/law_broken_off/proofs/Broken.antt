@@ -48,6 +48,7 @@ of_transactions state s (transactions.Committing committer) legal r = inl (none_
 of_transactions state s (transactions.Unacked committer) legal r = inl r.0.1.made
 of_transactions state s (transactions.Closed committer) legal r = inl r.0.1.made
 of_transactions state s transactions.Viewing legal r = inl r.0.1.made
+of_transactions state s transactions.Unviewed legal r = inl r.0.1.made
 of_transactions state s (transactions.Begun snapshot) legal r = inl r.0.1.made
 of_transactions state s transactions.Rollback legal r = inl (none_made s state.past stmt.Rollback legal r.0.0.takes.asks (λ changes. changes))
 of_transactions state s (transactions.RollbackTo name made) legal r =

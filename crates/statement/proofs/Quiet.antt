@@ -63,6 +63,7 @@ transaction_intends_none s old new (transactions.Unacked committer) after r near
 transaction_intends_none s old new (transactions.Closed committer) after r nears =
     intends_none s old (stmt_of committer) r.0.0.takes.asks (committer_makes_none committer) (ap asked r.1)
 transaction_intends_none s old new transactions.Viewing after r nears = intends_none s old (stmt.Begin true) r.0.0.takes.asks (λ kind. kind) (ap asked r.1)
+transaction_intends_none s old new transactions.Unviewed after r nears = intends_none s old (stmt.Begin true) r.0.0.takes.asks (λ kind. kind) (ap asked r.1)
 transaction_intends_none s old new (transactions.Begun snapshot) after r nears =
     intends_none s old (stmt.Begin snapshot) r.0.0.takes.asks (λ kind. kind) (ap asked r.1)
 transaction_intends_none s old new transactions.Rollback after r nears =

@@ -213,14 +213,22 @@ module _ (s : ℕ) (past : List Event) where
 
   -- ---- without memory
 
-  pub fails_begin : (snapshot : Bool) (Knows : Setting → Type 0) → IsAt s (stmt.Begin snapshot) Knows past → own s past ≡ [] → HasMadeNone s past
-      → awaits_ack (of_item s past) ≡ false → IsGivingUp s past
-  fails_begin snapshot Knows at new made acked =
+  pub fails_begin : (snapshot : Bool) (Knows : Setting → Type 0) → IsAt s (stmt.Begin snapshot) Knows past → IsClosed s past → HasMadeNone s past
+      → (did begins_txn s past ≡ false) ⊎ (did rolls_back_txn s past ≡ true) → awaits_ack (of_item s past) ≡ false → IsGivingUp s past
+  fails_begin snapshot Knows at closed made begun acked =
       record {
         text = at.takes.asks.0;
         item = at.takes.asks.1;
         acked = acked;
-        leaves = inl (record { statement = stmt.Begin snapshot; takes = at.takes; brings = tt; nothing = new; no_victim = at.no_victim });
+        leaves = inl (record {
+          statement = stmt.Begin snapshot;
+          takes = at.takes;
+          brings = tt;
+          closed = closed;
+          made = made;
+          begun = begun;
+          no_victim = at.no_victim;
+        });
         made = made;
         rows_alone = at.rows_alone;
       }

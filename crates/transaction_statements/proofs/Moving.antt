@@ -1,5 +1,5 @@
 -- Each step as a whole, by what it does to the lists.
-use Rattle.std.proofs.Common.{◌≡◌, ℕ, ◌+◌, ◌<◌, ◌≤◌, Bool, true, false, Some, None, List, [], ◌∷◌, refl, sym, ap, subst, ◌∙◌, inr, arith, length}
+use Rattle.std.proofs.Common.{◌≡◌, ℕ, ◌+◌, ◌<◌, ◌≤◌, Bool, true, false, Some, None, List, [], ◌∷◌, refl, sym, ap, subst, ◌∙◌, inl, inr, arith, length}
 use Rattle.std.proofs.lemmas.Bool.Decides.{nat_tests}
 use Rattle.std.proofs.lemmas.Bool.{false≢true}
 use Rattle.std.specs.Prelude.{◌-◌}
@@ -34,7 +34,7 @@ use Rattle.transaction_statements.specs.Going.{to_go, how_far}
 use Rattle.sql_lists.proofs.Moving.{moves_none, moves_stays, moves_adds, moves_closes, moves_takes_back, below_phase, below_second, below_third, fewer_stand, takes_back_nears}
 use Rattle.transaction_statements.proofs.Staying.{still}
 use Rattle.transaction_statements.proofs.Ending.{fails_begin, fails_still, fails_saving}
-use Rattle.transaction_statements.proofs.Stepping.{emptied_closed, emptied_committed, at_committed, emptied_acked, at_acked, opened_begun, at_begun, knows_less, opened_viewed, at_viewed, at_undone, back_undone, at_rolled}
+use Rattle.transaction_statements.proofs.Stepping.{emptied_closed, emptied_committed, at_committed, emptied_acked, at_acked, opened_begun, at_begun, knows_less, opened_viewed, at_viewed, at_undone, back_undone, at_rolled, made_rolled}
 
 -- ---- by the answer
 
@@ -124,7 +124,7 @@ may_begin s past snapshot l r =
 
 module _ (s : ℕ) (old new : State) (snapshot : Bool) (l : Level) (r : IsRunning old s (statements.Closed (committers.Begin snapshot l))) where
   pub lacks_begin : Stays s old new → Steps IsRunning s old new statements.Failed advance.NoMemory
-  lacks_begin stays = lacks_memory s old new statements.Failed stays (fails_begin s old.past snapshot _ r.0.0 r.0.1.new r.0.1.made r.0.2) r.1
+  lacks_begin stays = lacks_memory s old new statements.Failed stays (fails_begin s old.past snapshot _ r.0.0 r.0.1.closed r.0.1.made (inl r.0.1.not_begun) r.0.2) r.1
 
   module _ (adds : Adds (events.Begin s (begins old.past + 1) l) s old new) where
     at : IsAt s (stmt.Begin snapshot) Nothing (events.Begin s (begins old.past + 1) l ∷ old.past)
@@ -173,8 +173,19 @@ views s old new r adds =
     adds_one s (events.View s) old new (statements.Begun true) (grind (arith, nat_tests)) refl refl refl adds
     (at_viewed s old.past (stmt.Begin true) Nothing r.0.0, opened_viewed s old.past r.0.1, λ is level-is. grind (arith, nat_tests)) r.1
 
-pub lacks_view : (s : ℕ) (old new : State) → IsRunning old s statements.Viewing → Stays s old new → Steps IsRunning s old new statements.Failed advance.NoMemory
-lacks_view s old new r stays = lacks_memory s old new statements.Failed stays (fails_begin s old.past true Nothing r.0.0 r.0.1.new r.0.1.made r.0.1.acked) r.1
+pub lacks_view : (s : ℕ) (old new : State) → IsRunning old s statements.Viewing → Stays s old new
+    → Steps IsRunning s old new statements.Unviewed advance.NoMemory
+lacks_view s old new r stays = lacks_memory s old new statements.Unviewed stays (r.0.0, r.0.1) r.1
+
+pub may_unbegin : (s : ℕ) (past : List Event) → RunsBy past s statements.Unviewed → MayRollBack Spells s past
+may_unbegin s past r = record { is_open = r.1.is_open; all_undone = r.1.new; by = inr (stmt.Begin true, r.0.takes, r.1.begun) }
+
+pub unbegins : (s : ℕ) (old new : State) → IsRunning old s statements.Unviewed → Closes (events.RolledBack s) s old new
+    → Steps IsRunning s old new statements.Failed advance.Went
+unbegins s old new r closes =
+    closes_one s (events.RolledBack s) old new statements.Failed (grind (arith, nat_tests)) refl refl refl closes
+    (fails_begin s (events.RolledBack s ∷ old.past) true Nothing (at_rolled s old.past (stmt.Begin true) Nothing r.0.0) (grind (arith, nat_tests))
+    (made_rolled s old.past r.0.1.made) (inr (grind (arith, nat_tests))) (grind (arith, nat_tests))) r.1
 
 -- ---- rollbacks
 

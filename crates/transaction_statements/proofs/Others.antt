@@ -103,7 +103,9 @@ module _ (e : Event) (h : List Event) (s : ℕ) (other : is_of s e ≡ false) wh
         statement = c.statement;
         takes = (takes_other c.statement c.takes).0;
         brings = c.brings;
-        nothing = same.own_is ∙ c.nothing;
+        closed = same.level_is ∙ c.closed;
+        made = made_untouched s e h other c.made;
+        begun = elim c.begun [ inl none ↦ inl (did_same begins_txn ∙ none) | inr back ↦ inr (did_same rolls_back_txn ∙ back) ];
         no_victim = did_same is_victim ∙ c.no_victim;
       })
   leaves_on (inr l) =
@@ -140,6 +142,7 @@ module _ (e : Event) (h : List Event) (s : ℕ) (other : is_of s e ≡ false) wh
   runs_on (statements.Unacked c) r = (at_other (stmt_of c) (Fits c) r.0, emptied_on r.1, acks ∙ r.2)
   runs_on (statements.Closed c) r = (at_other (stmt_of c) (Fits c) r.0, emptied_on r.1, acks ∙ r.2)
   runs_on statements.Viewing r = (at_other _ _ r.0, opened_on r.1, same.level_is ∙ r.2, same.view_is ∙ r.3)
+  runs_on statements.Unviewed r = (at_other _ _ r.0, opened_on r.1)
   runs_on (statements.Begun snapshot) r = (at_other _ _ r.0, opened_on r.1, λ is level. did_same takes_view ∙ r.2 is (sym same.level_is ∙ level))
   runs_on statements.Rollback r = (at_other _ _ r.0, did_same commits_txn ∙ r.1, acks ∙ r.2)
   runs_on (statements.RollbackTo name made) r = (at_other _ _ r.0, back_on made r.1)
@@ -172,6 +175,7 @@ has_item state s (statements.Committing c) r none = (let x = r.0.0.takes.asks.1 
 has_item state s (statements.Unacked c) r none = (let x = r.0.0.takes.asks.1 in cc)
 has_item state s (statements.Closed c) r none = (let x = r.0.0.takes.asks.1 in cc)
 has_item state s statements.Viewing r none = (let x = r.0.0.takes.asks.1 in cc)
+has_item state s statements.Unviewed r none = (let x = r.0.0.takes.asks.1 in cc)
 has_item state s (statements.Begun snapshot) r none = (let x = r.0.0.takes.asks.1 in cc)
 has_item state s statements.Rollback r none = (let x = r.0.0.takes.asks.1 in cc)
 has_item state s (statements.RollbackTo name made) r none = (let x = r.0.0.takes.asks.1 in cc)

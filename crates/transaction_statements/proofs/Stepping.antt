@@ -1,5 +1,5 @@
 -- What one entry of its own makes of a statement, and how a statement begins.
-use Rattle.std.proofs.Common.{◌≡◌, ℕ, ◌<◌, ◌≤◌, true, false, Option, Some, None, List, [], ◌∷◌, refl, sym, ap, subst, ◌∙◌, inl, inr, arith, length, suc}
+use Rattle.std.proofs.Common.{◌≡◌, ℕ, ◌<◌, ◌≤◌, Bool, true, false, Option, Some, None, List, [], ◌∷◌, refl, sym, ap, subst, ◌∙◌, inl, inr, arith, length, suc}
 use Rattle.std.proofs.lemmas.Bool.Decides.{nat_tests}
 use Rattle.std.specs.Prelude.{◌-◌, is_some}
 use Rattle.std.specs.List.{AllByRecursion, list_any}
@@ -20,7 +20,7 @@ use Rattle.sql_history.specs.Legal.{MayCommit, CommitsBy}
 use Rattle.law_past_agreement.specs.Order.{IsOfRow, IsUndoable}
 use Rattle.shared_lists.specs.State.{State}
 use Rattle.sql_lists.specs.Steps.{HasRowsAlone, IsTaken}
-use Rattle.sql_lists.proofs.Staying.{point_now, point_before}
+use Rattle.sql_lists.proofs.Staying.{point_now, point_before, point_stays}
 use Rattle.transaction_statements.specs.declared.committer.Committer.{Committer}
 use Rattle.transaction_statements.specs.declared.committer.Committer.TheVariants as committers
 use Rattle.transaction_statements.specs.Committing.{stmt_of, Fits}
@@ -193,6 +193,18 @@ module _ (s : ℕ) (h : List Event) where
         keeps = ap (oldest made) own_undone ∙ (oldest_same made (own s h) more ∙ back.keeps);
         acked = grind (arith, nat_tests);
       }
+
+  -- what it has changed by its point
+  pub made_rolled : HasMadeNone s h → HasMadeNone s (events.RolledBack s ∷ h)
+  made_rolled made = go (is_over s h) refl where
+    over : is_over s (events.RolledBack s ∷ h) ≡ true
+    over = grind (arith, nat_tests)
+
+    go : (was : Bool) → is_over s h ≡ was → HasMadeNone s (events.RolledBack s ∷ h)
+    go true is = subst (λ p. own s p ≡ own_before s p) (sym (point_stays (events.RolledBack s) h s is over)) made
+    go false is =
+        subst (λ p. own s p ≡ own_before s p) (sym (point_before (events.RolledBack s) h s is over))
+        (subst (λ p. own s p ≡ own_before s p) (point_now h s is) made)
 
   pub at_rolled : (statement : Stmt) (Knows : Setting → Type 0) → IsAt s statement Knows h → IsAt s statement Knows (events.RolledBack s ∷ h)
   at_rolled statement Knows at =

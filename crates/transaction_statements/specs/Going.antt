@@ -18,6 +18,7 @@ to_go s state (statements.Committing committer) = left 5 0 0 0
 to_go s state (statements.Unacked committer) = left 4 0 0 0
 to_go s state (statements.Closed committer) = left 3 0 0 0
 to_go s state statements.Viewing = left 2 0 0 0
+to_go s state statements.Unviewed = left 1 0 0 0
 to_go s state (statements.Begun snapshot) = left 1 0 0 0
 to_go s state statements.Rollback = to_roll_back s state
 -- the changes that stand, and what is left of the one that is being taken back

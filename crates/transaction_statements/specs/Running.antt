@@ -26,6 +26,7 @@ RunsBy past s (statements.Committing committer) = IsAt s (stmt_of committer) (Fi
 RunsBy past s (statements.Unacked committer) = IsAt s (stmt_of committer) (Fits committer) past × IsEmptied s past × (awaits_ack (of_item s past) ≡ true)
 RunsBy past s (statements.Closed committer) = IsAt s (stmt_of committer) (Fits committer) past × IsEmptied s past × (awaits_ack (of_item s past) ≡ false)
 RunsBy past s statements.Viewing = IsAt s (stmt.Begin true) Nothing past × HasOpened s past × (level s past ≡ Some RepeatableRead) × (view_of s past ≡ None)
+RunsBy past s statements.Unviewed = IsAt s (stmt.Begin true) Nothing past × HasOpened s past
 RunsBy past s (statements.Begun snapshot) =
     IsAt s (stmt.Begin snapshot) Nothing past × HasOpened s past × (snapshot ≡ true → level s past ≡ Some RepeatableRead → did takes_view s past ≡ true)
 RunsBy past s statements.Rollback = IsAt s stmt.Rollback Nothing past × (did commits_txn s past ≡ false) × (awaits_ack (of_item s past) ≡ false)

@@ -95,8 +95,22 @@ pub fn step_viewing<L: SharedLists>(
             TransactionStatement::Begun { snapshot: true },
             Advance::Went,
         ),
-        Err(_) => (TransactionStatement::Failed, Advance::NoMemory),
+        Err(_) => (TransactionStatement::Unviewed, Advance::NoMemory),
     }
+}
+
+/// Rolls back the transaction of a BEGIN that found no memory for its view.
+pub fn step_unviewed<L: SharedLists>(
+    session: u32,
+    lists: &mut SqlLists<L>,
+) -> (TransactionStatement, Advance)
+    requires joined { session < length lists.old.names }
+    requires running { IsRunning lists.old session TransactionStatement.Unviewed }
+    ensures steps { Steps IsRunning session lists.old lists.new result.0 result.1 }
+    ensures nears { Nears to_go session lists.old TransactionStatement.Unviewed lists.new result.0 result.1 }
+{
+    lists.roll_back(session);
+    (TransactionStatement::Failed, Advance::Went)
 }
 
 pub fn step_begun<L: SharedLists>(

@@ -10,7 +10,7 @@ ghost use Rattle.transaction_statements.specs.Committing.{IsOnTransactions};
 ghost use Rattle.transaction_statements.specs.Running.{IsRunning, owes_ack, acked};
 ghost use Rattle.transaction_statements.specs.Going.{to_go};
 
-use crate::commits::{step_begun, step_closed, step_committing, step_viewing};
+use crate::commits::{step_begun, step_closed, step_committing, step_unviewed, step_viewing};
 use crate::committer::Committer;
 use crate::endings::{step_failed, step_missing, step_quiet};
 use crate::rollbacks::{new_rollback_to, step_rollback, step_rollback_to};
@@ -34,6 +34,8 @@ pub enum TransactionStatement {
     Closed { committer: Committer },
     /// BEGIN WITH CONSISTENT SNAPSHOT has opened its transaction, and is to take the view.
     Viewing,
+    /// No memory was found for that view: its transaction, which has changed nothing, is to be rolled back.
+    Unviewed,
     /// BEGIN has its transaction.
     Begun { snapshot: bool },
     Rollback,
@@ -129,6 +131,7 @@ impl TransactionStatement {
             TransactionStatement::Unacked { .. } => unreachable!(),
             TransactionStatement::Closed { committer } => step_closed(committer, session, lists),
             TransactionStatement::Viewing => step_viewing(session, lists),
+            TransactionStatement::Unviewed => step_unviewed(session, lists),
             TransactionStatement::Begun { snapshot } => step_begun(snapshot, session, lists),
             TransactionStatement::Rollback => step_rollback(session, lists),
             TransactionStatement::RollbackTo { savepoint, made } => step_rollback_to(
