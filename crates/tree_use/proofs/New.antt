@@ -17,7 +17,7 @@ use Rattle.btree.specs.Sound.{IsTreePage, lows_of, tree_pairs}
 use Rattle.btree.specs.Layout.{width_of}
 use Rattle.btree_split.specs.Placed.{IsPlacedTree}
 use Rattle.tree_use.specs.Stored.{HasWidths, IsAtRest}
-use Rattle.tree_use.specs.Beginning.{IsEmptyLeaf, IsCountedRoot}
+use Rattle.tree_use.specs.Beginning.{IsEmptyLeaf, IsCountedRoot, HoldsNewTree}
 use Rattle.tree_use.proofs.Empty.{leaf_fields, leaf_records, empty_root, leaf_shown}
 
 module _ (tree : Tree) (pages : ℕ → List ℕ) (widths : HasWidths tree)
@@ -96,6 +96,25 @@ counted_shown root a b c d same map is =
       reserved = λ page low. sym (bit page) ∙ is.reserved page low;
       used = sym (bit root) ∙ is.used;
     }
+
+-- what stands is shown by the copies
+module _ {M : Type 0} (state : M → MtrState) (resident : AreResident state) (tree : Tree) (a b c d : M) (told : IsTrue (state a).told)
+    (first : GivesUp (state a) (state b)) (second : GivesUp (state b) (state c)) (third : GivesUp (state c) (state d))
+    (header map root : List ℕ) (header_shown : IsTrue (state b).told → IsShown ((state a).standing 0) header)
+    (map_shown : IsTrue (state c).told → IsShown ((state b).standing 2) map)
+    (root_shown : IsTrue (state d).told → IsShown ((state c).standing tree.root) root) where
+  pub new_shown : HoldsNewTree tree (state a).standing → IsCountedRoot tree.root header map × IsEmptyLeaf tree root
+  new_shown holds =
+      let told_b = told_on state resident a b first.goes told in
+      let told_c = told_on state resident b c second.goes told_b in
+      let told_d = told_on state resident c d third.goes told_c in
+      let same_b : (state b).standing ≡ (state a).standing = first.standing told_b in
+      let same_c : (state c).standing ≡ (state a).standing = second.standing told_c ∙ same_b in (
+        counted_shown tree.root ((state a).standing 0) header ((state a).standing 2) map (sym (header_shown told_b).same)
+            (sym ((map_shown told_c).same ∙ ap (λ (p : ℕ → List ℕ). drop 20 (p 2)) same_b)) holds.0,
+        leaf_shown tree ((state a).standing tree.root) root
+            (sym ((root_shown told_d).same ∙ ap (λ (p : ℕ → List ℕ). drop 20 (p tree.root)) same_c)) holds.1,
+      )
 
 module _ {M : Type 0} (state : M → MtrState) (resident : AreResident state) (tree : Tree) (widths : HasWidths tree) (a b c d : M) (told : IsTrue (state a).told)
     (spare : 4096 ≤ (state a).whole) (first : GivesUp (state a) (state b)) (second : GivesUp (state b) (state c)) (third : GivesUp (state c) (state d))

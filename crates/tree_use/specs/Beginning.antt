@@ -17,11 +17,19 @@ pub record IsEmptyLeaf (tree : Tree) (bytes : List ℕ) : Type 0 where
   pub high : slice_index bytes 35 ≡ 255
   pub rest : AreZeros (drop 36 bytes)
 
+-- the first pages are marked as used
+abbrev pub AreReserved : List ℕ → Type 0
+AreReserved map = (page : ℕ) → page ≤ 20 → bit_in map page ≡ 1
+
 -- The root is one of the pages that page 0 counts, behind the first ones; these are marked as used, and so is the root.
 pub record IsCountedRoot (root : ℕ) (header map : List ℕ) : Type 0 where
   pub beyond : 20 < root
   pub covered : root < 32512
   pub counted : root < u32_at 44 header
   pub few : u32_at 44 header ≤ 65536
-  pub reserved : (page : ℕ) → page ≤ 20 → bit_in map page ≡ 1
+  pub reserved : AreReserved map
   pub used : bit_in map root ≡ 1
+
+-- The pages hold a tree that was just made: its root is in use, and an empty leaf.
+abbrev pub HoldsNewTree : Tree → (ℕ → List ℕ) → Type 0
+HoldsNewTree tree pages = IsCountedRoot tree.root (pages 0) (pages 2) × IsEmptyLeaf tree (pages tree.root)

@@ -1,6 +1,6 @@
 //! Whether the pages hold a tree that was just made: a root in use that is an empty leaf.
 
-ghost use Rattle.std.specs.Prelude.{◌≡◌, ◌<◌, ◌≤◌, ℕ, [], length, IsTrue, IfOk, IfErr, MatchBool};
+ghost use Rattle.std.specs.Prelude.{◌≡◌, ◌<◌, ◌≤◌, ℕ, false, [], length, IsTrue, IfOk, IfErr, MatchBool};
 ghost use Rattle.page_format.specs.Shape.{AreZeros};
 ghost use Rattle.mtr.specs.Seen.{IsShown};
 ghost use Rattle.mtr.specs.Calls.{GivesUp};
@@ -8,7 +8,7 @@ ghost use Rattle.space_map.specs.Map.{bit_in};
 ghost use Rattle.btree.specs.Sound.{tree_pairs};
 ghost use Rattle.btree.specs.Reads.{IsIdle, IsHindered};
 ghost use Rattle.tree_use.specs.Stored.{HasWidths, IsAtRest};
-ghost use Rattle.tree_use.specs.Beginning.{IsEmptyLeaf, IsCountedRoot};
+ghost use Rattle.tree_use.specs.Beginning.{IsEmptyLeaf, AreReserved, IsCountedRoot, HoldsNewTree};
 
 use crate::reading::sure;
 use btree::Tree;
@@ -34,7 +34,7 @@ const BITS: usize = 32;
 /// Whether a page is marked as used in the first page of the map.
 fn is_used(map: &[u8; 4096], page: u32) -> bool
     requires { page < 32512 }
-    ensures { IsTrue result → bit_in map.now page ≡ 1 }
+    ensures { MatchBool result (bit_in map.now page ≡ 1) (bit_in map.now page ≡ 1 → ⊥) }
 {
     let byte = map[BITS + (page / 8) as usize];
     (byte >> (page % 8)) & 1 == 1
@@ -42,7 +42,7 @@ fn is_used(map: &[u8; 4096], page: u32) -> bool
 
 /// Whether the first pages are marked as used.
 fn are_reserved(map: &[u8; 4096]) -> bool
-    ensures { IsTrue result → (page : ℕ) → page ≤ 20 → bit_in map.now page ≡ 1 }
+    ensures { MatchBool result (AreReserved map.now) (AreReserved map.now → ⊥) }
 {
     for page in 0..RESERVED {
         if !is_used(map, page) {
@@ -54,7 +54,7 @@ fn are_reserved(map: &[u8; 4096]) -> bool
 
 /// Whether the root is a page of the file that is in use.
 fn is_counted(root: u32, header: &[u8; 4096], map: &[u8; 4096]) -> bool
-    ensures { IsTrue result → IsCountedRoot root header.now map.now }
+    ensures { MatchBool result (IsCountedRoot root header.now map.now) (IsCountedRoot root header.now map.now → ⊥) }
 {
     let count = read_u32(header, PAGE_COUNT);
     if root < RESERVED || root >= COVERED || root >= count || count > 65_536 {
@@ -73,7 +73,7 @@ fn are_zeros(bytes: &[u8]) -> bool
 fn is_empty_leaf(tree: Tree, bytes: &[u8]) -> bool
     requires size { length bytes.now ≡ 4096 }
     requires widths { HasWidths tree }
-    ensures { IsTrue result → IsEmptyLeaf tree bytes.now }
+    ensures { MatchBool result (IsEmptyLeaf tree bytes.now) (IsEmptyLeaf tree bytes.now → ⊥) }
 {
     if bytes[20] != 3 || bytes[21] != 0 || bytes[34] != 255 || bytes[35] != 255 {
         return false;
@@ -112,6 +112,7 @@ pub fn is_new_tree<M: Resident>(m: &mut M, tree: Tree) -> bool
     requires spare { 4096 ≤ (M.state m.old).whole }
     ensures rest { IsTrue result → IsAtRest tree (M.state m.new) }
     ensures none { IsTrue result → tree_pairs tree (M.state m.new).standing ≡ [] }
+    ensures other { result ≡ false → HoldsNewTree tree (M.state m.old).standing → ⊥ }
 {
     let header = sure(copied(m, 0));
     let map = sure(copied(m, 2));

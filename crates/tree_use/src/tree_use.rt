@@ -1,6 +1,6 @@
 //! An index in a tree: its pages, the place of each actor, and who is awaited.
 
-ghost use Rattle.std.specs.Prelude.{◌≡◌, ◌≤◌, IsTrue, IfOk, IfSome, MatchOption, MatchResult, None};
+ghost use Rattle.std.specs.Prelude.{◌≡◌, ◌≤◌, IsTrue, IfOk, MatchOption, MatchResult, None};
 ghost use Rattle.std.specs.Ordering.{nat_cmp};
 ghost use Rattle.std.specs.BTreeMap.{get};
 ghost use Rattle.entries.specs.Index.{IsAsBefore, IsFree, IsHeld};
@@ -8,6 +8,7 @@ ghost use Rattle.entries.specs.Calls.{next_of, Gives, Seeks, Follows};
 ghost use Rattle.tree_use.specs.Stored.{stored_of, HasWidths, IsAtRest};
 ghost use Rattle.btree.specs.Reads.{IsIdle};
 ghost use Rattle.tree_use.specs.Shown.{index_of, IsEmptyOf};
+ghost use Rattle.tree_use.specs.Beginning.{HoldsNewTree};
 
 use crate::beginning::is_new_tree;
 use crate::pages::TreePages;
@@ -55,7 +56,8 @@ impl<M: Resident + Drop> TreeUse<M> {
         requires told { IsTrue (M.state m).told }
         requires idle { IsIdle (M.state m) }
         requires spare { 4096 ≤ (M.state m).whole }
-        ensures { IfOk result (λ made. IfSome made (λ t. IsEmptyOf tree (⟦<TreeUse<M> as Entries>⟧.index t))) }
+        ensures { IfOk result (λ made. MatchOption made (HoldsNewTree tree (M.state m).standing → ⊥)
+            (λ t. IsEmptyOf tree (⟦<TreeUse<M> as Entries>⟧.index t))) }
     {
         if is_new_tree(&mut m, tree) {
             Ok(Some(TreeUse::new(alloc, tree, m)?))
