@@ -1,0 +1,10 @@
+//! Laws: what whoever opens a database reads of the records, older versions and open transactions of an engine that was going
+//! on (specs/Rows.antt), and of its pages (specs/Pages.antt), is what was committed. Recovery of rows in pages is to rest on
+//! them. Each function has an empty body: its contract is the law.
+#![tactic(auto)]
+
+mod pages;
+mod rows;
+
+pub use pages::held_pages_read;
+pub use rows::{a_record_reads_one_way, a_rollback_leaves_what_is_read, held_rows_read};
