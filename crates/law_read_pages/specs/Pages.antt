@@ -1,5 +1,5 @@
 -- The database that pages stand for: its tables are those of the catalog, and each table's records stand in a tree.
-use Rattle.std.specs.Prelude.{◌≡◌, ℕ, Bool, List, Option, Some, slice_get, map}
+use Rattle.std.specs.Prelude.{◌≡◌, ℕ, ◌+◌, Bool, List, Option, Some, slice_get, map}
 use Rattle.inno_db.specs.Database.{Database}
 use Rattle.inno_model.specs.declared.event.Event.{Event}
 use Rattle.inno_model.specs.Past.{changed, commits, committed}
@@ -7,6 +7,7 @@ use Rattle.entries.specs.Pairs.{Pair}
 use Rattle.chain.specs.declared.kept.Kept.{Kept}
 use Rattle.catalog_entry.specs.declared.held.Held.{Held}
 use Rattle.catalog.specs.Tables.{IsCatalog}
+use Rattle.catalog.specs.Creating.{key_bytes_at, clustered_len}
 use Rattle.btree.specs.declared.tree.Tree.{Tree}
 use Rattle.btree.specs.Sound.{tree_pairs}
 use Rattle.btree_split.specs.Placed.{IsPlacedTree}
@@ -19,11 +20,13 @@ use Rattle.law_read_pages.specs.Rows.{ReadAs}
 abbrev pub latest : List Event → Database
 latest past = record { schemas = created past; rows = (changed (with_all_tables past) (committed (commits past) past)).rows }
 
--- A tree at the table's first root has these pairs.
+-- A tree at the table's first root has these pairs, with keys and values as long as the table's.
 pub record IsTreeOf (table : ℕ) (held : Held) (pages : ℕ → List ℕ) (pairs : List Pair) : Type 0 where
   pub tree : Tree
   pub index_is : tree.index ≡ clustered_index table
   pub root_is : slice_get held.roots 0 ≡ Some tree.root
+  pub key_len : tree.key_len ≡ key_bytes_at held.schema.columns held.schema.primary
+  pub width : tree.key_len + tree.value_len ≡ clustered_len held.schema
   pub placed : IsPlacedTree tree pages
   pub pairs_are : tree_pairs tree pages ≡ pairs
 

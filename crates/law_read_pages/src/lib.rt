@@ -6,5 +6,5 @@
 mod pages;
 mod rows;
 
-pub use pages::held_pages_read;
+pub use pages::{held_pages_read, pages_stand_for_one_database};
 pub use rows::{a_record_reads_one_way, a_rollback_leaves_what_is_read, held_rows_read};
