@@ -48,7 +48,7 @@ use Rattle.law_held_searches.specs.TakenUp.{MayStep}
 use Rattle.law_held_searches.proofs.Places.{none_moves, moves_then, moves_in_one, moves_nothing, leaving_moves, moves_leave, moves_told}
 use Rattle.law_held_searches.proofs.Shows.{HasSome, some_rows_by, coded_while_quiet}
 use Rattle.law_held_searches.proofs.Begins.{columns_held, new_finding}
-use Rattle.law_held_searches.proofs.Stepping.{may_step, rows_on, some_schema}
+use Rattle.law_held_searches.proofs.Stepping.{few_held, may_step, rows_on, some_schema}
 
 -- ---- the plan
 
@@ -63,6 +63,7 @@ module _ (state : WorldState) (writer : Option ℕ) (desks : List Desk) (cuts : 
       said = what_is_there held.chains;
       coded = coded_while_quiet held.chains state told writer desks (read_into undo) room is held.rows;
       tells = inl refl;
+      short = few_held state writer desks cuts undo room held;
     }
     tells_by false is =
         let rows : HasSome held.chains state = some_rows_by held.chains state told writer desks (read_into undo) room held.rows in
@@ -73,6 +74,7 @@ module _ (state : WorldState) (writer : Option ℕ) (desks : List Desk) (cuts : 
           said = rows.0;
           coded = rows.1;
           tells = inr refl;
+          short = few_held state writer desks cuts undo room held;
         }
 
     pub tells_held : TellsTable held.chains table (plan_read (is_quiet writer desks) plan) schema state
@@ -140,7 +142,7 @@ module _ (chains : Chains) (s table : ℕ) (plan : Plan) (schema : Schema) where
 
     pub reading_steps : (state : WorldState) (search : RowSearch) → IsReadingNewest chains s table plan schema first state search → IsTold state
         → MayStep s schema state search
-    reading_steps state search is told = may_step s schema state chains search told (rows_now state search is told) is.finds.searching
+    reading_steps state search is told = may_step s schema state chains search told (rows_now state search is told) is.readable.short is.finds.searching
 
     shows : (state : WorldState) (search : RowSearch) → IsReadingNewest chains s table plan schema first state search → IsTold state
         → ShowsRows schema search.scan state (in_table search.scan.table chains)

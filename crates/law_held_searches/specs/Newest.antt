@@ -1,7 +1,8 @@
 -- A whole search of the newest rows, within one call: how far it has come.
 use Rattle.std.specs.Prelude.{◌≡◌, ◌⊎◌, ℕ, ◌≤◌, Bool, if◌then◌else◌, List, length, Some, slice_get}
 use Rattle.inno_types.specs.declared.value.Schema.{Schema}
-use Rattle.row_versions.specs.Chains.{Chains}
+use Rattle.row_versions.specs.declared.place.Place.{Place}
+use Rattle.row_versions.specs.Chains.{Chains, versions_at}
 use Rattle.law_coded_rows.specs.Tables.{Said, what_is_there, HasItsColumns, in_table}
 use Rattle.sql_plan.specs.declared.choice.Plan.{Plan}
 use Rattle.sql_plan.specs.Plans.{whole_index}
@@ -14,6 +15,7 @@ use Rattle.row_search.specs.declared.search.RowSearch.{RowSearch}
 use Rattle.row_search.specs.declared.sight.Sight.TheVariants.{Newest}
 use Rattle.row_search.specs.Sights.{rows_seen}
 use Rattle.row_search.specs.FoundRows.{AreFound, RiseByKey}
+use Rattle.row_search.specs.Tables.{most_versions}
 use Rattle.law_found_rows.specs.Finding.{IsFinding}
 use Rattle.law_held_searches.specs.Moving.{MovesPlaces}
 use Rattle.law_held_searches.specs.Begun.{IsScanOf}
@@ -22,7 +24,8 @@ use Rattle.law_held_searches.specs.Begun.{IsScanOf}
 abbrev pub plan_read : Bool → Plan → Plan
 plan_read quiet plan = if quiet then plan else whole_index
 
--- The table is there, and so are its rows, of which the searched index tells: each key does, or the clustered index is searched.
+-- The table is there, and so are its rows, each with few versions, of which the searched index tells: each key does, or the
+-- clustered index is searched.
 pub record TellsTable (chains : Chains) (table : ℕ) (plan : Plan) (schema : Schema) (state : WorldState) : Type 0 where
   pub there : slice_get state.schemas table ≡ Some schema
   pub columns : HasItsColumns schema
@@ -30,6 +33,7 @@ pub record TellsTable (chains : Chains) (table : ℕ) (plan : Plan) (schema : Sc
   pub said : Said
   pub coded : AreRowsAs chains said state
   pub tells : (said ≡ what_is_there chains) ⊎ (plan.which ≡ 0)
+  pub short : (place : Place) → length (versions_at place chains) ≤ most_versions
 
 -- Since it began only the session's places have moved, and of the rows that were there then it has found what it came past.
 pub record IsReadingNewest (chains : Chains) (s table : ℕ) (plan : Plan) (schema : Schema) (first state : WorldState) (search : RowSearch) : Type 0 where
