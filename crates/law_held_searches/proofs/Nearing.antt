@@ -20,8 +20,10 @@ use Rattle.row_search.specs.Steps.{GoesOn}
 use Rattle.row_search.specs.Tables.{most_versions, ShowsRows}
 use Rattle.row_search.specs.Visits.{phase_anew}
 use Rattle.desks.specs.Searching.{keys_left, visit_left}
-use Rattle.desks.proofs.Counting.{versions_are, as_many}
+use Rattle.desks.specs.Undoing.{versions_from}
+use Rattle.desks.proofs.Counting.{versions_most, versions_are, as_many}
 use Rattle.desks.proofs.Showing.{same_pairs}
+use Rattle.law_held_searches.specs.Newest.{left_in}
 
 -- ---- four numbers, and the two that they say
 
@@ -219,3 +221,29 @@ pub anew_nearer : (later left keys visit other anew behind : ℕ) → IsLess lat
     → IsBelow (later ∷ anew ∷ left ∷ []) (keys ∷ behind ∷ other ∷ [])
 anew_nearer later left keys visit other anew behind (inl fewer) less = inl fewer
 anew_nearer later left keys visit other anew behind (inr both) less = inr (both.0, inl less)
+
+-- ---- as one number
+
+walk_few : (versions : ℕ) → versions ≤ most_versions → 2 * 2 ^ 64 + versions < 2 ^ 67
+walk_few versions few = omega (arith, few)
+
+-- a visit is less than a key
+visit_few : (kept : ℕ → Option Kept) (phase : Phase) → visit_left kept phase < 2 ^ 67
+visit_few kept Seek = omega arith
+visit_few kept Follow = omega arith
+visit_few kept (Fetch entry) = omega arith
+visit_few kept (Look entry bytes) = omega arith
+visit_few kept (Walk entry pointer) = walk_few (versions_from most_versions kept pointer) (versions_most most_versions kept pointer)
+visit_few kept (Keep entry row) = omega arith
+visit_few kept Sort = omega arith
+visit_few kept Leave = omega arith
+
+smaller : (later left keys visit : ℕ) → IsLess later left keys visit → left < 2 ^ 67 → later * 2 ^ 67 + left < keys * 2 ^ 67 + visit
+smaller later left keys visit (inl fewer) few = omega (arith, fewer, few)
+smaller later left keys visit (inr both) few = let same = both.0 in let less = both.1 in omega (arith, same, less)
+
+pub nearer_in : (s : ℕ) (old new : WorldState) (search next : RowSearch)
+    → IsLess (keys_before s new next) (visit_before new next) (keys_before s old search) (visit_before old search) → left_in s new next < left_in s old search
+nearer_in s old new search next less =
+    smaller (keys_before s new next) (visit_before new next) (keys_before s old search) (visit_before old search) less
+    (visit_few new.versions.kept_at next.phase)
