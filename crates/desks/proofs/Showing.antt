@@ -1,14 +1,24 @@
 -- What a session's desk shows of it.
-use Rattle.std.proofs.Common.{◌≡◌, ℕ, List, Option, refl}
+use Rattle.std.proofs.Common.{◌≡◌, ◌≢◌, ◌⊎◌, inl, inr, ℕ, zero, suc, ◌+◌, List, [], ◌∷◌, length, Option, None, Some, refl, sym, ap, ◌∙◌, arith}
+use Rattle.std.specs.Prelude.{◌-◌, IsSome, slice_index_or}
+use Rattle.std.proofs.lemmas.Bool.Decides.{eqb_tells}
 use Rattle.std.proofs.Math.ListN.{get_or-map}
 use Rattle.inno_types.specs.declared.value.Schema.{Schema}
-use Rattle.world.specs.State.{WorldState}
+use Rattle.inno_model.specs.declared.event.Event.{Event}
+use Rattle.entries.specs.Pairs.{Pair}
+use Rattle.entries.specs.Index.{AreKept}
+use Rattle.chain.specs.Versions.{Stays}
+use Rattle.chain.specs.declared.kept.Kept.{Kept}
+use Rattle.world.specs.State.{WorldState, index_of}
+use Rattle.world.specs.Told.{IsTold, pairs_in, pairs_of}
 use Rattle.shared_lists.specs.Tasks as tasks
-use Rattle.shared_lists.specs.State.{task_of}
+use Rattle.shared_lists.specs.State.{Places, Lists, no_places, task_of, places_before}
 use Rattle.desks.specs.declared.desk.Desk.{Desk}
 use Rattle.desks.specs.declared.desk.Doing.{Doing}
 use Rattle.desks.specs.declared.desk.Doing.TheVariants.{Nothing, Searching, Changing, Lagging, Undoing}
 use Rattle.desks.specs.Desks.{fresh_desk, doing_at}
+use Rattle.desks.specs.declared.desk.TableSearch.{TableSearch}
+use Rattle.desks.specs.Searching.{keys_left, visit_left, places_of, places_from}
 use Rattle.desks.specs.Shown.{shown, lists_of}
 
 pub task_is : (s left : ℕ) (state : WorldState) (writer : Option ℕ) (desks : List Desk)
@@ -21,3 +31,80 @@ idle_shown left schemas (Searching on) is = absurd (cc)
 idle_shown left schemas (Changing change) is = absurd (cc)
 idle_shown left schemas Lagging is = absurd (cc)
 idle_shown left schemas Undoing is = absurd (cc)
+
+-- ---- what searches have before them
+
+at_number : (n s : ℕ) (state : WorldState) (desks : List Desk) (number : ℕ) → number ≡ n + s
+    → slice_index_or (places_from n state desks) s no_places ≡ places_of number state (doing_at s desks)
+at_number n s state [] number is = refl
+at_number n zero state (desk ∷ desks) number is = ap (λ (t : ℕ). places_of t state desk.doing) (omega (arith, is))
+at_number n (suc s) state (desk ∷ desks) number is = at_number (n + 1) s state desks number (omega (arith, is))
+
+pub places_are : (s left : ℕ) (state : WorldState) (writer : Option ℕ) (desks : List Desk)
+    → places_before s (lists_of state writer desks left).state ≡ places_of s state (doing_at s desks)
+places_are s left state writer desks = at_number 0 s state desks s (omega arith)
+
+from_stay : (n : ℕ) (old new : WorldState) (desks : List Desk)
+    → ((s number : ℕ) → number ≡ n + s → places_of number new (doing_at s desks) ≡ places_of number old (doing_at s desks))
+    → places_from n new desks ≡ places_from n old desks
+from_stay n old new [] same = refl
+from_stay n old new (desk ∷ desks) same =
+    let first : places_of n new desk.doing ≡ places_of n old desk.doing = same 0 n (omega arith) in
+    let rest : places_from (n + 1) new desks ≡ places_from (n + 1) old desks
+    = from_stay (n + 1) old new desks (λ s number is. same (suc s) number (omega (arith, is))) in
+    λ i. first i ∷ rest i
+
+abbrev seen_with : List Places → Lists → Lists
+seen_with places lists = record lists { state = record lists.state { places = places } }
+
+-- One session's places in indexes are others, which doesn't search.
+module _ (s : ℕ) (old new : WorldState) (past : new.past ≡ old.past) (pairs : (index : ℕ) → pairs_of new index ≡ pairs_of old index)
+    (kept : new.versions.kept_at ≡ old.versions.kept_at)
+    (places : (t index : ℕ) → t ≢ s → (new.indexes index).place t ≡ (old.indexes index).place t) where
+  places_same : (t : ℕ) (doing : Doing) → t ≢ s → places_of t new doing ≡ places_of t old doing
+  places_same t Nothing differs = refl
+  places_same t (Searching on) differs =
+      let index = index_of on.search.scan.table on.search.scan.which in
+      let place = places t index differs in
+      let there = pairs index in
+      λ i. record {
+        keys = keys_left (place i) (there i) on.search.phase;
+        anew = length (past i) - on.cuts;
+        visit = visit_left (kept i) on.search.phase;
+      }
+  places_same t (Changing change) differs = refl
+  places_same t Lagging differs = refl
+  places_same t Undoing differs = refl
+
+  rests : (t : ℕ) (doing : Doing) → ((on : TableSearch) → doing ≡ Searching on → ⊥) → places_of t new doing ≡ places_of t old doing
+  rests t Nothing not = refl
+  rests t (Searching on) not = absurd (not on refl)
+  rests t (Changing change) not = refl
+  rests t Lagging not = refl
+  rests t Undoing not = refl
+
+  places_stay : (desks : List Desk) → ((on : TableSearch) → doing_at s desks ≡ Searching on → ⊥)
+      → places_from 0 new desks ≡ places_from 0 old desks
+  places_stay desks not = from_stay 0 old new desks (λ t number is. elim (eqb_tells t s) [
+    | inl same ↦ rests number (doing_at t desks) (λ on at. not on (ap (λ u. doing_at u desks) (sym same.1) ∙ at))
+    | inr differs ↦ places_same number (doing_at t desks) (λ so. differs.1 (omega (arith, is, so)))
+  ])
+
+pub same_pairs : (old new : Option (List Pair)) → AreKept old new → IsSome new → pairs_in new ≡ pairs_in old
+same_pairs old None kept some = absurd (cc)
+same_pairs None (Some new) kept some = absurd kept
+same_pairs (Some old) (Some new) kept some = kept
+
+-- so callers see what they saw
+pub lists_stay : (s left : ℕ) (old new : WorldState) (writer : Option ℕ) (desks : List Desk)
+    → new ≡ record old { indexes = new.indexes; versions = new.versions; paged = new.paged }
+    → ((index : ℕ) → AreKept (old.indexes index).pairs (new.indexes index).pairs)
+    → ((t index : ℕ) → t ≢ s → (new.indexes index).place t ≡ (old.indexes index).place t) → Stays old.versions new.versions → IsTold new
+    → ((on : TableSearch) → doing_at s desks ≡ Searching on → ⊥) → lists_of new writer desks left ≡ lists_of old writer desks left
+lists_stay s left old new writer desks rest pairs places versions told not =
+    let same : places_from 0 new desks ≡ places_from 0 old desks
+    = places_stay s old new (ap (λ (state : WorldState). state.past) rest)
+    (λ index. same_pairs (old.indexes index).pairs (new.indexes index).pairs (pairs index) (told.pairs index)) (versions.kept told.versions) places desks not
+    in
+    ap (λ (state : WorldState). seen_with (places_from 0 new desks) (lists_of state writer desks left)) rest
+    ∙ ap (λ (p : List Places). seen_with p (lists_of old writer desks left)) same

@@ -19,6 +19,7 @@ use Rattle.desks.specs.declared.desk.Desk.{Desk}
 use Rattle.desks.specs.declared.desk.Doing.{Doing}
 use Rattle.desks.specs.declared.desk.Doing.TheVariants.{Nothing, Searching, Changing, Lagging, Undoing}
 use Rattle.desks.specs.Undoing.{keys_if, undo_left_in}
+use Rattle.desks.specs.Searching.{places_from}
 
 abbrev pub reading_of : Sight → Reading
 reading_of (sights.View view own) = View
@@ -45,7 +46,14 @@ tasks_of schemas left desks = map (λ (desk : Desk). shown schemas left desk.doi
 abbrev pub lists_of : WorldState → Option ℕ → List Desk → ℕ → Lists
 lists_of state writer desks left =
     record {
-      state = record { names = state.names; past = state.past; writer = writer; tasks = tasks_of state.schemas left desks };
+      state
+          = record {
+            names = state.names;
+            past = state.past;
+            writer = writer;
+            tasks = tasks_of state.schemas left desks;
+            places = places_from 0 state desks;
+          };
       settings = map (λ (session : Session). session.setting) state.sessions;
       rows = state.rows;
     }

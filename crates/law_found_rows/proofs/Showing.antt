@@ -17,7 +17,7 @@ use Rattle.world.specs.State.{WorldState, index_of}
 use Rattle.world.specs.Told.{IsTold, pairs_in, pairs_of}
 use Rattle.row_search.specs.declared.scan.Scan.{Scan}
 use Rattle.row_search.specs.Sights.{sees_by, rows_seen}
-use Rattle.row_search.specs.Tables.{ShowsTable, HoldsTable, HaveKeys, ShowsRows}
+use Rattle.row_search.specs.Tables.{most_versions, ShowsTable, HoldsTable, HaveKeys, ShowsRows}
 use Rattle.row_search.proofs.Keys.{key_there_at}
 use Rattle.row_search.proofs.Others.{in_clustered, in_keyed, seen_among}
 use Rattle.law_coded_rows.specs.Tables.{TellsOfOlder}
@@ -44,8 +44,10 @@ module _ (state : WorldState) (chains : Chains) (said : Said) (told : IsTold sta
   shows_table table schema there =
       record { pairs = pairs_of state (clustered_index table); pairs_are = first_pairs table; clustered = coded.clustered.tables table schema there }
 
-  pub holds_table : (table : ℕ) (schema : Schema) → slice_get state.schemas table ≡ Some schema → HoldsTable schema table state
-  holds_table table schema there = λ is. (in_table table chains, shows_table table schema there)
+  pub holds_table : ((place : Place) → length (versions_at place chains) ≤ most_versions) → (table : ℕ) (schema : Schema)
+      → slice_get state.schemas table ≡ Some schema → HoldsTable schema table state
+  holds_table few table schema there =
+      λ is. (in_table table chains, shows_table table schema there, λ value. few (record { table = table; key = value }))
 
   module _ (schema : Schema) (scan : Scan) (there : slice_get state.schemas scan.table ≡ Some schema) (columns : HasItsColumns schema) where
     pub shows_clustered : scan.which ≡ 0 → ShowsRows schema scan state (in_table scan.table chains)

@@ -10,7 +10,7 @@ ghost use Rattle.world.specs.State.{WorldState};
 ghost use Rattle.world.specs.Told.{IsTold, pairs_of};
 ghost use Rattle.row_search.specs.declared.scan.Scan.{Scan};
 ghost use Rattle.row_search.specs.Sights.{sees_by};
-ghost use Rattle.row_search.specs.Tables.{HoldsTable, ShowsRows};
+ghost use Rattle.row_search.specs.Tables.{most_versions, HoldsTable, ShowsRows};
 ghost use Rattle.law_coded_rows.specs.Tables.{TellsOfOlder};
 
 /// A world whose indexes are certain rows shows them to each search. While keys lag it shows them to a search through the
@@ -35,5 +35,6 @@ pub fn a_world_shows_its_rows()
     ensures held { (schema : Schema) (table : ℕ) (state : WorldState) (chains : Chains) (said : Said)
         → IsTold state → slice_get state.schemas table ≡ Some schema
         → AreCodedAs state.schemas (pairs_of state) state.versions.kept_at chains said
+        → ((place : Place) → length (versions_at place chains) ≤ most_versions)
         → HoldsTable schema table state }
 {}

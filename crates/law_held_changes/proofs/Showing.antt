@@ -1,11 +1,13 @@
 -- What callers see of desks: the tasks of sessions.
-use Rattle.std.proofs.Common.{◌≡◌, ◌≢◌, ℕ, zero, suc, ◌+◌, ◌*◌, ◌<◌, ◌≤◌, ◌^◌, true, List, [], ◌∷◌, length, Option, Some, None, refl, sym, ap, subst, ◌∙◌, arith}
+use Rattle.std.proofs.Common.{◌≡◌, ◌≢◌, ℕ, zero, suc, ◌+◌, ◌*◌, ◌<◌, ◌≤◌, ◌^◌, true, false, List, [], ◌∷◌, length, Option, Some, None, refl, sym, ap, subst, ◌∙◌, arith}
 use Rattle.std.specs.Prelude.{slice_get, slice_index_or}
+use Rattle.std.proofs.lemmas.Bool.{true≢false}
 use Rattle.inno_types.specs.declared.value.Schema.{Schema}
 use Rattle.inno_model.specs.declared.event.Event.{Event}
 use Rattle.inno_model.specs.declared.event.Event.TheVariants.{Changed}
 use Rattle.law_fitting_rows.specs.Storable.{IsStorable}
 use Rattle.world.specs.State.{WorldState}
+use Rattle.world.specs.Told.{IsTold}
 use Rattle.world.specs.declared.undo_room.UndoRoom.{UndoRoom}
 use Rattle.row_changes.specs.declared.row_edit.RowEdit.{RowEdit}
 use Rattle.row_changes.specs.declared.row_change.RowChange.{RowChange}
@@ -22,11 +24,13 @@ use Rattle.desks.specs.declared.desk.Doing.{Doing}
 use Rattle.desks.specs.declared.desk.Doing.TheVariants.{Nothing, Searching, Changing, Lagging, Undoing}
 use Rattle.desks.specs.Desks.{doing_at, with_doing, is_quiet_doing}
 use Rattle.desks.specs.Shown.{shown, change_in, tasks_of, lists_of}
+use Rattle.desks.specs.declared.desk.TableSearch.{TableSearch}
 use Rattle.desks.specs.Undoing.{keys_if}
+use Rattle.desks.proofs.Showing.{lists_stay}
 use Rattle.desks.specs.Holding.{IsHeld}
 use Rattle.law_held_changes.specs.Beginning.{begun}
 use Rattle.law_held_changes.specs.Making.{given_up, LeavesLists, AddsNothing, IsNearer, IsEntered}
-use Rattle.law_held_changes.specs.Leaving.{LeavesIndexes}
+use Rattle.law_held_changes.specs.Leaving.{LeavesIndexes, is_searching}
 use Rattle.law_held_changes.proofs.Desks.{doing_here, doing_elsewhere, changes_at_a_desk}
 use Rattle.law_found_rows.proofs.FittingChanges.{tables_storable}
 
@@ -173,6 +177,10 @@ module _ (state : WorldState) (s : ℕ) (desks : List Desk) (cuts : ℕ) (undo :
 
 -- ---- an index that is left
 
+no_search : (doing : Doing) (on : TableSearch) → is_searching doing ≡ false → doing ≡ Searching on → ⊥
+no_search doing on none is = true≢false (sym (ap is_searching is) ∙ none)
+
 pub left_shown : (s : ℕ) (writer : Option ℕ) (desks : List Desk) (left : ℕ) (old new : WorldState) → LeavesIndexes s old new
-    → lists_of new writer desks left ≡ lists_of old writer desks left
-left_shown s writer desks left old new leaves = ap (λ (state : WorldState). lists_of state writer desks left) leaves.rest
+    → is_searching (doing_at s desks) ≡ false → IsTold new → lists_of new writer desks left ≡ lists_of old writer desks left
+left_shown s writer desks left old new leaves none told =
+    lists_stay s left old new writer desks leaves.rest leaves.pairs leaves.others leaves.versions told (λ on is. no_search (doing_at s desks) on none is)

@@ -1,7 +1,8 @@
 //! What statements see of a change that begins and goes on.
 
-ghost use Rattle.std.specs.Prelude.{◌≡◌, ℕ, ◌+◌, ◌<◌, ◌^◌, true, List, length, Option, None, Some};
+ghost use Rattle.std.specs.Prelude.{◌≡◌, ℕ, ◌+◌, ◌<◌, ◌^◌, true, false, List, length, Option, None, Some};
 ghost use Rattle.world.specs.State.{WorldState};
+ghost use Rattle.world.specs.Told.{IsTold};
 ghost use Rattle.world.specs.declared.undo_room.UndoRoom.{UndoRoom};
 ghost use Rattle.row_changes.specs.declared.row_edit.RowEdit.{RowEdit};
 ghost use Rattle.row_changes.specs.declared.row_change.RowChange.{RowChange};
@@ -18,7 +19,7 @@ ghost use Rattle.desks.specs.Shown.{change_in, lists_of};
 ghost use Rattle.desks.specs.Holding.{IsHeld};
 ghost use Rattle.law_held_changes.specs.Beginning.{begun};
 ghost use Rattle.law_held_changes.specs.Making.{given_up, LeavesLists, AddsNothing, IsNearer, IsEntered};
-ghost use Rattle.law_held_changes.specs.Leaving.{LeavesIndexes};
+ghost use Rattle.law_held_changes.specs.Leaving.{LeavesIndexes, is_searching};
 
 /// The session has the change under way now, and nothing else has changed. How much is left of a change that is being taken
 /// back may be any number: no other session takes one back.
@@ -62,8 +63,9 @@ pub fn a_change_is_shown()
         → new.rows ≡ old.rows + rows_entered answers.Entered (task_of s (lists_of old (Some s) desks left).state) }
 {}
 
-/// Who leaves an index shows nothing of it.
+/// Who leaves an index and doesn't search shows nothing of it.
 pub fn a_left_index_is_not_shown()
     ensures { (s : ℕ) (writer : Option ℕ) (desks : List Desk) (left : ℕ) (old new : WorldState)
-        → LeavesIndexes s old new → lists_of new writer desks left ≡ lists_of old writer desks left }
+        → LeavesIndexes s old new → is_searching (doing_at s desks) ≡ false → IsTold new
+        → lists_of new writer desks left ≡ lists_of old writer desks left }
 {}

@@ -1,6 +1,6 @@
 -- A whole search of the newest rows.
 use Rattle.std.proofs.Common.{◌≡◌, ◌≢◌, ◌⊎◌, inl, inr, ℕ, Bool, true, false, List, [], map, Option, Some, refl, sym, ap, subst, ◌∙◌, length, slice_get, arith}
-use Rattle.std.specs.Prelude.{◌≤◌}
+use Rattle.std.specs.Prelude.{◌<◌, ◌≤◌}
 use Rattle.inno_types.specs.declared.value.Schema.{Schema}
 use Rattle.inno_types.specs.declared.value.Value.{Value}
 use Rattle.inno_types.specs.declared.stmt.Range.{Range}
@@ -43,12 +43,13 @@ use Rattle.desks.specs.Desks.{is_quiet}
 use Rattle.desks.specs.Holding.{IsHeld}
 use Rattle.law_held_searches.specs.Begun.{IsScanOf, IsNewSearch}
 use Rattle.law_held_searches.specs.Moving.{MovesPlaces}
-use Rattle.law_held_searches.specs.Newest.{plan_read, TellsTable, IsReadingNewest, AreRead}
+use Rattle.law_held_searches.specs.Newest.{plan_read, TellsTable, IsReadingNewest, AreRead, left_in}
 use Rattle.law_held_searches.specs.TakenUp.{MayStep}
 use Rattle.law_held_searches.proofs.Places.{none_moves, moves_then, moves_in_one, moves_nothing, leaving_moves, moves_leave, moves_told}
 use Rattle.law_held_searches.proofs.Shows.{HasSome, some_rows_by, coded_while_quiet}
 use Rattle.law_held_searches.proofs.Begins.{columns_held, new_finding}
-use Rattle.law_held_searches.proofs.Stepping.{may_step, rows_on, some_schema}
+use Rattle.law_held_searches.proofs.Nearing.{steps_nearer, nearer_in}
+use Rattle.law_held_searches.proofs.Stepping.{few_held, may_step, rows_on, some_schema}
 
 -- ---- the plan
 
@@ -63,6 +64,7 @@ module _ (state : WorldState) (writer : Option ℕ) (desks : List Desk) (cuts : 
       said = what_is_there held.chains;
       coded = coded_while_quiet held.chains state told writer desks (read_into undo) room is held.rows;
       tells = inl refl;
+      short = few_held state writer desks cuts undo room held;
     }
     tells_by false is =
         let rows : HasSome held.chains state = some_rows_by held.chains state told writer desks (read_into undo) room held.rows in
@@ -73,6 +75,7 @@ module _ (state : WorldState) (writer : Option ℕ) (desks : List Desk) (cuts : 
           said = rows.0;
           coded = rows.1;
           tells = inr refl;
+          short = few_held state writer desks cuts undo room held;
         }
 
     pub tells_held : TellsTable held.chains table (plan_read (is_quiet writer desks) plan) schema state
@@ -140,7 +143,7 @@ module _ (chains : Chains) (s table : ℕ) (plan : Plan) (schema : Schema) where
 
     pub reading_steps : (state : WorldState) (search : RowSearch) → IsReadingNewest chains s table plan schema first state search → IsTold state
         → MayStep s schema state search
-    reading_steps state search is told = may_step s schema state chains search told (rows_now state search is told) is.finds.searching
+    reading_steps state search is told = may_step s schema state chains search told (rows_now state search is told) is.readable.short is.finds.searching
 
     shows : (state : WorldState) (search : RowSearch) → IsReadingNewest chains s table plan schema first state search → IsTold state
         → ShowsRows schema search.scan state (in_table search.scan.table chains)
@@ -162,6 +165,14 @@ module _ (chains : Chains) (s table : ℕ) (plan : Plan) (schema : Schema) where
         let moves : MovesPlaces s old new = moves_in_one s _ old new goes.moves in
         let on = goes_on s schema old new chains search next is.finds (shows old search is (moves_told s old new moves told)) goes told in
         record { readable = is.readable; moves = moves_then s first old new is.moves moves; scan = scan_on search.scan next.scan on.1 is.scan; finds = on.0 }
+
+    pub reading_nears : (old new : WorldState) (search next : RowSearch) → IsReadingNewest chains s table plan schema first old search
+        → GoesOn s schema old new search next → IsTold new → left_in s new next < left_in s old search
+    reading_nears old new search next is goes told =
+        let was : IsTold old = moves_told s old new (moves_in_one s _ old new goes.moves) told in
+        nearer_in s old new search next
+        (steps_nearer s schema old new search next (in_table search.scan.table chains) (shows old search is was) is.finds.searching is.finds.finds goes was
+        told)
 
     pub reading_waits : (old new : WorldState) (search same : RowSearch) (why : Move) → IsReadingNewest chains s table plan schema first old search
         → Waits s schema old new search same why → IsTold new → IsReadingNewest chains s table plan schema first new same

@@ -18,11 +18,11 @@ use Rattle.shared_lists.specs.State.{task_of, Turns}
 use Rattle.desks.specs.declared.desk.Desk.{Desk}
 use Rattle.desks.specs.declared.desk.Doing.{Doing}
 use Rattle.desks.specs.declared.desk.Doing.TheVariants.{Nothing, Searching, Changing, Lagging, Undoing}
-use Rattle.desks.specs.declared.desk.TableSearch.{TableSearch}
 use Rattle.desks.specs.Desks.{fresh_desk, doing_at, with_doing}
 use Rattle.desks.specs.Shown.{shown, lists_of, reading_of, seen_of}
 use Rattle.desks.specs.Undoing.{undo_left_in}
-use Rattle.desks.proofs.Showing.{task_is}
+use Rattle.desks.specs.declared.desk.TableSearch.{TableSearch}
+use Rattle.desks.proofs.Showing.{task_is, lists_stay}
 use Rattle.law_held_searches.specs.Begun.{IsBegun}
 use Rattle.law_held_searches.specs.Moving.{MovesPlaces}
 use Rattle.law_held_searches.specs.TakenUp.{IsSearchOf}
@@ -37,8 +37,9 @@ left_stays s table stage old new moves told =
     (moves.versions.kept told.versions)
 
 module _ (s left : ℕ) (old new : WorldState) (writer : Option ℕ) (desks : List Desk) (moves : MovesPlaces s old new) where
-  pub lists_stay : lists_of new writer desks left ≡ lists_of old writer desks left
-  lists_stay = ap (λ (state : WorldState). lists_of state writer desks left) moves.rest
+  -- of a session that doesn't search
+  lists_same : IsTold new → ((on : TableSearch) → doing_at s desks ≡ Searching on → ⊥) → lists_of new writer desks left ≡ lists_of old writer desks left
+  lists_same = lists_stay s left old new writer desks moves.rest moves.pairs (λ t index differs. moves.places t index differs) moves.versions
 
   module _ (doing : Doing) where
     schemas_stay : new.schemas ≡ old.schemas
@@ -66,9 +67,10 @@ module _ (s left : ℕ) (old new : WorldState) (writer : Option ℕ) (desks : Li
 
   -- with what is left of a change that is being taken back
   pub seen_stay : (table : ℕ) (stage : Stage) → left ≡ undo_left_in table stage old → IsTold new
-      → seen_of table stage new writer desks ≡ seen_of table stage old writer desks
-  seen_stay table stage is told =
-      ap (lists_of new writer desks) (left_stays s table stage old new moves told ∙ sym is) ∙ (lists_stay ∙ ap (lists_of old writer desks) is)
+      → ((on : TableSearch) → doing_at s desks ≡ Searching on → ⊥) → seen_of table stage new writer desks ≡ seen_of table stage old writer desks
+  seen_stay table stage is told not =
+      ap (lists_of new writer desks) (left_stays s table stage old new moves told ∙ sym is)
+      ∙ (lists_same told not ∙ ap (lists_of old writer desks) is)
 
 pub turns_now : (s table : ℕ) (stage : Stage) (old new : WorldState) (writer : Option ℕ) (desks : List Desk) (doing : Doing) → s < length desks
     → MovesPlaces s old new → IsTold new

@@ -4,6 +4,7 @@ pub mod Staying
 pub mod Unseen
 pub mod Lagging
 pub mod Shows
+pub mod Nearing
 pub mod Stepping
 pub mod Begins
 pub mod AtOnce

@@ -1,20 +1,24 @@
 -- A search that is under way goes on, ends or is given up.
-use Rattle.std.proofs.Common.{◌≡◌, ◌≢◌, inl, inr, ℕ, Bool, true, false, List, [], map, Option, Some, refl, sym, ap, subst, ◌∙◌, slice_get, arith}
-use Rattle.std.specs.Prelude.{◌==◌, filter}
+use Rattle.std.proofs.Common.{◌≡◌, ◌≢◌, inl, inr, ℕ, ◌<◌, ◌≤◌, Bool, true, false, List, [], length, map, Option, Some, refl, sym, ap, subst, ◌∙◌, slice_get, arith}
+use Rattle.std.specs.Prelude.{◌==◌, ◌-◌, filter}
+use Rattle.std.proofs.lemmas.Bool.{cases_lt}
 use Rattle.std.proofs.lemmas.Bool.Decides.{nat_tests}
 use Rattle.inno_types.specs.declared.value.Schema.{Schema}
+use Rattle.inno_types.specs.Order.{IsBelow}
 use Rattle.inno_db.specs.Database.{rows_of}
+use Rattle.inno_model.specs.declared.event.Event.{Event}
 use Rattle.inno_model.specs.Past.{own, commits, changed}
 use Rattle.read_view.specs.Sight.{Sight as ReadSight}
 use Rattle.store_api.specs.declared.moves.Move.{Move}
 use Rattle.entries.specs.Calls.{Leaves}
-use Rattle.row_versions.specs.Chains.{Chains}
+use Rattle.row_versions.specs.declared.place.Place.{Place}
+use Rattle.row_versions.specs.Chains.{Chains, versions_at}
 use Rattle.law_coded_rows.specs.Tables.{in_table}
 use Rattle.law_past_agreement.specs.Order.{created}
 use Rattle.law_past_agreement.specs.Rows.{seen}
 use Rattle.law_past_agreement.specs.Agreement.{WriterAgrees}
 use Rattle.law_past_agreement.specs.DatabaseTables.{with_all_tables}
-use Rattle.world.specs.State.{WorldState}
+use Rattle.world.specs.State.{WorldState, index_of}
 use Rattle.world.specs.Told.{IsTold, pairs_of}
 use Rattle.world.specs.Indexes.{Calls}
 use Rattle.world.specs.Undoing.{read_into}
@@ -29,25 +33,28 @@ use Rattle.row_search.specs.declared.sight.Sight.{Sight}
 use Rattle.row_search.specs.declared.sight.Sight.TheVariants.{View, Newest}
 use Rattle.row_search.specs.FoundRows.{AreFound, RiseByKey}
 use Rattle.row_search.specs.Ranges.{lies_in}
-use Rattle.row_search.specs.Searches.{IsSearching}
+use Rattle.row_search.specs.Searches.{IsSearching, place_in}
 use Rattle.row_search.specs.Sights.{rows_seen}
 use Rattle.row_search.specs.Steps.{IsSameScan, GoesOn, Waits, Ends}
-use Rattle.row_search.specs.Tables.{ShowsRows}
+use Rattle.row_search.specs.Tables.{most_versions, ShowsRows}
 use Rattle.law_found_rows.specs.Finding.{IsFinding, IsFindingAnew}
 use Rattle.law_found_rows.proofs.Finding.{may_come_anew, goes_on}
 use Rattle.law_found_rows.proofs.Showing.{holds_table}
 use Rattle.law_found_rows.proofs.Databases.{found_by_view, found_newest}
+use Rattle.shared_lists.specs.State.{counted}
 use Rattle.shared_lists.specs.Steps.{AreRowsSeen, AreFoundBy, rows_in_range}
 use Rattle.desks.specs.declared.desk.Desk.{Desk}
 use Rattle.desks.specs.declared.desk.Doing.TheVariants.{Nothing, Searching}
 use Rattle.desks.specs.declared.desk.TableSearch.{TableSearch}
 use Rattle.desks.specs.Desks.{doing_at, with_doing, is_quiet_doing}
 use Rattle.desks.specs.Holding.{SightHolds, FindsSince, IsSearchHeld, SearchHeld, IsHeld}
+use Rattle.desks.specs.Searching.{keys_left, places_in}
 use Rattle.desks.specs.Shown.{reading_of}
 use Rattle.law_held_searches.specs.Moving.{MovesPlaces}
 use Rattle.law_held_searches.specs.TakenUp.{IsTakenUp, MayStep, plan_of}
 use Rattle.law_held_searches.proofs.Places.{moves_then, moves_in_one, moves_nothing, leaving_moves, moves_leave, moves_told}
 use Rattle.law_held_searches.proofs.Staying.{held_stays}
+use Rattle.law_held_searches.proofs.Nearing.{IsLess, keys_before, visit_before, keys_anew, steps_nearer, still_nearer, anew_nearer}
 use Rattle.law_held_searches.proofs.Shows.{HasSome, some_rows_by, shows_held}
 
 -- ---- the search that is stepped
@@ -70,14 +77,22 @@ takes_up chains state writer cuts s on search held (inl same) =
     let finds : IsFinding s on.schema state chains on.search =
     subst (λ (b : Bool). FindsSince b s state chains on) (same_number on.cuts cuts same.0) held.finds in
     (subst (IsFinding s on.schema state chains) (sym same.1) finds, ap (λ (r : RowSearch). r.scan) same.1)
-takes_up chains state writer cuts s on search held (inr anew) =
+takes_up chains state writer cuts s on search held (inr (later, anew)) =
     (comes_anew (on.cuts == cuts) s state chains on held.finds search anew.scan anew.finds anew.way anew.holds, anew.scan)
 
+-- each place has few versions
+pub few_held : (state : WorldState) (writer : Option ℕ) (desks : List Desk) (cuts : ℕ) (undo : UndoRoom) (room : WorkRoom)
+    (held : IsHeld state writer desks cuts undo room) (place : Place) → length (versions_at place held.chains) ≤ most_versions
+few_held state writer desks cuts undo room held place =
+    let short = held.short place in
+    let small = held.agrees.lists.small in
+    omega (arith, short, small)
+
 pub may_step : (s : ℕ) (schema : Schema) (state : WorldState) (chains : Chains) (search : RowSearch) → IsTold state → HasSome chains state
-    → IsSearching s schema state search → MayStep s schema state search
-may_step s schema state chains search told rows is = record {
+    → ((place : Place) → length (versions_at place chains) ≤ most_versions) → IsSearching s schema state search → MayStep s schema state search
+may_step s schema state chains search told rows few is = record {
   searching = is;
-  table = holds_table state chains rows.0 told rows.1 search.scan.table schema is.there;
+  table = holds_table state chains rows.0 told rows.1 few search.scan.table schema is.there;
   index = record { table = search.scan.table; which = search.scan.which; number = refl; schema = schema; there = is.there; key = is.key; few = is.few };
 }
 
@@ -142,6 +157,14 @@ module _ (chains : Chains) (writer : Option ℕ) (state : WorldState) (agrees : 
       → AreFoundBy (reading_of scan.sight) scan.table (plan_of on) state.past s (map (λ (f : FoundRow). f.row) found)
   found_then = found_in scan.sight
 
+-- ---- how often it may come to its pair anew
+
+less_or : (a b : ℕ) → a ≤ b → a ≢ b → a < b
+less_or a b le differs = elim (cases_lt a b) [ inl less ↦ less | inr least ↦ absurd (differs (omega (arith, le, least))) ]
+
+fewer : (long was since cuts : ℕ) → long ≡ was → since ≤ cuts → cuts ≤ was → since ≢ cuts → long - cuts < was - since
+fewer long was since cuts same le cut later = let less = less_or since cuts le later in omega (arith, same, cut, less)
+
 -- ---- in a held world
 
 module _ (s : ℕ) (old : WorldState) (writer : Option ℕ) (desks : List Desk) (cuts : ℕ) (undo : UndoRoom) (room : WorkRoom) (on : TableSearch)
@@ -155,6 +178,9 @@ module _ (s : ℕ) (old : WorldState) (writer : Option ℕ) (desks : List Desk) 
   some_rows : IsTold old → HasSome held.chains old
   some_rows told = some_rows_by held.chains old told writer desks (read_into undo) room held.rows
 
+  short : (place : Place) → length (versions_at place held.chains) ≤ most_versions
+  short = few_held old writer desks cuts undo room held
+
   -- it is given up, or over
   pub over : (new : WorldState) → MovesPlaces s old new → IsTold new → IsHeld new writer (with_doing s Nothing desks) cuts undo room
   over new moves told = held_stays s old new moves writer desks cuts undo room held Nothing is_searching refl told (record {})
@@ -164,7 +190,7 @@ module _ (s : ℕ) (old : WorldState) (writer : Option ℕ) (desks : List Desk) 
     taken_up = takes_up held.chains old writer cuts s on search search_held taken
 
     pub steps : IsTold old → MayStep s on.schema old search
-    steps told = may_step s on.schema old held.chains search told (some_rows told) taken_up.0.searching
+    steps told = may_step s on.schema old held.chains search told (some_rows told) short taken_up.0.searching
 
     sight_taken : SightHolds old writer s search.scan.sight
     sight_taken = subst (λ (scan : Scan). SightHolds old writer s scan.sight) (sym taken_up.1) search_held.sight
@@ -195,6 +221,42 @@ module _ (s : ℕ) (old : WorldState) (writer : Option ℕ) (desks : List Desk) 
             subst (λ (scan : Scan). IsSameScan scan next.scan) taken_up.1 on_now.1,
           )
 
+      -- less is left
+      pub nears : (next : RowSearch) → GoesOn s on.schema old new search next → IsBelow
+          (counted (places_in s new (record on { search = next; cuts = cuts }))) (counted (places_in s old on))
+      nears next goes =
+          let moves : MovesPlaces s old new = moves_in_one s _ old new goes.moves in
+          let was : IsTold old = moves_told s old new moves told in
+          let past : new.past ≡ old.past = ap (λ (state : WorldState). state.past) moves.rest in
+          let finds = taken_up.0 in
+          below next past taken
+          (steps_nearer s on.schema old new search next (in_table search.scan.table held.chains) (shows was) finds.searching finds.finds goes was told)
+        where
+          same_length : (a b : List Event) → a ≡ b → length a ≡ length b
+          same_length a b same = ap length same
+
+          below : (next : RowSearch) → new.past ≡ old.past → IsTakenUp cuts on search
+              → IsLess (keys_before s new next) (visit_before new next) (keys_before s old search) (visit_before old search)
+              → IsBelow (counted (places_in s new (record on { search = next; cuts = cuts }))) (counted (places_in s old on))
+          below next past (inl same) less =
+              still_nearer (keys_before s new next) (visit_before new next) (keys_before s old on.search) (visit_before old on.search) _ _
+              (subst (λ (r : RowSearch). IsLess (keys_before s new next) (visit_before new next) (keys_before s old r) (visit_before old r)) same.1 less)
+              (let long = same_length new.past old.past past in let cut = same.0 in omega (arith, long, cut))
+          below next past (inr (later, anew)) less =
+              let since = search_held.since in
+              let cut = held.cut in
+              let long = same_length new.past old.past past in
+              let scan_is = anew.scan in
+              let phase_is = anew.phase in
+              let keys : keys_before s old search ≡ keys_before s old on.search
+              = ap (λ (scan : Scan). keys_left (place_in s scan old) (pairs_of old (index_of scan.table scan.which)) search.phase) scan_is
+              ∙ (ap (keys_left (place_in s on.search.scan old) (pairs_of old (index_of on.search.scan.table on.search.scan.which))) phase_is
+              ∙ keys_anew (place_in s on.search.scan old) (pairs_of old (index_of on.search.scan.table on.search.scan.which)) on.search.phase) in
+              anew_nearer (keys_before s new next) (visit_before new next) (keys_before s old on.search) (visit_before old search)
+              (visit_before old on.search) _ _
+              (subst (λ (k : ℕ). IsLess (keys_before s new next) (visit_before new next) k (visit_before old search)) keys less)
+              (fewer (length new.past) (length old.past) on.cuts cuts long since cut later)
+
       pub ended : (found : List FoundRow) → Ends s on.schema old new search found
           → IsHeld new writer (with_doing s Nothing desks) cuts undo room × MovesPlaces s old new
           × AreFoundBy (reading_of on.search.scan.sight) on.search.scan.table (plan_of on) old.past s (map (λ (f : FoundRow). f.row) found)
@@ -213,7 +275,7 @@ module _ (s : ℕ) (old : WorldState) (writer : Option ℕ) (desks : List Desk) 
       pub waited : (same : RowSearch) (why : Move) → Waits s on.schema old new search same why → MayStep s on.schema new same × MovesPlaces s old new
       waited same why waits =
           let moves : MovesPlaces s old new = moves_nothing s old new waits.unchanged in (
-            may_step s on.schema new held.chains same told (rows_on s old new held.chains moves told (some_rows (moves_told s old new moves told)))
+            may_step s on.schema new held.chains same told (rows_on s old new held.chains moves told (some_rows (moves_told s old new moves told))) short
                 waits.holds,
             moves,
           )

@@ -1,11 +1,12 @@
 -- The search of which a session's next step is one.
-use Rattle.std.specs.Prelude.{◌≡◌, ◌⊎◌, ℕ}
+use Rattle.std.specs.Prelude.{◌≡◌, ◌≢◌, ◌⊎◌, ℕ}
 use Rattle.inno_types.specs.declared.value.Schema.{Schema}
 use Rattle.sql_plan.specs.declared.choice.Plan.{Plan}
 use Rattle.world.specs.State.{WorldState, IsIndex, index_of}
 use Rattle.row_search.specs.declared.search.RowSearch.{RowSearch}
 use Rattle.row_search.specs.Searches.{IsSearching}
 use Rattle.row_search.specs.Tables.{HoldsTable}
+use Rattle.row_search.specs.Visits.{phase_anew}
 use Rattle.row_search.specs.Others.{KeepsFound, KeepsSearching, NeedsNoVersion}
 use Rattle.shared_lists.specs.declared.answers.Reading.{Reading}
 use Rattle.desks.specs.declared.desk.Doing.{Doing}
@@ -16,13 +17,14 @@ use Rattle.desks.specs.Shown.{reading_of}
 -- the search as it comes to its pair anew
 pub record ComesAnew (search anew : RowSearch) : Type 0 where
   pub scan : anew.scan ≡ search.scan
+  pub phase : anew.phase ≡ phase_anew search.phase
   pub finds : KeepsFound search anew
   pub way : NeedsNoVersion anew
   pub holds : KeepsSearching search anew
 
--- The search itself, where no older version was dropped since its last step; or as it comes to its pair anew.
+-- The search itself, where no older version was dropped since its last step; or else as it comes to its pair anew.
 abbrev pub IsTakenUp : ℕ → TableSearch → RowSearch → Type 0
-IsTakenUp cuts on search = ((on.cuts ≡ cuts) × (search ≡ on.search)) ⊎ ComesAnew on.search search
+IsTakenUp cuts on search = ((on.cuts ≡ cuts) × (search ≡ on.search)) ⊎ ((on.cuts ≢ cuts) × ComesAnew on.search search)
 
 -- what a step of the search asks for, and what it takes to give it up
 pub record MayStep (s : ℕ) (schema : Schema) (state : WorldState) (search : RowSearch) : Type 0 where

@@ -2,6 +2,7 @@
 
 ghost use Rattle.std.specs.Prelude.{◌≡◌, ℕ, List, map, Vec, Option};
 ghost use Rattle.std.specs.Global.{Global};
+ghost use Rattle.inno_types.specs.Order.{IsBelow};
 ghost use Rattle.store_api.specs.declared.moves.Move.{Move};
 ghost use Rattle.entries.specs.Calls.{Leaves};
 ghost use Rattle.world.specs.State.{WorldState, index_of};
@@ -13,12 +14,14 @@ ghost use Rattle.row_search.specs.declared.search.RowSearch.{RowSearch};
 ghost use Rattle.row_search.specs.declared.search.Reached.TheVariants.{Went, Done, Hindered, Malformed};
 ghost use Rattle.row_search.specs.Steps.{Searches, IsSameScan};
 ghost use Rattle.undo_apply.specs.declared.work_room.WorkRoom.{WorkRoom};
+ghost use Rattle.shared_lists.specs.State.{counted};
 ghost use Rattle.shared_lists.specs.Steps.{AreFoundBy};
 ghost use Rattle.desks.specs.declared.desk.Desk.{Desk};
 ghost use Rattle.desks.specs.declared.desk.Doing.TheVariants.{Nothing, Searching};
 ghost use Rattle.desks.specs.declared.desk.TableSearch.{TableSearch};
 ghost use Rattle.desks.specs.Desks.{doing_at, with_doing};
 ghost use Rattle.desks.specs.Holding.{IsHeld};
+ghost use Rattle.desks.specs.Searching.{places_in};
 ghost use Rattle.desks.specs.Shown.{reading_of};
 ghost use Rattle.law_held_searches.specs.Moving.{MovesPlaces};
 ghost use Rattle.law_held_searches.specs.TakenUp.{IsTakenUp, MayStep, plan_of};
@@ -31,7 +34,7 @@ pub fn a_search_may_step()
         → MayStep s on.schema state search }
 {}
 
-/// A step leaves the search as far as it came, or ends with the rows that its reader sees in its range. The rows of a world
+/// A step leaves the search as far as it came, with less before it, or ends with the rows that its reader sees in its range. The rows of a world
 /// are never malformed. One that is hindered may be given up.
 pub fn a_search_goes_on()
     ensures went { (s : ℕ) (old new : WorldState) (writer : Option ℕ) (desks : List Desk) (cuts : ℕ) (undo : UndoRoom) (room : WorkRoom)
@@ -40,6 +43,11 @@ pub fn a_search_goes_on()
         → Searches s on.schema old new search (Went next) → IsTold new
         → IsHeld new writer (with_doing s (Searching (record on { search = next; cuts = cuts })) desks) cuts undo room
         × MovesPlaces s old new × IsSameScan on.search.scan next.scan }
+    ensures nears { (s : ℕ) (old new : WorldState) (writer : Option ℕ) (desks : List Desk) (cuts : ℕ) (undo : UndoRoom) (room : WorkRoom)
+        (on : TableSearch) (search next : RowSearch)
+        → IsHeld old writer desks cuts undo room → doing_at s desks ≡ Searching on → IsTakenUp cuts on search
+        → Searches s on.schema old new search (Went next) → IsTold new
+        → IsBelow (counted (places_in s new (record on { search = next; cuts = cuts }))) (counted (places_in s old on)) }
     ensures done { (s : ℕ) (old new : WorldState) (writer : Option ℕ) (desks : List Desk) (cuts : ℕ) (undo : UndoRoom) (room : WorkRoom)
         (on : TableSearch) (search : RowSearch) (rows : Vec FoundRow Global)
         → IsHeld old writer desks cuts undo room → doing_at s desks ≡ Searching on → IsTakenUp cuts on search

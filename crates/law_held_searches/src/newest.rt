@@ -1,6 +1,6 @@
 //! The newest rows, read at once.
 
-ghost use Rattle.std.specs.Prelude.{◌≡◌, ◌≢◌, ◌≤◌, ℕ, List, [], map, length, Vec, Option, Some, slice_get};
+ghost use Rattle.std.specs.Prelude.{◌≡◌, ◌≢◌, ◌<◌, ◌≤◌, ℕ, List, [], map, length, Vec, Option, Some, slice_get};
 ghost use Rattle.std.specs.Global.{Global};
 ghost use Rattle.inno_types.specs.declared.value.Schema.{Schema};
 ghost use Rattle.inno_model.specs.Past.{own};
@@ -25,10 +25,10 @@ ghost use Rattle.desks.specs.Holding.{IsHeld};
 ghost use Rattle.law_held_searches.specs.Moving.{MovesPlaces};
 ghost use Rattle.law_held_searches.specs.Begun.{IsNewSearch};
 ghost use Rattle.law_held_searches.specs.TakenUp.{MayStep};
-ghost use Rattle.law_held_searches.specs.Newest.{plan_read, TellsTable, IsReadingNewest, AreRead};
+ghost use Rattle.law_held_searches.specs.Newest.{plan_read, TellsTable, IsReadingNewest, AreRead, left_in};
 
 /// A held world tells a table to a search of the newest rows: by any plan while no change is under way, and else by that of
-/// the whole table. The search begins, may step, goes on, ends, and may be given up as often as places move.
+/// the whole table. The search begins, may step, goes on with less before it, ends, and may be given up as often as places move.
 pub fn the_newest_rows_are_read()
     ensures tells { (state : WorldState) (writer : Option ℕ) (desks : List Desk) (cuts : ℕ) (undo : UndoRoom) (room : WorkRoom)
         (table : ℕ) (plan : Plan) (schema : Schema) (held : IsHeld state writer desks cuts undo room)
@@ -42,6 +42,9 @@ pub fn the_newest_rows_are_read()
     ensures went { (chains : Chains) (s table : ℕ) (plan : Plan) (schema : Schema) (first old new : WorldState) (search next : RowSearch)
         → IsReadingNewest chains s table plan schema first old search → Searches s schema old new search (Went next) → IsTold new
         → IsReadingNewest chains s table plan schema first new next }
+    ensures nears { (chains : Chains) (s table : ℕ) (plan : Plan) (schema : Schema) (first old new : WorldState) (search next : RowSearch)
+        → IsReadingNewest chains s table plan schema first old search → Searches s schema old new search (Went next) → IsTold new
+        → left_in s new next < left_in s old search }
     ensures done { (chains : Chains) (s table : ℕ) (plan : Plan) (schema : Schema) (first old new : WorldState) (search : RowSearch) (rows : Vec FoundRow Global)
         → IsReadingNewest chains s table plan schema first old search → Searches s schema old new search (Done rows)
         → AreRead chains table plan schema first rows.items × MovesPlaces s first new }

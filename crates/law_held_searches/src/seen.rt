@@ -11,7 +11,7 @@ ghost use Rattle.row_search.specs.Steps.{IsSameScan};
 ghost use Rattle.undo_apply.specs.declared.work_room.Stage.{Stage};
 ghost use Rattle.shared_lists.specs.declared.answers.Reading.{Reading};
 ghost use Rattle.shared_lists.specs.Tasks as tasks;
-ghost use Rattle.shared_lists.specs.State.{task_of, Turns};
+ghost use Rattle.shared_lists.specs.State.{task_of, places_before, Turns};
 ghost use Rattle.desks.specs.declared.desk.Desk.{Desk};
 ghost use Rattle.desks.specs.declared.desk.Doing.{Doing};
 ghost use Rattle.desks.specs.declared.desk.Doing.TheVariants.{Nothing, Searching};
@@ -19,6 +19,7 @@ ghost use Rattle.desks.specs.declared.desk.TableSearch.{TableSearch};
 ghost use Rattle.desks.specs.Desks.{doing_at, with_doing};
 ghost use Rattle.desks.specs.Shown.{shown, reading_of, seen_of};
 ghost use Rattle.desks.specs.Undoing.{undo_left_in};
+ghost use Rattle.desks.specs.Searching.{places_of};
 ghost use Rattle.law_held_searches.specs.Moving.{MovesPlaces};
 ghost use Rattle.law_held_searches.specs.Begun.{IsBegun};
 ghost use Rattle.law_held_searches.specs.TakenUp.{IsSearchOf};
@@ -31,7 +32,7 @@ pub fn what_callers_see()
     ensures left { (s table : ℕ) (stage : Stage) (old new : WorldState)
         → MovesPlaces s old new → IsTold new → undo_left_in table stage new ≡ undo_left_in table stage old }
     ensures stays { (s table : ℕ) (stage : Stage) (old new : WorldState) (writer : Option ℕ) (desks : List Desk)
-        → MovesPlaces s old new → IsTold new → seen_of table stage new writer desks ≡ seen_of table stage old writer desks }
+        → MovesPlaces s old new → IsTold new → ((on : TableSearch) → doing_at s desks ≡ Searching on → ⊥) → seen_of table stage new writer desks ≡ seen_of table stage old writer desks }
     ensures turns { (s table : ℕ) (stage : Stage) (old new : WorldState) (writer : Option ℕ) (desks : List Desk) (doing : Doing)
         → s < length desks → MovesPlaces s old new → IsTold new
         → Turns s (shown old.schemas (undo_left_in table stage old) doing)
@@ -62,6 +63,8 @@ pub fn what_callers_see_of_a_search()
         → Turns s (task_of s (seen_of table stage old writer desks).state)
         (seen_of table stage old writer desks).state
         (seen_of table stage new writer (with_doing s (Searching (record on { search = next; cuts = cuts })) desks)).state }
+    ensures before { (s table : ℕ) (stage : Stage) (state : WorldState) (writer : Option ℕ) (desks : List Desk)
+        → places_before s (seen_of table stage state writer desks).state ≡ places_of s state (doing_at s desks) }
     ensures over { (s table : ℕ) (stage : Stage) (old new : WorldState) (writer : Option ℕ) (desks : List Desk) (on : TableSearch)
         → doing_at s desks ≡ Searching on → MovesPlaces s old new → IsTold new
         → Turns s tasks.Idle (seen_of table stage old writer desks).state (seen_of table stage new writer (with_doing s Nothing desks)).state }

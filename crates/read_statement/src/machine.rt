@@ -34,8 +34,6 @@ pub struct Asked {
 pub struct Read {
     pub stmt: Stmt,
     pub alone: bool,
-    /// How many steps the search may yet make: more than any table needs.
-    pub left: u64,
 }
 
 /// A SELECT with the rows that its search has found.

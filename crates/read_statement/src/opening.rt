@@ -138,13 +138,10 @@ fn begin_search<L: SharedLists>(
 {
     let Planned { table, plan } = planned;
     match lists.begin_search(session, table, plan, Reading::View) {
-        Ok(()) => {
-            let left = u64::MAX;
-            (
-                ReadStatement::Searching(Read { stmt, alone, left }),
-                Advance::Went,
-            )
-        }
+        Ok(()) => (
+            ReadStatement::Searching(Read { stmt, alone }),
+            Advance::Went,
+        ),
         Err(_) => {
             drop(stmt);
             (ReadStatement::Failed { alone }, Advance::NoMemory)

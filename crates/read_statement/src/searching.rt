@@ -12,7 +12,7 @@ use sql_lists::{Advance, SqlLists};
 
 /// Makes one step of the search, whose rows are kept when it is over.
 pub fn step_searching<L: SharedLists>(
-    mut read: Read,
+    read: Read,
     session: u32,
     lists: &mut SqlLists<L>,
 ) -> (ReadStatement, Advance)
@@ -22,18 +22,10 @@ pub fn step_searching<L: SharedLists>(
     ensures nears { Nears to_go session lists.old (ReadStatement.Searching read) lists.new result.0 result.1 }
 {
     let alone = read.alone;
-    if read.left == 0 {
-        lists.stop_search(session);
-        drop(read);
-        return (ReadStatement::Failed { alone }, Advance::NoMemory);
-    }
     // each change is of a table that is there
     let _ = lists.history();
     match lists.search(session) {
-        Searched::Went => {
-            read.left -= 1;
-            (ReadStatement::Searching(read), Advance::Went)
-        }
+        Searched::Went => (ReadStatement::Searching(read), Advance::Went),
         Searched::Found(rows) => {
             let Read { stmt, .. } = read;
             (

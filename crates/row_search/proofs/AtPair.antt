@@ -50,7 +50,7 @@ pub look_goes : (actor : ℕ) (schema : Schema) (state : WorldState) (scan : Sca
     → GoesOn actor schema state state (record { scan = scan; phase = Look entry bytes }) (record { scan = scan; phase = phase_after scan.sight entry version })
 look_goes actor schema state scan entry bytes version is record_is numbers =
     after_goes actor schema state state scan entry (unchanged_itself state) (Look entry bytes) is is.phase.0 version
-    (λ told. let h = is.phase.1 told in (h.0, bytes, way h.0 h.1))
+    (λ told. let h = is.phase.1 told in (h.0, bytes, way h.0 h.1, h.2))
     (λ versions_at shows finds. (finds.0, finds.1, bytes, way finds.1 finds.2, finds.3))
     (λ versions_at shows n finds to_go.
     record { rank = 3; long = 0; n_is = to_go; ranked = omega arith; rest = older finds.1; led = (way finds.1 finds.2).rest; shorter = inl (omega arith) })
@@ -78,7 +78,7 @@ module _ (actor : ℕ) (schema : Schema) (old new : WorldState) (scan : Scan) (e
       → GoesOn actor schema old new (record { scan = scan; phase = Walk entry pointer }) (record { scan = scan; phase = phase_after scan.sight entry version })
   walk_goes version leads shown_is =
       after_goes actor schema old new scan entry unchanged (Walk entry pointer) is is.phase.0 version
-      (λ told. let h = is.phase.1 told in let w = way h.0 h.1 told in (h.0, w.0, w.1))
+      (λ told. let h = is.phase.1 told in let w = way h.0 h.1 told in (h.0, w.0, w.1, h.2))
       (λ versions_at shows finds. let w = way finds.1 finds.2 shows.told in (finds.0, finds.1, w.0, w.1, finds.3))
       (λ versions_at shows n finds to_go.
       let w = way to_go.0 to_go.1 shows.told in

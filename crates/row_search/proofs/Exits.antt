@@ -1,5 +1,5 @@
 -- How the steps end that walk the searched index.
-use Rattle.std.proofs.Common.{◌≡◌, ◌≢◌, ◌∙◌, sym, ap, subst, refl, ℕ, ◌<◌, Bool, true, false, List, [], ◌∷◌, length, Option, None, Some, Err, inl, arith}
+use Rattle.std.proofs.Common.{◌≡◌, ◌≢◌, ◌∙◌, sym, ap, subst, refl, ℕ, ◌<◌, ◌≤◌, Bool, true, false, List, [], ◌∷◌, length, Option, None, Some, Err, inl, arith}
 use Rattle.std.specs.Prelude.{IfSome, is_some, MatchOption}
 use Rattle.std.specs.Ordering.{is_le, is_lt}
 use Rattle.inno_types.specs.declared.value.Value.{Value}
@@ -27,7 +27,7 @@ use Rattle.row_search.specs.declared.phase.Phase.TheVariants.{Seek, Follow, Fetc
 use Rattle.row_search.specs.Sights.{rows_seen}
 use Rattle.row_search.specs.FoundRows.{AreFound}
 use Rattle.row_search.specs.Ranges.{bound_bytes, primary_part, lies_in, lies_up_to, lies_below}
-use Rattle.row_search.specs.Tables.{HoldsTable, ShowsRows}
+use Rattle.row_search.specs.Tables.{most_versions, HoldsTable, ShowsRows}
 use Rattle.row_search.specs.Searches.{place_in, PhaseHolds, IsSearching, Finds, HasToGo, pairs_behind}
 use Rattle.row_search.specs.Visits.{phase_at, IsGivenPhase, move_for}
 use Rattle.row_search.specs.Steps.{OnlyMoves, IsSameScan, GoesOn, Waits, PhaseWaits, MayBeUnseen}
@@ -54,13 +54,13 @@ phase_stays actor schema scan old new place stays Follow h = ap is_some place �
 phase_stays actor schema scan old new place stays (Fetch entry) h = subst (λ (o : Option Pair). IsAtKey entry o) (sym place) h
 phase_stays actor schema scan old new place stays (Look entry bytes) h = (
   subst (λ (o : Option Pair). IsAtKey entry o) (sym place) h.0,
-  λ told. subst (λ (kept : ℕ → Option Kept). (versions : List Version) × IsRecordWith schema (primary_part schema entry) kept (Some bytes) versions)
-      (sym (stays.kept told)) (h.1 (stays.told told)),
+  λ told. subst (λ (kept : ℕ → Option Kept). (versions : List Version) × IsRecordWith schema (primary_part schema entry) kept (Some bytes) versions ×
+      (length versions ≤ most_versions)) (sym (stays.kept told)) (h.1 (stays.told told)),
 )
 phase_stays actor schema scan old new place stays (Walk entry pointer) h = (
   subst (λ (o : Option Pair). IsAtKey entry o) (sym place) h.0,
-  λ told. subst (λ (kept : ℕ → Option Kept). (versions : List Version) × LeadTo schema (primary_part schema entry) kept pointer versions)
-      (sym (stays.kept told)) (h.1 (stays.told told)),
+  λ told. subst (λ (kept : ℕ → Option Kept). (versions : List Version) × LeadTo schema (primary_part schema entry) kept pointer versions ×
+      (length versions ≤ most_versions)) (sym (stays.kept told)) (h.1 (stays.told told)),
 )
 phase_stays actor schema scan old new place stays (Keep entry row) h = subst (λ (o : Option Pair). IsAtKey entry o) (sym place) h
 phase_stays actor schema scan old new place stays Sort h = tt

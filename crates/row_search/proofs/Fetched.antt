@@ -22,7 +22,7 @@ use Rattle.row_search.specs.declared.scan.Scan.{Scan}
 use Rattle.row_search.specs.declared.phase.Phase.TheVariants.{Follow, Fetch, Look}
 use Rattle.row_search.specs.Sights.{sees_by, rows_seen}
 use Rattle.row_search.specs.Ranges.{primary_part}
-use Rattle.row_search.specs.Tables.{HoldsTable, ShowsRows}
+use Rattle.row_search.specs.Tables.{most_versions, HoldsTable, ShowsRows}
 use Rattle.row_search.specs.Searches.{place_in, IsSearching, IsRecordKept, pairs_behind}
 use Rattle.row_search.specs.Steps.{OnlyMoves, GoesOn, Waits}
 use Rattle.row_search.proofs.Worlds.{call_unchanged, moves_unchanged, fetch_put_off}
@@ -98,6 +98,7 @@ module _ (actor : ℕ) (schema : Schema) (old new : WorldState) (scan : Scan) (e
             some.0,
             subst (λ (k : ℕ → Option Kept). IsRecordWith schema (primary_part schema entry) k (Some read) some.0) (sym (unchanged.versions.kept told))
                 some.1,
+            some.3 most_versions shows.2,
           )
 
   pub fetch_end : (read : List ℕ) → Calls rows_index (λ before after. Fetches actor (primary_part schema entry) read before after End) old new

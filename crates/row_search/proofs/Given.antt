@@ -22,7 +22,7 @@ use Rattle.row_search.specs.declared.phase.Phase.TheVariants.{Fetch, Look}
 use Rattle.row_search.specs.Sights.{sees_by, rows_seen}
 use Rattle.row_search.specs.FoundRows.{AreFound}
 use Rattle.row_search.specs.Ranges.{IsOnSide, primary_part, lies_up_to, lies_below}
-use Rattle.row_search.specs.Tables.{ShowsTable, HoldsTable, ShowsRows}
+use Rattle.row_search.specs.Tables.{most_versions, ShowsTable, HoldsTable, ShowsRows}
 use Rattle.row_search.specs.Searches.{place_in, PhaseHolds, IsSearching, IsRecordKept, IsComing, IsSeenAmong, PhaseFinds, HasToGo, pairs_behind}
 use Rattle.row_search.specs.Visits.{phase_at}
 use Rattle.row_search.specs.Steps.{OnlyMoves}
@@ -77,6 +77,7 @@ module _ (actor : ℕ) (schema : Schema) (old new : WorldState) (scan : Scan) (k
       own : (versions_at : Value → List Version) → ShowsTable schema scan.table old versions_at
           → (versions : List Version) × IsRecordWith schema (primary_part schema key) old.versions.kept_at (Some value) versions
           × IsSeenAmong schema scan (λ v. first_seen (sees_by scan.sight) (versions_at v)) (primary_part schema key) versions × (primary_part schema key ≡ key)
+          × ((most : ℕ) → ((value : Value) → length (versions_at value) ≤ most) → length versions ≤ most)
       own versions_at shows =
           let zero : scan.which ≡ 0 = zero_is scan.which clustered in
           let there = pair shows.pairs shows.clustered.rising (ap (λ w. (old.indexes (index_of scan.table w)).pairs) zero ∙ shows.pairs_are) in
@@ -87,6 +88,7 @@ module _ (actor : ℕ) (schema : Schema) (old new : WorldState) (scan : Scan) (k
             subst (λ k. IsRecordWith schema k old.versions.kept_at (Some value) some.0) (sym whole) some.1,
             subst (λ k. IsSeenAmong schema scan (λ v. first_seen (sees_by scan.sight) (versions_at v)) k some.0) (sym whole) some.2,
             whole,
+            some.3,
           )
 
       own_kept : HoldsTable schema scan.table old → IsRecordKept schema new (primary_part schema key) value
@@ -95,6 +97,7 @@ module _ (actor : ℕ) (schema : Schema) (old new : WorldState) (scan : Scan) (k
           let some = own shows.0 shows.1 in (
             some.0,
             subst (λ (kept : ℕ → Option Kept). IsRecordWith schema (primary_part schema key) kept (Some value) some.0) (sym (moves.versions.kept told)) some.1,
+            some.4 most_versions shows.2,
           )
 
     pub holds_at : HoldsTable schema scan.table old → (side : Side) → PhaseHolds actor schema scan new (phase_at scan.which key value side)

@@ -1,5 +1,5 @@
 -- What was found stays found as others step; and where the keys of rows are.
-use Rattle.std.proofs.Common.{◌≡◌, ◌∙◌, sym, ap, subst, refl, ℕ, zero, suc, ◌+◌, Bool, true, false, cond, List, [], ◌∷◌, Option, None, Some, slice_get, arith}
+use Rattle.std.proofs.Common.{◌≡◌, ◌∙◌, sym, ap, subst, refl, ℕ, zero, suc, ◌+◌, ◌≤◌, Bool, true, false, cond, List, [], ◌∷◌, Option, None, Some, slice_get, arith}
 use Rattle.std.specs.Prelude.{IsTrue, is_some, All}
 use Rattle.std.specs.List.{list_any}
 use Rattle.std.proofs.lemmas.Bool.{or_left, or_right}
@@ -29,6 +29,7 @@ use Rattle.row_search.specs.Ranges.{primary_part}
 use Rattle.row_search.specs.Tables.{HaveKeys}
 use Rattle.row_search.specs.Searches.{IsSearching, PhaseHolds, PhaseFinds, Finds, place_in}
 use Rattle.row_search.specs.Others.{KeepsWay}
+use Rattle.row_search.specs.Visits.{phase_anew}
 use Rattle.row_search.proofs.Keys.{home, kind_is, key_is_value, keyed_is, fits_in}
 use Rattle.entries.specs.Calls.{HasKey as IsAtKey}
 
@@ -69,12 +70,15 @@ way_still schema sight old new Seek more = tt
 way_still schema sight old new Follow more = tt
 way_still schema sight old new (Fetch entry) more = tt
 way_still schema sight old new (Look entry bytes) more =
-    λ versions is. (versions, record_still schema (primary_part schema entry) old new (Some bytes) versions more is, refl)
+    λ versions is. (versions, record_still schema (primary_part schema entry) old new (Some bytes) versions more is, refl, omega arith)
 way_still schema sight old new (Walk entry pointer) more =
-    λ versions is. (versions, leads_still schema (primary_part schema entry) old new pointer versions more is, refl)
+    λ versions is. (versions, leads_still schema (primary_part schema entry) old new pointer versions more is, refl, omega arith)
 way_still schema sight old new (Keep entry row) more = tt
 way_still schema sight old new Sort more = tt
 way_still schema sight old new Leave more = tt
+
+fewer : {a b c : ℕ} → a ≤ b → b ≤ c → a ≤ c
+fewer p q = omega (arith, p, q)
 
 holds_still : (actor : ℕ) (schema : Schema) (scan : Scan) (old new : WorldState) → place_in actor scan new ≡ place_in actor scan old
     → (IsTrue new.versions.told → IsTrue old.versions.told) → (phase : Phase)
@@ -85,11 +89,11 @@ holds_still actor schema scan old new place told Follow keeps h = ap is_some pla
 holds_still actor schema scan old new place told (Fetch entry) keeps h = subst (λ (o : Option Pair). IsAtKey entry o) (sym place) h
 holds_still actor schema scan old new place told (Look entry bytes) keeps h = (
   subst (λ (o : Option Pair). IsAtKey entry o) (sym place) h.0,
-  λ t. let was = h.1 (told t) in let k = keeps t was.0 was.1 in (k.0, k.1),
+  λ t. let was = h.1 (told t) in let k = keeps t was.0 was.1 in (k.0, k.1, fewer k.3 was.2),
 )
 holds_still actor schema scan old new place told (Walk entry pointer) keeps h = (
   subst (λ (o : Option Pair). IsAtKey entry o) (sym place) h.0,
-  λ t. let was = h.1 (told t) in let k = keeps t was.0 was.1 in (k.0, k.1),
+  λ t. let was = h.1 (told t) in let k = keeps t was.0 was.1 in (k.0, k.1, fewer k.3 was.2),
 )
 holds_still actor schema scan old new place told (Keep entry row) keeps h = subst (λ (o : Option Pair). IsAtKey entry o) (sym place) h
 holds_still actor schema scan old new place told Sort keeps h = tt
@@ -183,3 +187,14 @@ needs_none schema sight old new (Walk entry pointer) no_look no_walk = absurd (n
 needs_none schema sight old new (Keep entry row) no_look no_walk = tt
 needs_none schema sight old new Sort no_look no_walk = tt
 needs_none schema sight old new Leave no_look no_walk = tt
+
+pub comes_as_it_was : (phase : Phase) → ((entry bytes : List ℕ) → phase ≡ Look entry bytes → ⊥)
+    → ((entry : List ℕ) (pointer : ℕ) → phase ≡ Walk entry pointer → ⊥) → phase ≡ phase_anew phase
+comes_as_it_was Seek no_look no_walk = refl
+comes_as_it_was Follow no_look no_walk = refl
+comes_as_it_was (Fetch entry) no_look no_walk = refl
+comes_as_it_was (Look entry bytes) no_look no_walk = absurd (no_look entry bytes refl)
+comes_as_it_was (Walk entry pointer) no_look no_walk = absurd (no_walk entry pointer refl)
+comes_as_it_was (Keep entry row) no_look no_walk = refl
+comes_as_it_was Sort no_look no_walk = refl
+comes_as_it_was Leave no_look no_walk = refl

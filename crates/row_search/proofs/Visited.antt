@@ -22,7 +22,7 @@ use Rattle.row_search.specs.declared.phase.Phase.TheVariants.{Follow, Walk, Keep
 use Rattle.row_search.specs.Sights.{sees_by, rows_seen}
 use Rattle.row_search.specs.FoundRows.{AreFound}
 use Rattle.row_search.specs.Ranges.{primary_part, lies_up_to}
-use Rattle.row_search.specs.Tables.{ShowsRows}
+use Rattle.row_search.specs.Tables.{most_versions, ShowsRows}
 use Rattle.row_search.specs.Searches.{place_in, PhaseHolds, IsSearching, IsComing, IsSeenAmong, IsSeenAt, PhaseFinds, Finds, HasToGo, pairs_behind}
 use Rattle.row_search.specs.Visits.{phase_after}
 use Rattle.row_search.specs.Steps.{OnlyMoves, IsSameScan, GoesOn}
@@ -32,6 +32,10 @@ use Rattle.row_search.proofs.Coming.{passes_by, is_passed, other_entry, row_kept
 use Rattle.row_search.proofs.Ways.{IsOnWay, passed_over, no_row, row_there}
 use Rattle.row_search.proofs.Given.{searching_on}
 use Rattle.row_search.proofs.Exits.{same_scan}
+
+older_few : (versions : List Version) (most : ℕ) → length versions ≤ most → length (older versions) ≤ most
+older_few [] most few = few
+older_few (version ∷ rest) most few = omega (arith, few)
 
 none_some : (row : List Value) (found : Option (List Value)) → found ≡ None → found ≡ Some row → ⊥
 none_some row found a b = cc
@@ -106,7 +110,8 @@ module _ (actor : ℕ) (schema : Schema) (old new : WorldState) (scan : Scan) (e
   -- ---- a version was looked at
 
   abbrev pub Held : Coded → Type 0
-  Held version = (versions : List Version) × (bytes : List ℕ) × IsOnWay schema (primary_part schema entry) bytes old.versions.kept_at version versions
+  Held version = (versions : List Version) × (bytes : List ℕ) × IsOnWay schema (primary_part schema entry) bytes old.versions.kept_at version versions ×
+      (length versions ≤ most_versions)
 
   -- what is left before the version, and behind it less
   pub record HasLeft (version : Coded) (pairs : List Pair) (n : List ℕ) : Type 0 where
@@ -138,6 +143,7 @@ module _ (actor : ℕ) (schema : Schema) (old new : WorldState) (scan : Scan) (e
             older h.0,
             subst (λ (kept : ℕ → Option Kept). LeadTo schema (primary_part schema entry) kept version.pointer (older h.0))
                 (sym (unchanged.versions.kept told)) h.2.rest,
+            older_few h.0 most_versions h.3,
           ),
     )
 

@@ -1,5 +1,5 @@
 -- The versions of a row along its pointers, as a search goes along them.
-use Rattle.std.proofs.Common.{◌≡◌, ◌≢◌, ◌∙◌, sym, ap, subst, refl, ℕ, ◌==◌, true, false, cond, List, [], ◌∷◌, Option, None, Some}
+use Rattle.std.proofs.Common.{◌≡◌, ◌≢◌, ◌∙◌, sym, ap, subst, refl, ℕ, ◌==◌, ◌≤◌, true, false, cond, List, [], ◌∷◌, length, Option, None, Some}
 use Rattle.std.specs.Prelude.{option_map, is_some}
 use Rattle.std.proofs.lemmas.Bool.{or_left, or_right}
 use Rattle.inno_types.specs.declared.value.Value.{Value}
@@ -117,7 +117,8 @@ nothing_led schema scan row_at key kept pointer versions lead zero among =
 pub at_key : (schema : Schema) (scan : Scan) (kept : ℕ → Option Kept) (pairs : List Pair) (versions_at : Value → List Version) (key bytes : List ℕ)
     → IsClustered schema kept pairs versions_at → value_of key pairs ≡ Some bytes
     → (versions : List Version) × IsRecordWith schema key kept (Some bytes) versions × IsSeenAmong schema scan
-    (λ value. first_seen (sees_by scan.sight) (versions_at value)) key versions
+    (λ value. first_seen (sees_by scan.sight) (versions_at value)) key versions ×
+    ((most : ℕ) → ((value : Value) → length (versions_at value) ≤ most) → length versions ≤ most)
 at_key schema scan kept pairs versions_at key bytes is there =
     let some = is.keys key (ap is_some there) in
     let value = some.0 in
@@ -132,4 +133,5 @@ at_key schema scan kept pairs versions_at key bytes is there =
         key_is = some.2 ∙ ap (λ (k : Kind). key_code k value) (sym kind);
         seen = refl;
       },
+      λ most few. few value,
     )

@@ -1,5 +1,5 @@
 -- What steps of others leave to a search.
-use Rattle.std.specs.Prelude.{◌≡◌, ℕ, List, Option, Some}
+use Rattle.std.specs.Prelude.{◌≡◌, ◌≤◌, ℕ, List, length, Option, Some}
 use Rattle.inno_types.specs.declared.value.Value.{Value}
 use Rattle.inno_types.specs.declared.value.Schema.{Schema}
 use Rattle.chain.specs.declared.kept.Kept.{Kept}
@@ -17,15 +17,16 @@ use Rattle.row_search.specs.Ranges.{primary_part}
 use Rattle.row_search.specs.Searches.{IsSearching, Finds}
 
 -- The versions that a search goes along next, from the record that it holds or from its pointer, show the reader the same
--- row in what is kept now.
+-- row in what is kept now, and are not more.
 abbrev pub KeepsWay : Schema → Sight → (ℕ → Option Kept) → (ℕ → Option Kept) → Phase → Type 0
 KeepsWay schema sight old new (Look entry bytes) =
     (versions : List Version) → IsRecordWith schema (primary_part schema entry) old (Some bytes) versions
     → (now : List Version) × IsRecordWith schema (primary_part schema entry) new (Some bytes) now ×
-    (first_seen (sees_by sight) now ≡ first_seen (sees_by sight) versions)
+    (first_seen (sees_by sight) now ≡ first_seen (sees_by sight) versions) × (length now ≤ length versions)
 KeepsWay schema sight old new (Walk entry pointer) =
     (versions : List Version) → LeadTo schema (primary_part schema entry) old pointer versions
-    → (now : List Version) × LeadTo schema (primary_part schema entry) new pointer now × (first_seen (sees_by sight) now ≡ first_seen (sees_by sight) versions)
+    → (now : List Version) × LeadTo schema (primary_part schema entry) new pointer now ×
+    (first_seen (sees_by sight) now ≡ first_seen (sees_by sight) versions) × (length now ≤ length versions)
 KeepsWay schema sight old new other = Unit {0}
 
 -- What the one has found the other has found, too.

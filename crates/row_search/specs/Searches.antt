@@ -20,6 +20,7 @@ use Rattle.row_search.specs.declared.phase.Phase.{Phase}
 use Rattle.row_search.specs.declared.phase.Phase.TheVariants.{Seek, Follow, Fetch, Look, Walk, Keep, Sort, Leave}
 use Rattle.row_search.specs.declared.search.RowSearch.{RowSearch}
 use Rattle.row_search.specs.Sights.{sees_by, rows_seen}
+use Rattle.row_search.specs.Tables.{most_versions}
 use Rattle.row_search.specs.FoundRows.{AreFound, RiseByKey}
 use Rattle.row_search.specs.Ranges.{primary_part, lies_in, lies_up_to, lies_below}
 
@@ -29,14 +30,16 @@ place_in actor scan state = (state.indexes (index_of scan.table scan.which)).pla
 
 -- ---- what each step may rest on
 
--- where it is told what is kept, the record of a key has versions, all of which are kept
+-- where it is told what is kept, the record of a key has versions, all of which are kept, and few
 abbrev pub IsRecordKept : Schema → WorldState → List ℕ → List ℕ → Type 0
 IsRecordKept schema state key bytes =
-    IsTrue state.versions.told → (versions : List Version) × IsRecordWith schema key state.versions.kept_at (Some bytes) versions
+    IsTrue state.versions.told
+    → (versions : List Version) × IsRecordWith schema key state.versions.kept_at (Some bytes) versions × (length versions ≤ most_versions)
 
--- where it is told what is kept, the pointer leads to versions, all of which are kept
+-- where it is told what is kept, the pointer leads to versions, all of which are kept, and few
 abbrev pub IsWayKept : Schema → WorldState → List ℕ → ℕ → Type 0
-IsWayKept schema state key pointer = IsTrue state.versions.told → (versions : List Version) × LeadTo schema key state.versions.kept_at pointer versions
+IsWayKept schema state key pointer =
+    IsTrue state.versions.told → (versions : List Version) × LeadTo schema key state.versions.kept_at pointer versions × (length versions ≤ most_versions)
 
 abbrev pub PhaseHolds : ℕ → Schema → Scan → WorldState → Phase → Type 0
 PhaseHolds actor schema scan state Seek = Unit {0}

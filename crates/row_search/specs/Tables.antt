@@ -1,5 +1,5 @@
 -- What a world tells of a table's rows.
-use Rattle.std.specs.Prelude.{◌≡◌, ℕ, true, IsTrue, List, Option, Some, is_some}
+use Rattle.std.specs.Prelude.{◌≡◌, ℕ, ◌+◌, ◌^◌, ◌≤◌, true, IsTrue, List, length, Option, Some, is_some}
 use Rattle.inno_types.specs.declared.value.Value.{Value}
 use Rattle.inno_types.specs.declared.value.Schema.{Schema}
 use Rattle.entries.specs.Pairs.{Pair, AreRising, value_of}
@@ -11,15 +11,21 @@ use Rattle.world.specs.State.{WorldState, index_of}
 use Rattle.row_search.specs.declared.scan.Scan.{Scan}
 use Rattle.row_search.specs.Sights.{rows_seen}
 
+-- no row has more versions than this
+abbrev pub most_versions : ℕ
+most_versions = 2 ^ 63 + 2 ^ 62
+
 -- The pairs of the table's clustered index are told, and are these versions of its rows.
 pub record ShowsTable (schema : Schema) (table : ℕ) (state : WorldState) (versions_at : Value → List Version) : Type 0 where
   pub pairs : List Pair
   pub pairs_are : (state.indexes (index_of table 0)).pairs ≡ Some pairs
   pub clustered : IsClustered schema state.versions.kept_at pairs versions_at
 
--- Where it is told what is kept for roll pointers, the table's rows are told, too.
+-- Where it is told what is kept for roll pointers, the table's rows are told, too, and each has few versions.
 abbrev pub HoldsTable : Schema → ℕ → WorldState → Type 0
-HoldsTable schema table state = IsTrue state.versions.told → (versions_at : Value → List Version) × ShowsTable schema table state versions_at
+HoldsTable schema table state =
+    IsTrue state.versions.told
+    → (versions_at : Value → List Version) × ShowsTable schema table state versions_at × ((value : Value) → length (versions_at value) ≤ most_versions)
 
 -- each of these rows has its key in the index of this number
 abbrev pub HaveKeys : Schema → ℕ → List Pair → (Value → Option (List Value)) → Type 0

@@ -31,6 +31,12 @@ abbrev pub phase_after : Sight → List ℕ → Version → Phase
 phase_after sight entry version =
     if sees_by sight version.writer then (if version.marked then Follow else Keep entry version.row) else Walk entry version.pointer
 
+-- what comes next once the search comes to its pair anew
+abbrev pub phase_anew : Phase → Phase
+phase_anew (Look entry bytes) = Fetch entry
+phase_anew (Walk entry pointer) = Fetch entry
+phase_anew other = other
+
 -- what keeps a version from being shown, as a call of an index says it
 abbrev pub move_for : ChainBad → Move
 move_for (Visit Failed) = move.Failed

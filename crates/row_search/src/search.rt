@@ -8,6 +8,7 @@ ghost use Rattle.row_search.specs.Searches.{IsSearching, BeginsWithNothing, MayB
 ghost use Rattle.row_search.specs.Others.{KeepsFound, KeepsSearching, NeedsNoVersion};
 ghost use Rattle.row_search.specs.Tables.{HoldsTable};
 ghost use Rattle.row_search.specs.Steps.{Searches};
+ghost use Rattle.row_search.specs.Visits.{phase_anew};
 
 use crate::found::FoundRow;
 use crate::phase::Phase;
@@ -66,6 +67,7 @@ impl RowSearch {
     /// kept for roll pointers, which may go as a writer rolls back.
     pub fn anew(self) -> RowSearch
         ensures scan { result.scan ≡ self.scan }
+        ensures phase { result.phase ≡ phase_anew self.phase }
         ensures finds { KeepsFound self result }
         ensures way { NeedsNoVersion result }
         ensures holds { KeepsSearching self result }

@@ -10,19 +10,34 @@ use Rattle.sql_history.specs.Settings.{Setting}
 use Rattle.sql_history.specs.Counts.{rows_in, most_rows}
 use Rattle.shared_lists.specs.Tasks.{Task, Idle, task_code}
 
--- the names of the sessions, the entries, the newest first, the session that may write, and what each session has under way
--- with rows
+-- what a search has before it: the keys of its index that it has not come past; how many entries of the history may each have
+-- dropped an older version since its last step, so that it comes to its key anew; and what is left of its visit of that key
+pub record Places : Type 0 where
+  pub keys : ℕ
+  pub anew : ℕ
+  pub visit : ℕ
+
+abbrev pub places_code : Coded Places
+places_code =
+    code_by (ℕ × (ℕ × ℕ)) (coded× coded_ℕ (coded× coded_ℕ coded_ℕ)) (λ r. (r.keys, (r.anew, r.visit)))
+    (λ p. record { keys = p.0; anew = p.1.0; visit = p.1.1 }) (λ _. refl)
+
+-- the names of the sessions, the entries, the newest first, the session that may write, what each session has under way
+-- with rows, and what the search of each has before it
 pub record State : Type 0 where
   pub names : List (List ℕ)
   pub past : List Event
   pub writer : Option ℕ
   pub tasks : List Task
+  pub places : List Places
 
 abbrev pub state_code : Coded State
 state_code =
-    code_by (List (List ℕ) × (List Event × (Option ℕ × List Task)))
-    (coded× (coded_list (coded_list coded_ℕ)) (coded× (coded_list of_event.the_row.coded) (coded× (coded_option coded_ℕ) (coded_list task_code))))
-    (λ r. (r.names, (r.past, (r.writer, r.tasks)))) (λ p. record { names = p.0; past = p.1.0; writer = p.1.1.0; tasks = p.1.1.1 }) (λ _. refl)
+    code_by (List (List ℕ) × (List Event × (Option ℕ × (List Task × List Places))))
+    (coded× (coded_list (coded_list coded_ℕ))
+    (coded× (coded_list of_event.the_row.coded) (coded× (coded_option coded_ℕ) (coded× (coded_list task_code) (coded_list places_code)))))
+    (λ r. (r.names, (r.past, (r.writer, (r.tasks, r.places)))))
+    (λ p. record { names = p.0; past = p.1.0; writer = p.1.1.0; tasks = p.1.1.1.0; places = p.1.1.1.1 }) (λ _. refl)
 
 -- that, what each session has set, and how many rows the history holds
 pub record Lists : Type 0 where
@@ -32,6 +47,18 @@ pub record Lists : Type 0 where
 
 abbrev pub task_of : ℕ → State → Task
 task_of s state = slice_index_or state.tasks s Idle
+
+-- who doesn't search
+abbrev pub no_places : Places
+no_places = record { keys = 0; anew = 0; visit = 0 }
+
+-- What the session's search has before it. The relations below don't speak of it: others put keys and remove them.
+abbrev pub places_before : ℕ → State → Places
+places_before s state = slice_index_or state.places s no_places
+
+-- as numbers, of which a step of the search makes the first that differs smaller
+abbrev pub counted : Places → List ℕ
+counted places = places.keys ∷ places.anew ∷ places.visit ∷ []
 
 -- The past, the session's task and who may write are these now, and what the other sessions have under way is what it was.
 pub record IsNow (past : List Event) (s : ℕ) (task : Task) (writer : Option ℕ) (old new : State) : Type 0 where

@@ -1,6 +1,7 @@
 //! The calls of whatever keeps the lists. A session may have one thing under way with rows at a time.
 
 ghost use Rattle.std.specs.Prelude.{◌≡◌, ◌≢◌, ℕ, ◌+◌, ◌-◌, ◌<◌, ◌≤◌, ◌^◌, [], ◌∷◌, ◌++◌, true, false, length, is_some, OnOk, OnErr, IfOk, IfSome, IfNone, Some, None, slice_get, slice_index_or, slice_set};
+ghost use Rattle.inno_types.specs.Order.{IsBelow};
 ghost use Rattle.inno_types.specs.declared.value.Schema.{Schema};
 ghost use Rattle.inno_db.specs.declared.change.Change.TheVariants.{Create};
 ghost use Rattle.inno_model.specs.declared.event.Event.TheVariants.{Begin, Started, View, Changed as ChangedEvent, Undone as UndoneEvent, Ended, Committed, Acked, RolledBack, Signal};
@@ -11,7 +12,7 @@ ghost use Rattle.law_fitting_rows.specs.Storable.{IsStorable};
 ghost use Rattle.law_past_agreement.specs.Order.{created, IsOfRow, MayCome, IsOrdered};
 ghost use Rattle.shared_lists.specs.Fitting.{FitsWell, FitsThen};
 ghost use Rattle.shared_lists.specs.Tasks.{Idle, Searching, is_changing, asked, steps_left, MayTakeBack};
-ghost use Rattle.shared_lists.specs.State.{Lists, task_of, Adds, Closes, Turns, Stays, IsNow, writer_without};
+ghost use Rattle.shared_lists.specs.State.{Lists, task_of, places_before, counted, Adds, Closes, Turns, Stays, IsNow, writer_without};
 ghost use Rattle.shared_lists.specs.Steps.{Searches, AreNewestRows, Changes, rows_entered, TakesBack};
 
 use crate::answers::{Changed, Reading, Searched, Undone};
@@ -233,19 +234,12 @@ pub trait SharedLists: Drop {
         ensures settings { (lists self.new).settings ≡ (lists self.old).settings }
         ensures rows { (lists self.new).rows ≡ (lists self.old).rows };
 
-    /// Makes one step of the session's search.
+    /// Makes one step of the session's search. One that goes on brings it nearer to its end.
     fn search(&mut self, session: u32) -> Searched
         requires joined { session < length (lists self.old).state.names }
         requires searching { (table : ℕ) × (plan : _) × (reading : _) × (task_of session (lists self.old).state ≡ Searching table plan reading) }
         ensures searches { (table : ℕ) (plan : _) (reading : _) → task_of session (lists self.old).state ≡ Searching table plan reading → Searches table plan reading session (lists self.old).state (lists self.new).state result }
-        ensures settings { (lists self.new).settings ≡ (lists self.old).settings }
-        ensures rows { (lists self.new).rows ≡ (lists self.old).rows };
-
-    /// Gives the session's search up.
-    fn stop_search(&mut self, session: u32)
-        requires joined { session < length (lists self.old).state.names }
-        requires searching { (table : ℕ) × (plan : _) × (reading : _) × (task_of session (lists self.old).state ≡ Searching table plan reading) }
-        ensures stops { Turns session Idle (lists self.old).state (lists self.new).state }
+        ensures nears { result ≡ Searched.Went → IsBelow (counted (places_before session (lists self.new).state)) (counted (places_before session (lists self.old).state)) }
         ensures settings { (lists self.new).settings ≡ (lists self.old).settings }
         ensures rows { (lists self.new).rows ≡ (lists self.old).rows };
 

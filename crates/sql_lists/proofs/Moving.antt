@@ -20,7 +20,7 @@ use Rattle.shared_lists.specs.declared.answers.Changed.TheVariants as made
 use Rattle.shared_lists.specs.declared.answers.Undone.{Undone}
 use Rattle.shared_lists.specs.declared.answers.Undone.TheVariants as undone
 use Rattle.shared_lists.specs.Tasks.{Task, Idle, asked, left_by}
-use Rattle.shared_lists.specs.State.{State, IsNow, Adds, Closes, Turns, Stays, task_of, writer_without}
+use Rattle.shared_lists.specs.State.{State, IsNow, Adds, Closes, Turns, Stays, task_of, places_before, counted, writer_without}
 use Rattle.shared_lists.specs.Steps.{Searches, GoesOn, Enters, Changes, TakesBack}
 use Rattle.law_past_agreement.specs.Order.{IsNoOthers}
 use Rattle.sql_grammar.specs.Grammar.{Spells}
@@ -28,7 +28,7 @@ use Rattle.sql_history.specs.Legal.{Takes, IsCreation}
 use Rattle.sql_history.specs.Counts.{last_moment}
 use Rattle.sql_lists.specs.Steps.{Adding, IsEntryOf, MayWriteAlone, AsksToWrite, Moves, StaysRunning, Intends, is_apart, changes_rows, TellsOne}
 use Rattle.sql_lists.specs.Tables.{table_made, none_made}
-use Rattle.sql_lists.specs.Going.{left, to_close, to_roll_back}
+use Rattle.sql_lists.specs.Going.{left, to_close, to_roll_back, to_search}
 use Rattle.inno_types.specs.Order.{IsBelow}
 
 -- ---- how the past goes on
@@ -378,3 +378,13 @@ takes_back_nears s old new undone.Undone went some takes =
     below_second 1 _ _ _ _ _ _ (ap (to_close s) takes.past_is)
     (subst (λ (h : List Event). length (own s h) < length (own s old.past)) (sym takes.past_is) (fewer_stand s old.past some))
 takes_back_nears s old new undone.NoMemory went some takes = absurd (went refl)
+
+-- ---- what is left of a search
+
+-- a step that brings it nearer brings its statement nearer
+pub search_nears : (phases s : ℕ) (old new : State) → IsBelow (counted (places_before s new)) (counted (places_before s old))
+    → IsBelow (to_search phases s new) (to_search phases s old)
+search_nears phases s old new (inl fewer) = inr (refl, inl fewer)
+search_nears phases s old new (inr (same, inl fewer)) = inr (refl, inr (same, inl fewer))
+search_nears phases s old new (inr (same, inr (so, inl fewer))) = inr (refl, inr (same, inr (so, inl fewer)))
+search_nears phases s old new (inr (same, inr (so, inr (as_much, nothing)))) = absurd nothing

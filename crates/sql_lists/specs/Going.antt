@@ -3,7 +3,7 @@ use Rattle.std.specs.Prelude.{◌≡◌, ℕ, ◌<◌, ◌⊎◌, if◌then◌el
 use Rattle.inno_model.specs.declared.event.Event.{Event}
 use Rattle.inno_model.specs.Past.{level, own, view_of}
 use Rattle.shared_lists.specs.Tasks.{undo_to_go}
-use Rattle.shared_lists.specs.State.{State, task_of}
+use Rattle.shared_lists.specs.State.{State, task_of, places_before}
 use Rattle.inno_types.specs.Order.{IsBelow}
 use Rattle.sql_lists.specs.declared.advance.Advance.{Advance}
 use Rattle.sql_lists.specs.declared.advance.Advance.TheVariants as advance
@@ -28,6 +28,10 @@ to_view s past = if is_some (view_of s past) then 0 else 1
 -- being taken back
 abbrev pub to_roll_back : ℕ → State → List ℕ
 to_roll_back s state = left 1 (to_close s state.past) (length (own s state.past)) (undo_to_go (task_of s state))
+
+-- a search: the keys that it has not come past, and what is left of the one that it is at
+abbrev pub to_search : ℕ → ℕ → State → List ℕ
+to_search phases s state = left phases (places_before s state).keys (places_before s state).anew (places_before s state).visit
 
 -- the acknowledgement brings the statement nearer to its end, whatever the state
 abbrev pub NearsAcked : {M : Type 0} → (ℕ → State → M → List ℕ) → M → M → Type 0

@@ -2,6 +2,7 @@
 
 ghost use Rattle.std.specs.Prelude.{◌≡◌, ◌≢◌, ℕ, ◌+◌, ◌-◌, ◌<◌, ◌≤◌, ◌^◌, [], ◌∷◌, ◌++◌, length, true, false, is_some, OnOk, OnErr, IfOk, IfSome, IfNone, Some, None, slice_get};
 ghost use Rattle.inno_db.specs.declared.limits.TheConstants.{MOST_TABLES};
+ghost use Rattle.inno_types.specs.Order.{IsBelow};
 ghost use Rattle.inno_types.specs.declared.value.Schema.{Schema};
 ghost use Rattle.inno_types.specs.declared.reply.Reply.TheVariants.{Done};
 ghost use Rattle.inno_types.specs.declared.stmt.Stmt.TheVariants.{Savepoint as SavepointStmt};
@@ -17,7 +18,7 @@ ghost use Rattle.law_fitting_rows.specs.Storable.{IsStorable};
 ghost use Rattle.law_past_agreement.specs.Order.{created, IsOfRow, IsTabled, IsUndoable, IsOrdered};
 ghost use Rattle.shared_lists.specs.Fitting.{FitsWell, FitsThen};
 ghost use Rattle.shared_lists.specs.Tasks.{Idle, Searching, is_changing, asked, steps_left, MayTakeBack};
-ghost use Rattle.shared_lists.specs.State.{IsFirst, IsNow, Adds, Closes, Turns, Stays, task_of, writer_without};
+ghost use Rattle.shared_lists.specs.State.{IsFirst, IsNow, Adds, Closes, Turns, Stays, task_of, places_before, counted, writer_without};
 ghost use Rattle.shared_lists.specs.Steps.{Searches, AreNewestRows, Changes, TakesBack};
 ghost use Rattle.sql_lists.specs.Kept.{MayReply, is_of_signal, OwesAck, SetsQuietly, AreStanding, IsInOrder};
 ghost use Rattle.sql_lists.specs.Tables.{MayMake, MakesNone, table_made};
@@ -288,22 +289,14 @@ impl<L: SharedLists> SqlLists<L> {
         self.lists.begin_search(session, table, plan, reading)
     }
 
-    /// Makes one step of the session's search.
+    /// Makes one step of the session's search. One that goes on brings it nearer to its end.
     pub fn search(&mut self, session: u32) -> Searched
         requires joined { session < length self.old.names }
         requires searching { (table : ℕ) × (plan : _) × (reading : _) × (task_of session self.old ≡ Searching table plan reading) }
         ensures searches { (table : ℕ) (plan : _) (reading : _) → task_of session self.old ≡ Searching table plan reading → Searches table plan reading session self.old self.new result }
+        ensures nears { result ≡ Searched.Went → IsBelow (counted (places_before session self.new)) (counted (places_before session self.old)) }
     {
         self.lists.search(session)
-    }
-
-    /// Gives the session's search up.
-    pub fn stop_search(&mut self, session: u32)
-        requires joined { session < length self.old.names }
-        requires searching { (table : ℕ) × (plan : _) × (reading : _) × (task_of session self.old ≡ Searching table plan reading) }
-        ensures stops { Turns session Idle self.old self.new }
-    {
-        self.lists.stop_search(session);
     }
 
     /// The newest rows of a table, committed or not, as they are at this moment: by the index and the range of a plan, or

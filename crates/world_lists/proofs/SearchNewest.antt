@@ -14,7 +14,9 @@ use Rattle.undo_apply.specs.declared.work_room.WorkRoom.{WorkRoom}
 use Rattle.shared_lists.specs.State.{State, Lists, Stays}
 use Rattle.shared_lists.specs.Steps.{AreNewestRows}
 use Rattle.desks.specs.declared.desk.Desk.{Desk}
-use Rattle.desks.specs.Desks.{is_quiet}
+use Rattle.desks.specs.declared.desk.Doing.TheVariants.{Nothing, Searching}
+use Rattle.desks.specs.declared.desk.TableSearch.{TableSearch}
+use Rattle.desks.specs.Desks.{doing_at, is_quiet}
 use Rattle.desks.specs.Holding.{IsHeld}
 use Rattle.desks.specs.Undoing.{undo_left_in}
 use Rattle.law_held_searches.specs.Moving.{MovesPlaces}
@@ -26,6 +28,9 @@ use Rattle.law_held_searches.proofs.Callers.{seen_stay}
 nothing_changes : (s : ℕ) (state : State) → Stays s state state
 nothing_changes s state = record { names_are = refl; past_is = refl; writer_is = refl; task_is = refl; others = λ t differs. refl }
 
+no_search : (on : TableSearch) → Nothing ≡ Searching on → ⊥
+no_search on same = cc
+
 -- what holds of the rows that were found holds of those that are answered
 pub answered : {E : Type 0} (found : List (List Value)) (answer : Result (List (List Value)) E) (IsRight : List (List Value) → Type 0)
     → IfOk answer (λ rows. rows ≡ found) → IsRight found → IfOk answer IsRight
@@ -34,10 +39,12 @@ answered found (Err why) IsRight is right = record {}
 
 module _ (s : ℕ) (state : WorldState) (writer : Option ℕ) (desks : List Desk) (cuts : ℕ) (undo : UndoRoom) (room : WorkRoom) (lists : Lists)
     (held : IsHeld state writer desks cuts undo room) (view : seen_of undo.table room.stage state writer desks ≡ lists) where
-  pub nothing_seen : (new : WorldState) → MovesPlaces s state new → IsTold new → Stays s lists.state (seen_of undo.table room.stage new writer desks).state
-  nothing_seen new moves told =
+  pub nothing_seen : (new : WorldState) → MovesPlaces s state new → IsTold new → doing_at s desks ≡ Nothing
+      → Stays s lists.state (seen_of undo.table room.stage new writer desks).state
+  nothing_seen new moves told idle =
       subst (λ (l : Lists). Stays s lists.state l.state)
-      (sym (seen_stay s (undo_left_in undo.table room.stage state) state new writer desks moves undo.table room.stage refl told ∙ view))
+      (sym (seen_stay s (undo_left_in undo.table room.stage state) state new writer desks moves undo.table room.stage refl told
+      (λ on is. no_search on (sym idle ∙ is)) ∙ view))
       (nothing_changes s lists.state)
 
   module _ (table : ℕ) (plan by : Plan) (schema : Schema) (told : IsTold state) (there : slice_get state.schemas table ≡ Some schema)

@@ -1,5 +1,7 @@
 -- A step of a session's search in held lists: what it asks for, what is held after it, and what callers see of it.
-use Rattle.std.proofs.Common.{◌≡◌, ◌≢◌, inl, inr, ℕ, Bool, true, false, List, map, Option, refl, sym, ap, subst, ◌∙◌}
+use Rattle.std.proofs.Common.{◌≡◌, ◌≢◌, inl, inr, ℕ, ◌==◌, Bool, true, false, not, List, map, Option, refl, sym, ap, subst, ◌∙◌}
+use Rattle.std.proofs.lemmas.Bool.Decides.{eqb_tells}
+use Rattle.inno_types.specs.Order.{IsBelow}
 use Rattle.inno_types.specs.declared.value.Value.{Value}
 use Rattle.inno_model.specs.declared.event.Event.{Event}
 use Rattle.store_api.specs.declared.moves.Move.{Move}
@@ -18,7 +20,7 @@ use Rattle.shared_lists.specs.declared.answers.Searched.{Searched}
 use Rattle.shared_lists.specs.declared.answers.Searched.TheVariants as searched
 use Rattle.shared_lists.specs.Tasks.{Task}
 use Rattle.shared_lists.specs.Tasks as tasks
-use Rattle.shared_lists.specs.State.{State, Lists, task_of, Turns}
+use Rattle.shared_lists.specs.State.{State, Lists, Places, task_of, places_before, counted, Turns}
 use Rattle.shared_lists.specs.Steps.{AreFoundBy, Searches}
 use Rattle.desks.specs.declared.desk.Desk.{Desk}
 use Rattle.desks.specs.declared.desk.Doing.{Doing}
@@ -28,12 +30,13 @@ use Rattle.desks.specs.Desks.{doing_at, with_doing}
 use Rattle.desks.specs.Holding.{IsHeld}
 use Rattle.desks.specs.Shown.{reading_of, seen_of}
 use Rattle.desks.specs.Undoing.{undo_left_in}
+use Rattle.desks.specs.Searching.{places_in, places_of}
 use Rattle.law_held_searches.specs.Moving.{MovesPlaces}
 use Rattle.law_held_searches.specs.TakenUp.{ComesAnew, IsTakenUp, MayStep, IsSearchOf, plan_of}
-use Rattle.law_held_searches.proofs.AtDesks.{doing_twice}
-use Rattle.desks.proofs.Showing.{task_is}
+use Rattle.law_held_searches.proofs.AtDesks.{doing_twice, doing_here}
+use Rattle.desks.proofs.Showing.{task_is, places_are}
 use Rattle.law_held_searches.proofs.Callers.{turns_now, search_shown, has_desk, searches_on}
-use Rattle.law_held_searches.proofs.Stepping.{steps, went, ended, waited, given_up}
+use Rattle.law_held_searches.proofs.Stepping.{steps, went, nears, ended, waited, given_up}
 
 -- what stands at desks after the session's task was taken and another given
 pub desks_given : (s : ℕ) (doing : Doing) (desks between after : List Desk) → between ≡ with_doing s Nothing desks → after ≡ with_doing s doing between
@@ -41,10 +44,12 @@ pub desks_given : (s : ℕ) (doing : Doing) (desks between after : List Desk) �
 desks_given s doing desks between after taken given = given ∙ (ap (with_doing s doing) taken ∙ doing_twice s Nothing doing desks)
 
 -- by whether it comes to its pair anew
-pub taken_by : (anew : Bool) (cuts : ℕ) (on : TableSearch) (search : RowSearch) → (anew ≡ false → on.cuts ≡ cuts) → (anew ≡ false → search ≡ on.search)
+pub taken_by : (anew : Bool) (cuts : ℕ) (on : TableSearch) (search : RowSearch) → anew ≡ not (on.cuts == cuts) → (anew ≡ false → search ≡ on.search)
     → (anew ≡ true → ComesAnew on.search search) → IsTakenUp cuts on search
-taken_by false cuts on search same was comes = inl (same refl, was refl)
-taken_by true cuts on search same was comes = inr (comes refl)
+taken_by anew cuts on search is was comes = elim (eqb_tells on.cuts cuts) [
+  | inl same ↦ inl (same.1, was (is ∙ ap not same.0))
+  | inr differs ↦ inr (differs.1, comes (is ∙ ap not differs.0))
+]
 
 one_search : (on by : TableSearch) → Searching on ≡ Searching by → by ≡ on
 one_search on by same = cc
@@ -120,6 +125,20 @@ module _ (s : ℕ) (old : WorldState) (writer : Option ℕ) (desks : List Desk) 
               subst (λ (l : Lists). Turns s (task_of s l.state) l.state (now_in new after)) view
               (subst (λ (d : List Desk). Turns s (task_of s (now_in old desks)) (now_in old desks) (now_in new d)) (sym at)
               (searches_on s undo.table room.stage writer desks old new cuts on next is on_now.1 on_now.2 told))
+
+          pub went_nears : IsBelow (counted (places_before s (now_in new after))) (counted (places_before s lists.state))
+          went_nears =
+              let on_now : TableSearch = record on { search = next; cuts = cuts } in
+              let was : places_before s lists.state ≡ places_in s old on
+              = ap (λ (l : Lists). places_before s l.state) (sym view)
+              ∙ (places_are s (undo_left_in undo.table room.stage old) old writer desks ∙ ap (places_of s old) is) in
+              let now : places_before s (now_in new after) ≡ places_in s new on_now
+              = ap (λ (d : List Desk). places_before s (now_in new d)) at
+              ∙ (places_are s (undo_left_in undo.table room.stage new) new writer (with_doing s (Searching on_now) desks)
+              ∙ ap (places_of s new) (doing_here s (Searching on_now) desks (has_desk s desks on is))) in
+              subst (λ (p : Places). IsBelow (counted (places_before s (now_in new after))) (counted p)) (sym was)
+              (subst (λ (p : Places). IsBelow (counted p) (counted (places_in s old on))) (sym now)
+              (nears s old writer desks cuts undo room on held is search taken new told next goes))
 
         module _ (found : List FoundRow) (ends : Ends s on.schema old new search found) (at : after ≡ with_doing s Nothing desks) where
           pub ended_held : IsHeld new writer after cuts undo room

@@ -95,7 +95,7 @@ pub fn newest_rows<W: EngineWorld>(
     ensures found { IfOk result (λ rows. (chains : Chains) → TellsTable chains table plan schema.now (W.state world.old) → AreRead chains table plan schema.now (W.state world.old) rows.items) }
 {
     let mut search = RowSearch::new(alloc, table, plan, Sight::Newest);
-    for _step in 0..u64::MAX {
+    'reading: loop {
         match search.step(alloc, world, session, schema) {
             Reached::Went(next) => search = next,
             Reached::Done(found) => return Ok(found),
@@ -103,7 +103,6 @@ pub fn newest_rows<W: EngineWorld>(
             Reached::Malformed(stuck) => return Err(give_up(world, session, stuck, schema)),
         }
     }
-    Err(give_up(world, session, search, schema))
 }
 
 /// Leaves the index that was searched.

@@ -229,22 +229,6 @@ impl<W: EngineWorld> SharedLists for WorldLists<W> {
         }
     }
 
-    fn stop_search(&mut self, session: u32) {
-        let doing = take_doing(&mut self.desks, session);
-        let Doing::Searching(on) = doing else {
-            unreachable!()
-        };
-        let TableSearch {
-            search,
-            schema,
-            unique: _,
-            cuts,
-        } = on;
-        let search = taken_up(search, cuts != self.cuts);
-        search.give_up(&mut self.world, session, &schema);
-        drop(schema);
-    }
-
     fn read_newest(&mut self, session: u32, table: u8, plan: Plan) -> Result<Rows, NoMemory> {
         let schema = self.world.tables().as_slice()[table as usize].copied()?;
         let plan = plan_read(is_quiet(self.writer, &self.desks), plan);

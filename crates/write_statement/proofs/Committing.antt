@@ -22,7 +22,7 @@ use Rattle.sql_history.specs.Legal.{IsSettled, CommitsBy, MayCommit, is_alone}
 use Rattle.sql_history.specs.Waiting.{is_victim}
 use Rattle.law_past_agreement.specs.Order.{IsOfRow}
 use Rattle.shared_lists.specs.Tasks.{Idle}
-use Rattle.shared_lists.specs.State.{State, Adds, Closes, task_of}
+use Rattle.shared_lists.specs.State.{State, Closes, task_of}
 use Rattle.sql_lists.specs.Kept.{MayReply, OwesAck}
 use Rattle.sql_lists.specs.Going.{NearsAcked}
 use Rattle.sql_lists.specs.Steps.{Moves, GoesOnAcked}

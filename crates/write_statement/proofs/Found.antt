@@ -2,7 +2,7 @@
 use Rattle.std.proofs.Common.{◌≡◌, ℕ, ◌<◌, Bool, true, false, Option, Some, None, List, [], ◌∷◌, ◌++◌, length, refl, sym, ap, subst, ◌∙◌, arith}
 use Rattle.std.proofs.lemmas.List.{append-nil, append_assoc, length-append}
 use Rattle.std.specs.FinMap.{insert, remove}
-use Rattle.std.specs.List.{list_any, list_all}
+use Rattle.std.specs.List.{list_all}
 use Rattle.std.specs.Prelude.{All, ◌&&◌, ◌==◌, not, filter, slice_get}
 use Rattle.inno_types.specs.declared.value.Value.{Value}
 use Rattle.inno_types.specs.declared.value.Schema.{Schema}
@@ -24,7 +24,7 @@ use Rattle.inno_db.specs.Typing.{filter_fits, set_fits, set_known, tuple_fits, w
 use Rattle.inno_db.proofs.Outcomes.{table_read}
 use Rattle.inno_model.specs.declared.event.Event.{Event}
 use Rattle.inno_model.specs.Past.{own, commits, committed, opening, changed}
-use Rattle.law_past_agreement.specs.Order.{created, is_creation, IsOrdered}
+use Rattle.law_past_agreement.specs.Order.{created, IsOrdered}
 use Rattle.law_past_agreement.specs.Rows.{seen}
 use Rattle.law_past_agreement.proofs.Tables.{key_stays}
 use Rattle.law_past_agreement.specs.DatabaseTables.{with_all_tables}

@@ -97,9 +97,9 @@ pub begins_search : (s : ℕ) (old new : State) (statement : Stmt) (alone : Bool
     → IsEarly s statement alone old.past → HasRight s old.past old.writer → before ≡ length (own s old.past)
     → table_read (created old.past) statement ≡ Some table → schemas ≡ created old.past → IsPlanFor schemas table statement plan → Turns s
     (Searching table plan Newest) old new
-    → Steps IsRunning s old new (machine.Searching (record { stmt = statement; alone = alone; before = before; visited = 0 })) advance.Went
+    → Steps IsRunning s old new (machine.Searching (record { stmt = statement; alone = alone; before = before })) advance.Went
 begins_search s old new statement alone before table plan schemas early right before-is table-is tables p turns =
-    let sought : Search = record { stmt = statement; alone = alone; before = before; visited = 0 } in
+    let sought : Search = record { stmt = statement; alone = alone; before = before } in
     let here : IsSearching old.past old.writer (Searching table plan Newest) s sought =
     record {
       reading = record {
@@ -121,36 +121,13 @@ begins_search s old new statement alone before table plan schemas early right be
     (subst (λ task. IsSearching old.past old.writer task s sought) (sym turns.task_is) here)) in
     (moves_turns s (Searching table plan Newest) old new turns, there, ap (started s) turns.past_is)
 
--- one step more
-counted : (past : List Event) (writer : Option ℕ) (task : Task) (s : ℕ) (sought : Search) (count : ℕ) → IsSearching past writer task s sought
-    → IsSearching past writer task s (record sought { visited = count })
-counted past writer task s sought count r =
-    let read = r.reading in
-    record {
-      reading = record {
-        early = read.early;
-        right = read.right;
-        before_is = read.before_is;
-        table = read.table;
-        table_is = read.table_is;
-        schema = read.schema;
-        there = read.there;
-        plan = read.plan;
-        enough = read.enough;
-      };
-      task_is = r.task_is;
-    }
-
-pub search_went : (s : ℕ) (old new : State) (sought : Search) (count : ℕ) (m : WriteStatement) (a : Advance)
-    → IsSearching old.past old.writer (task_of s old) s sought → Stays s old new
-    → m ≡ machine.Searching (record sought { visited = count }) → a ≡ advance.Went → Steps IsRunning s old new m a
-search_went s old new sought count m a r stays state answer =
-    steps_as IsRunning s old new m (machine.Searching (record sought { visited = count })) a advance.Went state answer (
-      moves_stays s old new stays,
-      carried (λ h w task. IsSearching h w task s (record sought { visited = count })) s old new stays
-          (counted old.past old.writer (task_of s old) s sought count r),
-      ap (started s) stays.past_is,
-    )
+pub search_went : (s : ℕ) (old new : State) (sought : Search) → IsSearching old.past old.writer (task_of s old) s sought → Stays s old new
+    → Steps IsRunning s old new (machine.Searching sought) advance.Went
+search_went s old new sought r stays = (
+  moves_stays s old new stays,
+  carried (λ h w task. IsSearching h w task s sought) s old new stays r,
+  ap (started s) stays.past_is,
+)
 
 -- what is known of a search, by its answer
 pub searches_as : (s : ℕ) (old new : State) (sought : Search) (answer other : Searched) → (r : IsSearching old.past old.writer (task_of s old) s sought)

@@ -1,11 +1,11 @@
 -- What the machine has before it at most, as fifteen numbers that get smaller.
-use Rattle.std.specs.Prelude.{ℕ, ◌+◌, ◌*◌, ◌-◌, ◌^◌, List, length}
+use Rattle.std.specs.Prelude.{ℕ, ◌+◌, ◌*◌, List, length}
 use Rattle.inno_model.specs.Past.{own}
 use Rattle.shared_lists.specs.Tasks.{steps_left, undo_to_go}
 use Rattle.shared_lists.specs.State.{State, task_of}
 use Rattle.sql_lists.specs.declared.advance.Advance.{Advance}
 use Rattle.sql_lists.specs.declared.advance.Advance.TheVariants as advance
-use Rattle.sql_lists.specs.Going.{left}
+use Rattle.sql_lists.specs.Going.{left, to_search}
 use Rattle.inno_types.specs.Order.{IsBelow}
 use Rattle.write_statement.specs.declared.machine.WriteStatement.{WriteStatement}
 use Rattle.write_statement.specs.declared.machine.WriteStatement.TheVariants as machine
@@ -17,8 +17,8 @@ to_change count = left 4 (3 * count) 0 0
 abbrev pub to_go : ℕ → State → WriteStatement → List ℕ
 to_go s state (machine.Fresh stmt) = left 7 0 0 0
 to_go s state (machine.Locking stmt alone) = left 6 0 0 0
--- the steps that its search may yet make
-to_go s state (machine.Searching search) = left 5 (2 ^ 64 - search.visited) 0 0
+-- the places that its search has before it
+to_go s state (machine.Searching search) = to_search 5 s state
 to_go s state (machine.Changing work todo) = to_change (length todo.items)
 -- the steps of the change under way, before the history tells it and behind that
 to_go s state (machine.Making work todo rows) = left 4 (3 * length todo.items + 2) (steps_left (task_of s state)) 0

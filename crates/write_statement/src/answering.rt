@@ -32,7 +32,7 @@ pub fn answer<L: SharedLists>(
     requires before_is { before ≡ length (own session lists.now.past) }
     requires enough { AreEnough session stmt.now rows.now lists.now.past }
     ensures steps { Steps IsRunning session lists.now lists.now result.0 result.1 }
-    ensures nears { (phases : ℕ) → 4 < phases → (first second : ℕ) → IsNearer (left phases first second 0) session lists.now result.0 result.1 }
+    ensures nears { (phases : ℕ) → 4 < phases → (first second third : ℕ) → IsNearer (left phases first second third) session lists.now result.0 result.1 }
 {
     match settle(alloc, lists.lists().schemas(), rows, stmt) {
         Ok(settled) => {

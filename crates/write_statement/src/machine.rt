@@ -72,7 +72,6 @@ pub struct Search {
     pub stmt: Stmt,
     pub alone: bool,
     pub before: usize,
-    pub visited: u64,
 }
 
 /// A statement whose reply is known. Its transaction had made so many changes before.

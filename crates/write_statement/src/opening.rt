@@ -170,7 +170,6 @@ fn search_table<L: SharedLists>(
                 stmt,
                 alone,
                 before,
-                visited: 0,
             };
             (WriteStatement::Searching(search), Advance::Went)
         }

@@ -1,9 +1,9 @@
 //! A statement searches its table, and then asks what it does to the rows that it found.
 
-ghost use Rattle.std.specs.Prelude.{◌≡◌, ◌<◌, ◌+◌, length};
+ghost use Rattle.std.specs.Prelude.{◌≡◌, ◌<◌, ℕ, length};
 ghost use Rattle.sql_lists.specs.Steps.{Steps};
-ghost use Rattle.sql_lists.specs.Going.{Nears};
-ghost use Rattle.write_statement.specs.Going.{to_go};
+ghost use Rattle.sql_lists.specs.Going.{Nears, left};
+ghost use Rattle.write_statement.specs.Going.{to_go, IsNearer};
 ghost use Rattle.write_statement.specs.Running.{IsRunning, IsFound};
 
 use crate::answering::{answer, give_up};
@@ -26,32 +26,14 @@ pub fn step_searching<L: SharedLists>(
 {
     let alone = search.alone;
     let before = search.before;
-    if search.visited == u64::MAX {
-        lists.stop_search(session);
-        drop(search);
-        return give_up(alone, before);
-    }
     match lists.search(session) {
-        Searched::Went => went_on(search),
+        Searched::Went => (WriteStatement::Searching(search), Advance::Went),
         Searched::Found(rows) => answer_found(alloc, search, rows, session, lists),
         Searched::NoMemory => {
             drop(search);
             give_up(alone, before)
         }
     }
-}
-
-/// One step more was made.
-fn went_on(search: Search) -> (WriteStatement, Advance)
-    requires { search.visited < 18446744073709551615 }
-    ensures state { result.0 ≡ WriteStatement.Searching (record search { visited = search.visited + 1 }) }
-    ensures answer { result.1 ≡ Advance.Went }
-{
-    let visited = search.visited + 1;
-    (
-        WriteStatement::Searching(Search { visited, ..search }),
-        Advance::Went,
-    )
 }
 
 /// All rows are found.
@@ -64,7 +46,7 @@ fn answer_found<L: SharedLists>(
 ) -> (WriteStatement, Advance)
     requires found { IsFound lists.old session search rows }
     ensures steps { Steps IsRunning session lists.old lists.new result.0 result.1 }
-    ensures nears { Nears to_go session lists.old (WriteStatement.Searching search) lists.new result.0 result.1 }
+    ensures nears { (first second third : ℕ) → IsNearer (left 5 first second third) session lists.new result.0 result.1 }
 {
     // that the rows are enough follows from what the lists say of their history
     let _ = lists.lists();

@@ -14,4 +14,4 @@ returns-clause-lagging c =
     place version others
 
 pub returns-clause-held : goal.returns-clause-held
-returns-clause-held c = λ schema table state chains said told there coded. holds_table state chains said told coded table schema there
+returns-clause-held c = λ schema table state chains said told there coded few. holds_table state chains said told coded few table schema there

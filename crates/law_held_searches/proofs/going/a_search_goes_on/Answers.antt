@@ -1,9 +1,14 @@
-use Rattle.law_held_searches.proofs.Stepping.{went, ended, waited}
+use Rattle.law_held_searches.proofs.Stepping.{went, nears, ended, waited}
 use Rattle.law_held_searches.proofs.going.a_search_goes_on.Goals as goal
 
 pub returns-clause-went : goal.returns-clause-went
 returns-clause-went c =
     λ s old new writer desks cuts undo room on search next held is taken goes told. went s old writer desks cuts undo room on held is search taken
+    new told next goes
+
+pub returns-clause-nears : goal.returns-clause-nears
+returns-clause-nears c =
+    λ s old new writer desks cuts undo room on search next held is taken goes told. nears s old writer desks cuts undo room on held is search taken
     new told next goes
 
 pub returns-clause-done : goal.returns-clause-done

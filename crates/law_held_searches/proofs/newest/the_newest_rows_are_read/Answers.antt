@@ -1,4 +1,4 @@
-use Rattle.law_held_searches.proofs.AtOnce.{tells_held, reading_begins, reading_steps, reading_goes_on, reading_waits, reading_ends, reading_stops}
+use Rattle.law_held_searches.proofs.AtOnce.{tells_held, reading_begins, reading_steps, reading_goes_on, reading_nears, reading_waits, reading_ends, reading_stops}
 use Rattle.law_held_searches.proofs.newest.the_newest_rows_are_read.Goals as goal
 
 pub returns-clause-tells : goal.returns-clause-tells
@@ -12,6 +12,9 @@ returns-clause-may_step c = reading_steps
 
 pub returns-clause-went : goal.returns-clause-went
 returns-clause-went c = reading_goes_on
+
+pub returns-clause-nears : goal.returns-clause-nears
+returns-clause-nears c = reading_nears
 
 pub returns-clause-done : goal.returns-clause-done
 returns-clause-done c = λ chains s table plan schema first old new search rows. reading_ends chains s table plan schema first old new search rows.items

@@ -2,7 +2,7 @@ use Rattle.std.proofs.Common.{sym, ◌∙◌}
 use Rattle.desks.specs.declared.desk.Doing.TheVariants.{Nothing}
 use Rattle.desks.specs.Desks.{doing_at}
 use Rattle.desks.specs.Undoing.{undo_left_in}
-use Rattle.desks.proofs.Showing.{task_is, idle_shown}
+use Rattle.desks.proofs.Showing.{task_is, idle_shown, places_are}
 use Rattle.law_held_searches.proofs.Callers.{turns_now, search_shown, has_desk, turns_to_search, searches_on}
 use Rattle.law_held_searches.proofs.seen.what_callers_see_of_a_search.Goals as goal
 
@@ -23,6 +23,9 @@ returns-clause-begun c = λ s table stage state writer desks. turns_to_search s 
 
 pub returns-clause-went : goal.returns-clause-went
 returns-clause-went c = λ s table stage old new writer desks. searches_on s table stage writer desks old new
+
+pub returns-clause-before : goal.returns-clause-before
+returns-clause-before c = λ s table stage state. places_are s (undo_left_in table stage state) state
 
 pub returns-clause-over : goal.returns-clause-over
 returns-clause-over c =

@@ -3,58 +3,58 @@ use Rattle.world.specs.State.{WorldState}
 use Rattle.law_held_searches.specs.Newest.{IsReadingNewest}
 use Rattle.law_held_searches.proofs.Begins.{new_search}
 use Rattle.law_held_searches.proofs.Places.{moves_then}
-use Rattle.law_held_searches.proofs.AtOnce.{reading_begins, reading_steps, reading_goes_on, reading_waits, reading_ends}
+use Rattle.law_held_searches.proofs.AtOnce.{reading_begins, reading_steps, reading_goes_on, reading_nears, reading_waits, reading_ends}
 use Rattle.world_lists.proofs.reading.newest_rows.Goals as goal
 
-pub loop-step-init : goal.loop-step-init
-loop-step-init g c = λ chains tells.
+pub reading-init : goal.reading-init
+reading-init g c = λ chains tells.
     reading_begins chains c.args.session c.args.table c.args.plan c.args.schema.now (g.W.World.state c.args.world.now) c.new-search.result tells
     (new_search c.args.table c.args.plan Newest c.new-search.result c.new-search.ensures.search c.new-search.ensures.finds c.new-search.ensures.begins)
 
 pub step-requires-clause-searching : goal.step-requires-clause-searching
 step-requires-clause-searching g c =
     let first : WorldState = g.W.World.state c.args.world.now in
-    let is : IsReadingNewest c.requires.0 c.args.session c.args.table c.args.plan c.args.schema.now first (g.W.World.state c.loop-step.world)
-    c.loop-step.search =
-    c.loop-step.invariant c.requires.0 c.requires.1 in
-    (reading_steps c.requires.0 c.args.session c.args.table c.args.plan c.args.schema.now first (g.W.World.state c.loop-step.world) c.loop-step.search is
-    (g.met.W.EngineWorld.tells c.loop-step.world).told).searching
+    let is : IsReadingNewest c.requires.0 c.args.session c.args.table c.args.plan c.args.schema.now first (g.W.World.state c.reading.world)
+    c.reading.search =
+    c.reading.invariant c.requires.0 c.requires.1 in
+    (reading_steps c.requires.0 c.args.session c.args.table c.args.plan c.args.schema.now first (g.W.World.state c.reading.world) c.reading.search is
+    (g.met.W.EngineWorld.tells c.reading.world).told).searching
 
 pub step-requires-clause-table : goal.step-requires-clause-table
 step-requires-clause-table g c =
     let first : WorldState = g.W.World.state c.args.world.now in
-    let is : IsReadingNewest c.requires.0 c.args.session c.args.table c.args.plan c.args.schema.now first (g.W.World.state c.loop-step.world)
-    c.loop-step.search =
-    c.loop-step.invariant c.requires.0 c.requires.1 in
-    (reading_steps c.requires.0 c.args.session c.args.table c.args.plan c.args.schema.now first (g.W.World.state c.loop-step.world) c.loop-step.search is
-    (g.met.W.EngineWorld.tells c.loop-step.world).told).table
+    let is : IsReadingNewest c.requires.0 c.args.session c.args.table c.args.plan c.args.schema.now first (g.W.World.state c.reading.world)
+    c.reading.search =
+    c.reading.invariant c.requires.0 c.requires.1 in
+    (reading_steps c.requires.0 c.args.session c.args.table c.args.plan c.args.schema.now first (g.W.World.state c.reading.world) c.reading.search is
+    (g.met.W.EngineWorld.tells c.reading.world).told).table
 
 pub returns-in-Done-clause-moves : goal.returns-in-Done-clause-moves
 returns-in-Done-clause-moves g c =
     let first : WorldState = g.W.World.state c.args.world.now in
-    let is : IsReadingNewest c.requires.0 c.args.session c.args.table c.args.plan c.args.schema.now first (g.W.World.state c.loop-step.world)
-    c.loop-step.search =
-    c.loop-step.invariant c.requires.0 c.requires.1 in
-    (reading_ends c.requires.0 c.args.session c.args.table c.args.plan c.args.schema.now first (g.W.World.state c.loop-step.world)
-    (g.W.World.state c.step.new.world) c.loop-step.search c.in-Done.found.items is c.in-Done.ensures).1
+    let is : IsReadingNewest c.requires.0 c.args.session c.args.table c.args.plan c.args.schema.now first (g.W.World.state c.reading.world)
+    c.reading.search =
+    c.reading.invariant c.requires.0 c.requires.1 in
+    (reading_ends c.requires.0 c.args.session c.args.table c.args.plan c.args.schema.now first (g.W.World.state c.reading.world)
+    (g.W.World.state c.step.new.world) c.reading.search c.in-Done.found.items is c.in-Done.ensures).1
 
 pub returns-in-Done-clause-found : goal.returns-in-Done-clause-found
 returns-in-Done-clause-found g c = λ chains tells.
-    (reading_ends chains c.args.session c.args.table c.args.plan c.args.schema.now (g.W.World.state c.args.world.now) (g.W.World.state c.loop-step.world)
-    (g.W.World.state c.step.new.world) c.loop-step.search c.in-Done.found.items
-    (c.loop-step.invariant chains tells) c.in-Done.ensures).0
+    (reading_ends chains c.args.session c.args.table c.args.plan c.args.schema.now (g.W.World.state c.args.world.now) (g.W.World.state c.reading.world)
+    (g.W.World.state c.step.new.world) c.reading.search c.in-Done.found.items
+    (c.reading.invariant chains tells) c.in-Done.ensures).0
 
 pub give_up-requires : goal.give_up-requires
 give_up-requires g c =
     let first : WorldState = g.W.World.state c.args.world.now in
-    let is : IsReadingNewest c.requires.0 c.args.session c.args.table c.args.plan c.args.schema.now first (g.W.World.state c.loop-step.world)
-    c.loop-step.search =
-    c.loop-step.invariant c.requires.0 c.requires.1 in
+    let is : IsReadingNewest c.requires.0 c.args.session c.args.table c.args.plan c.args.schema.now first (g.W.World.state c.reading.world)
+    c.reading.search =
+    c.reading.invariant c.requires.0 c.requires.1 in
     let now : IsReadingNewest c.requires.0 c.args.session c.args.table c.args.plan c.args.schema.now first (g.W.World.state c.step.new.world)
     c.in-Hindered.stuck
     =
-    reading_waits c.requires.0 c.args.session c.args.table c.args.plan c.args.schema.now first (g.W.World.state c.loop-step.world)
-    (g.W.World.state c.step.new.world) c.loop-step.search c.in-Hindered.stuck c.in-Hindered._why is c.in-Hindered.ensures
+    reading_waits c.requires.0 c.args.session c.args.table c.args.plan c.args.schema.now first (g.W.World.state c.reading.world)
+    (g.W.World.state c.step.new.world) c.reading.search c.in-Hindered.stuck c.in-Hindered._why is c.in-Hindered.ensures
     (g.met.W.EngineWorld.tells c.step.new.world).told in
     reading_steps c.requires.0 c.args.session c.args.table c.args.plan c.args.schema.now first (g.W.World.state c.step.new.world) c.in-Hindered.stuck now
     (g.met.W.EngineWorld.tells c.step.new.world).told
@@ -62,36 +62,25 @@ give_up-requires g c =
 pub returns-in-Hindered-clause-moves : goal.returns-in-Hindered-clause-moves
 returns-in-Hindered-clause-moves g c =
     let first : WorldState = g.W.World.state c.args.world.now in
-    let is : IsReadingNewest c.requires.0 c.args.session c.args.table c.args.plan c.args.schema.now first (g.W.World.state c.loop-step.world)
-    c.loop-step.search =
-    c.loop-step.invariant c.requires.0 c.requires.1 in
+    let is : IsReadingNewest c.requires.0 c.args.session c.args.table c.args.plan c.args.schema.now first (g.W.World.state c.reading.world)
+    c.reading.search =
+    c.reading.invariant c.requires.0 c.requires.1 in
     let now : IsReadingNewest c.requires.0 c.args.session c.args.table c.args.plan c.args.schema.now first (g.W.World.state c.step.new.world)
     c.in-Hindered.stuck
     =
-    reading_waits c.requires.0 c.args.session c.args.table c.args.plan c.args.schema.now first (g.W.World.state c.loop-step.world)
-    (g.W.World.state c.step.new.world) c.loop-step.search c.in-Hindered.stuck c.in-Hindered._why is c.in-Hindered.ensures
+    reading_waits c.requires.0 c.args.session c.args.table c.args.plan c.args.schema.now first (g.W.World.state c.reading.world)
+    (g.W.World.state c.step.new.world) c.reading.search c.in-Hindered.stuck c.in-Hindered._why is c.in-Hindered.ensures
     (g.met.W.EngineWorld.tells c.step.new.world).told in
     moves_then c.args.session first (g.W.World.state c.step.new.world) (g.W.World.state c.give_up.new.world) now.moves c.give_up.ensures
 
-pub loop-step-preserved : goal.loop-step-preserved
-loop-step-preserved g c = λ chains tells.
-    reading_goes_on chains c.args.session c.args.table c.args.plan c.args.schema.now (g.W.World.state c.args.world.now) (g.W.World.state c.loop-step.world)
-    (g.W.World.state c.step.new.world) c.loop-step.search c.in-Went.next
-    (c.loop-step.invariant chains tells) c.in-Went.ensures (g.met.W.EngineWorld.tells c.step.new.world).told
+pub reading-preserved : goal.reading-preserved
+reading-preserved g c = λ chains tells.
+    reading_goes_on chains c.args.session c.args.table c.args.plan c.args.schema.now (g.W.World.state c.args.world.now) (g.W.World.state c.reading.world)
+    (g.W.World.state c.step.new.world) c.reading.search c.in-Went.next
+    (c.reading.invariant chains tells) c.in-Went.ensures (g.met.W.EngineWorld.tells c.step.new.world).told
 
-pub give_up-requires-2 : goal.give_up-requires-2
-give_up-requires-2 g c =
-    let first : WorldState = g.W.World.state c.args.world.now in
-    let is : IsReadingNewest c.requires.0 c.args.session c.args.table c.args.plan c.args.schema.now first (g.W.World.state c.loop-step.world)
-    c.loop-step.search =
-    c.loop-step.invariant c.requires.0 c.requires.1 in
-    reading_steps c.requires.0 c.args.session c.args.table c.args.plan c.args.schema.now first (g.W.World.state c.loop-step.world) c.loop-step.search is
-    (g.met.W.EngineWorld.tells c.loop-step.world).told
-
-pub returns-clause-moves : goal.returns-clause-moves
-returns-clause-moves g c =
-    let first : WorldState = g.W.World.state c.args.world.now in
-    let is : IsReadingNewest c.requires.0 c.args.session c.args.table c.args.plan c.args.schema.now first (g.W.World.state c.loop-step.world)
-    c.loop-step.search =
-    c.loop-step.invariant c.requires.0 c.requires.1 in
-    moves_then c.args.session first (g.W.World.state c.loop-step.world) (g.W.World.state c.give_up-2.new.world) is.moves c.give_up-2.ensures
+pub reading-smaller : goal.reading-smaller
+reading-smaller g c =
+    reading_nears c.requires.0 c.args.session c.args.table c.args.plan c.args.schema.now (g.W.World.state c.args.world.now)
+    (g.W.World.state c.reading.world) (g.W.World.state c.step.new.world) c.reading.search c.in-Went.next
+    (c.reading.invariant c.requires.0 c.requires.1) c.in-Went.ensures (g.met.W.EngineWorld.tells c.step.new.world).told

@@ -20,4 +20,4 @@ answer-answered-requires-clause-enough g c =
 pub returns-in-None-clause-nears : goal.returns-in-None-clause-nears
 returns-in-None-clause-nears g c =
     nears_of c.args.session c.args.lists.now (Locking c.args.stmt c.args.alone) c.args.lists.now c.answer-answered.result.0 c.answer-answered.result.1
-    (c.answer-answered.ensures.nears 6 (omega arith) _ _)
+    (c.answer-answered.ensures.nears 6 (omega arith) _ _ _)

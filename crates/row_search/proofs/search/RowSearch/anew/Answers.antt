@@ -3,7 +3,7 @@ use Rattle.row_search.specs.declared.phase.Phase.{Phase}
 use Rattle.row_search.specs.declared.phase.Phase.TheVariants.{Look, Walk}
 use Rattle.row_search.specs.Sights.{rows_seen}
 use Rattle.row_search.specs.Searches.{PhaseFinds}
-use Rattle.row_search.proofs.Others.{needs_none}
+use Rattle.row_search.proofs.Others.{needs_none, comes_as_it_was}
 use Rattle.row_search.proofs.search.RowSearch.anew.Goals as goal
 
 pub returns-in-Look-clause-finds : goal.returns-in-Look-clause-finds
@@ -24,6 +24,7 @@ pub returns-in_default : goal.returns-in_default
 returns-in_default c =
     record {
       scan = refl;
+      phase = comes_as_it_was c.args.self.phase c.in_default.not-Look c.in_default.not-Walk;
       finds = λ schema kept place versions_at found. found;
       way = λ schema old new. needs_none schema c.args.self.scan.sight old new c.args.self.phase c.in_default.not-Look c.in_default.not-Walk;
       holds = λ actor schema state is. is;

@@ -1,10 +1,9 @@
-use Rattle.std.proofs.Common.{◌≡◌, sym, arith}
-use Rattle.std.proofs.lemmas.Bool.Decides.{nat_tests}
+use Rattle.std.proofs.Common.{◌≡◌, refl, sym}
 use Rattle.desks.specs.declared.desk.Doing.TheVariants.{Searching}
 use Rattle.desks.specs.Desks.{doing_at}
 use Rattle.law_held_searches.specs.Moving.{MovesPlaces}
 use Rattle.law_held_searches.specs.TakenUp.{IsTakenUp}
-use Rattle.world_lists.proofs.SearchSteps.{desks_given, taken_by, may_step_now, went_held, went_seen, ended_held, ended_seen, hindered_moves, given_up_held, given_up_seen}
+use Rattle.world_lists.proofs.SearchSteps.{desks_given, taken_by, may_step_now, went_held, went_seen, went_nears, ended_held, ended_seen, hindered_moves, given_up_held, given_up_seen}
 use Rattle.world_lists.proofs.steps.WorldListsSharedLists.search.Goals as goal
 
 pub step-requires-clause-searching : goal.step-requires-clause-searching
@@ -14,8 +13,7 @@ step-requires-clause-searching g c =
     let is : doing_at c.args.session l.desks.items ≡ Searching on = sym c.in-Searching.ensures.was in
     let taken : IsTakenUp l.cuts on c.taken_up-search.result
     =
-    taken_by _ l.cuts on c.taken_up-search.result (λ same. grind (arith, nat_tests, same)) c.taken_up-search.ensures.as_it_was
-    c.taken_up-search.ensures.anew in
+    taken_by _ l.cuts on c.taken_up-search.result refl c.taken_up-search.ensures.as_it_was c.taken_up-search.ensures.anew in
     (may_step_now c.args.session (g.W.World.state l.world) l.writer l.desks.items l.cuts l.undo l.room c.args.self.now c.self.invariant
     c.self.view_is on is c.taken_up-search.result taken
     (g.met.W.EngineWorld.tells l.world).told).searching
@@ -27,8 +25,7 @@ step-requires-clause-table g c =
     let is : doing_at c.args.session l.desks.items ≡ Searching on = sym c.in-Searching.ensures.was in
     let taken : IsTakenUp l.cuts on c.taken_up-search.result
     =
-    taken_by _ l.cuts on c.taken_up-search.result (λ same. grind (arith, nat_tests, same)) c.taken_up-search.ensures.as_it_was
-    c.taken_up-search.ensures.anew in
+    taken_by _ l.cuts on c.taken_up-search.result refl c.taken_up-search.ensures.as_it_was c.taken_up-search.ensures.anew in
     (may_step_now c.args.session (g.W.World.state l.world) l.writer l.desks.items l.cuts l.undo l.room c.args.self.now c.self.invariant
     c.self.view_is on is c.taken_up-search.result taken
     (g.met.W.EngineWorld.tells l.world).told).table
@@ -40,8 +37,7 @@ invariant_of-self g c =
     let is : doing_at c.args.session l.desks.items ≡ Searching on = sym c.in-Searching.ensures.was in
     let taken : IsTakenUp l.cuts on c.taken_up-search.result
     =
-    taken_by _ l.cuts on c.taken_up-search.result (λ same. grind (arith, nat_tests, same)) c.taken_up-search.ensures.as_it_was
-    c.taken_up-search.ensures.anew in
+    taken_by _ l.cuts on c.taken_up-search.result refl c.taken_up-search.ensures.as_it_was c.taken_up-search.ensures.anew in
     went_held c.args.session (g.W.World.state l.world) l.writer l.desks.items l.cuts l.undo l.room c.args.self.now c.self.invariant
     c.self.view_is on is c.taken_up-search.result taken
     (g.W.World.state c.step.new.world) (g.met.W.EngineWorld.tells c.step.new.world).told c.give_doing.new.desks.items c.in-Went.search c.in-Went.ensures
@@ -55,9 +51,22 @@ returns-in-Went-clause-searches g c = λ table plan reading task.
     let is : doing_at c.args.session l.desks.items ≡ Searching on = sym c.in-Searching.ensures.was in
     let taken : IsTakenUp l.cuts on c.taken_up-search.result
     =
-    taken_by _ l.cuts on c.taken_up-search.result (λ same. grind (arith, nat_tests, same)) c.taken_up-search.ensures.as_it_was
-    c.taken_up-search.ensures.anew in
+    taken_by _ l.cuts on c.taken_up-search.result refl c.taken_up-search.ensures.as_it_was c.taken_up-search.ensures.anew in
     went_seen c.args.session (g.W.World.state l.world) l.writer l.desks.items l.cuts l.undo l.room c.args.self.now c.self.invariant
+    c.self.view_is on is c.taken_up-search.result taken
+    (g.W.World.state c.step.new.world) (g.met.W.EngineWorld.tells c.step.new.world).told c.give_doing.new.desks.items c.in-Went.search c.in-Went.ensures
+    (desks_given c.args.session (Searching (record on { search = c.in-Went.search; cuts = l.cuts })) l.desks.items c.take_doing.new.desks.items
+    c.give_doing.new.desks.items c.take_doing.ensures.is c.give_doing.ensures)
+
+pub returns-in-Went-clause-nears : goal.returns-in-Went-clause-nears
+returns-in-Went-clause-nears g c = λ went.
+    let l = c.self.inside in
+    let on = c.in-Searching.on in
+    let is : doing_at c.args.session l.desks.items ≡ Searching on = sym c.in-Searching.ensures.was in
+    let taken : IsTakenUp l.cuts on c.taken_up-search.result
+    =
+    taken_by _ l.cuts on c.taken_up-search.result refl c.taken_up-search.ensures.as_it_was c.taken_up-search.ensures.anew in
+    went_nears c.args.session (g.W.World.state l.world) l.writer l.desks.items l.cuts l.undo l.room c.args.self.now c.self.invariant
     c.self.view_is on is c.taken_up-search.result taken
     (g.W.World.state c.step.new.world) (g.met.W.EngineWorld.tells c.step.new.world).told c.give_doing.new.desks.items c.in-Went.search c.in-Went.ensures
     (desks_given c.args.session (Searching (record on { search = c.in-Went.search; cuts = l.cuts })) l.desks.items c.take_doing.new.desks.items
@@ -70,8 +79,7 @@ invariant_of-self-in-Done-1 g c =
     let is : doing_at c.args.session l.desks.items ≡ Searching on = sym c.in-Searching.ensures.was in
     let taken : IsTakenUp l.cuts on c.taken_up-search.result
     =
-    taken_by _ l.cuts on c.taken_up-search.result (λ same. grind (arith, nat_tests, same)) c.taken_up-search.ensures.as_it_was
-    c.taken_up-search.ensures.anew in
+    taken_by _ l.cuts on c.taken_up-search.result refl c.taken_up-search.ensures.as_it_was c.taken_up-search.ensures.anew in
     ended_held c.args.session (g.W.World.state l.world) l.writer l.desks.items l.cuts l.undo l.room c.args.self.now c.self.invariant
     c.self.view_is on is c.taken_up-search.result taken
     (g.W.World.state c.step.new.world) (g.met.W.EngineWorld.tells c.step.new.world).told c.take_doing.new.desks.items c.in-Done.found.items c.in-Done.ensures
@@ -84,8 +92,7 @@ returns-in-Done-clause-searches g c =
     let is : doing_at c.args.session l.desks.items ≡ Searching on = sym c.in-Searching.ensures.was in
     let taken : IsTakenUp l.cuts on c.taken_up-search.result
     =
-    taken_by _ l.cuts on c.taken_up-search.result (λ same. grind (arith, nat_tests, same)) c.taken_up-search.ensures.as_it_was
-    c.taken_up-search.ensures.anew in
+    taken_by _ l.cuts on c.taken_up-search.result refl c.taken_up-search.ensures.as_it_was c.taken_up-search.ensures.anew in
     ended_seen c.args.session (g.W.World.state l.world) l.writer l.desks.items l.cuts l.undo l.room c.args.self.now c.self.invariant
     c.self.view_is on is c.taken_up-search.result taken
     (g.W.World.state c.step.new.world) (g.met.W.EngineWorld.tells c.step.new.world).told c.take_doing.new.desks.items c.in-Done.found.items c.in-Done.ensures
@@ -99,8 +106,7 @@ invariant_of-self-in-Hindered-1 g c =
     let is : doing_at c.args.session l.desks.items ≡ Searching on = sym c.in-Searching.ensures.was in
     let taken : IsTakenUp l.cuts on c.taken_up-search.result
     =
-    taken_by _ l.cuts on c.taken_up-search.result (λ same. grind (arith, nat_tests, same)) c.taken_up-search.ensures.as_it_was
-    c.taken_up-search.ensures.anew in
+    taken_by _ l.cuts on c.taken_up-search.result refl c.taken_up-search.ensures.as_it_was c.taken_up-search.ensures.anew in
     let moves : MovesPlaces c.args.session (g.W.World.state l.world) (g.W.World.state c.step.new.world)
     =
     hindered_moves c.args.session (g.W.World.state l.world) l.writer l.desks.items l.cuts l.undo l.room c.args.self.now c.self.invariant
@@ -118,8 +124,7 @@ returns-in-Hindered-clause-searches g c = λ table plan reading task.
     let is : doing_at c.args.session l.desks.items ≡ Searching on = sym c.in-Searching.ensures.was in
     let taken : IsTakenUp l.cuts on c.taken_up-search.result
     =
-    taken_by _ l.cuts on c.taken_up-search.result (λ same. grind (arith, nat_tests, same)) c.taken_up-search.ensures.as_it_was
-    c.taken_up-search.ensures.anew in
+    taken_by _ l.cuts on c.taken_up-search.result refl c.taken_up-search.ensures.as_it_was c.taken_up-search.ensures.anew in
     let moves : MovesPlaces c.args.session (g.W.World.state l.world) (g.W.World.state c.step.new.world)
     =
     hindered_moves c.args.session (g.W.World.state l.world) l.writer l.desks.items l.cuts l.undo l.room c.args.self.now c.self.invariant
