@@ -1,5 +1,5 @@
 -- Edits that fit the tables of a history.
-use Rattle.std.proofs.Common.{◌≡◌, ℕ, List, [], ◌∷◌, ◌++◌, Option, Some, None, refl, subst}
+use Rattle.std.proofs.Common.{◌≡◌, ℕ, List, Option, Some, None, refl, subst}
 use Rattle.std.specs.Prelude.{slice_get, IsSomeAnd}
 use Rattle.std.proofs.lemmas.Option.{slice_get_within}
 use Rattle.inno_types.specs.declared.value.Column.{Column}

@@ -1,5 +1,5 @@
 -- What holds of the lists after a step of a change, once its rows, logs and fitting changes are known.
-use Rattle.std.proofs.Common.{◌≡◌, ◌≢◌, ⊎_elim, inl, inr, ℕ, ◌<◌, ◌≤◌, Bool, true, false, List, ◌∷◌, length, Option, Some, refl, sym, ap, subst, ◌∙◌, arith}
+use Rattle.std.proofs.Common.{◌≡◌, ◌≢◌, ⊎_elim, inl, inr, ℕ, ◌<◌, ◌≤◌, true, false, List, ◌∷◌, length, Option, Some, refl, sym, ap, subst, ◌∙◌, arith}
 use Rattle.std.specs.Prelude.{slice_get, is_some}
 use Rattle.std.proofs.lemmas.Bool.{cases_eq}
 use Rattle.std.proofs.lemmas.List.{length-set}
@@ -7,7 +7,7 @@ use Rattle.inno_types.specs.declared.value.Schema.{Schema}
 use Rattle.inno_model.specs.Past.{own, under_way, of_item, awaits_ack}
 use Rattle.entries.specs.Pairs.{Pair}
 use Rattle.row_versions.specs.declared.place.Place.{Place}
-use Rattle.row_versions.specs.Chains.{Chains, versions_at}
+use Rattle.row_versions.specs.Chains.{Chains}
 use Rattle.law_past_agreement.specs.Rows.{place_in}
 use Rattle.world.specs.State.{WorldState, Session, Work, Logged, IsSession, HasWork}
 use Rattle.world.specs.Told.{IsTold}

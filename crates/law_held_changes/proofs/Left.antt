@@ -1,19 +1,20 @@
 -- Indexes that a session leaves.
-use Rattle.std.proofs.Common.{◌≡◌, ⊎_elim, inl, ℕ, ◌≤◌, Bool, true, false, List, ◌∷◌, length, Option, Some, None, refl, sym, ap, subst, ◌∙◌, ◌+◌, ◌^◌}
-use Rattle.std.specs.Prelude.{slice_get, option_map, is_some}
+use Rattle.std.proofs.Common.{◌≡◌, ◌≢◌, ◌⊎◌, ⊎_elim, inl, ℕ, ◌<◌, ◌≤◌, Bool, true, false, List, ◌∷◌, length, Option, Some, None, refl, sym, ap, subst, ◌∙◌, ◌+◌, ◌^◌, arith}
+use Rattle.std.specs.Prelude.{◌==◌, if◌then◌else◌, slice_get, option_map, is_some}
 use Rattle.std.proofs.lemmas.Bool.{cases_eq}
+use Rattle.std.proofs.lemmas.Bool.Decides.{eqb_tells}
 use Rattle.inno_types.specs.declared.value.Schema.{Schema}
 use Rattle.inno_model.specs.Past.{own, started, under_way, of_item, awaits_ack}
 use Rattle.store_api.specs.declared.answers.Undo.{Undo}
 use Rattle.entries.specs.Pairs.{Pair}
 use Rattle.entries.specs.Index.{AreKept}
-use Rattle.entries.specs.Calls.{Leaves}
+use Rattle.entries.specs.Calls.{Leaves, released}
 use Rattle.chain.specs.Versions.{Versions, Stays}
 use Rattle.row_versions.specs.declared.place.Place.{Place}
 use Rattle.row_versions.specs.Chains.{Chains, versions_at}
 use Rattle.law_past_agreement.specs.Rows.{place_in}
 use Rattle.law_coded_rows.specs.Records.{KeepsMore}
-use Rattle.world.specs.State.{WorldState, Session, Logged}
+use Rattle.world.specs.State.{WorldState, Session, Logged, index_of}
 use Rattle.world.proofs.Stores.{store_stays, store_goes_on}
 use Rattle.world.specs.Indexes.{Calls}
 use Rattle.world.specs.Told.{IsTold, LeavesRows}
@@ -38,7 +39,8 @@ use Rattle.desks.specs.Desks.{doing_at}
 use Rattle.desks.specs.Holding.{IsHeld, IsLast, IsLastIfTold, RowsHeld, RowsHeldBy, SearchHeld}
 use Rattle.desks.specs.Leaves.{LeavesOthers}
 use Rattle.desks.proofs.Leaving.{search_left}
-use Rattle.law_held_changes.specs.Leaving.{LeavesIndexes, is_searching}
+use Rattle.row_changes.specs.Awaited.{IsOfTable}
+use Rattle.law_held_changes.specs.Leaving.{LeavesIndexes, LeavesTable, is_searching}
 
 -- ---- one index after the other
 
@@ -54,6 +56,16 @@ goes_then (Some old) (Some mid) (Some new) first second = second ∙ first
 stays_then : (old mid new : Versions) → Stays old mid → Stays mid new → Stays old new
 stays_then old mid new first second = record { told = λ told. first.told (second.told told); kept = λ told. second.kept told ∙ first.kept (second.told told) }
 
+-- who is awaited still, once this actor isn't: it is another
+pub left_over : (s : ℕ) (awaited : Option ℕ) (by : ℕ) → released s awaited ≡ Some by → (awaited ≡ Some by) × (by ≢ s)
+left_over s None by is = absurd (cc)
+left_over s (Some holder) by is = kept (holder == s) (eqb_tells holder s) is
+  where
+    kept : (mine : Bool) → ((mine ≡ true) × (holder ≡ s)) ⊎ ((mine ≡ false) × (holder ≢ s)) → (if mine then None else Some holder) ≡ Some by
+        → (Some holder ≡ Some by) × (by ≢ s)
+    kept true tells none = absurd (cc)
+    kept false tells same = (same, ⊎_elim (λ t. let no : false ≡ true = t.0 in absurd (cc)) (λ f at. f.1 (let one : holder ≡ by = cc in one ∙ at)) tells)
+
 pub one_left : (s index : ℕ) (old new : WorldState) → Calls index (λ before after. Leaves s before after) old new → LeavesIndexes s old new
 one_left s index old new c = record {
   pairs =
@@ -63,6 +75,10 @@ one_left s index old new c = record {
   others =
       λ u i differs. ⊎_elim (λ same. subst (λ n. (new.indexes n).place u ≡ (old.indexes n).place u) (sym same) (c.index_is.here.others u differs))
       (λ apart. ap (λ (place : ℕ → Option Pair). place u) (c.index_is.elsewhere i apart).place) (cases_eq i index);
+  fewer =
+      λ i by is. ⊎_elim (λ same. subst (λ n. (old.indexes n).awaited ≡ Some by) (sym same)
+      (left_over s (old.indexes index).awaited by (sym c.index_is.here.awaited ∙ subst (λ n. (new.indexes n).awaited ≡ Some by) same is)).0)
+      (λ apart. sym (c.index_is.elsewhere i apart).awaited ∙ is) (cases_eq i index);
   versions = c.beside.versions;
   rest = c.beside.rest;
   later = c.beside.later;
@@ -70,16 +86,50 @@ one_left s index old new c = record {
 
 pub none_left : (s : ℕ) (state : WorldState) → LeavesIndexes s state state
 none_left s state =
-    record { pairs = λ i. same_pairs (state.indexes i).pairs; others = λ u i differs. refl; versions = same_versions state.versions; rest = refl; later = store_stays state.paged }
+    record { pairs = λ i. same_pairs (state.indexes i).pairs; others = λ u i differs. refl; fewer = λ i by is. is; versions = same_versions state.versions; rest = refl; later = store_stays state.paged }
 
 pub left_then : (s : ℕ) (old mid new : WorldState) → LeavesIndexes s old mid → LeavesIndexes s mid new → LeavesIndexes s old new
 left_then s old mid new first second = record {
   pairs = λ i. goes_then (old.indexes i).pairs (mid.indexes i).pairs (new.indexes i).pairs (first.pairs i) (second.pairs i);
   others = λ u i differs. second.others u i differs ∙ first.others u i differs;
+  fewer = λ i by is. first.fewer i by (second.fewer i by is);
   versions = stays_then old.versions mid.versions new.versions first.versions second.versions;
   rest = second.rest ∙ ap (λ (state : WorldState). record state { indexes = new.indexes; versions = new.versions; paged = new.paged }) first.rest;
   later = store_goes_on old.paged mid.paged new.paged first.later second.later;
 }
+
+-- ---- the indexes of a table, one after the other
+
+-- so many of them are left
+pub record LeftBelow (s table count : ℕ) (old new : WorldState) : Type 0 where
+  pub leaves : LeavesIndexes s old new
+  pub gone : (index by which : ℕ) → which < count → index ≡ index_of table which → (new.indexes index).awaited ≡ Some by → by ≢ s
+
+pub none_below : (s table : ℕ) (state : WorldState) → LeftBelow s table 0 state state
+none_below s table state = record { leaves = none_left s state; gone = λ index by which below at is. absurd (omega (arith, below)) }
+
+pub one_more_below : (s table count index : ℕ) (old mid new : WorldState) → LeftBelow s table count old mid → index ≡ index_of table count
+    → Calls index (λ before after. Leaves s before after) mid new → LeftBelow s table (count + 1) old new
+one_more_below s table count index old mid new below is call = record {
+  leaves = left_then s old mid new below.leaves (one_left s index mid new call);
+  gone = λ at by which less number awaited.
+      ⊎_elim
+      (λ here. (left_over s (mid.indexes index).awaited by
+      (sym call.index_is.here.awaited ∙ subst (λ n. (new.indexes n).awaited ≡ Some by) here awaited)).1)
+      (λ apart. below.gone at by which (let not_it : which ≢ count = λ same. apart (number ∙ (ap (index_of table) same ∙ sym is)) in
+      omega (arith, less, not_it)) number (sym (call.index_is.elsewhere at apart).awaited ∙ awaited))
+      (cases_eq at index);
+}
+
+pub all_gone : (s table count : ℕ) (schema : Schema) (old new : WorldState) → slice_get old.schemas table ≡ Some schema → length schema.keys + 1 ≤ count
+    → LeftBelow s table count old new → LeavesTable s table old new
+all_gone s table count schema old new there all below = record { gone = go }
+  where
+    go : (index by : ℕ) → IsOfTable table old.schemas index → (new.indexes index).awaited ≡ Some by → by ≢ s
+    go index by of_table is =
+        let same : of_table.schema ≡ schema = (let e : Some of_table.schema ≡ Some schema = sym of_table.there ∙ there in cc) in
+        let within : of_table.which ≤ length schema.keys = subst (λ (x : Schema). of_table.which ≤ length x.keys) same of_table.within in
+        below.gone index by of_table.which (omega (arith, within, all)) of_table.number is
 
 -- ---- what holds
 

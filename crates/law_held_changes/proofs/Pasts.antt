@@ -3,7 +3,7 @@ use Rattle.std.proofs.Common.{◌≡◌, inl, inr, ℕ, ◌≤◌, ◌==◌, Boo
 use Rattle.inno_db.specs.declared.change.Change.{Change}
 use Rattle.inno_model.specs.declared.event.Event.{Event}
 use Rattle.inno_model.specs.declared.event.Event.TheVariants.{Changed}
-use Rattle.inno_model.specs.Past.{own, started, under_way, of_item, awaits_ack}
+use Rattle.inno_model.specs.Past.{started, under_way, of_item, awaits_ack}
 use Rattle.law_found_rows.specs.Pasts.{AddsAtMostOne}
 
 -- no item has started or ended, and no commit waits for its acknowledgement that didn't

@@ -1,9 +1,10 @@
 -- Steps that move a session's places leave all rows, and may follow one another.
-use Rattle.std.proofs.Common.{◌≡◌, ⊎_elim, ℕ, List, Option, Some, None, refl, sym, ap, subst, ◌∙◌}
+use Rattle.std.proofs.Common.{◌≡◌, ⊎_elim, ℕ, Bool, true, false, List, Option, Some, None, refl, sym, ap, subst, ◌∙◌}
+use Rattle.std.specs.Prelude.{◌==◌, if◌then◌else◌}
 use Rattle.std.proofs.lemmas.Bool.{cases_eq}
 use Rattle.entries.specs.Pairs.{Pair}
 use Rattle.entries.specs.Index.{AreKept}
-use Rattle.entries.specs.Calls.{Leaves}
+use Rattle.entries.specs.Calls.{Leaves, released}
 use Rattle.chain.specs.Versions.{Versions, Stays}
 use Rattle.world.specs.State.{WorldState}
 use Rattle.world.proofs.Stores.{store_stays, store_goes_on}
@@ -34,15 +35,25 @@ stays_then : (old between new : Versions) → Stays old between → Stays betwee
 stays_then old between new first second =
     record { told = λ told. first.told (second.told told); kept = λ told. second.kept told ∙ first.kept (second.told told) }
 
+-- who is awaited still, once this actor isn't
+left_over : (s : ℕ) (awaited : Option ℕ) (by : ℕ) → released s awaited ≡ Some by → awaited ≡ Some by
+left_over s None by is = absurd (cc)
+left_over s (Some holder) by is = kept (holder == s) is
+  where
+    kept : (mine : Bool) → (if mine then None else Some holder) ≡ Some by → Some holder ≡ Some by
+    kept true none = absurd (cc)
+    kept false same = same
+
 -- ---- which steps are such
 
 pub none_moves : (s : ℕ) (state : WorldState) → MovesPlaces s state state
-none_moves s state = record { pairs = λ index. kept_same _ _ refl; places = λ other index differs. refl; versions = stays_same state.versions; rest = refl; later = store_stays state.paged }
+none_moves s state = record { pairs = λ index. kept_same _ _ refl; places = λ other index differs. refl; fewer = λ index by is. is; versions = stays_same state.versions; rest = refl; later = store_stays state.paged }
 
 pub moves_then : (s : ℕ) (old between new : WorldState) → MovesPlaces s old between → MovesPlaces s between new → MovesPlaces s old new
 moves_then s old between new first second = record {
   pairs = λ index. kept_then (old.indexes index).pairs (between.indexes index).pairs (new.indexes index).pairs (first.pairs index) (second.pairs index);
   places = λ other index differs. second.places other index differs ∙ first.places other index differs;
+  fewer = λ index by is. first.fewer index by (second.fewer index by is);
   versions = stays_then old.versions between.versions new.versions first.versions second.versions;
   rest = second.rest ∙ ap (λ (state : WorldState). record state { indexes = new.indexes; versions = new.versions; paged = new.paged }) first.rest;
   later = store_goes_on old.paged between.paged new.paged first.later second.later;
@@ -56,6 +67,7 @@ moves_in_one s index old new moves = record {
       (λ here. subst (λ (i : ℕ). (new.indexes i).place other ≡ (old.indexes i).place other) (sym here) (moves.others other differs))
       (λ elsewhere. ap (λ place. place other) (moves.places at elsewhere))
       (cases_eq at index);
+  fewer = λ at by is. sym (moves.awaited at) ∙ is;
   versions = moves.versions;
   rest = moves.rest;
   later = moves.later;
@@ -65,6 +77,7 @@ pub moves_nothing : (s : ℕ) (old new : WorldState) → IsUnchanged old new →
 moves_nothing s old new same = record {
   pairs = λ index. (same.indexes index).pairs;
   places = λ other index differs. ap (λ place. place other) (same.indexes index).place;
+  fewer = λ index by is. sym (same.indexes index).awaited ∙ is;
   versions = same.versions;
   rest = same.rest;
   later = same.later;
@@ -82,6 +95,12 @@ leaving_moves s index old new calls = record {
       ⊎_elim
       (λ here. subst (λ (i : ℕ). (new.indexes i).place other ≡ (old.indexes i).place other) (sym here) (calls.index_is.here.others other differs))
       (λ elsewhere. ap (λ place. place other) (calls.index_is.elsewhere at elsewhere).place)
+      (cases_eq at index);
+  fewer = λ at by is.
+      ⊎_elim
+      (λ here. subst (λ (i : ℕ). (old.indexes i).awaited ≡ Some by) (sym here)
+      (left_over s (old.indexes index).awaited by (sym calls.index_is.here.awaited ∙ subst (λ (i : ℕ). (new.indexes i).awaited ≡ Some by) here is)))
+      (λ elsewhere. sym (calls.index_is.elsewhere at elsewhere).awaited ∙ is)
       (cases_eq at index);
   versions = calls.beside.versions;
   rest = calls.beside.rest;

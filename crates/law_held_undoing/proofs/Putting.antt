@@ -1,5 +1,5 @@
 -- A change that is being taken back goes on, and less of it is left with each step.
-use Rattle.std.proofs.Common.{◌≡◌, ◌≢◌, ⊎_elim, ℕ, ◌^◌, ◌<◌, ◌≤◌, List, length, Option, Some, refl, sym, ap, subst, ◌∙◌, arith, slice_get}
+use Rattle.std.proofs.Common.{◌≡◌, ◌≢◌, ◌⊎◌, ⊎_elim, ℕ, ◌<◌, ◌≤◌, List, length, Option, Some, refl, sym, ap, subst, ◌∙◌, arith, slice_get}
 use Rattle.inno_types.specs.declared.value.Schema.{Schema}
 use Rattle.store_api.specs.declared.moves.Move.{Move}
 use Rattle.store_api.specs.declared.moves.Move.TheVariants.{Done, Step}
@@ -33,6 +33,8 @@ use Rattle.law_held_undoing.proofs.Memory.{not_stopped}
 use Rattle.law_held_undoing.proofs.Popping.{older_fewer}
 use Rattle.law_held_undoing.proofs.Stepping.{LeavesAll, StaysPutting, stays_putting, hindered_by}
 use Rattle.law_held_undoing.proofs.Beside.{nothing_under_way, rows_of_writer, last_beside, held_beside}
+use Rattle.row_changes.specs.Awaited.{IsAwaitedAlone}
+use Rattle.undo_apply.proofs.Hindrances.{never_hindered}
 
 -- ---- fewer versions before a walk
 
@@ -93,6 +95,12 @@ module _ (s : ℕ) (old new : WorldState) (writer : Option ℕ) (desks : List De
   pub answers : (answer : Move) → HasPutBack s (read_into undo) room next old new answer
       → PutsBack held.chains going.place s (read_into undo) room next old new answer
   answers answer put = put held.chains going.place going.putting
+
+  -- in memory each step is made, where nobody else is awaited
+  pub goes_or_is_done : (answer : Move) → IsInMemory old → IsAwaitedAlone s old → HasPutBack s (read_into undo) room next old new answer
+      → (answer ≡ Done) ⊎ (answer ≡ Step)
+  goes_or_is_done answer memory alone put =
+      never_hindered s old new memory alone held.chains going.place (read_into undo) room next answer (answers answer put)
 
   pub rest_beside : (answer : Move) → HasPutBack s (read_into undo) room next old new answer → ChangesPairsAlone old new
   rest_beside answer put = step_beside held.chains going.place s (read_into undo) room next old new answer (answers answer put)

@@ -3,7 +3,6 @@ use Rattle.std.proofs.Common.{◌≡◌, ◌≢◌, ◌⊎◌, inl, inr, ℕ, �
 use Rattle.inno_types.specs.declared.value.Schema.{Schema}
 use Rattle.inno_model.specs.declared.event.Event.{Event}
 use Rattle.inno_model.specs.declared.event.Event.TheVariants.{Undone}
-use Rattle.store_api.specs.declared.moves.Move.{Move}
 use Rattle.store_api.specs.declared.moves.Move.TheVariants.{Done, Step}
 use Rattle.law_past_agreement.specs.Order.{MayCome}
 use Rattle.world.specs.State.{WorldState, Session, Work, HasWork}
@@ -28,7 +27,7 @@ use Rattle.shared_lists.specs.declared.answers.Undone.TheVariants as undone
 use Rattle.law_held_undoing.specs.Undoing.{IsReady, HasPutBack}
 use Rattle.law_held_undoing.specs.Seen.{lists_held, TakesBackIn}
 use Rattle.law_held_undoing.proofs.Desks.{GivesDoing, given, kept_on}
-use Rattle.law_held_undoing.proofs.Putting.{mine, rest_beside, same_left, nearer}
+use Rattle.law_held_undoing.proofs.Putting.{mine, rest_beside, nearer}
 use Rattle.law_held_undoing.proofs.Reading.{may_write, few_begun}
 use Rattle.law_held_undoing.proofs.TakenBack.{past_now, names_now, schemas_now, count_rows_now, settings_now}
 
@@ -113,16 +112,6 @@ module _ (s keep : ℕ) (old new : WorldState) (writer : Option ℕ) (desks late
     rows = count_same;
   }
 
-  pub seen_hindered : doing_at s desks ≡ Undoing → now ≡ left
-      → TakesBackIn s keep (lists_of old writer desks left) (lists_of new writer later now) undone.NoMemory
-  seen_hindered busy same = record {
-    takes =
-        turned (task_of s (lists_of old writer desks left).state)
-        (ap tasks.Undoing same ∙ sym (task_is s left old writer desks ∙ ap (shown old.schemas left) busy));
-    settings = settings_same;
-    rows = count_same;
-  }
-
 -- ---- the steps
 
 pub shows_begun : (s keep : ℕ) (old new : WorldState) (writer : Option ℕ) (desks : List Desk) (cuts : ℕ) (undo read : UndoRoom)
@@ -159,13 +148,6 @@ module _ (s keep : ℕ) (old new : WorldState) (writer : Option ℕ) (desks : Li
       seen_went s keep old new writer desks desks was is by_me held.quiet (kept_on s Undoing desks busy)
       (rest_beside s old new writer desks cuts undo room next held busy Step put)
       (subst (λ (n : ℕ). is < n) (sym to_go) (nearer s old new writer desks cuts undo room next held busy memory later put))
-
-  pub shows_hindered : (answer : Move) → IsInMemory new → HasPutBack s (read_into undo) room next old new answer → answer ≢ Done → answer ≢ Step
-      → TakesBackIn s keep (lists_held old writer desks undo room) (lists_held new writer desks undo next) undone.NoMemory
-  shows_hindered answer later put not_done not_step =
-      seen_hindered s keep old new writer desks desks was is by_me held.quiet (kept_on s Undoing desks busy)
-      (rest_beside s old new writer desks cuts undo room next held busy answer put) busy
-      (same_left s old new writer desks cuts undo room next held busy answer later put not_done not_step)
 
 -- ---- the entry of the history
 

@@ -21,8 +21,7 @@ ghost use Rattle.shared_lists.specs.declared.answers.Undone.TheVariants as undon
 ghost use Rattle.law_held_undoing.specs.Undoing.{IsReady, HasPutBack};
 ghost use Rattle.law_held_undoing.specs.Seen.{lists_held, TakesBackIn};
 
-/// The record that is read, and each step, is work that nears its end; the last one is the entry of the history. Where there
-/// was no memory, all is as it was.
+/// The record that is read, and each step, is work that nears its end; the last one is the entry of the history.
 pub fn what_callers_see()
     ensures doing { (s : ℕ) (state : WorldState) (writer : Option ℕ) (desks : List Desk) (undo : UndoRoom) (room : WorkRoom)
         → MayTakeBack (task_of s (lists_held state writer desks undo room).state)
@@ -38,12 +37,6 @@ pub fn what_callers_see()
         → IsHeld old writer desks cuts undo room → doing_at s desks ≡ Undoing → IsInMemory old → IsInMemory new
         → HasPutBack s (read_into undo) room next old new Step
         → TakesBackIn s keep (lists_held old writer desks undo room) (lists_held new writer desks undo next) undone.Went }
-    ensures hindered { (s keep : ℕ) (old new : WorldState) (writer : Option ℕ) (desks : List Desk)
-        (cuts : ℕ) (undo : UndoRoom) (room next : WorkRoom) (answer : Move)
-        → IsHeld old writer desks cuts undo room → doing_at s desks ≡ Undoing → IsInMemory new
-        → HasPutBack s (read_into undo) room next old new answer → answer ≢ Done → answer ≢ Step
-        → TakesBackIn s keep (lists_held old writer desks undo room) (lists_held new writer desks undo next)
-        undone.NoMemory }
     ensures undone { (s keep : ℕ) (old mid cut new : WorldState) (writer : Option ℕ) (desks : List Desk)
         (cuts : ℕ) (undo other : UndoRoom) (room next : WorkRoom)
         → IsHeld old writer desks cuts undo room → s < length desks → doing_at s desks ≡ Undoing

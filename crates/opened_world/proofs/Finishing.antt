@@ -16,7 +16,7 @@ use Rattle.law_logged_changes.specs.Pointers.{Reaches, PointersApart}
 use Rattle.world.specs.State.{WorldState}
 use Rattle.world.specs.Told.{IsTold, pairs_of}
 use Rattle.world.specs.EngineCalls.{with_opening}
-use Rattle.opened_world.specs.Laid.{version_of, IsLaid, IsFreshOf}
+use Rattle.opened_world.specs.Laid.{version_of, IsLaid, IsFreshOf, AwaitsNobody}
 
 opened_with : (row : Option (List Value)) → IsOpenedWith row (version_of row)
 opened_with None = record { older = tt; row_is = refl }
@@ -74,3 +74,8 @@ module _ (db : Database) (old : WorldState) (laid : IsLaid db old) where
   pub fresh_now : (new : WorldState) (rows : ℕ) → new ≡ with_opening db rows old → length db.schemas ≤ MOST_TABLES → rows_in db ≤ most_rows
       → rows ≡ rows_in db → IsFreshOf db new
   fresh_now new rows is few_tables few_rows counted = subst (IsFreshOf db) (sym is) (opened_literally few_tables few_rows rows counted)
+
+-- nobody is awaited in it
+pub nobody_now : (db : Database) (old new : WorldState) (rows : ℕ) → IsLaid db old → new ≡ with_opening db rows old → AwaitsNobody new
+nobody_now db old new rows laid is index by awaited =
+    laid.nobody index by (ap (λ (state : WorldState). (state.indexes index).awaited) (sym is) ∙ awaited)

@@ -1,5 +1,5 @@
 -- A database grows together with the world that holds it.
-use Rattle.std.proofs.Common.{◌≡◌, ◌≢◌, ◌∙◌, sym, ap, subst, refl, ℕ, ◌+◌, Bool, true, false, cond, List, [], ◌∷◌, ◌++◌, length, Option, None, Some, slice_get, arith}
+use Rattle.std.proofs.Common.{◌≡◌, ◌≢◌, ◌∙◌, ⊎_elim, sym, ap, subst, refl, ℕ, ◌+◌, ◌<◌, Bool, true, false, cond, List, [], ◌∷◌, ◌++◌, length, Option, None, Some, slice_get, arith}
 use Rattle.std.specs.Prelude.{IsSome, IsTrue, IsSomeAnd, is_some}
 use Rattle.std.specs.FinMap.{get, insert, get-empty, get-insert}
 use Rattle.inno_types.specs.declared.value.Value.{Value}
@@ -42,7 +42,12 @@ use Rattle.row_changes.proofs.Telling.{HasPut, pairs_told, puts_pairs, tells, co
 use Rattle.law_changing_rows.proofs.Entering.{with_version, pushed_version}
 use Rattle.law_held_entries.proofs.Tables.{its_columns}
 use Rattle.shared_lists.specs.Fitting.{FitsWell}
-use Rattle.opened_world.specs.Laid.{no_db, version_of, IsLaid, PutsNewRecord, HasRecordThere, TakesKeysOver}
+use Rattle.opened_world.specs.Laid.{no_db, version_of, IsLaid, PutsNewRecord, HasRecordThere, TakesKeysOver, AwaitsNobody}
+use Rattle.std.proofs.lemmas.Bool.{cases_eq}
+use Rattle.world.specs.Told.{LeavesRows}
+use Rattle.row_changes.specs.Awaited.{IsOfTable}
+use Rattle.law_changing_rows.proofs.Leaving.{has_rows_left}
+use Rattle.law_held_changes.specs.Leaving.{LeavesIndexes, LeavesTable}
 
 -- ---- a database without tables
 
@@ -65,6 +70,7 @@ laid_new state new =
       past = new.past;
       txns = new.txns;
       sessions = new.sessions;
+      nobody = λ index by is. (let none : None ≡ Some by = sym (ap (λ (x : Index). x.awaited) (new.indexes index)) ∙ is in cc);
     }
 
 -- ---- a table more
@@ -108,6 +114,7 @@ module _ (db : Database) (schema : Schema) (old new : WorldState) (storable : Is
         past = ap (λ (s : WorldState). s.past) lays.rest ∙ laid.past;
         txns = ap (λ (s : WorldState). s.txns) lays.rest ∙ laid.txns;
         sessions = ap (λ (s : WorldState). s.sessions) lays.rest ∙ laid.sessions;
+        nobody = λ index by is. laid.nobody index by (ap (λ (x : Index). x.awaited) (sym (lays.same index)) ∙ is);
       }
 
 -- ---- a row more
@@ -214,8 +221,30 @@ module _ (db : Database) (table : ℕ) (row : List Value) (schema : Schema) (old
     go true is = ap (λ (vs : List Version). version ∷ vs) (ap (λ (p : Place). versions_at p laid.chains) (sym (same_place place other is)) ∙ none_before)
     go false is = laid.versions other
 
-  pub laid_row : (new : WorldState) → TakesKeysOver table key row mid new → FitsWell db.schemas (Put table row) → IsLaid (apply_one db (Put table row)) new
-  laid_row new over fits =
+  -- nobody is awaited once the record is put
+  nobody_mid : AwaitsNobody mid
+  nobody_mid index by is =
+      ⊎_elim
+      (λ here. (let none : None ≡ Some by = sym puts.inserts.index_is.here.2.awaited ∙ subst (λ (i : ℕ). (mid.indexes i).awaited ≡ Some by) here is in cc))
+      (λ apart. laid.nobody index by (sym (puts.inserts.index_is.elsewhere index apart).awaited ∙ is))
+      (cases_eq index (clustered_index table))
+
+  -- nor once the keys have taken the row over and the indexes are left
+  nobody_left : (over left : WorldState) → TakesKeysOver table key row mid over → LeavesIndexes 0 over left → LeavesTable 0 table over left → AwaitsNobody left
+  nobody_left over left takes leaves gone index by is =
+      ⊎_elim (λ was. nobody_mid index by was)
+      (λ mine. gone.gone index by (subst (λ (schemas : List Schema). IsOfTable table schemas index) (sym (ap (λ (s : WorldState). s.schemas) takes.rest)) mine.1)
+      is mine.0)
+      (takes.awaits.each index by (leaves.fewer index by is))
+
+  pub laid_row : (over new : WorldState) → TakesKeysOver table key row mid over → LeavesIndexes 0 over new → LeavesTable 0 table over new
+      → FitsWell db.schemas (Put table row) → IsLaid (apply_one db (Put table row)) new
+  laid_row between new over leaves gone fits =
+      let leaves_rows : LeavesRows between new = record {
+        schemas = ap (λ (s : WorldState). s.schemas) leaves.rest;
+        pairs = leaves.pairs;
+        versions = leaves.versions;
+      } in
       record {
         fits =
             record {
@@ -225,13 +254,25 @@ module _ (db : Database) (table : ℕ) (row : List Value) (schema : Schema) (old
             };
         chains = chains;
         versions = versions_now;
-        coded = over.rows chains keys_changing;
-        schemas = ap (λ (s : WorldState). s.schemas) over.rest ∙ (same_schemas ∙ laid.schemas);
-        names = ap (λ (s : WorldState). s.names) over.rest ∙ (ap (λ (s : WorldState). s.names) puts.inserts.beside.rest ∙ laid.names);
-        past = ap (λ (s : WorldState). s.past) over.rest ∙ (ap (λ (s : WorldState). s.past) puts.inserts.beside.rest ∙ laid.past);
-        txns = ap (λ (s : WorldState). s.txns) over.rest ∙ (ap (λ (s : WorldState). s.txns) puts.inserts.beside.rest ∙ laid.txns);
-        sessions = ap (λ (s : WorldState). s.sessions) over.rest ∙ (ap (λ (s : WorldState). s.sessions) puts.inserts.beside.rest ∙ laid.sessions);
+        coded = has_rows_left between new leaves_rows chains (over.rows chains keys_changing);
+        schemas = ap (λ (s : WorldState). s.schemas) leaves.rest ∙ (ap (λ (s : WorldState). s.schemas) over.rest ∙ (same_schemas ∙ laid.schemas));
+        names = ap (λ (s : WorldState). s.names) leaves.rest ∙ (ap (λ (s : WorldState). s.names) over.rest ∙ (ap (λ (s : WorldState). s.names) puts.inserts.beside.rest ∙ laid.names));
+        past = ap (λ (s : WorldState). s.past) leaves.rest ∙ (ap (λ (s : WorldState). s.past) over.rest ∙ (ap (λ (s : WorldState). s.past) puts.inserts.beside.rest ∙ laid.past));
+        txns = ap (λ (s : WorldState). s.txns) leaves.rest ∙ (ap (λ (s : WorldState). s.txns) over.rest ∙ (ap (λ (s : WorldState). s.txns) puts.inserts.beside.rest ∙ laid.txns));
+        sessions = ap (λ (s : WorldState). s.sessions) leaves.rest ∙ (ap (λ (s : WorldState). s.sessions) over.rest ∙ (ap (λ (s : WorldState). s.sessions) puts.inserts.beside.rest ∙ laid.sessions));
+        nobody = nobody_left between new over leaves gone;
       }
+
+-- the table is there still, and has few keys
+pub its_keys : (table : ℕ) (schema : Schema) (row : List Value) (old mid over : WorldState) (key : List ℕ) → slice_get old.schemas table ≡ Some schema
+    → IsStorable schema → PutsNewRecord table schema row old mid key → TakesKeysOver table key row mid over
+    → (slice_get over.schemas table ≡ Some schema) × (length schema.keys < 5)
+its_keys table schema row old mid over key there storable puts takes =
+    let few = storable.few in
+    let fewer : length schema.keys < 5 = omega (arith, few) in (
+      ap (λ (s : WorldState). slice_get s.schemas table) takes.rest ∙ (ap (λ (s : WorldState). slice_get s.schemas table) puts.inserts.beside.rest ∙ there),
+      fewer,
+    )
 
 -- the schema of the table of a change that fits
 pub its_table : (found : Option Schema) (schema : Schema) (P : Schema → Type 0) → found ≡ Some schema → IsSomeAnd found P → P schema

@@ -1,5 +1,5 @@
 -- The keys of a table take a row over, step by step.
-use Rattle.std.proofs.Common.{false, ◌≡◌, ◌∙◌, ap, subst, refl, ℕ, ◌≤◌, List, length, None, Some, slice_get, arith}
+use Rattle.std.proofs.Common.{false, ◌≡◌, ◌∙◌, ⊎_elim, inl, inr, sym, ap, subst, refl, ℕ, ◌≤◌, List, length, None, Some, slice_get, arith}
 use Rattle.std.specs.Prelude.{All}
 use Rattle.inno_types.specs.declared.value.Value.{Value}
 use Rattle.inno_types.specs.declared.value.Column.{Column}
@@ -24,6 +24,8 @@ use Rattle.row_changes.specs.Edits.{IsRowFor}
 use Rattle.row_changes.specs.Told.{HasRows}
 use Rattle.row_changes.specs.Keys.{IsChangingKeys, ChangesKeys}
 use Rattle.opened_world.specs.Laid.{PutsNewRecord}
+use Rattle.row_changes.specs.Awaited.{AwaitsIn, IsOfTable}
+use Rattle.row_changes.proofs.Awaited.{awaits_none_in}
 
 -- the bytes are the key of the row
 pub row_for : (schema : Schema) (row : List Value) (key : List ℕ) → FitsTable schema row → All Has64Bits row
@@ -62,6 +64,8 @@ pub record IsTaking (start : KeysChange) (old now : WorldState) (change : KeysCh
   pub chains : Chains
   pub holds : IsChangingKeys chains now change
   pub follows : (those : Chains) → IsChangingKeys those old start → IsChangingKeys those now change
+  pub table_is : change.table ≡ start.table
+  pub awaits : AwaitsIn 0 change.table old now
   pub rest : now ≡ record old { indexes = now.indexes; versions = now.versions; paged = now.paged }
   pub later : StoreGoes old.paged now.paged
 
@@ -70,6 +74,8 @@ taking_first start state chains holds = record {
   chains = chains;
   holds = holds;
   follows = λ those is. is;
+  table_is = refl;
+  awaits = awaits_none_in 0 start.table state;
   rest = refl;
   later = store_stays state.paged;
 }
@@ -80,18 +86,36 @@ rests : (old mid new : WorldState) → mid ≡ record old { indexes = mid.indexe
     → new ≡ record old { indexes = new.indexes; versions = new.versions; paged = new.paged }
 rests old mid new first next = next ∙ ap (λ (s : WorldState). record s { indexes = new.indexes; versions = new.versions; paged = new.paged }) first
 
+-- who is awaited after two steps
+awaits_twice : (table : ℕ) (old mid new : WorldState) → mid.schemas ≡ old.schemas → AwaitsIn 0 table old mid → AwaitsIn 0 table mid new → AwaitsIn 0 table old new
+awaits_twice table old mid new same first next = record {
+  each = λ i by is. ⊎_elim (λ was. first.each i by was)
+      (λ mine. inr (mine.0, subst (λ (schemas : List Schema). IsOfTable table schemas i) same mine.1)) (next.each i by is);
+}
+
 module _ (start : KeysChange) (old mid new : WorldState) (change : KeysChange) (taking : IsTaking start old mid change) where
+  same_tables : mid.schemas ≡ old.schemas
+  same_tables = ap (λ (s : WorldState). s.schemas) taking.rest
+
+  taken_awaits : AwaitsIn 0 change.table mid new → AwaitsIn 0 change.table old new
+  taken_awaits awaits = awaits_twice change.table old mid new same_tables taking.awaits awaits
+
   pub taking_next : (next : KeysChange) → ((chains : Chains) → IsChangingKeys chains mid change → ChangesKeys 0 chains mid new change (Went next))
-      → IsTaking start old new next
-  taking_next next step =
+      → AwaitsIn 0 change.table mid new → IsTaking start old new next
+  taking_next next step awaits =
       let mine = step taking.chains taking.holds in
       record {
         chains = taking.chains;
         holds = mine.holds;
         follows = λ those is. (step those (taking.follows those is)).holds;
+        table_is = mine.table_is ∙ taking.table_is;
+        awaits = subst (λ (table : ℕ). AwaitsIn 0 table old new) (sym mine.table_is) (taken_awaits awaits);
         rest = rests old mid new taking.rest mine.stays.rest;
         later = store_goes_on old.paged mid.paged new.paged taking.later mine.stays.later;
       }
+
+  pub same_table : AwaitsIn 0 change.table mid new → AwaitsIn 0 start.table old new
+  same_table awaits = subst (λ (table : ℕ). AwaitsIn 0 table old new) taking.table_is (taken_awaits awaits)
 
   pub taken_rows : ((chains : Chains) → IsChangingKeys chains mid change → ChangesKeys 0 chains mid new change Done) → (chains : Chains)
       → IsChangingKeys chains old start → HasRows chains new

@@ -20,6 +20,7 @@ use Rattle.world.specs.Indexes.{Changes}
 use Rattle.row_changes.specs.Told.{HasRows}
 use Rattle.row_changes.specs.Edits.{IsRowFor}
 use Rattle.row_changes.specs.Keys.{IsChangingKeys}
+use Rattle.row_changes.specs.Awaited.{AwaitsIn}
 use Rattle.shared_lists.specs.Fitting.{CanBeCoded}
 use Rattle.desks.specs.Holding.{IsFresh}
 use Rattle.opened_world.specs.declared.opening.OpenBad.{OpenBad}
@@ -34,6 +35,10 @@ abbrev pub version_of : Option (List Value) → List Version
 version_of None = []
 version_of (Some row) = record { writer = 0; row = Some row } ∷ []
 
+-- nobody is awaited at an index
+abbrev pub AwaitsNobody : WorldState → Type 0
+AwaitsNobody state = (index by : ℕ) → (state.indexes index).awaited ≡ Some by → ⊥
+
 -- The world holds the rows of the database, each in one version. It is yet to be opened, and nobody has joined.
 pub record IsLaid (db : Database) (state : WorldState) : Type 0 where
   pub fits : CanBeCoded db
@@ -45,6 +50,7 @@ pub record IsLaid (db : Database) (state : WorldState) : Type 0 where
   pub past : state.past ≡ []
   pub txns : state.txns ≡ record { open_txns = []; begun = 0; next = 1 }
   pub sessions : state.sessions ≡ []
+  pub nobody : AwaitsNobody state
 
 -- a world that has been opened on this database
 abbrev pub IsFreshOf : Database → WorldState → Type 0
@@ -70,9 +76,10 @@ pub record HasRecordThere (table : ℕ) (schema : Schema) (row : List Value) (st
   pub row_is : IsRowFor schema row key
   pub there : Told (λ pairs. is_some (value_of key pairs) ≡ true) (state.indexes (clustered_index table))
 
--- The keys of the table have taken the row over, and nothing else has changed.
+-- The keys of the table have taken the row over, and nothing else has changed but who is awaited there.
 pub record TakesKeysOver (table : ℕ) (key : List ℕ) (row : List Value) (old new : WorldState) : Type 0 where
   pub rows : (chains : Chains) → IsChangingKeys chains old (record { table = table; key = key; before = None; after = Some row; which = 0; put = None })
       → HasRows chains new
+  pub awaits : AwaitsIn 0 table old new
   pub rest : new ≡ record old { indexes = new.indexes; versions = new.versions; paged = new.paged }
   pub later : StoreGoes old.paged new.paged

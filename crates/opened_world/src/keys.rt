@@ -1,6 +1,6 @@
 //! One row is put into a world that is yet to be opened: its clustered record, and then the entries of its table's keys.
 
-ghost use Rattle.std.specs.Prelude.{◌≡◌, Some, None, false, Err, IfOk, OnOk, slice_get, All};
+ghost use Rattle.std.specs.Prelude.{◌≡◌, ◌<◌, Some, None, false, Err, IfOk, OnOk, length, slice_get, All};
 ghost use Rattle.inno_types.specs.declared.value.Column.{Column};
 ghost use Rattle.inno_db.specs.Database.{key_of};
 ghost use Rattle.key_codec.specs.Keys.{IsOfKind, key_code, Has64Bits};
@@ -11,6 +11,8 @@ ghost use Rattle.law_fitting_rows.specs.Fitting.{FitsTable};
 ghost use Rattle.list_world.specs.Parts.{world_of};
 ghost use Rattle.row_changes.specs.Edits.{IsRowFor};
 ghost use Rattle.row_changes.specs.Keys.{IsChangingKeys};
+ghost use Rattle.inno_types.specs.declared.value.Schema.{Schema as ASchema};
+ghost use Rattle.law_held_changes.specs.Leaving.{LeavesIndexes, LeavesTable};
 ghost use Rattle.opened_world.specs.Laid.{PutsNewRecord, HasRecordThere, TakesKeysOver};
 
 use crate::opening::PutBad;
@@ -96,6 +98,17 @@ pub fn put_record(
         | Move::TooDeep
         | Move::Failed
         | Move::Bad { .. } => Err(PutBad::NoMemory),
+    }
+}
+
+/// Leaves all indexes of a table, so that no keys are awaited there.
+pub fn leave_table(world: &mut ListWorld, table: u8, keys: u8)
+    requires { (schema : ASchema) × (slice_get (world_of world.old).schemas table ≡ Some schema) × (keys ≡ length schema.keys) × (keys < 5) }
+    ensures leaves { LeavesIndexes 0 (world_of world.old) (world_of world.new) }
+    ensures gone { LeavesTable 0 table (world_of world.old) (world_of world.new) }
+{
+    for which in 0..keys + 1 {
+        world.leave(index_number(table, which), ACTOR);
     }
 }
 

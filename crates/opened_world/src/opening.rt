@@ -10,10 +10,10 @@ ghost use Rattle.inno_db.specs.declared.limits.TheConstants.{MOST_TABLES};
 ghost use Rattle.list_world.specs.Parts.{world_of};
 ghost use Rattle.law_fitting_rows.specs.Storable.{IsStorable};
 ghost use Rattle.shared_lists.specs.Fitting.{FitsWell};
-ghost use Rattle.opened_world.specs.Laid.{no_db, IsFreshOf, IsTooLarge};
+ghost use Rattle.opened_world.specs.Laid.{no_db, IsFreshOf, IsTooLarge, AwaitsNobody};
 
 use crate::counting::rows_in;
-use crate::keys::{enter_keys, put_record};
+use crate::keys::{enter_keys, leave_table, put_record};
 use inno_db::{Change, Db};
 use inno_types::{Listed, Row, Schema};
 use list_world::ListWorld;
@@ -103,9 +103,11 @@ impl Opening {
             Ok(key) => key,
             Err(reason) => return Err(reason),
         };
+        let keys = schema.keys.len() as u8;
         let Ok(()) = enter_keys(alloc, &mut world, table, key, &row) else {
             return Err(PutBad::NoMemory);
         };
+        leave_table(&mut world, table, keys);
         let Ok(()) = add_change(&mut db, alloc, Change::Put { table, row }) else {
             return Err(PutBad::NoMemory);
         };
@@ -115,6 +117,7 @@ impl Opening {
     /// The world, opened on the database.
     pub fn finish(self) -> Result<ListWorld, OpenBad>
         ensures ok { IfOk result (λ world. IsFreshOf self (world_of world)) }
+        ensures nobody { IfOk result (λ world. AwaitsNobody (world_of world)) }
         ensures large { IfErr result (IsTooLarge self) }
     {
         let Opening { db, mut world, .. } = self;

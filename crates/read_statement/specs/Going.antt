@@ -19,9 +19,10 @@ to_go s state (machine.Unacked kept given) = left 3 0 0 0
 to_go s state (machine.Failed alone) = left 2 0 0 0
 to_go s state (machine.Ending kept given) = left 1 0 0 0
 
--- a step that went has fewer phases before it
+-- a step that went, or that found no memory, has fewer phases before it
 abbrev pub NearsTo : ℕ → ℕ → State → ReadStatement → Advance → Type 0
 NearsTo phases s new after advance.Went = IsBelow (to_go s new after) (left phases 0 0 0)
+NearsTo phases s new after advance.NoMemory = IsBelow (to_go s new after) (left phases 0 0 0)
 NearsTo phases s new after other = Unit {0}
 
 abbrev pub is_done : Advance → Bool

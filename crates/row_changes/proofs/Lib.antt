@@ -10,3 +10,4 @@ pub mod KeyLists
 pub mod Keying
 pub mod Pushed
 pub mod Whole
+pub mod Awaited

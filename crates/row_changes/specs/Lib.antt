@@ -9,3 +9,4 @@ pub mod Told
 pub mod KeyEntries
 pub mod Keys
 pub mod Rows
+pub mod Awaited

@@ -2,6 +2,7 @@
 
 ghost use Rattle.std.specs.Prelude.{◌≡◌};
 ghost use Rattle.row_changes.specs.Entries.{IsMarking, MarksEntry};
+ghost use Rattle.row_changes.specs.Awaited.{AwaitsAt};
 
 use crate::reached::Reached;
 use inno_types::Bytes;
@@ -23,7 +24,8 @@ impl EntryMark {
     /// The one step.
     pub fn step<W: World>(self, alloc: Global, world: &mut W, actor: u32) -> Reached<EntryMark>
         requires { IsMarking (W.state world.old) self }
-        ensures { MarksEntry actor (W.state world.old) (W.state world.new) self result }
+        ensures marks { MarksEntry actor (W.state world.old) (W.state world.new) self result }
+        ensures awaits { AwaitsAt actor self.index (W.state world.old) (W.state world.new) }
     {
         let Ok(value) = vec![in alloc; MARKED] else {
             return Reached::Hindered(self, Move::NoMemory);

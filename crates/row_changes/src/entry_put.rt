@@ -2,6 +2,7 @@
 
 ghost use Rattle.std.specs.Prelude.{◌≡◌};
 ghost use Rattle.row_changes.specs.Entries.{IsPutting, PutsEntry};
+ghost use Rattle.row_changes.specs.Awaited.{AwaitsAt};
 
 use crate::reached::Reached;
 use inno_types::Bytes;
@@ -46,7 +47,8 @@ impl EntryPut {
     /// One step. It asks that nobody else changes the index's keys between the steps.
     pub fn step<W: World>(self, alloc: Global, world: &mut W, actor: u32) -> Reached<EntryPut>
         requires { IsPutting (W.state world.old) self }
-        ensures { PutsEntry actor (W.state world.old) (W.state world.new) self result }
+        ensures puts { PutsEntry actor (W.state world.old) (W.state world.new) self result }
+        ensures awaits { AwaitsAt actor self.index (W.state world.old) (W.state world.new) }
     {
         match self.phase {
             PutPhase::Look => self.look(alloc, world, actor),
@@ -59,7 +61,8 @@ impl EntryPut {
     fn look<W: World>(self, alloc: Global, world: &mut W, actor: u32) -> Reached<EntryPut>
         requires putting { IsPutting (W.state world.old) self }
         requires phase { self.phase ≡ PutPhase.Look }
-        ensures { PutsEntry actor (W.state world.old) (W.state world.new) self result }
+        ensures puts { PutsEntry actor (W.state world.old) (W.state world.new) self result }
+        ensures awaits { AwaitsAt actor self.index (W.state world.old) (W.state world.new) }
     {
         let Ok(mut mark) = Vec::with_capacity(alloc, MOST_BYTES_OF_VALUE) else {
             return Reached::Hindered(self, Move::NoMemory);
@@ -80,7 +83,8 @@ impl EntryPut {
     fn unmark<W: World>(self, alloc: Global, world: &mut W, actor: u32) -> Reached<EntryPut>
         requires putting { IsPutting (W.state world.old) self }
         requires phase { self.phase ≡ PutPhase.Unmark }
-        ensures { PutsEntry actor (W.state world.old) (W.state world.new) self result }
+        ensures puts { PutsEntry actor (W.state world.old) (W.state world.new) self result }
+        ensures awaits { AwaitsAt actor self.index (W.state world.old) (W.state world.new) }
     {
         let Ok(value) = vec![in alloc; UNMARKED] else {
             return Reached::Hindered(self, Move::NoMemory);
@@ -100,7 +104,8 @@ impl EntryPut {
     fn await_keys<W: World>(self, alloc: Global, world: &mut W, actor: u32) -> Reached<EntryPut>
         requires putting { IsPutting (W.state world.old) self }
         requires phase { self.phase ≡ PutPhase.Next }
-        ensures { PutsEntry actor (W.state world.old) (W.state world.new) self result }
+        ensures puts { PutsEntry actor (W.state world.old) (W.state world.new) self result }
+        ensures awaits { AwaitsAt actor self.index (W.state world.old) (W.state world.new) }
     {
         let Ok(mut next) = Vec::with_capacity(alloc, MOST_BYTES_OF_KEY) else {
             return Reached::Hindered(self, Move::NoMemory);
@@ -114,7 +119,8 @@ impl EntryPut {
     fn insert<W: World>(self, alloc: Global, world: &mut W, actor: u32) -> Reached<EntryPut>
         requires putting { IsPutting (W.state world.old) self }
         requires phase { self.phase ≡ PutPhase.Insert }
-        ensures { PutsEntry actor (W.state world.old) (W.state world.new) self result }
+        ensures puts { PutsEntry actor (W.state world.old) (W.state world.new) self result }
+        ensures awaits { AwaitsAt actor self.index (W.state world.old) (W.state world.new) }
     {
         let Ok(value) = vec![in alloc; UNMARKED] else {
             return Reached::Hindered(self, Move::NoMemory);

@@ -6,6 +6,7 @@ ghost use Rattle.inno_types.specs.declared.value.Schema.{Schema};
 ghost use Rattle.row_versions.specs.Chains.{Chains};
 ghost use Rattle.law_coded_rows.specs.Edits.{key_index};
 ghost use Rattle.row_changes.specs.KeyEntries.{StayBetween, AreEntries};
+ghost use Rattle.row_changes.specs.Awaited.{AwaitsIn};
 ghost use Rattle.row_changes.specs.Keys.{IsChangingKeys, ChangesKeys, keys_next};
 
 use crate::entry_mark::EntryMark;
@@ -37,7 +38,8 @@ impl KeysChange {
     /// One step. It asks that nobody else changes rows between the steps.
     pub fn step<W: World>(self, alloc: Global, world: &mut W, actor: u32) -> Reached<KeysChange>
         requires { (chains : Chains) × IsChangingKeys chains (W.state world.old) self }
-        ensures { (chains : Chains) → IsChangingKeys chains (W.state world.old) self → ChangesKeys actor chains (W.state world.old) (W.state world.new) self result }
+        ensures changes { (chains : Chains) → IsChangingKeys chains (W.state world.old) self → ChangesKeys actor chains (W.state world.old) (W.state world.new) self result }
+        ensures awaits { AwaitsIn actor self.table (W.state world.old) (W.state world.new) }
     {
         let KeysChange {
             table,
@@ -70,7 +72,8 @@ impl KeysChange {
         actor: u32,
     ) -> Reached<KeysChange>
         requires { (chains : Chains) × IsChangingKeys chains (W.state world.old) (record self { put = Some put }) }
-        ensures { (chains : Chains) → IsChangingKeys chains (W.state world.old) (record self { put = Some put }) → ChangesKeys actor chains (W.state world.old) (W.state world.new) (record self { put = Some put }) result }
+        ensures changes { (chains : Chains) → IsChangingKeys chains (W.state world.old) (record self { put = Some put }) → ChangesKeys actor chains (W.state world.old) (W.state world.new) (record self { put = Some put }) result }
+        ensures awaits { AwaitsIn actor self.table (W.state world.old) (W.state world.new) }
     {
         match put.step(alloc, world, actor) {
             Reached::Went(put) => Reached::Went(KeysChange {
@@ -96,7 +99,8 @@ impl KeysChange {
     fn pass<W: World>(self, alloc: Global, world: &mut W, actor: u32) -> Reached<KeysChange>
         requires changing { (chains : Chains) × IsChangingKeys chains (W.state world.old) self }
         requires none { self.put ≡ None }
-        ensures { (chains : Chains) → IsChangingKeys chains (W.state world.old) self → ChangesKeys actor chains (W.state world.old) (W.state world.new) self result }
+        ensures changes { (chains : Chains) → IsChangingKeys chains (W.state world.old) self → ChangesKeys actor chains (W.state world.old) (W.state world.new) self result }
+        ensures awaits { AwaitsIn actor self.table (W.state world.old) (W.state world.new) }
     {
         match self.entries(alloc, world) {
             Ok(Some(entries)) => self.take_over(entries, alloc, world, actor),
@@ -134,7 +138,8 @@ impl KeysChange {
         requires changing { (chains : Chains) × IsChangingKeys chains (W.state world.old) self }
         requires none { self.put ≡ None }
         requires entries { (schema : Schema) → slice_get (W.state world.old).schemas self.table ≡ Some schema → AreEntries schema self.which self.before self.after self.key entries }
-        ensures { (chains : Chains) → IsChangingKeys chains (W.state world.old) self → ChangesKeys actor chains (W.state world.old) (W.state world.new) self result }
+        ensures changes { (chains : Chains) → IsChangingKeys chains (W.state world.old) self → ChangesKeys actor chains (W.state world.old) (W.state world.new) self result }
+        ensures awaits { AwaitsIn actor self.table (W.state world.old) (W.state world.new) }
     {
         let KeyEntries { which, old, new } = entries;
         let index = index_of_key(self.table, which);
@@ -157,7 +162,8 @@ impl KeysChange {
         requires none { self.put ≡ None }
         requires index { mark.index ≡ key_index self.table which }
         requires entries { (schema : Schema) → slice_get (W.state world.old).schemas self.table ≡ Some schema → AreEntries schema self.which self.before self.after self.key (record { which = which; old = Some mark.entry; new = new }) }
-        ensures { (chains : Chains) → IsChangingKeys chains (W.state world.old) self → ChangesKeys actor chains (W.state world.old) (W.state world.new) self result }
+        ensures changes { (chains : Chains) → IsChangingKeys chains (W.state world.old) self → ChangesKeys actor chains (W.state world.old) (W.state world.new) self result }
+        ensures awaits { AwaitsIn actor self.table (W.state world.old) (W.state world.new) }
     {
         let index = mark.index;
         match mark.step(alloc, world, actor) {

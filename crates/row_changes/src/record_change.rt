@@ -7,6 +7,7 @@ ghost use Rattle.law_coded_rows.specs.Edits.{clustered_index};
 ghost use Rattle.law_coded_rows.specs.Records.{row_shown};
 ghost use Rattle.row_changes.specs.Edits.{version_by};
 ghost use Rattle.row_changes.specs.Records.{IsChangingRecord, ChangesRecord, when_missed, when_found, row_found, undo_of_former};
+ghost use Rattle.row_changes.specs.Awaited.{AwaitsAt};
 
 use crate::coding::{coded, decoded, undo_of_former, undo_of_new, writer_of};
 use crate::entering::enter;
@@ -58,7 +59,8 @@ impl RecordChange {
     /// One step. It asks that nobody else changes rows between the steps.
     pub fn step<W: World>(self, alloc: Global, world: &mut W, s: u32) -> RecordReached
         requires { IsChangingRecord s (W.state world.old) self }
-        ensures { ChangesRecord s (W.state world.old) (W.state world.new) self result }
+        ensures changes { ChangesRecord s (W.state world.old) (W.state world.new) self result }
+        ensures awaits { AwaitsAt s (clustered_index self.table) (W.state world.old) (W.state world.new) }
     {
         match &self.stage {
             RecordStage::Enter => self.enter(world, s),
@@ -85,7 +87,8 @@ impl RecordChange {
     fn enter<W: World>(self, world: &mut W, s: u32) -> RecordReached
         requires changing { IsChangingRecord s (W.state world.old) self }
         requires stage { self.stage ≡ RecordStage.Enter }
-        ensures { ChangesRecord s (W.state world.old) (W.state world.new) self result }
+        ensures changes { ChangesRecord s (W.state world.old) (W.state world.new) self result }
+        ensures awaits { AwaitsAt s (clustered_index self.table) (W.state world.old) (W.state world.new) }
     {
         match world.event_room(s) {
             Ok(()) => self.then(RecordStage::Room),
@@ -96,7 +99,8 @@ impl RecordChange {
     fn make_room<W: World>(self, world: &mut W, s: u32) -> RecordReached
         requires changing { IsChangingRecord s (W.state world.old) self }
         requires stage { self.stage ≡ RecordStage.Room }
-        ensures { ChangesRecord s (W.state world.old) (W.state world.new) self result }
+        ensures changes { ChangesRecord s (W.state world.old) (W.state world.new) self result }
+        ensures awaits { AwaitsAt s (clustered_index self.table) (W.state world.old) (W.state world.new) }
     {
         match world.undo_room(s, MOST_UNDO_BYTES) {
             Move::Done => self.then(RecordStage::Find),
@@ -107,7 +111,8 @@ impl RecordChange {
     fn find<W: World>(self, alloc: Global, world: &mut W, s: u32) -> RecordReached
         requires changing { IsChangingRecord s (W.state world.old) self }
         requires stage { self.stage ≡ RecordStage.Find }
-        ensures { ChangesRecord s (W.state world.old) (W.state world.new) self result }
+        ensures changes { ChangesRecord s (W.state world.old) (W.state world.new) self result }
+        ensures awaits { AwaitsAt s (clustered_index self.table) (W.state world.old) (W.state world.new) }
     {
         let Ok(mut value) = Vec::with_capacity(alloc, MOST_BYTES_OF_VALUE) else {
             return RecordReached::Hindered(self, Move::NoMemory);
@@ -146,7 +151,8 @@ impl RecordChange {
     fn await_keys<W: World>(self, alloc: Global, world: &mut W, s: u32) -> RecordReached
         requires changing { IsChangingRecord s (W.state world.old) self }
         requires stage { self.stage ≡ RecordStage.Next }
-        ensures { ChangesRecord s (W.state world.old) (W.state world.new) self result }
+        ensures changes { ChangesRecord s (W.state world.old) (W.state world.new) self result }
+        ensures awaits { AwaitsAt s (clustered_index self.table) (W.state world.old) (W.state world.new) }
     {
         let Ok(mut next) = Vec::with_capacity(alloc, MOST_BYTES_OF_KEY) else {
             return RecordReached::Hindered(self, Move::NoMemory);
@@ -160,7 +166,8 @@ impl RecordChange {
     fn insert<W: World>(self, alloc: Global, world: &mut W, s: u32) -> RecordReached
         requires changing { IsChangingRecord s (W.state world.old) self }
         requires stage { self.stage ≡ RecordStage.Insert }
-        ensures { ChangesRecord s (W.state world.old) (W.state world.new) self result }
+        ensures changes { ChangesRecord s (W.state world.old) (W.state world.new) self result }
+        ensures awaits { AwaitsAt s (clustered_index self.table) (W.state world.old) (W.state world.new) }
     {
         let writer = writer_of(world, s);
         let Ok(version) = self.version(writer, 0) else {
@@ -184,7 +191,8 @@ impl RecordChange {
     fn replace<W: World>(self, alloc: Global, world: &mut W, s: u32) -> RecordReached
         requires changing { IsChangingRecord s (W.state world.old) self }
         requires stage { (before : Version) × (bytes : List ℕ) × (self.stage ≡ RecordStage.Replace before bytes) }
-        ensures { ChangesRecord s (W.state world.old) (W.state world.new) self result }
+        ensures changes { ChangesRecord s (W.state world.old) (W.state world.new) self result }
+        ensures awaits { AwaitsAt s (clustered_index self.table) (W.state world.old) (W.state world.new) }
     {
         let Ok((found, undo)) = former(self.table, &self.key, &self.stage) else {
             return RecordReached::Hindered(self, Move::NoMemory);

@@ -2,7 +2,8 @@
 
 ghost use Rattle.std.specs.Prelude.{◌≡◌, IfOk};
 ghost use Rattle.row_versions.specs.Chains.{Chains};
-ghost use Rattle.row_changes.specs.Rows.{IsChangingRow, ChangesRow, row_after};
+ghost use Rattle.row_changes.specs.Awaited.{AwaitsIn};
+ghost use Rattle.row_changes.specs.Rows.{IsChangingRow, ChangesRow, row_after, table_of};
 
 use crate::keys_change::KeysChange;
 use crate::reached::Reached;
@@ -40,7 +41,8 @@ impl RowChange {
     /// One step. It asks that nobody else changes rows between the steps.
     pub fn step<W: World>(self, alloc: Global, world: &mut W, s: u32) -> Reached<RowChange>
         requires { (chains : Chains) × IsChangingRow s chains (W.state world.old) self }
-        ensures { (chains : Chains) → IsChangingRow s chains (W.state world.old) self → ChangesRow s chains (W.state world.old) (W.state world.new) self result }
+        ensures changes { (chains : Chains) → IsChangingRow s chains (W.state world.old) self → ChangesRow s chains (W.state world.old) (W.state world.new) self result }
+        ensures awaits { AwaitsIn s (table_of self) (W.state world.old) (W.state world.new) }
     {
         match self {
             RowChange::Record(change, key, after) => record(change, key, after, alloc, world, s),
@@ -68,7 +70,8 @@ fn record<W: World>(
     s: u32,
 ) -> Reached<RowChange>
     requires { (chains : Chains) × IsChangingRow s chains (W.state world.old) (RowChange.Record change key after) }
-    ensures { (chains : Chains) → IsChangingRow s chains (W.state world.old) (RowChange.Record change key after) → ChangesRow s chains (W.state world.old) (W.state world.new) (RowChange.Record change key after) result }
+    ensures changes { (chains : Chains) → IsChangingRow s chains (W.state world.old) (RowChange.Record change key after) → ChangesRow s chains (W.state world.old) (W.state world.new) (RowChange.Record change key after) result }
+    ensures awaits { AwaitsIn s change.table (W.state world.old) (W.state world.new) }
 {
     let table = change.table;
     match change.step(alloc, world, s) {
@@ -89,7 +92,8 @@ fn record<W: World>(
 
 fn keys<W: World>(change: KeysChange, alloc: Global, world: &mut W, s: u32) -> Reached<RowChange>
     requires { (chains : Chains) × IsChangingRow s chains (W.state world.old) (RowChange.Keys change) }
-    ensures { (chains : Chains) → IsChangingRow s chains (W.state world.old) (RowChange.Keys change) → ChangesRow s chains (W.state world.old) (W.state world.new) (RowChange.Keys change) result }
+    ensures changes { (chains : Chains) → IsChangingRow s chains (W.state world.old) (RowChange.Keys change) → ChangesRow s chains (W.state world.old) (W.state world.new) (RowChange.Keys change) result }
+    ensures awaits { AwaitsIn s change.table (W.state world.old) (W.state world.new) }
 {
     match change.step(alloc, world, s) {
         Reached::Went(change) => Reached::Went(RowChange::Keys(change)),

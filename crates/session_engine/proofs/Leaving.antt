@@ -39,9 +39,9 @@ module _ (s : ℕ) (old new : Lists) (out : IsGoingOut s old) where
   undone_out keep is = record { rests = out.may.rests; rows_alone = own_undone keep is }
 
   -- the newest change is being taken back, or is so
-  pub takes_back_goes : (answer : Undone) → answer ≢ undone.NoMemory → 0 < length (own s old.past) → TakesBack s (length (own s old.past) - 1) old new answer
+  pub takes_back_goes : (answer : Undone) → 0 < length (own s old.past) → TakesBack s (length (own s old.past) - 1) old new answer
       → GoesOut s old new Leaving progress.Went
-  takes_back_goes undone.Went went some takes = (
+  takes_back_goes undone.Went some takes = (
     moves_takes_back s (length (own s old.past) - 1) old new undone.Went takes,
     goes_none takes.0.past_is,
     record {
@@ -50,7 +50,7 @@ module _ (s : ℕ) (old new : Lists) (out : IsGoingOut s old) where
     },
     refl,
   )
-  takes_back_goes undone.Undone went some takes = (
+  takes_back_goes undone.Undone some takes = (
     moves_takes_back s (length (own s old.past) - 1) old new undone.Undone takes,
     goes_one (events.Undone s (length (own s old.past) - 1)) (grind (arith, nat_tests)) tt tt refl takes.past_is,
     record {
@@ -59,26 +59,11 @@ module _ (s : ℕ) (old new : Lists) (out : IsGoingOut s old) where
     },
     refl,
   )
-  takes_back_goes undone.NoMemory went some takes = absurd (went refl)
-
-  -- no memory was found for that
-  pub lacks_goes : Stays s old new → GoesOut s old new Leaving progress.NoMemory
-  lacks_goes stays = (
-    moves_stays s old new stays,
-    stays.past_is,
-    record {
-      may = subst (MayGoOut s) (sym stays.past_is) out.may;
-      task = subst (λ h. TakesBackTo 0 (length (own s h)) (task_of s new)) (sym stays.past_is)
-          (subst (TakesBackTo 0 (length (own s old.past))) (sym stays.task_is) out.task);
-    },
-    refl,
-  )
 
   -- no change is told
   pub takes_back_quietly : (answer : Undone) → TakesBack s (length (own s old.past) - 1) old new answer → TellsNone old.past new.past
   takes_back_quietly undone.Went takes = ap (count_by changes_rows) takes.0.past_is
   takes_back_quietly undone.Undone takes = ap (count_by changes_rows) takes.past_is
-  takes_back_quietly undone.NoMemory takes = ap (count_by changes_rows) takes.past_is
 
   own_rolled_back : own s (events.RolledBack s ∷ old.past) ≡ []
   own_rolled_back = grind (arith, nat_tests)

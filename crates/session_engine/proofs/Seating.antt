@@ -1,5 +1,5 @@
 -- What holds of the seats is kept by each call of the engine.
-use Rattle.std.proofs.Common.{◌≡◌, ◌≢◌, ◌⊎◌, ℕ, zero, suc, ◌+◌, ◌<◌, ◌≤◌, Bool, true, false, Option, Some, None, List, [], ◌∷◌, ◌++◌, length, get_or, set, refl, sym, ap, subst, ◌∙◌, inl, inr, arith}
+use Rattle.std.proofs.Common.{◌≡◌, ◌≢◌, ◌⊎◌, ℕ, zero, suc, ◌+◌, ◌<◌, ◌≤◌, Bool, true, false, Option, Some, None, List, [], ◌∷◌, ◌++◌, length, get_or, set, refl, sym, ap, subst, ◌∙◌, inl, inr, ⊎_elim, arith}
 use Rattle.std.proofs.lemmas.Bool.Decides.{nat_tests, eqb_tells}
 use Rattle.std.proofs.lemmas.Bool.{false≢true}
 use Rattle.std.proofs.lemmas.List.{get_or-set_same, get_or-set_other, length-set, length-append}
@@ -26,7 +26,6 @@ use Rattle.sql_lists.specs.declared.advance.Advance.{Advance}
 use Rattle.sql_lists.specs.declared.advance.Advance.TheVariants as advance
 use Rattle.sql_lists.specs.Steps.{Moves, Adding, AsksToWrite, IsEntryOf, Steps, HasRowsAlone, is_apart, TellsOne as StepTellsOne}
 use Rattle.sql_lists.proofs.Moving.{adding_none, adding_one, moves_none, moves_stays, moves_adds}
-use Rattle.sql_lists.specs.Going.{Nears as StatementNears}
 use Rattle.statement.specs.declared.under_way.Statement.{Statement}
 use Rattle.session_engine.specs.declared.seats.Seat.{Seat}
 use Rattle.session_engine.specs.declared.seats.Seat.TheVariants.{Idle, Busy, Refused, Signalling, Leaving, Left}
@@ -38,7 +37,7 @@ use Rattle.statement.proofs.Rooms.{runs_without_room}
 use Rattle.session_engine.specs.Seats.{seat_at, is_working, IsSpelled, IsUnread, MayGoOut, IsGoingOut, HasAsked, IsSeatOf, SeatAgrees, AreSeats, owes, phase_of, without_room}
 use Rattle.session_engine.specs.Calls.{AreFirst, SameLists, Joins, Starts, SameState, OthersStay, KeepsItems, TellsOne, GoesOn, StepsOn, Settled, Refuses, GoesOut, HasGiven, EndsSignal, Signals, StepsBy, Acknowledges, GivesUp, WaitsInVain, GivesUpInVain, WaitsOn}
 use Rattle.statement.specs.Going.{statement_to_go}
-use Rattle.session_engine.specs.Going.{Nears, NearsEnding}
+use Rattle.session_engine.specs.Going.{Nears, NearsEnding, NearsLacking}
 use Rattle.session_engine.specs.Places.{IsExact, HasExactPlaces}
 use Rattle.session_engine.specs.Signals.{AreSpent, HasOnlyAsked}
 use Rattle.session_engine.proofs.Places.{entries_exact, item_before, spelled_still, spelled_exact, refused_exact, signals_exact}
@@ -483,6 +482,15 @@ module _ (old new : Lists) (seats : List Seat) (s : ℕ) (are : AreSeats old sea
   step_nears before after advance.NoMemory seat answer was nears settled = rw settled.1 tt
   step_nears before after (advance.Done reply) seat answer was nears settled = rw settled.1 tt
 
+  pub step_lacks : (before after : Statement) (adv : Advance) (seat : Seat) (answer : Progress) → seat_at seats s ≡ Busy before
+      → StatementNears statement_to_go s old before new after adv → Settled after adv seat answer
+      → NearsLacking s answer (record { lists = old; seats = seats }) (record { lists = new; seats = set (set seats s Idle) s seat })
+  step_lacks before after advance.Went seat answer was nears settled = rw settled.1 tt
+  step_lacks before after (advance.Waiting by blockers) seat answer was nears settled = rw settled.1 tt
+  step_lacks before after advance.NoMemory seat answer was nears settled =
+      rw settled.1 (step_nears_by before after seat was settled.0 nears)
+  step_lacks before after (advance.Done reply) seat answer was nears settled = rw settled.1 tt
+
   -- ---- the acknowledgement of the statement's commit
 
   module _ (moment : ℕ) (statement : Statement) (owed : owes_ack statement ≡ true) (was : seat_at seats s ≡ Busy statement)
@@ -545,6 +553,9 @@ module _ (old new : Lists) (seats : List Seat) (s : ℕ) (are : AreSeats old sea
       pub refused_nears : Nears s answer (record { lists = old; seats = seats }) (record { lists = new; seats = set (set seats s Idle) s seat })
       refused_nears = rw does.answer_is tt
 
+      pub refused_lacks : NearsLacking s answer (record { lists = old; seats = seats }) (record { lists = new; seats = set (set seats s Idle) s seat })
+      refused_lacks = rw does.answer_is tt
+
   -- ---- a step of an item of a signal
 
   module _ (now : ℕ) (item : SignalItem) (was : seat_at seats s ≡ Signalling item) where
@@ -566,10 +577,6 @@ module _ (old new : Lists) (seats : List Seat) (s : ℕ) (are : AreSeats old sea
         kept seat (of_nothing s old new (lists_same old new does.0))
         (subst (SeatAgrees new s) (sym does.2.3) (subst (λ l. HasAsked s does.2.0 l.past × (task_of s l ≡ tasks.Idle)) (sym does.0) (does.2.1, asked.1)))
         (exact_still (ap (λ l. l.past) does.0))
-    signals_keep seat progress.NoMemory does =
-        kept seat (of_nothing s old new does.0)
-        (subst (SeatAgrees new s) (sym does.1) (subst (HasAsked s item) (sym does.0.past_stays) asked.0, does.0.tasks_stay s ∙ asked.1))
-        (exact_still does.0.past_stays)
     signals_keep seat other does = elim does [ ]
 
     pub signals_do : (seat : Seat) (answer : Progress) → Signals s now item old new seat answer
@@ -578,15 +585,12 @@ module _ (old new : Lists) (seats : List Seat) (s : ℕ) (are : AreSeats old sea
     signals_do seat progress.NotYet does =
         let same = lists_same old new does.0 in
         (steps_on seat (of_nothing s old new same), same, ap is_working (is_at seat ∙ does.2.3), does.1)
-    signals_do seat progress.NoMemory does =
-        (steps_on seat (of_nothing s old new does.0), does.0.past_stays, ap is_working (is_at seat ∙ does.1))
     signals_do seat other does = elim does [ ]
 
     pub signals_near : (seat : Seat) (answer : Progress) → Signals s now item old new seat answer
         → Nears s answer (record { lists = old; seats = seats }) (record { lists = new; seats = set (set seats s Idle) s seat })
     signals_near seat (progress.Done reply) does = tt
     signals_near seat progress.NotYet does = tt
-    signals_near seat progress.NoMemory does = tt
     signals_near seat other does = elim does [ ]
 
     pub signals_patient : (seat : Seat) (answer : Progress) → Signals s now item old new seat answer → answer ≡ progress.NotYet
@@ -620,7 +624,6 @@ module _ (old new : Lists) (seats : List Seat) (s : ℕ) (are : AreSeats old sea
     pub out_does : (seat : Seat) (answer : Progress) → GoesOut s old new seat answer
         → StepsBy s answer (record { lists = old; seats = seats }) (record { lists = new; seats = set (set seats s Idle) s seat })
     out_does seat progress.Went goes = (steps_on seat (of_statement s old new goes.0), goes.1, ap is_working (is_at seat ∙ goes.3))
-    out_does seat progress.NoMemory goes = (steps_on seat (of_statement s old new goes.0), goes.1, ap is_working (is_at seat ∙ goes.3))
     out_does seat (progress.Done reply) goes =
         (steps_on seat (of_statement s old new (moves_is old new s goes.1)), inr (leaving, goes.0, goes.1, is_at seat ∙ goes.4))
     out_does seat other goes = elim goes [ ]
@@ -628,56 +631,18 @@ module _ (old new : Lists) (seats : List Seat) (s : ℕ) (are : AreSeats old sea
     pub out_nears : (seat : Seat) (answer : Progress) → GoesOut s old new seat answer → NearsEnding s old new answer
         → Nears s answer (record { lists = old; seats = seats }) (record { lists = new; seats = set (set seats s Idle) s seat })
     out_nears seat progress.Went goes nears = rw (is_at seat, goes.3, leaving) (inr (refl, nears))
-    out_nears seat progress.NoMemory goes nears = tt
     out_nears seat (progress.Done reply) goes nears = tt
     out_nears seat other goes nears = elim goes [ ]
 
--- ---- what the calls do
+    pub out_lacks : (seat : Seat) (answer : Progress) → GoesOut s old new seat answer
+        → NearsLacking s answer (record { lists = old; seats = seats }) (record { lists = new; seats = set (set seats s Idle) s seat })
+    out_lacks seat progress.Went goes = tt
+    out_lacks seat (progress.Done reply) goes = tt
+    out_lacks seat other goes = elim goes [ ]
 
-module _ (old new : Lists) (past-is : new.past ≡ old.past) (writer-is : new.writer ≡ old.writer) (tasks-are : (s : ℕ) → task_of s new ≡ task_of s old) where
-  pub joined_either : {X Y : Type 0} (result : Result X Y) (name : List ℕ) (seats : List Seat) → AreSeats old seats
-      → OnOk result (new.names ≡ old.names ++ name ∷ []) → OnErr result (new.names ≡ old.names) → AreSeats new (seats ++ Idle ∷ [])
-  joined_either (Ok x) name seats are ok err = seats_joined old new past-is writer-is tasks-are name seats ok are
-  joined_either (Err e) name seats are ok err = seats_wait old new past-is writer-is tasks-are seats err are
-
-  pub joins : {X Y : Type 0} (result : Result X Y) (name : List ℕ) (seats : List Seat) → OnOk result (new.names ≡ old.names ++ name ∷ [])
-      → OnOk result (Joins name (record { lists = old; seats = seats }) (record { lists = new; seats = seats ++ Idle ∷ [] }))
-  joins (Ok x) name seats ok =
-      record { names_are = ok; past_stays = past-is; writer_stays = writer-is; tasks_stay = tasks-are; seats_stay = joined_seats seats }
-  joins (Err e) name seats ok = tt
-
-  pub refused_join : {X Y : Type 0} (result : Result X Y) (seats : List Seat) → OnErr result (new.names ≡ old.names)
-      → OnErr result (SameState (record { lists = old; seats = seats }) (record { lists = new; seats = seats ++ Idle ∷ [] }))
-  refused_join (Ok x) seats err = tt
-  refused_join (Err e) seats err =
-      record {
-        lists_stay = record { names_stay = err; past_stays = past-is; writer_stays = writer-is; tasks_stay = tasks-are };
-        seats_stay = joined_seats seats;
-      }
-
--- ---- a statement that gives up
-
-without_room_agrees : (lists : Lists) (s : ℕ) (seat : Seat) → SeatAgrees lists s seat → SeatAgrees lists s (without_room seat)
-without_room_agrees lists s Idle agrees = agrees
-without_room_agrees lists s (Busy statement) agrees = (runs_without_room lists s statement agrees.0, agrees.1)
-without_room_agrees lists s (Refused at) agrees = agrees
-without_room_agrees lists s (Signalling item) agrees = agrees
-without_room_agrees lists s Leaving agrees = agrees
-without_room_agrees lists s Left agrees = agrees
-
-module _ (lists : Lists) (seats : List Seat) (s : ℕ) (are : AreSeats lists seats) (joined : s < length lists.names) where
-  pub given_up_keeps : AreSeats lists (set (set seats s Idle) s (without_room (seat_at seats s)))
-  given_up_keeps =
-      kept lists lists seats s are joined (without_room (seat_at seats s)) (of_statement s lists lists (moves_none s lists))
-      (without_room_agrees lists s (seat_at seats s) (are.each s)) are.exact
-
-  pub gives_up : GivesUp s (record { lists = lists; seats = seats })
-      (record { lists = lists; seats = set (set seats s Idle) s (without_room (seat_at seats s)) })
-  gives_up =
-      record {
-        lists_stay = refl;
-        seat_is = is_at lists lists seats s are joined (without_room (seat_at seats s));
-        others_stay = λ u apart.
-            ap (λ xs. get_or xs u Idle) (twice lists lists seats s are joined (without_room (seat_at seats s)))
-            ∙ others_set seats s (without_room (seat_at seats s)) u apart;
-      }
+-- an item that gives a signal or awaits one doesn't go on where it finds no memory
+pub signalling_lacks : (s now : ℕ) (item : SignalItem) (lists after : Lists) (seat : Seat) (answer : Progress) → Signals s now item lists after seat answer
+    → (old new : State) → NearsLacking s answer old new
+signalling_lacks s now item lists after seat (progress.Done reply) does old new = tt
+signalling_lacks s now item lists after seat progress.NotYet does old new = tt
+signalling_lacks s now item lists after seat other does old new = elim does [ ]

@@ -153,7 +153,6 @@ IsPatient now (Awaits wait) = (since : ℕ) × (wait.since ≡ Some since) × (n
 abbrev pub Signals : ℕ → ℕ → SignalItem → Lists → Lists → Seat → Progress → Type 0
 Signals s now item old new seat (progress.Done reply) = EndsSignal s reply old new × (seat ≡ seats.Idle) × HasCause now item reply old.past
 Signals s now item old new seat progress.NotYet = (new ≡ old) × IsAwaited s old.past × ((later : SignalItem) × HasAsked s later old.past × IsPatient now later × (seat ≡ seats.Signalling later))
-Signals s now item old new seat progress.NoMemory = SameLists old new × (seat ≡ seats.Signalling item)
 Signals s now item old new seat other = ⊥
 
 -- where such an item gives up waiting, it has waited in vain
@@ -166,10 +165,9 @@ GivesUpInVain s now answer old =
 abbrev pub WaitsOn : ℕ → ℕ → State → Type 0
 WaitsOn s now new = (item : SignalItem) × (seat_at new.seats s ≡ seats.Signalling item) × IsPatient now item
 
--- what a step of a session's ending does
+-- what a step of a session's ending does: it never finds no memory
 abbrev pub GoesOut : ℕ → Lists → Lists → Seat → Progress → Type 0
 GoesOut s old new seat progress.Went = Moves s old new × GoesOn s old.past new.past × IsGoingOut s new × (seat ≡ seats.Leaving)
-GoesOut s old new seat progress.NoMemory = Moves s old new × (new.past ≡ old.past) × IsGoingOut s new × (seat ≡ seats.Leaving)
 GoesOut s old new seat (progress.Done reply) = (reply ≡ Done) × (new ≡ old) × IsClosed s old.past × (task_of s old ≡ tasks.Idle) × (seat ≡ seats.Left)
 GoesOut s old new seat other = ⊥
 

@@ -29,7 +29,13 @@ abbrev pub Nears : ℕ → Progress → State → State → Type 0
 Nears s progress.Went old new = IsBelow (to_go s new) (to_go s old)
 Nears s other old new = Unit {0}
 
--- so does a step of the ending
+-- So does a step that found no memory: its statement gives up. An item that gives a signal or awaits one ends then, and the
+-- session's ending never finds no memory.
+abbrev pub NearsLacking : ℕ → Progress → State → State → Type 0
+NearsLacking s progress.NoMemory old new = IsBelow (to_go s new) (to_go s old)
+NearsLacking s other old new = Unit {0}
+
+-- a step of the ending that went makes it smaller, too
 abbrev pub NearsEnding : ℕ → Lists → Lists → Progress → Type 0
 NearsEnding s old new progress.Went = IsBelow (to_roll_back s new) (to_roll_back s old)
 NearsEnding s old new other = Unit {0}

@@ -47,7 +47,7 @@ impl<L: SharedLists> Model for SessionEngine<L> {
 impl<L: SharedLists> SessionEngine<L> {
     ghost use Rattle.session_engine.specs.Seats.{IsJoined, IsIdle, IsWorking, HasEnded, IsSeatOf};
     ghost use Rattle.session_engine.specs.Calls.{Joins, Starts, StepsBy, TellsNone, Acknowledges, GivesUp, GivesUpInVain, WaitsOn, Leaves, SameState};
-    ghost use Rattle.session_engine.specs.Going.{Nears};
+    ghost use Rattle.session_engine.specs.Going.{Nears, NearsLacking};
     ghost use Rattle.session_engine.specs.Places.{HasExactPlaces};
     ghost use Rattle.session_engine.specs.Seats.{has_left, is_working, owes, phase_of, wants_room, seat_at, AreSeats};
     ghost use Rattle.sql_grammar.specs.Grammar.{Spells};
@@ -196,6 +196,7 @@ impl<L: SharedLists> SessionEngine<L> {
         ensures steps { StepsBy s result self.old self.new }
         ensures quiet { wants_room (seat_at self.old.seats s) ≡ false → TellsNone self.old.lists.past self.new.lists.past }
         ensures nears { Nears s result self.old self.new }
+        ensures lacks { NearsLacking s result self.old self.new }
         ensures waits { result ≡ Progress.NotYet → WaitsOn s now self.new }
         ensures waited { GivesUpInVain s now result self.old }
     {

@@ -48,19 +48,25 @@ fn give<L: SharedLists>(s: u32, name: Bytes, lists: &mut SqlLists<L>) -> (Seat, 
 {
     let _ = lists.history();
     let Ok(given) = name.copied() else {
-        return (
-            Seat::Signalling(SignalItem::Gives(name)),
-            Progress::NoMemory,
-        );
+        return give_none(s, name, lists);
     };
     if lists.signal(s, given).is_err() {
-        return (
-            Seat::Signalling(SignalItem::Gives(name)),
-            Progress::NoMemory,
-        );
+        return give_none(s, name, lists);
     }
     lists.end_signal(s);
     (Seat::Idle, Progress::Done(Reply::Done))
+}
+
+/// Ends the item, for which no memory was found: the signal isn't given.
+fn give_none<L: SharedLists>(s: u32, name: Bytes, lists: &mut SqlLists<L>) -> (Seat, Progress)
+    requires joined { s < length lists.old.names }
+    requires asked { HasAsked s (SignalItem.Gives name) lists.old.past }
+    requires idle { task_of s lists.old ≡ TaskIdle }
+    ensures { Signals s 0 (SignalItem.Gives name) lists.old lists.new result.0 result.1 }
+{
+    drop(name);
+    lists.end(s, Reply::NoMemory);
+    (Seat::Idle, Progress::Done(Reply::NoMemory))
 }
 
 /// Looks for the signal among the entries that have come since the last look. Where it isn't there, the item waits on, for as

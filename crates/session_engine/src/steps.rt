@@ -97,7 +97,7 @@ pub fn go_out<L: SharedLists>(s: u32, lists: &mut SqlLists<L>) -> (Seat, Progres
     (Seat::Leaving, Progress::Went)
 }
 
-/// A step by which the session's newest change is taken back. Where it finds no memory, it is to be made again.
+/// A step by which the session's newest change is taken back.
 fn take_back<L: SharedLists>(s: u32, lists: &mut SqlLists<L>) -> (Seat, Progress)
     requires joined { s < length lists.old.names }
     requires goes_out { IsGoingOut s lists.old }
@@ -110,6 +110,5 @@ fn take_back<L: SharedLists>(s: u32, lists: &mut SqlLists<L>) -> (Seat, Progress
     match lists.undo(s) {
         Undone::Went => (Seat::Leaving, Progress::Went),
         Undone::Undone => (Seat::Leaving, Progress::Went),
-        Undone::NoMemory => (Seat::Leaving, Progress::NoMemory),
     }
 }

@@ -93,4 +93,3 @@ abbrev pub TakesBack : ℕ → ℕ → State → State → Undone → Type 0
 TakesBack s keep old new undone.Went =
     Turns s (task_of s new) old new × ((left : ℕ) × (task_of s new ≡ Undoing left)) × (undo_to_go (task_of s new) < undo_to_go (task_of s old))
 TakesBack s keep old new undone.Undone = IsNow (events.Undone s keep ∷ old.past) s Idle old.writer old new
-TakesBack s keep old new undone.NoMemory = Turns s (task_of s old) old new

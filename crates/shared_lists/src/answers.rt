@@ -32,12 +32,10 @@ pub enum Changed {
     NoMemory,
 }
 
-/// How far a taking back came.
+/// How far a taking back came. It takes no memory.
 #[derive(Clone, Copy, Debug, PartialEq, Eq)]
 pub enum Undone {
     Went,
     /// The change is taken back, and the history says so.
     Undone,
-    /// Nothing was done; the same step is to be made again.
-    NoMemory,
 }

@@ -281,6 +281,15 @@ pub trait SharedLists: Drop {
         ensures settings { (lists self.new).settings ≡ (lists self.old).settings }
         ensures rows { (lists self.new).rows ≡ (lists self.old).rows + rows_entered result (task_of session (lists self.old).state) };
 
+    /// Gives up the session's change, which the history doesn't tell yet: it was never made.
+    fn stop_change(&mut self, session: u32)
+        requires joined { session < length (lists self.old).state.names }
+        requires locked { (lists self.old).state.writer ≡ Some session }
+        requires asked { (change : _) × (asked (task_of session (lists self.old).state) ≡ Some change) }
+        ensures stops { Turns session Idle (lists self.old).state (lists self.new).state }
+        ensures settings { (lists self.new).settings ≡ (lists self.old).settings }
+        ensures rows { (lists self.new).rows ≡ (lists self.old).rows };
+
     /// Makes one step by which the session's newest change is taken back, which is one of a row.
     fn undo(&mut self, session: u32) -> Undone
         requires joined { session < length (lists self.old).state.names }

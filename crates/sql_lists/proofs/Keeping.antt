@@ -452,7 +452,6 @@ pub by_undo : (s : ℕ) (old new : Lists) (answer : Undone) → MayUndo Spells s
     → IsUndoable (length (own s old.state.past) - 1) (own s old.state.past)
     → TakesBack s (length (own s old.state.past) - 1) old.state new.state answer → new.settings ≡ old.settings → new.rows ≡ old.rows → AreKept old → AreKept new
 by_undo s old new undone.Went may undoable takes sets counts kept = by_turning s (task_of s new.state) old new takes.0 sets counts kept
-by_undo s old new undone.NoMemory may undoable takes sets counts kept = by_turning s (task_of s old.state) old new takes sets counts kept
 by_undo s old new undone.Undone may undoable takes sets counts kept =
     by_now (events.Undone s (length (own s old.state.past) - 1) ∷ old.state.past) s Idle old.state.writer old new old.settings old.rows takes sets counts
     (kept_undo old.state.names old.state.past old.settings old.rows kept s may undoable)

@@ -317,7 +317,6 @@ pub moves_takes_back : (t keep : ℕ) (old new : State) (answer : Undone) → Ta
 moves_takes_back t keep old new undone.Went takes = moves_turns t (task_of t new) old new takes.0
 moves_takes_back t keep old new undone.Undone takes =
     moves_entry t (events.Undone t keep) Idle old new (grind (arith, nat_tests)) refl (λ changes. absurd (false≢true changes)) takes
-moves_takes_back t keep old new undone.NoMemory takes = moves_turns t (task_of t old) old new takes
 
 -- ---- the statements of others
 
@@ -370,14 +369,13 @@ fewer_stand s h some = elim (eqb_tells s s) [
 ]
 
 -- each step of taking back brings the rollback nearer to its end
-pub takes_back_nears : (s : ℕ) (old new : State) (answer : Undone) → answer ≢ undone.NoMemory → 0 < length (own s old.past)
+pub takes_back_nears : (s : ℕ) (old new : State) (answer : Undone) → 0 < length (own s old.past)
     → TakesBack s (length (own s old.past) - 1) old new answer → IsBelow (to_roll_back s new) (to_roll_back s old)
-takes_back_nears s old new undone.Went went some takes =
+takes_back_nears s old new undone.Went some takes =
     below_third 1 _ _ _ _ _ _ (ap (to_close s) takes.0.past_is) (ap (λ h. length (own s h)) takes.0.past_is) takes.2
-takes_back_nears s old new undone.Undone went some takes =
+takes_back_nears s old new undone.Undone some takes =
     below_second 1 _ _ _ _ _ _ (ap (to_close s) takes.past_is)
     (subst (λ (h : List Event). length (own s h) < length (own s old.past)) (sym takes.past_is) (fewer_stand s old.past some))
-takes_back_nears s old new undone.NoMemory went some takes = absurd (went refl)
 
 -- ---- what is left of a search
 

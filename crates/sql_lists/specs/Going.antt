@@ -1,4 +1,4 @@
--- A step that went did work: it brings its statement nearer to its end, by a list of numbers that gets smaller.
+-- A step that went, or that found no memory, brings its statement nearer to its end, by a list of numbers that gets smaller.
 use Rattle.std.specs.Prelude.{◌≡◌, ℕ, ◌<◌, ◌⊎◌, if◌then◌else◌, is_some, List, [], ◌∷◌, length}
 use Rattle.inno_model.specs.declared.event.Event.{Event}
 use Rattle.inno_model.specs.Past.{level, own, view_of}
@@ -38,7 +38,8 @@ abbrev pub NearsAcked : {M : Type 0} → (ℕ → State → M → List ℕ) → 
 NearsAcked to_go before after = (old new : State) (s : ℕ) → IsBelow (to_go s new after) (to_go s old before)
 
 -- A step from one state and statement to another, by its answer, where so much is left of each: one that went is nearer
--- to the end.
+-- to the end, and so is one that found no memory, since its statement gives up.
 abbrev pub Nears : {M : Type 0} → (ℕ → State → M → List ℕ) → ℕ → State → M → State → M → Advance → Type 0
 Nears to_go s old before new after advance.Went = IsBelow (to_go s new after) (to_go s old before)
+Nears to_go s old before new after advance.NoMemory = IsBelow (to_go s new after) (to_go s old before)
 Nears to_go s old before new after other = Unit {0}

@@ -341,6 +341,16 @@ impl<L: SharedLists> SqlLists<L> {
         self.lists.change(session)
     }
 
+    /// Gives up the session's change, which the history doesn't tell yet: it was never made.
+    pub fn stop_change(&mut self, session: u32)
+        requires joined { session < length self.old.names }
+        requires locked { self.old.writer ≡ Some session }
+        requires asked { (change : _) × (asked (task_of session self.old) ≡ Some change) }
+        ensures stops { Turns session Idle self.old self.new }
+    {
+        self.lists.stop_change(session);
+    }
+
     /// Makes one step by which the session's newest change is taken back, which is one of a row.
     pub fn undo(&mut self, session: u32) -> Undone
         requires joined { session < length self.old.names }

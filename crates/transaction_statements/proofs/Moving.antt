@@ -30,7 +30,7 @@ use Rattle.transaction_statements.specs.declared.committer.Committer.TheVariants
 use Rattle.transaction_statements.specs.Committing.{stmt_of, Fits}
 use Rattle.transaction_statements.specs.Knowing.{IsAt, HasOpened}
 use Rattle.transaction_statements.specs.Running.{RunsBy, TakesBackTo, HasTask, IsRunning, Nothing, begun_at, owes_ack, acked}
-use Rattle.transaction_statements.specs.Going.{to_go, how_far}
+use Rattle.transaction_statements.specs.Going.{to_go}
 use Rattle.sql_lists.proofs.Moving.{moves_none, moves_stays, moves_adds, moves_closes, moves_takes_back, below_phase, below_second, below_third, fewer_stand, takes_back_nears}
 use Rattle.transaction_statements.proofs.Staying.{still}
 use Rattle.transaction_statements.proofs.Ending.{fails_begin, fails_still, fails_saving}
@@ -214,7 +214,7 @@ rests keep stand (Changing change left) takes few = absurd takes
 -- a step by which the newest change is taken back, where more stand than are to be kept
 module _ (s keep : ℕ) (old new : State) (m : TransactionStatement) (has : (stand : ℕ) (task : Task) → TakesBackTo keep stand task → HasTask m stand task)
     (more : keep < length (own s old.past)) (r : IsRunning old s m) (after : RunsBy (events.Undone s (length (own s old.past) - 1) ∷ old.past) s m) where
-  undoes : (answer : Undone) → TakesBack s (length (own s old.past) - 1) old new answer → Steps IsRunning s old new m (how_far answer)
+  undoes : (answer : Undone) → TakesBack s (length (own s old.past) - 1) old new answer → Steps IsRunning s old new m advance.Went
   undoes undone.Went takes = (
     moves_takes_back s (length (own s old.past) - 1) old new undone.Went takes,
     runs_now s old.past (task_of s new) new m takes.0.past_is refl r.0
@@ -226,42 +226,39 @@ module _ (s keep : ℕ) (old new : State) (m : TransactionStatement) (has : (sta
     runs_now s (events.Undone s (length (own s old.past) - 1) ∷ old.past) Idle new m takes.past_is takes.task_is after (has _ Idle tt),
     ap (started s) takes.past_is,
   )
-  undoes undone.NoMemory takes = lacks_memory s old new m takes r.0 r.1
 
 pub may_undo_rollback : (s : ℕ) (past : List Event) → RunsBy past s statements.Rollback → IsOpen s past → 0 < length (own s past)
     → MayUndo Spells s (length (own s past) - 1) past
 may_undo_rollback s past r is-open some = record { is_open = is-open; one = one_more (length (own s past)) some; by = inr (stmt.Rollback, r.0.takes, tt) }
 
 module _ (s : ℕ) (old new : State) (answer : Undone) (takes : TakesBack s (length (own s old.past) - 1) old new answer) where
-  pub undoes_rollback : IsRunning old s statements.Rollback → 0 < length (own s old.past) → Steps IsRunning s old new statements.Rollback (how_far answer)
+  pub undoes_rollback : IsRunning old s statements.Rollback → 0 < length (own s old.past) → Steps IsRunning s old new statements.Rollback advance.Went
   undoes_rollback r some =
       undoes s 0 old new statements.Rollback (λ stand task has. has) some r
       (at_undone s old.past stmt.Rollback Nothing r.0.0, grind (arith, nat_tests, r.0.1), grind (arith, nat_tests)) answer takes
 
   pub undoes_to : (name : List ℕ) (made : ℕ) → IsRunning old s (statements.RollbackTo name made) → made < length (own s old.past)
-      → Steps IsRunning s old new (statements.RollbackTo name made) (how_far answer)
+      → Steps IsRunning s old new (statements.RollbackTo name made) advance.Went
   undoes_to name made r more =
       undoes s made old new (statements.RollbackTo name made) (λ stand task has. has) more r
       (at_undone s old.past (stmt.RollbackTo name) (λ setting. made_at name setting.saves ≡ Some made) r.0.0, back_undone s old.past made more r.0.1) answer
       takes
 
--- it does work, unless it found no memory
+-- it does work
 pub nears_rollback : (s : ℕ) (old new : State) (answer : Undone) → 0 < length (own s old.past) → TakesBack s (length (own s old.past) - 1) old new answer
-    → Nears to_go s old statements.Rollback new statements.Rollback (how_far answer)
-nears_rollback s old new undone.Went some takes = takes_back_nears s old new undone.Went (λ is. cc) some takes
-nears_rollback s old new undone.Undone some takes = takes_back_nears s old new undone.Undone (λ is. cc) some takes
-nears_rollback s old new undone.NoMemory some takes = tt
+    → Nears to_go s old statements.Rollback new statements.Rollback advance.Went
+nears_rollback s old new undone.Went some takes = takes_back_nears s old new undone.Went some takes
+nears_rollback s old new undone.Undone some takes = takes_back_nears s old new undone.Undone some takes
 
 pub nears_to : (s : ℕ) (old new : State) (name : List ℕ) (made : ℕ) (answer : Undone) → 0 < length (own s old.past)
     → TakesBack s (length (own s old.past) - 1) old new answer
-    → Nears to_go s old (statements.RollbackTo name made) new (statements.RollbackTo name made) (how_far answer)
+    → Nears to_go s old (statements.RollbackTo name made) new (statements.RollbackTo name made) advance.Went
 nears_to s old new name made undone.Went some takes =
     below_third 1 0 (length (own s old.past)) (undo_to_go (task_of s old)) 0 (length (own s new.past)) (undo_to_go (task_of s new)) refl
     (ap (λ h. length (own s h)) takes.0.past_is) takes.2
 nears_to s old new name made undone.Undone some takes =
     below_second 1 0 (length (own s old.past)) (undo_to_go (task_of s old)) 0 (length (own s new.past)) (undo_to_go (task_of s new)) refl
     (subst (λ (h : List Event). length (own s h) < length (own s old.past)) (sym takes.past_is) (fewer_stand s old.past some))
-nears_to s old new name made undone.NoMemory some takes = tt
 
 pub may_roll_back : (s : ℕ) (past : List Event) → RunsBy past s statements.Rollback → IsOpen s past → own s past ≡ [] → MayRollBack Spells s past
 may_roll_back s past r is-open none = record { is_open = is-open; all_undone = none; by = inr (stmt.Rollback, r.0.takes, tt) }

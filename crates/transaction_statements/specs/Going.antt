@@ -1,13 +1,9 @@
 -- How far a statement on transactions is from its end.
 use Rattle.std.specs.Prelude.{ℕ, List, length}
 use Rattle.inno_model.specs.Past.{own}
-use Rattle.shared_lists.specs.declared.answers.Undone.{Undone}
-use Rattle.shared_lists.specs.declared.answers.Undone.TheVariants as undone
 use Rattle.shared_lists.specs.Tasks.{undo_to_go}
 use Rattle.shared_lists.specs.State.{State, task_of}
 use Rattle.sql_lists.specs.Going.{left, to_roll_back}
-use Rattle.sql_lists.specs.declared.advance.Advance.{Advance}
-use Rattle.sql_lists.specs.declared.advance.Advance.TheVariants as advance
 use Rattle.transaction_statements.specs.declared.statement.TransactionStatement.{TransactionStatement}
 use Rattle.transaction_statements.specs.declared.statement.TransactionStatement.TheVariants as statements
 
@@ -26,8 +22,3 @@ to_go s state (statements.RollbackTo name made) = left 1 0 (length (own s state.
 to_go s state (statements.Opening name l) = left 2 0 0 0
 to_go s state (statements.Saving name opened) = left 1 0 0 0
 to_go s state statements.Failed = left 0 0 0 0
-
--- how far a rollback came by a step of taking back
-abbrev pub how_far : Undone → Advance
-how_far undone.NoMemory = advance.NoMemory
-how_far other = advance.Went

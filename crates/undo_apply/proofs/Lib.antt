@@ -13,3 +13,4 @@ pub mod Goes
 pub mod KeySteps
 pub mod Looks
 pub mod RecordSteps
+pub mod Hindrances

@@ -11,5 +11,5 @@ last_written room = slice_index_or room.lists.items room.last []
 pub record HasRoom (room : Inside) : Type 0 where
   pub entry : 67 ≤ vec_capacity room.entry
   pub other : 67 ≤ vec_capacity room.other
-  pub lists : AreOfEachLength room.lists.items
+  pub lists : AreOfEachLength 68 room.lists.items
   pub last : room.last < 68

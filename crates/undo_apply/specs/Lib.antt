@@ -1,5 +1,6 @@
 pub mod Lengths
 pub mod EntryRoom
+pub mod RecordRoom
 pub mod Rooms
 pub mod Told
 pub mod Standing

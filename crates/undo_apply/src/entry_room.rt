@@ -43,7 +43,7 @@ impl EntryRoom {
             alloc,
             entry: Vec::with_capacity(alloc, MOST_BYTES_OF_KEY)?,
             other: Vec::with_capacity(alloc, MOST_BYTES_OF_KEY)?,
-            lists: lists_of_each_length(alloc)?,
+            lists: lists_of_each_length(alloc, MOST_BYTES_OF_KEY + 1)?,
             last: 0,
         })
     }
@@ -99,12 +99,12 @@ impl EntryRoom {
     }
 }
 
-/// One list of each length up to that of the longest entry.
-fn lists_of_each_length(alloc: Global) -> Result<Vec<Bytes>, NoMemory>
-    ensures { IfOk result (λ lists. AreOfEachLength lists.items) }
+/// So many lists, one of each length from 0 on.
+pub(crate) fn lists_of_each_length(alloc: Global, size: usize) -> Result<Vec<Bytes>, NoMemory>
+    ensures { IfOk result (λ lists. AreOfEachLength size lists.items) }
 {
-    let mut lists = Vec::with_capacity(alloc, MOST_BYTES_OF_KEY + 1)?;
-    for len in 0..MOST_BYTES_OF_KEY + 1 {
+    let mut lists = Vec::with_capacity(alloc, size)?;
+    for len in 0..size {
         lists.push(Bytes::from_vec(vec![in alloc; 0; len]?))?;
     }
     Ok(lists)
@@ -112,8 +112,8 @@ fn lists_of_each_length(alloc: Global) -> Result<Vec<Bytes>, NoMemory>
 
 /// Writes these bytes over the list of their length, and tells whether there is one.
 fn write_over(alloc: Global, lists: &mut Vec<Bytes>, bytes: &[u8]) -> bool
-    requires { AreOfEachLength lists.old.items }
-    ensures lists { AreOfEachLength lists.new.items }
+    requires { AreOfEachLength 68 lists.old.items }
+    ensures lists { AreOfEachLength 68 lists.new.items }
     ensures there { IsTrue result ↔ (length bytes.now ≤ 67) }
     ensures written { IsTrue result → slice_get lists.new.items (length bytes.now) ≡ Some bytes.now }
 {

@@ -5,6 +5,8 @@ ghost use Rattle.std.specs.Prelude.{◌≡◌, ℕ, ◌*◌, ◌+◌, ◌<◌, �
 ghost use Rattle.inno_types.specs.declared.value.Schema.{Schema as ASchema};
 ghost use Rattle.store_api.specs.declared.answers.Version.{Version};
 ghost use Rattle.row_codec.specs.Rows.{IsRecordOf, IsVersion};
+ghost use Rattle.law_coded_rows.specs.Edits.{clustered_index, key_index};
+ghost use Rattle.row_changes.specs.Awaited.{AwaitsAt};
 ghost use Rattle.row_versions.specs.declared.place.Place.{Place};
 ghost use Rattle.row_versions.specs.Chains.{Chains};
 ghost use Rattle.secondary.specs.Entries.{entry_of};
@@ -139,8 +141,9 @@ pub(crate) fn walk<W: World>(
     requires under_way { (chains : Chains) × (place : Place) × IsPuttingBack chains place undo.now room.old (W.state world.old) }
     requires together { TellsTogether (W.state world.old) }
     requires stage { room.old.stage ≡ Stage.Walk which pointer }
-    ensures { (chains : Chains) (place : Place) (actor : ℕ) → IsPuttingBack chains place undo.now room.old (W.state world.old)
+    ensures puts { (chains : Chains) (place : Place) (actor : ℕ) → IsPuttingBack chains place undo.now room.old (W.state world.old)
         → PutsBack chains place actor undo.now room.old room.new (W.state world.old) (W.state world.new) result }
+    ensures awaits { (actor : ℕ) → AwaitsAt actor (clustered_index undo.now.table) (W.state world.old) (W.state world.new) }
 {
     match world.value(pointer, &mut room.older) {
         Ok(true) => look_at_version(world, undo, room, which),
@@ -181,8 +184,9 @@ pub(crate) fn mark<W: World>(
 ) -> Move
     requires under_way { (chains : Chains) × (place : Place) × IsPuttingBack chains place undo.now room.old (W.state world.old) }
     requires stage { room.old.stage ≡ Stage.Mark which }
-    ensures { (chains : Chains) (place : Place) → IsPuttingBack chains place undo.now room.old (W.state world.old)
+    ensures puts { (chains : Chains) (place : Place) → IsPuttingBack chains place undo.now room.old (W.state world.old)
         → PutsBack chains place actor undo.now room.old room.new (W.state world.old) (W.state world.new) result }
+    ensures awaits { AwaitsAt actor (key_index undo.now.table which) (W.state world.old) (W.state world.new) }
 {
     if !write_entry(world, undo, which, &room.newest, &mut room.entries) {
         return Move::NoMemory;
@@ -206,8 +210,9 @@ pub(crate) fn await_entries<W: World>(
 ) -> Move
     requires under_way { (chains : Chains) × (place : Place) × IsPuttingBack chains place undo.now room.old (W.state world.old) }
     requires stage { room.old.stage ≡ Stage.Await which }
-    ensures { (chains : Chains) (place : Place) → IsPuttingBack chains place undo.now room.old (W.state world.old)
+    ensures puts { (chains : Chains) (place : Place) → IsPuttingBack chains place undo.now room.old (W.state world.old)
         → PutsBack chains place actor undo.now room.old room.new (W.state world.old) (W.state world.new) result }
+    ensures awaits { AwaitsAt actor (key_index undo.now.table which) (W.state world.old) (W.state world.new) }
 {
     if !write_entry(world, undo, which, &room.newest, &mut room.entries) {
         return Move::NoMemory;
@@ -230,8 +235,9 @@ pub(crate) fn remove_entry<W: World>(
 ) -> Move
     requires under_way { (chains : Chains) × (place : Place) × IsPuttingBack chains place undo.now room.old (W.state world.old) }
     requires stage { room.old.stage ≡ Stage.Remove which }
-    ensures { (chains : Chains) (place : Place) → IsPuttingBack chains place undo.now room.old (W.state world.old)
+    ensures puts { (chains : Chains) (place : Place) → IsPuttingBack chains place undo.now room.old (W.state world.old)
         → PutsBack chains place actor undo.now room.old room.new (W.state world.old) (W.state world.new) result }
+    ensures awaits { AwaitsAt actor (key_index undo.now.table which) (W.state world.old) (W.state world.new) }
 {
     if !write_entry(world, undo, which, &room.newest, &mut room.entries) {
         return Move::NoMemory;
@@ -249,8 +255,9 @@ pub(crate) fn unmark<W: World>(
 ) -> Move
     requires under_way { (chains : Chains) × (place : Place) × IsPuttingBack chains place undo.now room.old (W.state world.old) }
     requires stage { room.old.stage ≡ Stage.Unmark which }
-    ensures { (chains : Chains) (place : Place) → IsPuttingBack chains place undo.now room.old (W.state world.old)
+    ensures puts { (chains : Chains) (place : Place) → IsPuttingBack chains place undo.now room.old (W.state world.old)
         → PutsBack chains place actor undo.now room.old room.new (W.state world.old) (W.state world.new) result }
+    ensures awaits { AwaitsAt actor (key_index undo.now.table which) (W.state world.old) (W.state world.new) }
 {
     if !write_entry(world, undo, which, undo.value.as_slice(), &mut room.entries) {
         return Move::NoMemory;

@@ -7,11 +7,13 @@ mod key_steps;
 mod laws;
 mod moves;
 mod record_bytes;
+mod record_room;
 mod record_steps;
 mod taking_back;
 mod work_room;
 
 pub use entry_room::EntryRoom;
-pub use laws::others_leave_it;
+pub use laws::{nothing_hinders_in_memory, others_leave_it};
+pub use record_room::RecordRoom;
 pub use taking_back::put_back;
 pub use work_room::{Stage, WorkRoom};

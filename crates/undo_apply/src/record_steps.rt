@@ -1,6 +1,8 @@
 //! The steps that deal with the record: it is found first, and put back last.
 
 ghost use Rattle.std.specs.Prelude.{◌≡◌, ◌*◌, ◌↔◌, IsTrue, Some};
+ghost use Rattle.law_coded_rows.specs.Edits.{clustered_index};
+ghost use Rattle.row_changes.specs.Awaited.{AwaitsAt};
 ghost use Rattle.row_versions.specs.declared.place.Place.{Place};
 ghost use Rattle.row_versions.specs.Chains.{Chains};
 ghost use Rattle.undo_apply.specs.Standing.{was_before};
@@ -31,8 +33,9 @@ fn is_version_before(undo: &Undo, value: &[u8]) -> bool
 pub(crate) fn find<W: World>(world: &mut W, actor: u32, undo: &Undo, room: &mut WorkRoom) -> Move
     requires under_way { (chains : Chains) × (place : Place) × IsPuttingBack chains place undo.now room.old (W.state world.old) }
     requires stage { room.old.stage ≡ Stage.Find }
-    ensures { (chains : Chains) (place : Place) → IsPuttingBack chains place undo.now room.old (W.state world.old)
+    ensures puts { (chains : Chains) (place : Place) → IsPuttingBack chains place undo.now room.old (W.state world.old)
         → PutsBack chains place actor undo.now room.old room.new (W.state world.old) (W.state world.new) result }
+    ensures awaits { AwaitsAt actor (clustered_index undo.now.table) (W.state world.old) (W.state world.new) }
 {
     match world.fetch(records_of(undo), actor, &undo.key, &mut room.newest) {
         Move::Done => {
@@ -54,8 +57,9 @@ pub(crate) fn await_records<W: World>(
 ) -> Move
     requires under_way { (chains : Chains) × (place : Place) × IsPuttingBack chains place undo.now room.old (W.state world.old) }
     requires stage { room.old.stage ≡ Stage.AwaitRecords }
-    ensures { (chains : Chains) (place : Place) → IsPuttingBack chains place undo.now room.old (W.state world.old)
+    ensures puts { (chains : Chains) (place : Place) → IsPuttingBack chains place undo.now room.old (W.state world.old)
         → PutsBack chains place actor undo.now room.old room.new (W.state world.old) (W.state world.new) result }
+    ensures awaits { AwaitsAt actor (clustered_index undo.now.table) (W.state world.old) (W.state world.new) }
 {
     let answer = world.next_key(records_of(undo), actor, &undo.key, &mut room.next);
     go_on_or_end(room, answer, Stage::Record)
@@ -69,8 +73,9 @@ pub(crate) fn put_record<W: World>(
 ) -> Move
     requires under_way { (chains : Chains) × (place : Place) × IsPuttingBack chains place undo.now room.old (W.state world.old) }
     requires stage { room.old.stage ≡ Stage.Record }
-    ensures { (chains : Chains) (place : Place) → IsPuttingBack chains place undo.now room.old (W.state world.old)
+    ensures puts { (chains : Chains) (place : Place) → IsPuttingBack chains place undo.now room.old (W.state world.old)
         → PutsBack chains place actor undo.now room.old room.new (W.state world.old) (W.state world.new) result }
+    ensures awaits { AwaitsAt actor (clustered_index undo.now.table) (W.state world.old) (W.state world.new) }
 {
     if undo.kind == NEW_ROW {
         let answer = world.remove(records_of(undo), actor, &undo.key);

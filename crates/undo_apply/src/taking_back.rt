@@ -1,6 +1,7 @@
 //! One change is taken back, a call of the world a step. Steps of others come between; they change no row.
 
 ghost use Rattle.std.specs.Prelude.{◌≡◌};
+ghost use Rattle.row_changes.specs.Awaited.{AwaitsIn};
 ghost use Rattle.row_versions.specs.declared.place.Place.{Place};
 ghost use Rattle.row_versions.specs.Chains.{Chains};
 ghost use Rattle.world.specs.Told.{TellsTogether};
@@ -17,8 +18,9 @@ use world::World;
 pub fn put_back<W: World>(world: &mut W, actor: u32, undo: &Undo, room: &mut WorkRoom) -> Move
     requires under_way { (chains : Chains) × (place : Place) × IsPuttingBack chains place undo.now room.old (W.state world.old) }
     requires together { TellsTogether (W.state world.old) }
-    ensures { (chains : Chains) (place : Place) → IsPuttingBack chains place undo.now room.old (W.state world.old)
+    ensures puts { (chains : Chains) (place : Place) → IsPuttingBack chains place undo.now room.old (W.state world.old)
         → PutsBack chains place actor undo.now room.old room.new (W.state world.old) (W.state world.new) result }
+    ensures awaits { AwaitsIn actor undo.now.table (W.state world.old) (W.state world.new) }
 {
     match room.stage {
         Stage::Find => find(world, actor, undo, room),

@@ -11,7 +11,10 @@ use Rattle.row_changes.specs.declared.reached.Reached.TheVariants as reached
 use Rattle.law_changing_rows.proofs.Leaving.{left_told}
 use Rattle.undo_apply.specs.declared.work_room.WorkRoom.{WorkRoom}
 use Rattle.shared_lists.specs.declared.answers.Changed.{Changed}
-use Rattle.shared_lists.specs.State.{Lists, task_of}
+use Rattle.shared_lists.specs.State.{State, Lists, Turns, task_of}
+use Rattle.shared_lists.specs.Tasks.{Idle, asked, left_by}
+use Rattle.shared_lists.specs.declared.answers.Changed.TheVariants as answers
+use Rattle.inno_db.specs.declared.change.Change.{Change}
 use Rattle.shared_lists.specs.Steps.{Changes, rows_entered}
 use Rattle.desks.specs.declared.desk.Desk.{Desk}
 use Rattle.desks.specs.declared.desk.Doing.{Doing}
@@ -26,6 +29,11 @@ use Rattle.law_held_changes.proofs.Left.{held_left}
 use Rattle.law_held_changes.proofs.Made.{change_made}
 use Rattle.law_held_changes.proofs.Showing.{went_shown, entered_shown, done_shown, given_up_shown, rows_shown, left_shown}
 use Rattle.world_lists.specs.Parts.{StepsChange, answer_for}
+use Rattle.world.specs.Undoing.{read_into}
+use Rattle.row_changes.specs.Rows.{table_of}
+use Rattle.law_held_undoing.proofs.Beside.{rows_of_writer}
+use Rattle.world_lists.specs.Between.{AwaitsWriter, table_at}
+use Rattle.world_lists.proofs.Awaiting.{change_awaits, only_mine}
 
 -- One step, by its answer. What sessions have set is as it was.
 pub record ChangesIn (s : ℕ) (old new : Lists) (answer : Changed) : Type 0 where
@@ -110,6 +118,16 @@ module _ (s : ℕ) (desks : List Desk) (cuts : ℕ) (undo : UndoRoom) (room : Wo
       change_made s desks cuts undo room old step.mid change step.reached held at step.made was told_mid
       (subst (λ (past : List Event). length past < 2 ^ 63) (ap (λ (state : WorldState). state.past) step.left.rest) few)
 
+  mid_same : step.mid.schemas ≡ old.schemas
+  mid_same = is_made.leaves.schemas
+
+  mine_awaits : AwaitsWriter old (Some s) desks undo.table → (later : List Desk) → doing_at s later ≡ doing → AwaitsWriter new (Some s) later undo.table
+  mine_awaits awaits later now =
+      change_awaits s old new desks undo.table change
+      (only_mine s old (Some s) desks undo.table (table_of change) awaits refl (ap (table_at undo.table) at))
+      held.chains (rows_of_writer s (Some s) held.chains old desks (read_into undo) room (Changing change) refl at held.rows).0
+      (ap (λ (state : WorldState). state.schemas) step.left.rest ∙ mid_same) doing answer later step now mid_same
+
   mine_held : IsHeld new (Some s) (with_doing s doing desks) cuts undo room
   mine_held =
       let desks_then = with_doing s (doing_after change step.reached) desks in
@@ -153,3 +171,17 @@ module _ (s : ℕ) (writer : Option ℕ) (desks : List Desk) (cuts : ℕ) (undo 
       subst (λ (w : Option ℕ). ChangesIn s (lists_of old w desks left) (lists_of new w later left_now) answer) (sym locked)
       (subst (λ (ds : List Desk). ChangesIn s (lists_of old (Some s) desks left) (lists_of new (Some s) ds left_now) answer) gives_all
       (mine_shown s desks cuts undo room old new change doing answer step held_mine at was told few left left_now))
+
+  pub step_awaits : AwaitsWriter old writer desks undo.table → AwaitsWriter new writer later undo.table
+  step_awaits awaits =
+      subst (λ (w : Option ℕ). AwaitsWriter new w later undo.table) (sym locked)
+      (mine_awaits s desks cuts undo room old new change doing answer step held_mine at was told few
+      (subst (λ (w : Option ℕ). AwaitsWriter old w desks undo.table) locked awaits) later
+      (ap (doing_at s) (sym gives_all) ∙ doing_here s doing desks (changes_at_a_desk s change desks at)))
+
+-- a change that was asked for and is given up is nothing
+pub stopped : (s : ℕ) (old new : State) (change : Change) → asked (task_of s old) ≡ Some change → Changes s old new answers.NoMemory → Turns s Idle old new
+stopped s old new change asks turns = subst (λ (o : Option Change). Turns s (left_by o) old new) asks turns
+
+pub none_entered : (new old : ℕ) → new ≡ old + 0 → new ≡ old
+none_entered new old same = omega (arith, same)

@@ -18,6 +18,13 @@ nothing_shown schemas left (Changing change) is = absurd (cc)
 nothing_shown schemas left Lagging is = absurd (cc)
 nothing_shown schemas left Undoing is = absurd (cc)
 
+undoing_shown : (schemas : List Schema) (left n : ℕ) (doing : Doing) → shown schemas left doing ≡ tasks.Undoing n → doing ≡ Undoing
+undoing_shown schemas left n Undoing is = refl
+undoing_shown schemas left n Nothing is = absurd (cc)
+undoing_shown schemas left n (Searching on) is = absurd (cc)
+undoing_shown schemas left n (Changing change) is = absurd (cc)
+undoing_shown schemas left n Lagging is = absurd (cc)
+
 module _ (state : WorldState) (writer : Option ℕ) (desks : List Desk) (left s : ℕ) where
   pub nothing_if : task_of s (lists_of state writer desks left).state ≡ tasks.Idle → doing_at s desks ≡ Nothing
   nothing_if is = nothing_shown state.schemas left (doing_at s desks) (sym (task_is s left state writer desks) ∙ is)
@@ -25,3 +32,6 @@ module _ (state : WorldState) (writer : Option ℕ) (desks : List Desk) (left s 
   -- who takes a change back shows so
   pub shows_undoing : doing_at s desks ≡ Undoing → task_of s (lists_of state writer desks left).state ≡ tasks.Undoing left
   shows_undoing is = task_is s left state writer desks ∙ ap (shown state.schemas left) is
+
+  pub undoing_now : (n : ℕ) → task_of s (lists_of state writer desks left).state ≡ tasks.Undoing n → doing_at s desks ≡ Undoing
+  undoing_now n is = undoing_shown state.schemas left n (doing_at s desks) (sym (task_is s left state writer desks) ∙ is)

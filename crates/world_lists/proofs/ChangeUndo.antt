@@ -1,10 +1,9 @@
--- A change is taken back. While the buffers of its undo record are lent, what is held says the same of each room with the
--- same record.
-use Rattle.std.proofs.Common.{◌≡◌, ◌≢◌, ⊎_elim, ℕ, ◌-◌, ◌+◌, ◌<◌, ◌^◌, Bool, List, [], length, Option, sym, ap, subst, arith}
+-- A change is taken back: its undo record is read, and step by step its rows and keys are what was before. Then the record
+-- goes, the history tells it, and the indexes of the table are left.
+use Rattle.std.proofs.Common.{◌≡◌, ◌≢◌, ⊎_elim, ℕ, ◌-◌, ◌+◌, ◌<◌, ◌^◌, Bool, true, false, List, [], length, Option, Some, refl, sym, ap, subst, ◌∙◌, arith, slice_get}
 use Rattle.std.proofs.lemmas.Option.{slice_get_within}
 use Rattle.inno_model.specs.declared.event.Event.TheVariants.{Undone}
 use Rattle.inno_model.specs.Past.{own}
-use Rattle.store_api.specs.declared.answers.Undo.{Undo}
 use Rattle.store_api.specs.declared.moves.Move.{Move}
 use Rattle.store_api.specs.declared.moves.Move.TheVariants.{Done, Step}
 use Rattle.law_past_agreement.specs.Order.{MayCome}
@@ -19,45 +18,30 @@ use Rattle.shared_lists.specs.State.{Lists, task_of}
 use Rattle.shared_lists.specs.declared.answers.Undone.{Undone as Answer}
 use Rattle.shared_lists.specs.declared.answers.Undone.TheVariants as undone
 use Rattle.desks.specs.declared.desk.Desk.{Desk}
-use Rattle.desks.specs.declared.desk.Doing.TheVariants.{Nothing, Undoing}
+use Rattle.desks.specs.declared.desk.Doing.{Doing}
+use Rattle.desks.specs.declared.desk.Doing.TheVariants.{Nothing, Searching, Changing, Lagging, Undoing}
 use Rattle.desks.specs.Desks.{doing_at, with_doing}
 use Rattle.desks.specs.Shown.{lists_of}
-use Rattle.desks.specs.Undoing.{undo_left_in}
-use Rattle.desks.specs.Holding.{IsHeld, RowsHeldBy}
+use Rattle.desks.specs.Undoing.{undo_left_in, left_at, keys_if, most_versions}
+use Rattle.desks.specs.Holding.{IsHeld}
 use Rattle.law_held_undoing.specs.Undoing.{IsReady, HasPutBack}
 use Rattle.law_held_undoing.specs.Seen.{lists_held, TakesBackIn}
-use Rattle.law_held_undoing.proofs.Putting.{held_on}
-use Rattle.law_held_undoing.proofs.Reading.{held_begun}
-use Rattle.law_held_undoing.proofs.Showing.{ready_if, shows_begun, shows_went, shows_hindered, shows_undone}
+use Rattle.law_held_undoing.proofs.Putting.{going, rest_beside, goes_or_is_done}
+use Rattle.law_held_undoing.proofs.Reading.{held_begun, may_write}
+use Rattle.law_held_undoing.proofs.Showing.{ready_if, shows_begun, shows_undone}
 use Rattle.law_held_undoing.proofs.TakenBack.{own_number, has_logged, may_add, held_then}
-use Rattle.world_lists.specs.Parts.{DropsNewest}
+use Rattle.inno_types.specs.declared.value.Schema.{Schema}
+use Rattle.entries.specs.Index.{Index}
+use Rattle.chain.specs.declared.kept.Kept.{Kept}
+use Rattle.undo_apply.specs.declared.work_room.Stage.{Stage}
+use Rattle.row_changes.specs.Awaited.{AwaitsIn, IsOfTable}
+use Rattle.law_held_changes.specs.Leaving.{LeavesIndexes, is_searching}
+use Rattle.law_held_changes.proofs.Left.{held_left}
+use Rattle.law_held_changes.proofs.Showing.{left_shown}
+use Rattle.world_lists.specs.Between.{AwaitsOnly, AwaitsWriter, can_await, table_at}
+use Rattle.world_lists.specs.Parts.{DropsNewest, AwaitsAfter}
+use Rattle.world_lists.proofs.Awaiting.{only_then, awaits_none, nobody_then, awaits_of_nobody, writer_of_only}
 use Rattle.world_lists.proofs.ChangeTasks.{shows_undoing}
-
--- ---- another room with the same record
-
-pub held_with : (state : WorldState) (writer : Option ℕ) (desks : List Desk) (cuts : ℕ) (undo other : UndoRoom) (room : WorkRoom)
-    → read_into other ≡ read_into undo → IsHeld state writer desks cuts undo room → IsHeld state writer desks cuts other room
-held_with state writer desks cuts undo other room same held = record {
-  chains = held.chains;
-  agrees = held.agrees;
-  fits = held.fits;
-  rows = subst (λ (read : Undo). RowsHeldBy writer held.chains state desks read room) (sym same) held.rows;
-  quiet = held.quiet;
-  searches = held.searches;
-  logs = held.logs;
-  has_room = held.has_room;
-  started = held.started;
-  count = held.count;
-  few = held.few;
-  cut = held.cut;
-  short = held.short;
-  whole = held.whole;
-}
-
-shows_with : (state : WorldState) (writer : Option ℕ) (desks : List Desk) (undo other : UndoRoom) (room : WorkRoom) → read_into other ≡ read_into undo
-    → lists_held state writer desks undo room ≡ lists_held state writer desks other room
-shows_with state writer desks undo other room same =
-    ap (λ (table : ℕ). lists_of state writer desks (undo_left_in table room.stage state)) (sym (ap (λ (read : Undo). read.table) same))
 
 -- ---- a session that may take its newest change back
 
@@ -76,6 +60,13 @@ module _ (s : ℕ) (state : WorldState) (writer : Option ℕ) (desks : List Desk
   pub at_a_desk : s < length (lists_held state writer desks undo room).state.names → s < length desks
   at_a_desk joined = let count = held.count in let here : s < length state.names = joined in omega arith
 
+ready_rests : (doing : Doing) → IsReady doing → can_await doing ≡ false
+ready_rests Nothing ready = refl
+ready_rests Lagging ready = refl
+ready_rests (Searching on) ready = absurd ready
+ready_rests (Changing change) ready = absurd ready
+ready_rests Undoing ready = absurd ready
+
 -- the record is read
 module _ (s : ℕ) (old new : WorldState) (writer : Option ℕ) (desks : List Desk) (cuts : ℕ) (undo read : UndoRoom) (room : WorkRoom)
     (there : Bool) (held : IsHeld old writer desks cuts undo room) (may : MayUndo s (lists_held old writer desks undo room))
@@ -92,6 +83,14 @@ module _ (s : ℕ) (old new : WorldState) (writer : Option ℕ) (desks : List De
       (held_begun s (keep_of s (lists_held old writer desks undo room)) old new writer desks cuts undo read room there held may.may reads
       (at_a_desk s old writer desks cuts undo room held may.joined) is_ready memory)
 
+  -- nobody is awaited
+  pub read_awaits : AwaitsWriter old writer desks undo.table → AwaitsWriter new writer later read.table
+  read_awaits awaits =
+      awaits_of_nobody new writer later read.table
+      (nobody_then old new (awaits_none s old writer desks undo.table awaits
+      (may_write s (keep_of s (lists_held old writer desks undo room)) old writer desks cuts undo room held may.may) (ready_rests (doing_at s desks) is_ready))
+      (λ index by is. sym (reads.1.indexes index).awaited ∙ is))
+
   pub read_shown : TakesBackIn s (keep_of s (lists_held old writer desks undo room)) (lists_held old writer desks undo room)
       (lists_held new writer later read room) undone.Went
   read_shown =
@@ -100,33 +99,10 @@ module _ (s : ℕ) (old new : WorldState) (writer : Option ℕ) (desks : List De
       (shows_begun s (keep_of s was) old new writer desks cuts undo read room there held
       (at_a_desk s old writer desks cuts undo room held may.joined) is_ready may.may memory reads)
 
--- ---- a step, whose record stands in another room afterwards
+-- ---- a step
 
 pub step_is_not_done : Step ≢ Done
 step_is_not_done same = cc
-
-module _ (s : ℕ) (old mid : WorldState) (writer : Option ℕ) (desks : List Desk) (cuts : ℕ) (undo other : UndoRoom) (room next : WorkRoom)
-    (held : IsHeld old writer desks cuts undo room) (same : read_into other ≡ read_into undo) (busy : doing_at s desks ≡ Undoing)
-    (memory : IsInMemory old) where
-  pub step_on : (answer : Move) → IsInMemory mid → HasPutBack s (read_into undo) room next old mid answer → answer ≢ Done
-      → IsHeld mid writer desks cuts other next
-  step_on answer later put not_done =
-      held_with mid writer desks cuts undo other next same
-      (held_on s old mid writer desks cuts undo room next held busy answer memory later put not_done)
-
-  pub step_went : IsInMemory mid → HasPutBack s (read_into undo) room next old mid Step
-      → TakesBackIn s (length (own s old.past) - 1) (lists_held old writer desks undo room) (lists_held mid writer desks other next) undone.Went
-  step_went later put =
-      subst (λ (now : Lists). TakesBackIn s (length (own s old.past) - 1) (lists_held old writer desks undo room) now undone.Went)
-      (shows_with mid writer desks undo other next same)
-      (shows_went s (length (own s old.past) - 1) old mid writer desks cuts undo room next held busy memory later put)
-
-  pub step_hindered : (answer : Move) → IsInMemory mid → HasPutBack s (read_into undo) room next old mid answer → answer ≢ Done → answer ≢ Step
-      → TakesBackIn s (length (own s old.past) - 1) (lists_held old writer desks undo room) (lists_held mid writer desks other next) undone.NoMemory
-  step_hindered answer later put not_done not_step =
-      subst (λ (now : Lists). TakesBackIn s (length (own s old.past) - 1) (lists_held old writer desks undo room) now undone.NoMemory)
-      (shows_with mid writer desks undo other next same)
-      (shows_hindered s (length (own s old.past) - 1) old mid writer desks cuts undo room next held busy answer later put not_done not_step)
 
 -- the undo record may go
 module _ (s : ℕ) (old mid : WorldState) (writer : Option ℕ) (desks : List Desk) (cuts : ℕ) (undo : UndoRoom) (room next : WorkRoom)
@@ -162,19 +138,105 @@ module _ (s : ℕ) (old mid : WorldState) (writer : Option ℕ) (desks : List De
         (shows_undone s ((standing_of drops.session).own - 1) old mid drops.cut new writer desks cuts undo other room next held joined busy put
         drops.cuts drops.added))
 
+-- ---- the indexes of the table are left
+
+same_left : (table : ℕ) (stage : Stage) (old new : WorldState) → new.schemas ≡ old.schemas → new.versions.kept_at ≡ old.versions.kept_at
+    → undo_left_in table stage new ≡ undo_left_in table stage old
+same_left table stage old new schemas kept =
+    ap (λ (s : List Schema). left_at (keys_if (slice_get s table)) most_versions new.versions.kept_at stage) schemas
+    ∙ ap (λ (k : ℕ → Option Kept). left_at (keys_if (slice_get old.schemas table)) most_versions k stage) kept
+
+module _ (s : ℕ) (old new : WorldState) (writer : Option ℕ) (desks : List Desk) (cuts : ℕ) (undo : UndoRoom) (room : WorkRoom)
+    (leaves : LeavesIndexes s old new) (memory : IsInMemory new) where
+  same_seen : lists_held old writer desks undo room ≡ lists_held new writer desks undo room
+  same_seen =
+      ap (lists_of old writer desks) (sym (same_left undo.table room.stage old new (ap (λ (state : WorldState). state.schemas) leaves.rest)
+      (leaves.versions.kept memory.told.versions)))
+      ∙ sym (left_shown s writer desks (undo_left_in undo.table room.stage new) old new leaves)
+
+  pub left_held : doing_at s desks ≡ Nothing → IsHeld old writer desks cuts undo room → IsHeld new writer desks cuts undo room
+  left_held rest held = held_left s writer old new leaves desks cuts undo room held (ap is_searching rest) memory.told
+
+  pub left_seen : (keep : ℕ) (was : Lists) (answer : Answer) → TakesBackIn s keep was (lists_held old writer desks undo room) answer
+      → TakesBackIn s keep was (lists_held new writer desks undo room) answer
+  left_seen keep was answer takes = subst (λ (now : Lists). TakesBackIn s keep was now answer) same_seen takes
+
+-- the last step and what comes with it call no index but that of the table
+pub drops_same : (s : ℕ) (mid new : WorldState) → (drops : DropsNewest s mid new)
+    → (now : Session) × (work : Work) × HasWork s now work drops.cut × (0 < work.own) → (new.indexes ≡ mid.indexes) × (new.schemas ≡ mid.schemas)
+drops_same s mid new drops (now, work, has, some) =
+    let is = drops.added now work has in
+    let cut = drops.cuts.rest in (
+      ap (λ (state : WorldState). state.indexes) is ∙ ap (λ (state : WorldState). state.indexes) cut,
+      ap (λ (state : WorldState). state.schemas) is ∙ ap (λ (state : WorldState). state.schemas) cut,
+    )
+
+pub only_dropped : (s table : ℕ) (old mid new : WorldState) → AwaitsOnly s table old → AwaitsIn s table old mid → mid.schemas ≡ old.schemas
+    → (new.indexes ≡ mid.indexes) × (new.schemas ≡ mid.schemas) → AwaitsOnly s table new
+only_dropped s table old mid new only awaits schemas same =
+    let at_mid = only_then s table old mid only awaits schemas in
+    record {
+      each = λ index by is.
+          (let was = at_mid.each index by (ap (λ (at : ℕ → Index). (at index).awaited) (sym same.0) ∙ is) in
+          (was.0, subst (λ (schemas : List Schema). IsOfTable table schemas index) (sym same.1) was.1));
+    }
+
+-- ---- the table of the record
+
+-- it is there, and has few keys
+pub has_table : (s : ℕ) (old new : WorldState) (writer : Option ℕ) (desks : List Desk) (cuts : ℕ) (undo : UndoRoom) (room : WorkRoom)
+    → IsHeld old writer desks cuts undo room → doing_at s desks ≡ Undoing → new.schemas ≡ old.schemas
+    → (schema : Schema) × (slice_get new.schemas undo.table ≡ Some schema) × (length schema.keys < 5)
+has_table s old new writer desks cuts undo room held busy same =
+    let tells = (going s old old writer desks cuts undo room room held busy).putting.tells in
+    let schema = (going s old old writer desks cuts undo room room held busy).putting.schema in
+    let few = tells.storable.few in
+    let fewer : length schema.keys < 5 = omega (arith, few) in
+    (schema, ap (λ (schemas : List Schema). slice_get schemas undo.table) same ∙ tells.there, fewer)
+
+pub same_schemas : (s : ℕ) (old mid : WorldState) (writer : Option ℕ) (desks : List Desk) (cuts : ℕ) (undo : UndoRoom) (room next : WorkRoom)
+    → IsHeld old writer desks cuts undo room → doing_at s desks ≡ Undoing → (answer : Move) → HasPutBack s (read_into undo) room next old mid answer
+    → mid.schemas ≡ old.schemas
+same_schemas s old mid writer desks cuts undo room next held busy answer put =
+    ap (λ (state : WorldState). state.schemas) (rest_beside s old mid writer desks cuts undo room next held busy answer put)
+
+-- nothing hinders it
+pub is_made : (s : ℕ) (old mid : WorldState) (writer : Option ℕ) (desks : List Desk) (cuts : ℕ) (undo : UndoRoom) (room next : WorkRoom)
+    → IsHeld old writer desks cuts undo room → doing_at s desks ≡ Undoing → (answer : Move) → IsInMemory old → AwaitsOnly s undo.table old
+    → HasPutBack s (read_into undo) room next old mid answer → answer ≢ Done → answer ≢ Step → ⊥
+is_made s old mid writer desks cuts undo room next held busy answer memory only put not_done not_step =
+    ⊎_elim (λ done. not_done done) (λ step. not_step step)
+    (goes_or_is_done s old mid writer desks cuts undo room next held busy answer memory (λ index by is. (only.each index by is).0) put)
+
 -- ---- what a step leaves
 
-pub record StepsBack (s : ℕ) (writer : Option ℕ) (old : WorldState) (desks : List Desk) (undo other : UndoRoom) (room next : WorkRoom)
+pub record StepsBack (s : ℕ) (writer : Option ℕ) (old : WorldState) (desks : List Desk) (undo : UndoRoom) (room next : WorkRoom)
     (new : WorldState) (later : List Desk) (cuts : ℕ) (answer : Answer) : Type 0 where
-  pub held : IsHeld new writer later cuts other next
-  pub takes : TakesBackIn s (length (own s old.past) - 1) (lists_held old writer desks undo room) (lists_held new writer later other next) answer
+  pub held : IsHeld new writer later cuts undo next
+  pub takes : TakesBackIn s (length (own s old.past) - 1) (lists_held old writer desks undo room) (lists_held new writer later undo next) answer
 
 -- where values have other names
-pub named : (s : ℕ) (writer : Option ℕ) (old : WorldState) (desks : List Desk) (undo other : UndoRoom) (room next : WorkRoom)
+pub named : (s : ℕ) (writer : Option ℕ) (old : WorldState) (desks : List Desk) (undo : UndoRoom) (room next : WorkRoom)
     (new now : WorldState) (later given : List Desk) (cuts more : ℕ) (answer is : Answer) → now ≡ new → given ≡ later → more ≡ cuts → is ≡ answer
-    → StepsBack s writer old desks undo other room next new later cuts answer → StepsBack s writer old desks undo other room next now given more is
-named s writer old desks undo other room next new now later given cuts more answer is worlds gives count same step =
-    subst (λ (state : WorldState). StepsBack s writer old desks undo other room next state given more is) (sym worlds)
-    (subst (λ (ds : List Desk). StepsBack s writer old desks undo other room next new ds more is) (sym gives)
-    (subst (λ (n : ℕ). StepsBack s writer old desks undo other room next new later n is) (sym count)
-    (subst (λ (a : Answer). StepsBack s writer old desks undo other room next new later cuts a) (sym same) step)))
+    → StepsBack s writer old desks undo room next new later cuts answer → StepsBack s writer old desks undo room next now given more is
+named s writer old desks undo room next new now later given cuts more answer is worlds gives count same step =
+    subst (λ (state : WorldState). StepsBack s writer old desks undo room next state given more is) (sym worlds)
+    (subst (λ (ds : List Desk). StepsBack s writer old desks undo room next new ds more is) (sym gives)
+    (subst (λ (n : ℕ). StepsBack s writer old desks undo room next new later n is) (sym count)
+    (subst (λ (a : Answer). StepsBack s writer old desks undo room next new later cuts a) (sym same) step)))
+
+pub awaits_named : (s table : ℕ) (desks : List Desk) (new now : WorldState) (later given : List Desk) (answer is : Answer) → now ≡ new → given ≡ later
+    → is ≡ answer → AwaitsAfter s table new desks later answer → AwaitsAfter s table now desks given is
+awaits_named s table desks new now later given answer is worlds gives same awaits =
+    subst (λ (state : WorldState). AwaitsAfter s table state desks given is) (sym worlds)
+    (subst (λ (ds : List Desk). AwaitsAfter s table new desks ds is) (sym gives)
+    (subst (λ (a : Answer). AwaitsAfter s table new desks later a) (sym same) awaits))
+
+-- who is awaited after it
+pub awaits_after : (s : ℕ) (new : WorldState) (writer : Option ℕ) (desks later : List Desk) (table : ℕ) (answer : Answer) → writer ≡ Some s
+    → doing_at s desks ≡ Undoing → AwaitsAfter s table new desks later answer → AwaitsWriter new writer later table
+awaits_after s new writer desks later table undone.Went mine busy awaits =
+    let at : doing_at s later ≡ Undoing = ap (doing_at s) awaits.1 ∙ busy in
+    subst (λ (w : Option ℕ). AwaitsWriter new w later table) (sym mine)
+    (writer_of_only s table table new later awaits.0 (ap can_await at) (ap (table_at table) at))
+awaits_after s new writer desks later table undone.Undone mine busy awaits = awaits_of_nobody new writer later table awaits

@@ -11,3 +11,4 @@ pub mod ChangeUndo
 pub mod ChangeSteps
 pub mod ChangeBegin
 pub mod ChangeGoesOn
+pub mod Awaiting

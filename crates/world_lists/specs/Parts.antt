@@ -1,5 +1,5 @@
 -- What the parts of a step do to a world.
-use Rattle.std.specs.Prelude.{◌≡◌, ℕ, ◌-◌, Bool, true, false}
+use Rattle.std.specs.Prelude.{◌≡◌, ℕ, ◌-◌, Bool, true, false, List}
 use Rattle.row_versions.specs.Chains.{Chains}
 use Rattle.world.specs.State.{WorldState, Session, Work, IsSession, HasWork, standing_of}
 use Rattle.world.specs.Sessions.{undone_added}
@@ -8,12 +8,17 @@ use Rattle.row_changes.specs.declared.row_change.RowChange.{RowChange}
 use Rattle.row_changes.specs.declared.row_change.RowChange.TheVariants.{Record, Keys}
 use Rattle.row_changes.specs.declared.reached.Reached.{Reached}
 use Rattle.row_changes.specs.declared.reached.Reached.TheVariants as reached
-use Rattle.row_changes.specs.Rows.{IsChangingRow, ChangesRow}
+use Rattle.row_changes.specs.Rows.{IsChangingRow, ChangesRow, table_of}
 use Rattle.shared_lists.specs.declared.answers.Changed.{Changed}
 use Rattle.shared_lists.specs.declared.answers.Changed.TheVariants.{Went, Entered, Done, NoMemory}
 use Rattle.desks.specs.declared.desk.Doing.{Doing}
 use Rattle.law_held_changes.specs.Making.{doing_after}
-use Rattle.law_held_changes.specs.Leaving.{LeavesIndexes}
+use Rattle.shared_lists.specs.declared.answers.Undone.{Undone}
+use Rattle.shared_lists.specs.declared.answers.Undone.TheVariants as undone
+use Rattle.row_changes.specs.Awaited.{AwaitsIn}
+use Rattle.desks.specs.declared.desk.Desk.{Desk}
+use Rattle.world_lists.specs.Between.{AwaitsOnly, AwaitsNobody}
+use Rattle.law_held_changes.specs.Leaving.{LeavesIndexes, LeavesTable}
 
 -- whether the history tells the change
 abbrev pub is_told : RowChange → Bool
@@ -27,12 +32,23 @@ answer_for change (reached.Went next) = Went
 answer_for change reached.Done = Done
 answer_for change (reached.Hindered same why) = NoMemory
 
--- The change has made a step; one that was hindered awaits no keys any more.
+abbrev pub LeavesIfOver : ℕ → ℕ → WorldState → WorldState → Reached RowChange → Type 0
+LeavesIfOver s table old new (reached.Went next) = Unit {0}
+LeavesIfOver s table old new other = LeavesTable s table old new
+
+-- Whom a step of a taking back leaves awaited: its session, at the indexes of the table, and in the end nobody.
+abbrev pub AwaitsAfter : ℕ → ℕ → WorldState → List Desk → List Desk → Undone → Type 0
+AwaitsAfter s table new desks later undone.Went = AwaitsOnly s table new × (later ≡ desks)
+AwaitsAfter s table new desks later undone.Undone = AwaitsNobody new
+
+-- The change has made a step; one that is over, or was hindered, awaits no keys any more.
 pub record StepsChange (s : ℕ) (change : RowChange) (old new : WorldState) (doing : Doing) (answer : Changed) : Type 0 where
   pub mid : WorldState
   pub reached : Reached RowChange
   pub made : (chains : Chains) → IsChangingRow s chains old change → ChangesRow s chains old mid change reached
+  pub awaits : AwaitsIn s (table_of change) old mid
   pub left : LeavesIndexes s mid new
+  pub gone : LeavesIfOver s (table_of change) mid new reached
   pub doing_is : doing ≡ doing_after change reached
   pub answer_is : answer ≡ answer_for change reached
 

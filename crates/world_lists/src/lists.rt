@@ -8,7 +8,7 @@ use desks::Desk;
 use std::alloc::Global;
 use std::marker::Model;
 use store_api::NoMemory;
-use undo_apply::WorkRoom;
+use undo_apply::{RecordRoom, WorkRoom};
 use world::{EngineWorld, UndoRoom};
 
 /// The lists over a world.
@@ -22,15 +22,17 @@ pub struct WorldLists<W: EngineWorld> {
     pub(crate) desks: Vec<Desk>,
     /// How many older versions were dropped.
     pub(crate) cuts: u64,
-    /// The undo record of the change that is being taken back, and how far that has come. Who may write has one at most.
+    /// The undo record of the change that is being taken back, the lists by which it is handed on, and how far that has come.
+    /// Who may write takes one back at most.
     pub(crate) undo: UndoRoom,
+    pub(crate) record: RecordRoom,
     pub(crate) room: WorkRoom,
 }
 
 impl<W: EngineWorld> Model for WorldLists<W> {
     ghost use Rattle.shared_lists.specs.State.{Lists};
     ghost use Rattle.world_lists.specs.Code.{lists_code};
-    ghost use Rattle.desks.specs.Holding.{IsHeld};
+    ghost use Rattle.world_lists.specs.Between.{IsKept};
     ghost use Rattle.desks.specs.Shown.{lists_of};
     ghost use Rattle.desks.specs.Undoing.{undo_left_in};
 
@@ -40,7 +42,7 @@ impl<W: EngineWorld> Model for WorldLists<W> {
 
     ghost view = { λ l. lists_of (W.state l.world) l.writer l.desks.items (undo_left_in l.undo.table l.room.stage (W.state l.world)) };
 
-    ghost invariant = { λ l. IsHeld (W.state l.world) l.writer l.desks.items l.cuts l.undo l.room };
+    ghost invariant = { λ l. IsKept (W.state l.world) l.writer l.desks.items l.cuts l.undo l.room };
 }
 
 impl<W: EngineWorld> WorldLists<W> {
@@ -57,6 +59,7 @@ impl<W: EngineWorld> WorldLists<W> {
             desks: Vec::new(alloc),
             cuts: 0,
             undo: UndoRoom::new(alloc)?,
+            record: RecordRoom::new(alloc)?,
             room: WorkRoom::new(alloc)?,
         })
     }

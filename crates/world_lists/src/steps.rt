@@ -3,7 +3,7 @@
 use crate::keys::key_of_edit;
 use crate::lists::{WorldLists, is_short};
 use crate::reading::{found_rows, is_quiet, newest_rows, own_sight, rows_of, taken_up};
-use crate::undoing::{edit_of, is_undoing, step_change, take_newest_back};
+use crate::undoing::{drop_change, edit_of, is_undoing, step_change, take_newest_back};
 use desks::{Desk, Doing, TableSearch, give_doing, take_doing};
 use inno_db::Change;
 use inno_model::History;
@@ -13,7 +13,7 @@ use row_search::{Reached, RowSearch, Sight};
 use session_settings::SessionSettings;
 use shared_lists::{Changed, Reading, Searched, SharedLists, Undone};
 use sql_plan::Plan;
-use store_api::{MOST_BYTES_OF_KEY, MOST_BYTES_OF_VALUE, MOST_SESSIONS, Move, NoMemory};
+use store_api::{MOST_SESSIONS, Move, NoMemory};
 use world::EngineWorld;
 
 impl<W: EngineWorld> SharedLists for WorldLists<W> {
@@ -260,6 +260,16 @@ impl<W: EngineWorld> SharedLists for WorldLists<W> {
         changed
     }
 
+    fn stop_change(&mut self, session: u32) {
+        let doing = take_doing(&mut self.desks, session);
+        let Doing::Changing(change) = doing else {
+            unreachable!()
+        };
+        let doing = drop_change(&mut self.world, session, change);
+        give_doing(&mut self.desks, session, doing);
+        is_short(&self.world);
+    }
+
     fn undo(&mut self, session: u32) -> Undone {
         if is_undoing(&self.desks, session) {
             self.take_back(session)
@@ -286,11 +296,6 @@ impl<W: EngineWorld> WorldLists<W> {
         requires waits { (left : ℕ) → task_of session self.old.state ≡ Undoing left → ⊥ }
         ensures { TakesBackIn session (length (own session self.old.state.past) - 1) self.old self.new result }
     {
-        if self.undo.key.capacity() < MOST_BYTES_OF_KEY
-            || self.undo.value.capacity() < MOST_BYTES_OF_VALUE
-        {
-            return Undone::NoMemory;
-        }
         let mut there = false;
         match self
             .world
@@ -312,12 +317,12 @@ impl<W: EngineWorld> WorldLists<W> {
         ensures { TakesBackIn session (length (own session self.old.state.past) - 1) self.old self.new result }
     {
         take_newest_back(
-            self.alloc,
             &mut self.world,
             session,
             &mut self.desks,
             &mut self.cuts,
-            &mut self.undo,
+            &self.undo,
+            &mut self.record,
             &mut self.room,
         )
     }

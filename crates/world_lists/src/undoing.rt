@@ -2,33 +2,29 @@
 
 ghost use Rattle.std.specs.Prelude.{◌≡◌, ◌≢◌, ℕ, ◌-◌, ◌<◌, Option, [], length, slice_get, Some, IsTrue, ◌↔◌, IfSome, IfNone};
 ghost use Rattle.inno_types.specs.declared.value.Schema.{Schema};
-ghost use Rattle.row_versions.specs.declared.place.Place.{Place};
 ghost use Rattle.row_versions.specs.Chains.{Chains};
 ghost use Rattle.world.specs.State.{Session, Work, IsSession, HasWork, standing_of};
-ghost use Rattle.world.specs.Told.{TellsTogether};
-ghost use Rattle.world.specs.Undoing.{read_into, IsCutBack};
+ghost use Rattle.world.specs.Undoing.{IsCutBack};
 ghost use Rattle.law_past_agreement.specs.Order.{IsOfRow};
 ghost use Rattle.row_changes.specs.Edits.{change_of};
 ghost use Rattle.row_changes.specs.Rows.{IsChangingRow, table_of};
 ghost use Rattle.inno_model.specs.Past.{own};
 ghost use Rattle.desks.specs.Desks.{doing_at};
 ghost use Rattle.desks.specs.Holding.{IsHeld};
-ghost use Rattle.undo_apply.specs.Stages.{IsPuttingBack};
-ghost use Rattle.law_held_changes.specs.Leaving.{LeavesIndexes};
+ghost use Rattle.law_held_changes.specs.Leaving.{LeavesIndexes, LeavesTable};
 ghost use Rattle.law_held_changes.specs.Making.{given_up};
-ghost use Rattle.law_held_undoing.specs.Undoing.{HasPutBack};
 ghost use Rattle.law_held_undoing.specs.Seen.{lists_held, TakesBackIn};
-ghost use Rattle.world_lists.specs.Parts.{StepsChange, DropsNewest, is_told, answer_for};
+ghost use Rattle.world_lists.specs.Parts.{StepsChange, DropsNewest, AwaitsAfter, is_told, answer_for};
+ghost use Rattle.world_lists.specs.Between.{AwaitsOnly};
 
 use crate::lists::is_short;
 use desks::{Desk, Doing, give_doing};
 use inno_db::Change;
-use inno_types::Bytes;
 use row_changes::{Reached, RowChange, RowEdit};
 use shared_lists::{Changed, Undone};
 use std::alloc::Global;
-use store_api::{Move, Undo};
-use undo_apply::{WorkRoom, put_back};
+use store_api::Move;
+use undo_apply::{RecordRoom, WorkRoom};
 use world::{EngineWorld, UndoRoom, index_number};
 
 /// Whether the session takes a change back.
@@ -39,7 +35,7 @@ pub fn is_undoing(desks: &[Desk], session: u32) -> bool
     matches!(&desks[session as usize].doing, Doing::Undoing)
 }
 
-/// One step of a change. One that is hindered leaves the indexes of its table, and awaits no keys there.
+/// One step of a change. One that is over, or hindered, leaves the indexes of its table, and awaits no keys there.
 pub fn step_change<W: EngineWorld>(
     alloc: Global,
     world: &mut W,
@@ -56,12 +52,27 @@ pub fn step_change<W: EngineWorld>(
             let answer = answer_for(is_told, &next);
             (Doing::Changing(next), answer)
         }
-        Reached::Done => (Doing::Nothing, Changed::Done),
+        Reached::Done => {
+            leave_table(world, session, table);
+            (Doing::Nothing, Changed::Done)
+        }
         Reached::Hindered(_same, _why) => {
             leave_table(world, session, table);
             (given_up(is_told), Changed::NoMemory)
         }
     }
+}
+
+/// Gives a change up, as one is that finds no memory. It leaves the indexes of its table.
+pub fn drop_change<W: EngineWorld>(world: &mut W, session: u32, change: RowChange) -> Doing
+    requires changing { (chains : Chains) × IsChangingRow session chains (W.state world.old) change }
+    requires untold { is_told change ≡ false }
+    ensures { StepsChange session change (W.state world.old) (W.state world.new) result Changed.NoMemory }
+{
+    let table = table_of(&change);
+    drop(change);
+    leave_table(world, session, table);
+    Doing::Nothing
 }
 
 /// Whether the history tells the change.
@@ -105,7 +116,8 @@ fn table_of(change: &RowChange) -> u8
 /// Leaves all indexes of a table.
 fn leave_table<W: EngineWorld>(world: &mut W, session: u32, table: u8)
     requires { (schema : Schema) × (slice_get (W.state world.old).schemas table ≡ Some schema) × (length schema.keys < 5) }
-    ensures { LeavesIndexes session (W.state world.old) (W.state world.new) }
+    ensures leaves { LeavesIndexes session (W.state world.old) (W.state world.new) }
+    ensures gone { LeavesTable session table (W.state world.old) (W.state world.new) }
 {
     let keys = world.tables().as_slice()[table as usize].keys.len() as u8;
     for which in 0..keys + 1 {
@@ -125,53 +137,6 @@ pub fn edit_of(change: Change) -> Option<(u8, RowEdit)>
     }
 }
 
-/// The undo record, whose buffers are lent.
-fn take_record(alloc: Global, undo: &mut UndoRoom) -> Undo
-    ensures { result ≡ read_into undo.old }
-{
-    Undo {
-        kind: undo.kind,
-        table: undo.table,
-        key: Bytes::from_vec(std::mem::replace(&mut undo.key, Vec::new(alloc))),
-        value: Bytes::from_vec(std::mem::replace(&mut undo.value, Vec::new(alloc))),
-    }
-}
-
-/// Gives the buffers back.
-fn give_record(lent: Undo, undo: &mut UndoRoom)
-    ensures { read_into undo.new ≡ lent }
-{
-    let Undo {
-        kind,
-        table,
-        key,
-        value,
-    } = lent;
-    undo.kind = kind;
-    undo.table = table;
-    undo.key = key.into_vec();
-    undo.value = value.into_vec();
-}
-
-/// Makes one step by which the change of the undo record is taken back. The record's buffers are lent meanwhile.
-fn step_undo<W: EngineWorld>(
-    alloc: Global,
-    world: &mut W,
-    session: u32,
-    undo: &mut UndoRoom,
-    room: &mut WorkRoom,
-) -> Move
-    requires under_way { (chains : Chains) × (place : Place) × IsPuttingBack chains place (read_into undo.old) room.old (W.state world.old) }
-    requires together { TellsTogether (W.state world.old) }
-    ensures put { HasPutBack session (read_into undo.old) room.old room.new (W.state world.old) (W.state world.new) result }
-    ensures same { read_into undo.new ≡ read_into undo.old }
-{
-    let record = take_record(alloc, undo);
-    let answer = put_back(world, session, &record, room);
-    give_record(record, undo);
-    answer
-}
-
 /// Drops the session's newest undo record, and tells the history that its change is taken back.
 fn drop_newest<W: EngineWorld>(world: &mut W, session: u32)
     requires few { session < 68 }
@@ -189,33 +154,36 @@ fn drop_newest<W: EngineWorld>(world: &mut W, session: u32)
 }
 
 /// Makes one step by which the session's newest change is taken back. After the last one the history tells it, and one older
-/// version more was dropped.
+/// version more was dropped. Nothing hinders it: the buffers have room, and nobody else is awaited.
 pub fn take_newest_back<W: EngineWorld>(
-    alloc: Global,
     world: &mut W,
     session: u32,
     desks: &mut Vec<Desk>,
     cuts: &mut u64,
-    undo: &mut UndoRoom,
+    undo: &UndoRoom,
+    record: &mut RecordRoom,
     room: &mut WorkRoom,
 ) -> Undone
-    requires held { (writer : Option ℕ) × IsHeld (W.state world.old) writer desks.old.items cuts.old undo.old room.old }
+    requires held { (writer : Option ℕ) × IsHeld (W.state world.old) writer desks.old.items cuts.old undo.now room.old }
     requires joined { session < length desks.old.items }
     requires busy { doing_at session desks.old.items ≡ Doing.Undoing }
-    ensures held { (writer : Option ℕ) → IsHeld (W.state world.old) writer desks.old.items cuts.old undo.old room.old
-        → IsHeld (W.state world.new) writer desks.new.items cuts.new undo.new room.new }
-    ensures takes { (writer : Option ℕ) → IsHeld (W.state world.old) writer desks.old.items cuts.old undo.old room.old
-        → TakesBackIn session (length (own session (W.state world.old).past) - 1) (lists_held (W.state world.old) writer desks.old.items undo.old room.old) (lists_held (W.state world.new) writer desks.new.items undo.new room.new) result }
+    requires awaits { AwaitsOnly session undo.now.table (W.state world.old) }
+    ensures held { (writer : Option ℕ) → IsHeld (W.state world.old) writer desks.old.items cuts.old undo.now room.old
+        → IsHeld (W.state world.new) writer desks.new.items cuts.new undo.now room.new }
+    ensures takes { (writer : Option ℕ) → IsHeld (W.state world.old) writer desks.old.items cuts.old undo.now room.old
+        → TakesBackIn session (length (own session (W.state world.old).past) - 1) (lists_held (W.state world.old) writer desks.old.items undo.now room.old) (lists_held (W.state world.new) writer desks.new.items undo.now room.new) result }
+    ensures awaits { AwaitsAfter session undo.now.table (W.state world.new) desks.old.items desks.new.items result }
 {
-    match step_undo(alloc, world, session, undo, room) {
+    match record.put_back(world, session, undo, room) {
         Move::Done => {
             drop_newest(world, session);
             give_doing(desks, session, Doing::Nothing);
             is_short(world);
+            leave_table(world, session, undo.table);
             *cuts += 1;
             Undone::Undone
         }
         Move::Step => Undone::Went,
-        _ => Undone::NoMemory,
+        _ => unreachable!(),
     }
 }

@@ -345,12 +345,6 @@ may_take_back before s past task back = elim back [ inl idle ↦ subst MayTakeBa
 pub rests : (before s : ℕ) (past : List Event) (task : Task) → length (own s past) ≤ before → MayGoBack before s past task → task ≡ Idle
 rests before s past task few back = elim back [ inl idle ↦ idle | inr under ↦ absurd (omega (arith, few, under.1)) ]
 
-pub made_a_step : (answer : Undone) → (answer ≡ undone.Went) ⊎ (answer ≡ undone.Undone) → answer ≢ undone.NoMemory
-made_a_step answer made is = elim made [
-  | inl went ↦ (let e : undone.Went ≡ undone.NoMemory = sym went ∙ is in cc)
-  | inr back ↦ (let e : undone.Undone ≡ undone.NoMemory = sym back ∙ is in cc)
-]
-
 module _ (old new : State) (s : ℕ) (work : Work) (r : IsBackingOut old.past old.writer s work) (back : MayGoBack work.before s old.past (task_of s old))
     (more : work.before < length (own s old.past)) where
   -- it is taken back
@@ -370,27 +364,21 @@ module _ (old new : State) (s : ℕ) (work : Work) (r : IsBackingOut old.past ol
         (backing_then old.past old.writer s work r more)),
     inl takes.task_is,
   )
-  backs_on undone.NoMemory takes = unchanged takes.past_is takes.writer_is (subst (MayGoBack work.before s old.past) (sym takes.task_is) back)
 
-  pub went_back : (answer : Undone) → answer ≢ undone.NoMemory → TakesBack s (length (own s old.past) - 1) old new answer
+  pub went_back : (answer : Undone) → TakesBack s (length (own s old.past) - 1) old new answer
       → Steps IsRunning s old new (BackingOut work) advance.Went
-  went_back answer went takes =
+  went_back answer takes =
       (moves_takes_back s (length (own s old.past) - 1) old new answer takes, backs_on answer takes, starts_no_item answer takes) where
         starts_no_item : (answer : Undone) → TakesBack s (length (own s old.past) - 1) old new answer → started s new.past ≡ started s old.past
         starts_no_item undone.Went takes = ap (started s) takes.0.past_is
         starts_no_item undone.Undone takes = ap (started s) takes.past_is
-        starts_no_item undone.NoMemory takes = ap (started s) takes.past_is
 
-  pub stood_still : TakesBack s (length (own s old.past) - 1) old new undone.NoMemory → Steps IsRunning s old new (BackingOut work) advance.NoMemory
-  stood_still takes = (moves_takes_back s (length (own s old.past) - 1) old new undone.NoMemory takes, backs_on undone.NoMemory takes, takes.past_is)
-
-  pub nearer : (answer : Undone) → answer ≢ undone.NoMemory → TakesBack s (length (own s old.past) - 1) old new answer
+  pub nearer : (answer : Undone) → TakesBack s (length (own s old.past) - 1) old new answer
       → IsBelow (to_go s new (BackingOut work)) (to_go s old (BackingOut work))
-  nearer undone.Went went takes = below_second 3 _ _ _ _ _ _ (ap (λ h. length (own s h)) takes.0.past_is) takes.2
-  nearer undone.Undone went takes =
+  nearer undone.Went takes = below_second 3 _ _ _ _ _ _ (ap (λ h. length (own s h)) takes.0.past_is) takes.2
+  nearer undone.Undone takes =
       below_first 3 _ _ _ _ _ _ (subst (λ (h : List Event). length (own s h) < length (own s old.past)) (sym takes.past_is)
       (fewer_stand s old.past (omega (arith, more))))
-  nearer undone.NoMemory went takes = absurd (went refl)
 
 -- ---- for want of memory
 

@@ -29,7 +29,8 @@ to_go s state (machine.Unacked kept given) = left 2 0 0 0
 to_go s state (machine.Ending kept given) = left 1 0 0 0
 to_go s state machine.Unopened = left 0 0 0 0
 
--- A step that went leaves less than so much.
+-- A step that went, or that found no memory, leaves less than so much.
 abbrev pub IsNearer : List ℕ → ℕ → State → WriteStatement → Advance → Type 0
 IsNearer before s new after advance.Went = IsBelow (to_go s new after) before
+IsNearer before s new after advance.NoMemory = IsBelow (to_go s new after) before
 IsNearer before s new after other = Unit {0}

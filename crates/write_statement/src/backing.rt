@@ -45,7 +45,6 @@ fn take_back<L: SharedLists>(
 {
     match lists.undo(session) {
         Undone::Went | Undone::Undone => (WriteStatement::BackingOut(work), Advance::Went),
-        Undone::NoMemory => (WriteStatement::BackingOut(work), Advance::NoMemory),
     }
 }
 

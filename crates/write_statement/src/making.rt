@@ -27,10 +27,10 @@ pub fn step_making<L: SharedLists>(
 {
     match lists.overfull(rows) {
         // Since the change was begun, replies to others have filled the history.
-        Some(_) => (
-            WriteStatement::Making { work, todo, rows },
-            Advance::NoMemory,
-        ),
+        Some(_) => {
+            lists.stop_change(session);
+            give_up(work.alone, work.before)
+        }
         None => go_on(work, todo, rows, session, lists),
     }
 }

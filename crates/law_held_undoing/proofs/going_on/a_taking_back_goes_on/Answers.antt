@@ -1,4 +1,4 @@
-use Rattle.law_held_undoing.proofs.Putting.{asks_for, held_on, rest_beside, nearer, same_left}
+use Rattle.law_held_undoing.proofs.Putting.{asks_for, held_on, rest_beside, nearer, same_left, goes_or_is_done}
 use Rattle.law_held_undoing.proofs.going_on.a_taking_back_goes_on.Goals as goal
 
 pub returns-clause-asks : goal.returns-clause-asks
@@ -21,3 +21,8 @@ pub returns-clause-same : goal.returns-clause-same
 returns-clause-same c =
     λ s old new writer desks cuts undo room next answer held busy later put not_done not_step. same_left s old new writer desks cuts undo room next
     held busy answer later put not_done not_step
+
+pub returns-clause-sure : goal.returns-clause-sure
+returns-clause-sure c =
+    λ s old new writer desks cuts undo room next answer held busy memory alone put. goes_or_is_done s old new writer desks cuts undo room next held busy
+    answer memory alone put

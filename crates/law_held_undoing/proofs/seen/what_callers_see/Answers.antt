@@ -1,5 +1,5 @@
 use Rattle.desks.specs.Undoing.{undo_left_in}
-use Rattle.law_held_undoing.proofs.Showing.{ready_if, shows_begun, shows_went, shows_hindered, shows_undone}
+use Rattle.law_held_undoing.proofs.Showing.{ready_if, shows_begun, shows_went, shows_undone}
 use Rattle.law_held_undoing.proofs.seen.what_callers_see.Goals as goal
 
 pub returns-clause-doing : goal.returns-clause-doing
@@ -10,11 +10,6 @@ returns-clause-begun c = shows_begun
 
 pub returns-clause-went : goal.returns-clause-went
 returns-clause-went c = shows_went
-
-pub returns-clause-hindered : goal.returns-clause-hindered
-returns-clause-hindered c =
-    λ s keep old new writer desks cuts undo room next answer held busy later put not_done not_step. shows_hindered s keep old new writer desks cuts
-    undo room next held busy answer later put not_done not_step
 
 pub returns-clause-undone : goal.returns-clause-undone
 returns-clause-undone c = shows_undone

@@ -1,9 +1,3 @@
-use Rattle.std.proofs.Common.{sym, subst}
-use Rattle.sql_lists.specs.Steps.{Steps}
-use Rattle.sql_lists.specs.Going.{Nears}
-use Rattle.transaction_statements.specs.declared.statement.TransactionStatement.TheVariants as statements
-use Rattle.transaction_statements.specs.Running.{IsRunning}
-use Rattle.transaction_statements.specs.Going.{to_go}
 use Rattle.transaction_statements.proofs.Moving.{may_undo_rollback, may_take_back, undoes_rollback, nears_rollback}
 use Rattle.transaction_statements.proofs.Stepping.{undoable}
 use Rattle.transaction_statements.proofs.rollbacks.undo_newest.Goals as goal
@@ -19,10 +13,8 @@ undo-undone-requires-clause-task g c = may_take_back 0 _ _ c.requires.running.1
 
 pub returns-clause-steps : goal.returns-clause-steps
 returns-clause-steps g c =
-    subst (Steps IsRunning c.args.session c.args.lists.now c.undo-undone.new.self statements.Rollback) (sym c.how_far.ensures)
-    (undoes_rollback c.args.session c.args.lists.now c.undo-undone.new.self c.undo-undone.result c.undo-undone.ensures.takes c.requires.running c.requires.some)
+    undoes_rollback c.args.session c.args.lists.now c.undo-undone.new.self c.undo-undone.result c.undo-undone.ensures.takes c.requires.running c.requires.some
 
 pub returns-clause-nears : goal.returns-clause-nears
 returns-clause-nears g c =
-    subst (Nears to_go c.args.session c.args.lists.now statements.Rollback c.undo-undone.new.self statements.Rollback) (sym c.how_far.ensures)
-    (nears_rollback c.args.session c.args.lists.now c.undo-undone.new.self c.undo-undone.result c.requires.some c.undo-undone.ensures.takes)
+    nears_rollback c.args.session c.args.lists.now c.undo-undone.new.self c.undo-undone.result c.requires.some c.undo-undone.ensures.takes

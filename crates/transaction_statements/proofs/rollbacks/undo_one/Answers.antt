@@ -1,11 +1,5 @@
-use Rattle.std.proofs.Common.{◌<◌, length, sym, subst, arith}
+use Rattle.std.proofs.Common.{◌<◌, length, arith}
 use Rattle.inno_model.specs.Past.{own}
-use Rattle.sql_lists.specs.Steps.{Steps}
-use Rattle.sql_lists.specs.Going.{Nears}
-use Rattle.transaction_statements.specs.declared.statement.TransactionStatement.{TransactionStatement}
-use Rattle.transaction_statements.specs.declared.statement.TransactionStatement.TheVariants as statements
-use Rattle.transaction_statements.specs.Running.{IsRunning}
-use Rattle.transaction_statements.specs.Going.{to_go}
 use Rattle.transaction_statements.proofs.Moving.{may_undo_to, may_take_back, undoes_to, nears_to}
 use Rattle.transaction_statements.proofs.Stepping.{undoable}
 use Rattle.transaction_statements.proofs.rollbacks.undo_one.Goals as goal
@@ -22,14 +16,10 @@ undo-undone-requires-clause-task g c = may_take_back c.args.made _ _ c.requires.
 
 pub returns-clause-steps : goal.returns-clause-steps
 returns-clause-steps g c =
-    let m : TransactionStatement = statements.RollbackTo c.args.savepoint c.args.made in
-    subst (Steps IsRunning c.args.session c.args.lists.now c.undo-undone.new.self m) (sym c.how_far.ensures)
-    (undoes_to c.args.session c.args.lists.now c.undo-undone.new.self c.undo-undone.result c.undo-undone.ensures.takes c.args.savepoint c.args.made
-    c.requires.running c.requires.more)
+    undoes_to c.args.session c.args.lists.now c.undo-undone.new.self c.undo-undone.result c.undo-undone.ensures.takes c.args.savepoint c.args.made
+    c.requires.running c.requires.more
 
 pub returns-clause-nears : goal.returns-clause-nears
 returns-clause-nears g c =
-    let m : TransactionStatement = statements.RollbackTo c.args.savepoint c.args.made in
     let some : 0 < length (own c.args.session c.args.lists.now.past) = omega (arith, c.requires.more) in
-    subst (Nears to_go c.args.session c.args.lists.now m c.undo-undone.new.self m) (sym c.how_far.ensures)
-    (nears_to c.args.session c.args.lists.now c.undo-undone.new.self c.args.savepoint c.args.made c.undo-undone.result some c.undo-undone.ensures.takes)
+    nears_to c.args.session c.args.lists.now c.undo-undone.new.self c.args.savepoint c.args.made c.undo-undone.result some c.undo-undone.ensures.takes

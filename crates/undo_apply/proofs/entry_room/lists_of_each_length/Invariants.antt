@@ -1,5 +1,5 @@
 use Rattle.undo_apply.proofs.entry_room.lists_of_each_length.Given as goal
-use Rattle.undo_apply.proofs.Lengths.{AreUpTo}
+use Rattle.undo_apply.specs.Lengths.{AreOfEachLength}
 
 abbrev pub invariant-loop-len : goal.invariant-loop-len
-invariant-loop-len l = AreUpTo l.lists.items l.len
+invariant-loop-len l = AreOfEachLength l.len l.lists.items

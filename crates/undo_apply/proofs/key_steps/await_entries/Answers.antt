@@ -4,8 +4,8 @@ use Rattle.world.specs.Indexes.{Calls}
 use Rattle.undo_apply.proofs.KeySteps.{Writes, await_step, await_unwritten, nexted_leaves}
 use Rattle.undo_apply.proofs.key_steps.await_entries.Goals as goal
 
-pub returns : goal.returns
-returns g c = λ chains place is.
+pub returns-clause-puts : goal.returns-clause-puts
+returns-clause-puts g c = λ chains place is.
     let old = g.W.World.state c.args.world.now in
     let new = g.W.World.state c.next_key-answer.new.self in
     let undo = c.args.undo.now in
@@ -22,8 +22,8 @@ returns g c = λ chains place is.
     await_step chains place c.args.actor undo room old is c.args.which c.requires.stage (record room { entries = entry; next = read }) leaves entry
     read.items new c.next_key-answer.result calls c.go_on_or_end.new.room c.go_on_or_end.result c.go_on_or_end.ensures
 
-pub returns-then-not-write_entry : goal.returns-then-not-write_entry
-returns-then-not-write_entry g c = λ chains place is.
+pub returns-then-not-write_entry-clause-puts : goal.returns-then-not-write_entry-clause-puts
+returns-then-not-write_entry-clause-puts g c = λ chains place is.
     let old = g.W.World.state c.args.world.now in
     let undo = c.args.undo.now in
     let entry = c.write_entry.new.entries in

@@ -5,8 +5,8 @@ use Rattle.undo_apply.specs.Moves.{WentOn}
 use Rattle.undo_apply.proofs.KeySteps.{Writes, mark_step, mark_unwritten}
 use Rattle.undo_apply.proofs.key_steps.mark.Goals as goal
 
-pub returns : goal.returns
-returns g c = λ chains place is.
+pub returns-clause-puts : goal.returns-clause-puts
+returns-clause-puts g c = λ chains place is.
     let old = g.W.World.state c.args.world.now in
     let new = g.W.World.state c.replace-answer.new.self in
     let undo = c.args.undo.now in
@@ -25,8 +25,8 @@ returns g c = λ chains place is.
     mark_step chains place c.args.actor undo room old is c.args.which c.requires.stage entry c.write_entry.result writes new c.replace-answer.result changes
     c.go_on.new.room c.go_on.result on
 
-pub returns-then-not-write_entry : goal.returns-then-not-write_entry
-returns-then-not-write_entry g c = λ chains place is.
+pub returns-then-not-write_entry-clause-puts : goal.returns-then-not-write_entry-clause-puts
+returns-then-not-write_entry-clause-puts g c = λ chains place is.
     let old = g.W.World.state c.args.world.now in
     let undo = c.args.undo.now in
     let entry = c.write_entry.new.entries in

@@ -6,8 +6,8 @@ use Rattle.undo_apply.specs.Moves.{WentOnOrEnded}
 use Rattle.undo_apply.proofs.KeySteps.{Writes, remove_step, remove_unwritten}
 use Rattle.undo_apply.proofs.key_steps.remove_entry.Goals as goal
 
-pub returns : goal.returns
-returns g c = λ chains place is.
+pub returns-clause-puts : goal.returns-clause-puts
+returns-clause-puts g c = λ chains place is.
     let old = g.W.World.state c.args.world.now in
     let new = g.W.World.state c.remove-answer.new.self in
     let undo = c.args.undo.now in
@@ -26,8 +26,8 @@ returns g c = λ chains place is.
     remove_step chains place c.args.actor undo room old is c.args.which c.requires.stage entry c.write_entry.result writes new c.remove-answer.result calls
     c.go_on_or_end.new.room c.go_on_or_end.result on
 
-pub returns-then-not-write_entry : goal.returns-then-not-write_entry
-returns-then-not-write_entry g c = λ chains place is.
+pub returns-then-not-write_entry-clause-puts : goal.returns-then-not-write_entry-clause-puts
+returns-then-not-write_entry-clause-puts g c = λ chains place is.
     let old = g.W.World.state c.args.world.now in
     let undo = c.args.undo.now in
     let entry = c.write_entry.new.entries in

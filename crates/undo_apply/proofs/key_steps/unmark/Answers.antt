@@ -1,10 +1,12 @@
 use Rattle.std.proofs.Common.{ℕ, ◌+◌, ◌*◌, List, None, subst}
 use Rattle.world.specs.Indexes.{Changes, ReplacesWith}
 use Rattle.undo_apply.proofs.KeySteps.{Writes, unmark_step, unmark_unwritten}
+use Rattle.row_changes.specs.Awaited.{AwaitsAt}
+use Rattle.row_changes.proofs.Awaited.{awaits_at, replace_with_here}
 use Rattle.undo_apply.proofs.key_steps.unmark.Goals as goal
 
-pub returns : goal.returns
-returns g c = λ chains place is.
+pub returns-clause-puts : goal.returns-clause-puts
+returns-clause-puts g c = λ chains place is.
     let old = g.W.World.state c.args.world.now in
     let new = g.W.World.state c.replace-answer.new.self in
     let undo = c.args.undo.now in
@@ -20,11 +22,21 @@ returns g c = λ chains place is.
     unmark_step chains place c.args.actor undo room old is c.args.which c.requires.stage entry c.write_entry.result writes new c.replace-answer.result
     changes c.go_on.new.room c.go_on.result c.go_on.ensures
 
-pub returns-then-not-write_entry : goal.returns-then-not-write_entry
-returns-then-not-write_entry g c = λ chains place is.
+pub returns-then-not-write_entry-clause-puts : goal.returns-then-not-write_entry-clause-puts
+returns-then-not-write_entry-clause-puts g c = λ chains place is.
     let old = g.W.World.state c.args.world.now in
     let undo = c.args.undo.now in
     let entry = c.write_entry.new.entries in
     let writes = subst (λ (v : List ℕ). Writes old undo c.args.which v entry c.write_entry.result) c.as_slice.ensures c.write_entry.ensures in
     unmark_unwritten chains place c.args.actor undo c.args.room.now old is c.args.which c.requires.stage entry c.write_entry.result writes
     c.if-not-write_entry.true
+
+pub returns-clause-awaits : goal.returns-clause-awaits
+returns-clause-awaits g c =
+    let old = g.W.World.state c.args.world.now in
+    let new = g.W.World.state c.replace-answer.new.self in
+    let index = c.entries_of.result in
+    subst (λ (i : ℕ). AwaitsAt c.args.actor i old new) c.entries_of.ensures
+    (awaits_at c.args.actor index _ old new c.replace-answer.ensures.index_is
+    (replace_with_here None c.args.actor c.entry.result.now c.args.room.now.unmarked (old.indexes index) (new.indexes index) c.replace-answer.result
+    c.replace-answer.ensures.index_is.here))

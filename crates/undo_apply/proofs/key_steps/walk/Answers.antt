@@ -27,8 +27,8 @@ look_at_version-requires g c =
     has_key_at old.schemas new c.args.undo.now is.schema c.requires.under_way.1 c.args.which (schemas_stay (unchanged_stays old new c.value.ensures.rest))
     is.tells within
 
-pub returns-in-Ok-true : goal.returns-in-Ok-true
-returns-in-Ok-true g c = λ chains place actor is.
+pub returns-in-Ok-true-clause-puts : goal.returns-in-Ok-true-clause-puts
+returns-in-Ok-true-clause-puts g c = λ chains place actor is.
     let old = g.W.World.state c.args.world.now in
     let new = g.W.World.state c.value.new.self in
     let read = c.value.new.into in
@@ -39,8 +39,8 @@ returns-in-Ok-true g c = λ chains place actor is.
     walk_looks chains place actor c.args.undo.now c.args.room.now old is c.args.which c.args.pointer c.requires.stage mid leaves new c.value.ensures.rest
     shows.0 shows.1 c.look_at_version.new.room c.look_at_version.result c.look_at_version.ensures
 
-pub returns-in-Ok-false : goal.returns-in-Ok-false
-returns-in-Ok-false g c = λ chains place actor is.
+pub returns-in-Ok-false-clause-puts : goal.returns-in-Ok-false-clause-puts
+returns-in-Ok-false-clause-puts g c = λ chains place actor is.
     let old = g.W.World.state c.args.world.now in
     let new = g.W.World.state c.value.new.self in
     let read = c.value.new.into in
@@ -53,8 +53,8 @@ returns-in-Ok-false g c = λ chains place actor is.
     (walk_over chains place actor c.args.undo.now c.args.room.now old is c.args.which c.args.pointer c.requires.stage mid leaves new c.value.ensures.rest
     shows.0)
 
-pub returns-in-Err-Failed : goal.returns-in-Err-Failed
-returns-in-Err-Failed g c = λ chains place actor is.
+pub returns-in-Err-Failed-clause-puts : goal.returns-in-Err-Failed-clause-puts
+returns-in-Err-Failed-clause-puts g c = λ chains place actor is.
     let old = g.W.World.state c.args.world.now in
     let new = g.W.World.state c.value.new.self in
     let read = c.value.new.into in
@@ -63,8 +63,8 @@ returns-in-Err-Failed g c = λ chains place actor is.
     walk_stopped chains place actor c.args.undo.now c.args.room.now old is c.args.which c.args.pointer c.requires.stage
     (record c.args.room.now { older = read }) leaves new c.value.ensures.rest Failed (λ e. cc) why
 
-pub returns-in-Err-Again : goal.returns-in-Err-Again
-returns-in-Err-Again g c = λ chains place actor is.
+pub returns-in-Err-Again-clause-puts : goal.returns-in-Err-Again-clause-puts
+returns-in-Err-Again-clause-puts g c = λ chains place actor is.
     let old = g.W.World.state c.args.world.now in
     let new = g.W.World.state c.value.new.self in
     let read = c.value.new.into in
@@ -73,8 +73,8 @@ returns-in-Err-Again g c = λ chains place actor is.
     walk_stopped chains place actor c.args.undo.now c.args.room.now old is c.args.which c.args.pointer c.requires.stage
     (record c.args.room.now { older = read }) leaves new c.value.ensures.rest Again (λ e. cc) why
 
-pub returns-in-Err-Bad : goal.returns-in-Err-Bad
-returns-in-Err-Bad g c = λ chains place actor is.
+pub returns-in-Err-Bad-clause-puts : goal.returns-in-Err-Bad-clause-puts
+returns-in-Err-Bad-clause-puts g c = λ chains place actor is.
     let old = g.W.World.state c.args.world.now in
     let new = g.W.World.state c.value.new.self in
     let read = c.value.new.into in

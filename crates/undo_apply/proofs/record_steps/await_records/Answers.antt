@@ -4,8 +4,8 @@ use Rattle.world.specs.Indexes.{Calls}
 use Rattle.undo_apply.proofs.RecordSteps.{await_records_step, records_leave}
 use Rattle.undo_apply.proofs.record_steps.await_records.Goals as goal
 
-pub returns : goal.returns
-returns g c = λ chains place is.
+pub returns-clause-puts : goal.returns-clause-puts
+returns-clause-puts g c = λ chains place is.
     let old = g.W.World.state c.args.world.now in
     let new = g.W.World.state c.next_key-answer.new.self in
     let undo = c.args.undo.now in

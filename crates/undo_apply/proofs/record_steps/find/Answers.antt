@@ -10,8 +10,8 @@ use Rattle.undo_apply.proofs.KeySteps.{put_as}
 use Rattle.undo_apply.proofs.RecordSteps.{find_again, find_none, find_on, find_stopped, not_done_test}
 use Rattle.undo_apply.proofs.record_steps.find.Goals as goal
 
-pub returns-then-is_version_before : goal.returns-then-is_version_before
-returns-then-is_version_before g c = λ chains place is.
+pub returns-then-is_version_before-clause-puts : goal.returns-then-is_version_before-clause-puts
+returns-then-is_version_before-clause-puts g c = λ chains place is.
     let old = g.W.World.state c.args.world.now in
     let new = g.W.World.state c.fetch.new.self in
     let read = c.fetch.new.into in
@@ -22,8 +22,8 @@ returns-then-is_version_before g c = λ chains place is.
     subst (λ (v : List ℕ). Some v ≡ was_before c.args.undo.now) c.as_slice.ensures.value (c.is_version_before.ensures.0 c.if-is_version_before.true) in
     find_again chains place c.args.actor c.args.undo.now c.args.room.now old is c.requires.stage read c.fetch.ensures.room new calls same
 
-pub returns-else-is_version_before : goal.returns-else-is_version_before
-returns-else-is_version_before g c = λ chains place is.
+pub returns-else-is_version_before-clause-puts : goal.returns-else-is_version_before-clause-puts
+returns-else-is_version_before-clause-puts g c = λ chains place is.
     let old = g.W.World.state c.args.world.now in
     let new = g.W.World.state c.fetch.new.self in
     let read = c.fetch.new.into in
@@ -39,8 +39,8 @@ returns-else-is_version_before g c = λ chains place is.
     c.go_to.result c.go_to.ensures.step c.go_to.ensures.room
     (find_on chains place c.args.actor c.args.undo.now room old is c.requires.stage read c.fetch.ensures.room new calls differs)
 
-pub returns-in-End : goal.returns-in-End
-returns-in-End g c = λ chains place is.
+pub returns-in-End-clause-puts : goal.returns-in-End-clause-puts
+returns-in-End-clause-puts g c = λ chains place is.
     let old = g.W.World.state c.args.world.now in
     let new = g.W.World.state c.fetch.new.self in
     let read = c.fetch.new.into in
@@ -48,8 +48,8 @@ returns-in-End g c = λ chains place is.
     subst (λ (i : ℕ). Calls i (λ b a. Fetches c.args.actor c.args.undo.now.key read.items b a End) old new) c.records_of.ensures c.in-End.ensures.answer in
     find_none chains place c.args.actor c.args.undo.now c.args.room.now old is c.requires.stage read c.fetch.ensures.room new calls
 
-pub returns-in_default : goal.returns-in_default
-returns-in_default g c = λ chains place is.
+pub returns-in_default-clause-puts : goal.returns-in_default-clause-puts
+returns-in_default-clause-puts g c = λ chains place is.
     let old = g.W.World.state c.args.world.now in
     let new = g.W.World.state c.fetch.new.self in
     let read = c.fetch.new.into in

@@ -12,8 +12,8 @@ replace-answer-requires-clause-index g c =
     let is = c.requires.under_way.2 in
     subst (λ (i : ℕ). IsIndex old.schemas i) (sym c.records_of-2.ensures) (index_of_rows old.schemas c.args.undo.now is.schema c.requires.under_way.1 is.tells)
 
-pub returns-then-undo-eq-NEW_ROW : goal.returns-then-undo-eq-NEW_ROW
-returns-then-undo-eq-NEW_ROW g c = λ chains place is.
+pub returns-then-undo-eq-NEW_ROW-clause-puts : goal.returns-then-undo-eq-NEW_ROW-clause-puts
+returns-then-undo-eq-NEW_ROW-clause-puts g c = λ chains place is.
     let old = g.W.World.state c.args.world.now in
     let new = g.W.World.state c.remove-answer.new.self in
     let calls =
@@ -22,8 +22,8 @@ returns-then-undo-eq-NEW_ROW g c = λ chains place is.
     remove_record chains place c.args.actor c.args.undo.now c.args.room.now old is c.requires.stage c.if-undo-eq-NEW_ROW.true new c.remove-answer.result
     calls c.end.new.room c.end.result c.end.ensures
 
-pub returns : goal.returns
-returns g c = λ chains place is.
+pub returns-clause-puts : goal.returns-clause-puts
+returns-clause-puts g c = λ chains place is.
     let old = g.W.World.state c.args.world.now in
     let new = g.W.World.state c.replace-answer.new.self in
     let undo = c.args.undo.now in

@@ -1,6 +1,18 @@
-use Rattle.std.proofs.Common.{refl}
-use Rattle.sql_lists.proofs.Moving.{moves_none}
+use Rattle.std.proofs.Common.{Option, sym, subst}
+use Rattle.inno_db.specs.declared.change.Change.{Change}
+use Rattle.shared_lists.specs.Tasks.{left_by}
+use Rattle.shared_lists.specs.State.{Turns}
+use Rattle.write_statement.proofs.Entering.{making_given_up}
 use Rattle.write_statement.proofs.making.step_making.Goals as goal
 
+pub stop_change-requires-clause-asked : goal.stop_change-requires-clause-asked
+stop_change-requires-clause-asked g c = (c.requires.running.change, c.requires.running.asked_is)
+
 pub returns-in-Some-clause-steps : goal.returns-in-Some-clause-steps
-returns-in-Some-clause-steps g c = (moves_none c.args.session c.args.lists.now, c.requires.running, refl)
+returns-in-Some-clause-steps g c =
+    let s = c.args.session in
+    let old = c.args.lists.now in
+    let new = c.stop_change.new.self in
+    making_given_up s old new c.args.work c.args.todo.items c.args.rows c.give_up.result.0 c.give_up.result.1 c.requires.running
+    (subst (λ (o : Option Change). Turns s (left_by o) old new) (sym c.requires.running.asked_is) c.stop_change.ensures) c.give_up.ensures.state
+    c.give_up.ensures.answer

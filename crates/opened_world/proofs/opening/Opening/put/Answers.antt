@@ -5,7 +5,7 @@ use Rattle.law_fitting_rows.specs.Fitting.{FitsTable}
 use Rattle.list_world.specs.Parts.{world_of}
 use Rattle.list_world.specs.Memory.{in_memory}
 use Rattle.opened_world.specs.declared.opening.PutBad.TheVariants.{RowThere}
-use Rattle.opened_world.proofs.Laying.{its_table, keys_changing, laid_row, row_there}
+use Rattle.opened_world.proofs.Laying.{its_table, its_keys, keys_changing, laid_row, row_there}
 use Rattle.opened_world.proofs.opening.Opening.put.Goals as goal
 
 pub put_record-requires-clause-storable : goal.put_record-requires-clause-storable
@@ -51,4 +51,14 @@ invariant_of-result c =
     c.in-Ok.key c.self.invariant
     (ap (λ tables. slice_get tables c.args.table) c.self.invariant.schemas ∙ there)
     (c.self.invariant.fits.fitting.tables c.args.table c.table_of-schema.result.now there) c.in-Ok.ensures.ok (in_memory c.put_record.new.world).told
-    (world_of c.enter_keys.new.world) c.in-Ok-enter_keys.ensures (rw (c.self.view_is) c.requires.fits))
+    (world_of c.enter_keys.new.world) (world_of c.leave_table.new.world) c.in-Ok-enter_keys.ensures c.leave_table.ensures.leaves
+    c.leave_table.ensures.gone (rw (c.self.view_is) c.requires.fits))
+
+pub leave_table-requires : goal.leave_table-requires
+leave_table-requires c =
+    let there = c.table_of-schema.ensures in
+    let its =
+    its_keys c.args.table c.table_of-schema.result.now c.args.row (world_of c.self.inside.world) (world_of c.put_record.new.world)
+    (world_of c.enter_keys.new.world) c.in-Ok.key (ap (λ tables. slice_get tables c.args.table) c.self.invariant.schemas ∙ there)
+    (c.self.invariant.fits.fitting.tables c.args.table c.table_of-schema.result.now there) c.in-Ok.ensures.ok c.in-Ok-enter_keys.ensures in
+    (c.table_of-schema.result.now, its.0, ?, ?)

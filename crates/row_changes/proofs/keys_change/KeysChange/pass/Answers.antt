@@ -6,7 +6,7 @@ take_over-requires-clause-entries g c = λ schema there.
     let found = rw c.in-Ok-Some.field-0-is at c.in-Ok-Some.ensures in
     found schema there
 
-abbrev pub returns-in-Ok-None : goal.returns-in-Ok-None
-returns-in-Ok-None g c = λ chains p.
+abbrev pub returns-in-Ok-None-clause-changes : goal.returns-in-Ok-None-clause-changes
+returns-in-Ok-None-clause-changes g c = λ chains p.
     let found = rw c.in-Ok-None.field-0-is at c.in-Ok-None.ensures in
     all_passed c.args.actor chains _ c.args.self p c.requires.none (found p.schema p.table.there)

@@ -2,9 +2,17 @@ use Rattle.row_changes.proofs.record_change.RecordChange.enter.Goals as goal
 use Rattle.std.proofs.Common.{sym, subst}
 use Rattle.row_changes.specs.Records.{ChangesRecord}
 use Rattle.row_changes.proofs.Changing.{entered}
+use Rattle.std.proofs.Common.{ap}
+use Rattle.world.specs.State.{WorldState}
+use Rattle.row_changes.proofs.Awaited.{awaits_same}
 
-abbrev pub returns-in-Ok : goal.returns-in-Ok
-returns-in-Ok g c =
+abbrev pub returns-in-Ok-clause-changes : goal.returns-in-Ok-clause-changes
+returns-in-Ok-clause-changes g c =
     let p = c.requires.changing in
     subst (ChangesRecord c.args.s (g.W.World.state c.args.world.now) (g.W.World.state c.event_room.new.self) c.args.self) (sym c.then.ensures)
     (entered _ _ _ _ p c.requires.stage (c.in-Ok.ensures.ok p.session p.has_work.session_is))
+
+pub returns-in-Ok-clause-awaits : goal.returns-in-Ok-clause-awaits
+returns-in-Ok-clause-awaits g c =
+    let p = c.requires.changing in
+    awaits_same _ _ _ _ (ap (λ (state : WorldState). state.indexes) (c.in-Ok.ensures.ok p.session p.has_work.session_is))

@@ -1,8 +1,10 @@
 use Rattle.row_changes.proofs.record_change.RecordChange.insert.Goals as goal
-use Rattle.std.proofs.Common.{refl}
+use Rattle.std.proofs.Common.{Some, refl}
 use Rattle.row_changes.specs.declared.record_change.RecordStage.TheVariants.{Insert}
 use Rattle.row_changes.proofs.Changing.{stage_at}
 use Rattle.row_changes.proofs.Recorded.{key_short, value_short, version_first, may_log_new, may_enter, inserted_logs, inserted, insert_hindered, value_of_row, found_first}
+use Rattle.law_coded_rows.specs.Edits.{clustered_index}
+use Rattle.row_changes.proofs.Awaited.{entered_awaits, insert_with_here}
 
 abbrev pub coded-requires : goal.coded-requires
 coded-requires g c =
@@ -27,15 +29,25 @@ enter-requires g c =
     let p = c.requires.changing in
     may_enter _ _ _ _ _ p (stage_at _ _ _ Insert p c.requires.stage).0 (inserted_logs _ _ _ _ _ _ _ (rw c.in-Done.is at c.insert.ensures))
 
-abbrev pub returns-in-Done : goal.returns-in-Done
-returns-in-Done g c =
+abbrev pub returns-in-Done-clause-changes : goal.returns-in-Done-clause-changes
+returns-in-Done-clause-changes g c =
     let p = c.requires.changing in
     let value =
     value_of_row p.schema _ _ _ _ _ _ _ _ _ (c.in-Ok-coded.ensures p.schema p.table.there) c.in-Ok.ensures (found_first _ c.requires.stage)
     (c.writer_of-writer.ensures p.session p.work p.has_work) refl in
     inserted _ _ _ _ _ p _ _ c.requires.stage value c.in-Ok-undo_of_new.ensures (rw c.index.ensures at (rw c.in-Done.is at c.insert.ensures)) c.enter.ensures
 
-abbrev pub returns-in_default-insert : goal.returns-in_default-insert
-returns-in_default-insert g c =
+abbrev pub returns-in_default-insert-clause-changes : goal.returns-in_default-insert-clause-changes
+returns-in_default-insert-clause-changes g c =
     let p = c.requires.changing in
     insert_hindered _ _ _ _ p _ _ _ c.requires.stage (rw c.index.ensures at c.insert.ensures) c.in_default-insert.not-Done
+
+pub returns-in-Done-clause-awaits : goal.returns-in-Done-clause-awaits
+returns-in-Done-clause-awaits g c =
+    let p = c.requires.changing in
+    let may = may_enter _ _ _ _ _ p (stage_at _ _ _ Insert p c.requires.stage).0 (inserted_logs _ _ _ _ _ _ _ (rw c.in-Done.is at c.insert.ensures)) in
+    let call = (rw c.index.ensures at c.insert.ensures).index_is in
+    let index = clustered_index c.args.self.table in
+    let old = g.W.World.state c.args.world.now in
+    let mid = g.W.World.state c.insert.new.self in
+    entered_awaits c.args.s index _ old mid _ _ _ may.0 may.1 call (insert_with_here (Some c.in-Ok-undo_of_new.undo) c.args.s c.args.self.key _ (old.indexes index) (mid.indexes index) c.insert.result call.here) (c.enter.ensures may.0 may.1 may.2)

@@ -3,13 +3,13 @@ use Rattle.std.proofs.Common.{sym, subst, refl, inl, inr}
 use Rattle.row_changes.specs.Records.{ChangesRecord}
 use Rattle.row_changes.proofs.Changing.{room_made, hindered, no_room_stays}
 
-abbrev pub returns-in-Done : goal.returns-in-Done
-returns-in-Done g c =
+abbrev pub returns-in-Done-clause-changes : goal.returns-in-Done-clause-changes
+returns-in-Done-clause-changes g c =
     let p = c.requires.changing in
     subst (ChangesRecord c.args.s (g.W.World.state c.args.world.now) (g.W.World.state c.undo_room.new.self) c.args.self) (sym c.then.ensures)
     (room_made _ _ _ _ p c.requires.stage (rw c.in-Done.is at c.undo_room.ensures))
 
-abbrev pub returns-in_default : goal.returns-in_default
-returns-in_default g c =
+abbrev pub returns-in_default-clause-changes : goal.returns-in_default-clause-changes
+returns-in_default-clause-changes g c =
     hindered _ _ _ _ _ _ c.requires.changing refl (no_room_stays _ _ _ _ _ c.undo_room.ensures c.in_default.not-Done)
     (inr (inl (c.in_default.not-Done, c.undo_room.ensures)))

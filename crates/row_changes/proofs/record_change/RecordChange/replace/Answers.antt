@@ -1,8 +1,10 @@
 use Rattle.row_changes.proofs.record_change.RecordChange.replace.Goals as goal
-use Rattle.std.proofs.Common.{◌<◌, ◌^◌, arith}
+use Rattle.std.proofs.Common.{◌<◌, ◌^◌, Some, arith}
 use Rattle.std.proofs.lemmas.Option.{slice_get_within}
 use Rattle.row_changes.proofs.Changing.{lacks_memory}
 use Rattle.row_changes.proofs.Recorded.{rows_index, value_of_row, found_at, value_short, version_next, may_log_former, may_enter_over, replaced_logs, replaced, replace_hindered}
+use Rattle.law_coded_rows.specs.Edits.{clustered_index}
+use Rattle.row_changes.proofs.Awaited.{entered_awaits, replace_with_here}
 
 abbrev pub coded-requires : goal.coded-requires
 coded-requires g c =
@@ -27,8 +29,8 @@ abbrev pub enter-requires : goal.enter-requires
 enter-requires g c =
     may_enter_over _ _ _ _ _ c.requires.changing _ _ c.requires.stage.2 (replaced_logs _ _ _ _ _ _ _ (rw c.in-Done.is at c.replace.ensures))
 
-abbrev pub returns-in-Done : goal.returns-in-Done
-returns-in-Done g c =
+abbrev pub returns-in-Done-clause-changes : goal.returns-in-Done-clause-changes
+returns-in-Done-clause-changes g c =
     let p = c.requires.changing in
     let at = c.requires.stage.2 in
     let told = c.in-Ok.ensures _ _ at in
@@ -39,20 +41,29 @@ returns-in-Done g c =
     let small : p.session.next_pointer < 2 ^ 64 = omega (arith, pointer_is) in
     replaced _ _ _ _ _ p _ _ _ _ _ at value told.1 told.0 small (rw c.index.ensures at (rw c.in-Done.is at c.replace.ensures)) c.enter.ensures
 
-abbrev pub returns-in_default-replace : goal.returns-in_default-replace
-returns-in_default-replace g c =
+abbrev pub returns-in_default-replace-clause-changes : goal.returns-in_default-replace-clause-changes
+returns-in_default-replace-clause-changes g c =
     replace_hindered _ _ _ _ c.requires.changing _ _ _ _ _ c.requires.stage.2 (rw c.index.ensures at c.replace.ensures) c.in_default-replace.not-Done
 
-abbrev pub returns-in_default-coded : goal.returns-in_default-coded
-returns-in_default-coded g c = lacks_memory c.args.s _ c.args.self c.requires.changing
+abbrev pub returns-in_default-coded-clause-changes : goal.returns-in_default-coded-clause-changes
+returns-in_default-coded-clause-changes g c = lacks_memory c.args.s _ c.args.self c.requires.changing
 
-abbrev pub returns-in_default : goal.returns-in_default
-returns-in_default g c = lacks_memory c.args.s _ c.args.self c.requires.changing
+abbrev pub returns-in_default-clause-changes : goal.returns-in_default-clause-changes
+returns-in_default-clause-changes g c = lacks_memory c.args.s _ c.args.self c.requires.changing
 
 abbrev pub next_pointer-pointer-requires : goal.next_pointer-pointer-requires
 next_pointer-pointer-requires g c =
     let p = c.requires.changing in
     slice_get_within _ c.args.s p.session p.has_work.session_is
 
-abbrev pub returns-in_default-version : goal.returns-in_default-version
-returns-in_default-version g c = lacks_memory c.args.s _ c.args.self c.requires.changing
+abbrev pub returns-in_default-version-clause-changes : goal.returns-in_default-version-clause-changes
+returns-in_default-version-clause-changes g c = lacks_memory c.args.s _ c.args.self c.requires.changing
+
+pub returns-in-Done-clause-awaits : goal.returns-in-Done-clause-awaits
+returns-in-Done-clause-awaits g c =
+    let may = may_enter_over _ _ _ _ _ c.requires.changing _ _ c.requires.stage.2 (replaced_logs _ _ _ _ _ _ _ (rw c.in-Done.is at c.replace.ensures)) in
+    let call = (rw c.index.ensures at c.replace.ensures).index_is in
+    let index = clustered_index c.args.self.table in
+    let old = g.W.World.state c.args.world.now in
+    let mid = g.W.World.state c.replace.new.self in
+    entered_awaits c.args.s index _ old mid _ _ _ may.0 may.1 call (replace_with_here (Some c.in-Ok.undo) c.args.s c.args.self.key _ (old.indexes index) (mid.indexes index) c.replace.result call.here) (c.enter.ensures may.0 may.1 may.2)

@@ -18,13 +18,14 @@ use Rattle.law_held_entries.proofs.Transactions.{opened_held}
 use Rattle.world_lists.proofs.Standings.{closed_none}
 use Rattle.world_lists.proofs.Answering.{few_more}
 use Rattle.world_lists.proofs.Made.{on_err, of_ok, past_here, its_session, at_rest, adds, stays, stays_same, unset, reset, same_rows, few_begun}
+use Rattle.world_lists.proofs.Awaiting.{kept_on, no_more_in}
 use Rattle.world_lists.proofs.steps.WorldListsSharedLists.begin.Goals as goal
 
 pub returns-in_err-event_room-clause-err : goal.returns-in_err-event_room-clause-err
 returns-in_err-event_room-clause-err g c =
     let l = c.self.inside in
     let old : WorldState = g.W.World.state l.world in
-    on_err _ (stays_same c.args.session old l.writer l.desks.items l.cuts l.undo l.room c.args.self.now c.self.invariant c.self.view_is
+    on_err _ (stays_same c.args.session old l.writer l.desks.items l.cuts l.undo l.room c.args.self.now c.self.invariant.held c.self.view_is
     (g.W.World.state c.event_room.new.self) c.in_err-event_room.ensures.err)
 
 pub begin-requires-clause-closed : goal.begin-requires-clause-closed
@@ -32,7 +33,7 @@ begin-requires-clause-closed g c =
     let l = c.self.inside in
     let old : WorldState = g.W.World.state l.world in
     let mine =
-    its_session c.args.session old l.writer l.desks.items l.cuts l.undo l.room c.args.self.now c.self.invariant c.self.view_is
+    its_session c.args.session old l.writer l.desks.items l.cuts l.undo l.room c.args.self.now c.self.invariant.held c.self.view_is
     c.requires.joined in
     let session : Session = mine.0 in
     let is : IsSession c.args.session session old = mine.1 in
@@ -43,8 +44,8 @@ begin-requires-clause-closed g c =
     ap (λ (w : WorldState). slice_get w.sessions c.args.session) mid_is ∙ set_here old.sessions c.args.session session roomed is in (
       roomed,
       at_mid,
-      closed_none old l.writer l.desks.items l.cuts l.undo l.room c.self.invariant c.args.session session is
-          (past_here c.args.session old l.writer l.desks.items l.cuts l.undo l.room c.args.self.now c.self.invariant c.self.view_is
+      closed_none old l.writer l.desks.items l.cuts l.undo l.room c.self.invariant.held c.args.session session is
+          (past_here c.args.session old l.writer l.desks.items l.cuts l.undo l.room c.args.self.now c.self.invariant.held c.self.view_is
           (IsClosed c.args.session) c.requires.may.1),
     )
 
@@ -53,7 +54,7 @@ begin-requires-clause-few g c =
     let l = c.self.inside in
     let old : WorldState = g.W.World.state l.world in
     let mine =
-    its_session c.args.session old l.writer l.desks.items l.cuts l.undo l.room c.args.self.now c.self.invariant c.self.view_is
+    its_session c.args.session old l.writer l.desks.items l.cuts l.undo l.room c.args.self.now c.self.invariant.held c.self.view_is
     c.requires.joined in
     let session : Session = mine.0 in
     let is : IsSession c.args.session session old = mine.1 in
@@ -66,7 +67,7 @@ begin-requires-clause-few g c =
       arith,
       ap (λ (w : WorldState). w.txns.begun) mid_is,
       few_begun c.args.session old l.writer l.desks.items l.cuts l.undo l.room
-          c.args.self.now c.self.invariant c.self.view_is,
+          c.args.self.now c.self.invariant.held c.self.view_is,
     )
 
 pub invariant_of-self-in_err-txn : goal.invariant_of-self-in_err-txn
@@ -74,7 +75,7 @@ invariant_of-self-in_err-txn g c =
     let l = c.self.inside in
     let old : WorldState = g.W.World.state l.world in
     let mine =
-    its_session c.args.session old l.writer l.desks.items l.cuts l.undo l.room c.args.self.now c.self.invariant c.self.view_is
+    its_session c.args.session old l.writer l.desks.items l.cuts l.undo l.room c.args.self.now c.self.invariant.held c.self.view_is
     c.requires.joined in
     let session : Session = mine.0 in
     let is : IsSession c.args.session session old = mine.1 in
@@ -86,17 +87,19 @@ invariant_of-self-in_err-txn g c =
     let told : IsTold old = (g.met.W.EngineWorld.tells l.world).told in
     let mid_held : IsHeld mid l.writer l.desks.items l.cuts l.undo l.room
     = subst (λ (w : WorldState). IsHeld w l.writer l.desks.items l.cuts l.undo l.room) (sym mid_is)
-    (unentered_held l.writer l.cuts l.undo l.room old l.desks.items c.self.invariant c.args.session
-    (at_rest c.args.session old l.writer l.desks.items l.cuts l.undo l.room c.args.self.now c.self.invariant c.self.view_is
+    (unentered_held l.writer l.cuts l.undo l.room old l.desks.items c.self.invariant.held c.args.session
+    (at_rest c.args.session old l.writer l.desks.items l.cuts l.undo l.room c.args.self.now c.self.invariant.held c.self.view_is
     c.requires.idle) told session is roomed refl refl refl) in
-    subst (λ (w : WorldState). IsHeld w l.writer l.desks.items l.cuts l.undo l.room) (sym c.in_err-txn.ensures.err) mid_held
+    kept_on old (g.W.World.state c.begin.new.self) l.writer l.desks.items l.cuts l.undo l.room c.self.invariant
+    (no_more_in old (g.W.World.state c.begin.new.self) _ (c.in_err-txn.ensures.err ∙ mid_is) refl refl)
+    (subst (λ (w : WorldState). IsHeld w l.writer l.desks.items l.cuts l.undo l.room) (sym c.in_err-txn.ensures.err) mid_held)
 
 pub returns-in_err-txn-clause-err : goal.returns-in_err-txn-clause-err
 returns-in_err-txn-clause-err g c =
     let l = c.self.inside in
     let old : WorldState = g.W.World.state l.world in
     let mine =
-    its_session c.args.session old l.writer l.desks.items l.cuts l.undo l.room c.args.self.now c.self.invariant c.self.view_is
+    its_session c.args.session old l.writer l.desks.items l.cuts l.undo l.room c.args.self.now c.self.invariant.held c.self.view_is
     c.requires.joined in
     let session : Session = mine.0 in
     let is : IsSession c.args.session session old = mine.1 in
@@ -105,7 +108,7 @@ returns-in_err-txn-clause-err g c =
     let mid_is : mid ≡ with_room c.args.session session old = c.in_ok-event_room.ensures.ok session is in
     let at_mid : IsSession c.args.session roomed mid =
     ap (λ (w : WorldState). slice_get w.sessions c.args.session) mid_is ∙ set_here old.sessions c.args.session session roomed is in
-    on_err _ (stays c.args.session old l.writer l.desks.items l.cuts l.undo l.room c.args.self.now c.self.invariant c.self.view_is
+    on_err _ (stays c.args.session old l.writer l.desks.items l.cuts l.undo l.room c.args.self.now c.self.invariant.held c.self.view_is
     (g.W.World.state c.begin.new.self) (with_room c.args.session session old) (c.in_err-txn.ensures.err ∙ mid_is) refl refl refl refl)
 
 pub returns-in_err-txn-clause-unset : goal.returns-in_err-txn-clause-unset
@@ -113,7 +116,7 @@ returns-in_err-txn-clause-unset g c =
     let l = c.self.inside in
     let old : WorldState = g.W.World.state l.world in
     let mine =
-    its_session c.args.session old l.writer l.desks.items l.cuts l.undo l.room c.args.self.now c.self.invariant c.self.view_is
+    its_session c.args.session old l.writer l.desks.items l.cuts l.undo l.room c.args.self.now c.self.invariant.held c.self.view_is
     c.requires.joined in
     let session : Session = mine.0 in
     let is : IsSession c.args.session session old = mine.1 in
@@ -122,7 +125,7 @@ returns-in_err-txn-clause-unset g c =
     let mid_is : mid ≡ with_room c.args.session session old = c.in_ok-event_room.ensures.ok session is in
     let at_mid : IsSession c.args.session roomed mid =
     ap (λ (w : WorldState). slice_get w.sessions c.args.session) mid_is ∙ set_here old.sessions c.args.session session roomed is in
-    on_err _ (unset c.args.session old l.writer l.desks.items l.cuts l.undo l.room c.args.self.now c.self.invariant c.self.view_is
+    on_err _ (unset c.args.session old l.writer l.desks.items l.cuts l.undo l.room c.args.self.now c.self.invariant.held c.self.view_is
     (g.W.World.state c.begin.new.self) (slice_set old.sessions c.args.session roomed)
     (ap (λ (w : WorldState). w.sessions) (c.in_err-txn.ensures.err ∙ mid_is)) (settings_same old.sessions c.args.session session roomed is refl))
 
@@ -131,7 +134,7 @@ returns-in_err-txn-clause-rows g c =
     let l = c.self.inside in
     let old : WorldState = g.W.World.state l.world in
     let mine =
-    its_session c.args.session old l.writer l.desks.items l.cuts l.undo l.room c.args.self.now c.self.invariant c.self.view_is
+    its_session c.args.session old l.writer l.desks.items l.cuts l.undo l.room c.args.self.now c.self.invariant.held c.self.view_is
     c.requires.joined in
     let session : Session = mine.0 in
     let is : IsSession c.args.session session old = mine.1 in
@@ -140,7 +143,7 @@ returns-in_err-txn-clause-rows g c =
     let mid_is : mid ≡ with_room c.args.session session old = c.in_ok-event_room.ensures.ok session is in
     let at_mid : IsSession c.args.session roomed mid =
     ap (λ (w : WorldState). slice_get w.sessions c.args.session) mid_is ∙ set_here old.sessions c.args.session session roomed is in
-    same_rows c.args.session old l.writer l.desks.items l.cuts l.undo l.room c.args.self.now c.self.invariant c.self.view_is
+    same_rows c.args.session old l.writer l.desks.items l.cuts l.undo l.room c.args.self.now c.self.invariant.held c.self.view_is
     (g.W.World.state c.begin.new.self) (with_room c.args.session session old) (c.in_err-txn.ensures.err ∙ mid_is) refl
 
 pub add_begin-requires : goal.add_begin-requires
@@ -148,7 +151,7 @@ add_begin-requires g c =
     let l = c.self.inside in
     let old : WorldState = g.W.World.state l.world in
     let mine =
-    its_session c.args.session old l.writer l.desks.items l.cuts l.undo l.room c.args.self.now c.self.invariant c.self.view_is
+    its_session c.args.session old l.writer l.desks.items l.cuts l.undo l.room c.args.self.now c.self.invariant.held c.self.view_is
     c.requires.joined in
     let session : Session = mine.0 in
     let is : IsSession c.args.session session old = mine.1 in
@@ -173,7 +176,7 @@ unwrap-requires g c =
     let l = c.self.inside in
     let old : WorldState = g.W.World.state l.world in
     let mine =
-    its_session c.args.session old l.writer l.desks.items l.cuts l.undo l.room c.args.self.now c.self.invariant c.self.view_is
+    its_session c.args.session old l.writer l.desks.items l.cuts l.undo l.room c.args.self.now c.self.invariant.held c.self.view_is
     c.requires.joined in
     let session : Session = mine.0 in
     let is : IsSession c.args.session session old = mine.1 in
@@ -198,7 +201,7 @@ invariant_of-self-2 g c =
     let l = c.self.inside in
     let old : WorldState = g.W.World.state l.world in
     let mine =
-    its_session c.args.session old l.writer l.desks.items l.cuts l.undo l.room c.args.self.now c.self.invariant c.self.view_is
+    its_session c.args.session old l.writer l.desks.items l.cuts l.undo l.room c.args.self.now c.self.invariant.held c.self.view_is
     c.requires.joined in
     let session : Session = mine.0 in
     let is : IsSession c.args.session session old = mine.1 in
@@ -210,8 +213,8 @@ invariant_of-self-2 g c =
     let told : IsTold old = (g.met.W.EngineWorld.tells l.world).told in
     let mid_held : IsHeld mid l.writer l.desks.items l.cuts l.undo l.room
     = subst (λ (w : WorldState). IsHeld w l.writer l.desks.items l.cuts l.undo l.room) (sym mid_is)
-    (unentered_held l.writer l.cuts l.undo l.room old l.desks.items c.self.invariant c.args.session
-    (at_rest c.args.session old l.writer l.desks.items l.cuts l.undo l.room c.args.self.now c.self.invariant c.self.view_is
+    (unentered_held l.writer l.cuts l.undo l.room old l.desks.items c.self.invariant.held c.args.session
+    (at_rest c.args.session old l.writer l.desks.items l.cuts l.undo l.room c.args.self.now c.self.invariant.held c.self.view_is
     c.requires.idle) told session is roomed refl refl refl) in
     let begun_session : Session = session_begun c.args.level roomed mid in
     let begun_is : (g.W.World.state c.begin.new.self) ≡ begun c.args.session c.args.level roomed mid = c.in_ok-txn.ensures.ok roomed at_mid in
@@ -230,25 +233,28 @@ invariant_of-self-2 g c =
     begun_is in
     let told_mid : IsTold mid = (g.met.W.EngineWorld.tells c.event_room.new.self).told in
     let past_is = ap (λ (w : WorldState). w.past) mid_is in
-    subst (λ (w : WorldState). IsHeld w l.writer l.desks.items l.cuts l.undo l.room) (sym new_is)
+    kept_on old (g.W.World.state c.add_begin.new.self) l.writer l.desks.items l.cuts l.undo l.room c.self.invariant
+    (no_more_in old (g.W.World.state c.add_begin.new.self) (opened c.args.session c.args.level roomed mid) new_is
+    (ap (λ (w : WorldState). w.indexes) mid_is) (ap (λ (w : WorldState). w.schemas) mid_is))
+    (subst (λ (w : WorldState). IsHeld w l.writer l.desks.items l.cuts l.undo l.room) (sym new_is)
     (opened_held l.writer l.cuts l.undo l.room mid l.desks.items mid_held c.args.session
-    (at_rest c.args.session old l.writer l.desks.items l.cuts l.undo l.room c.args.self.now c.self.invariant c.self.view_is
+    (at_rest c.args.session old l.writer l.desks.items l.cuts l.undo l.room c.args.self.now c.self.invariant.held c.self.view_is
     c.requires.idle) told_mid roomed at_mid c.args.level
-    (closed_none old l.writer l.desks.items l.cuts l.undo l.room c.self.invariant c.args.session session is
-    (past_here c.args.session old l.writer l.desks.items l.cuts l.undo l.room c.args.self.now c.self.invariant
+    (closed_none old l.writer l.desks.items l.cuts l.undo l.room c.self.invariant.held c.args.session session is
+    (past_here c.args.session old l.writer l.desks.items l.cuts l.undo l.room c.args.self.now c.self.invariant.held
     c.self.view_is (IsClosed c.args.session) c.requires.may.1))
     (subst (λ h. IsClosed c.args.session h) (sym past_is)
-    (past_here c.args.session old l.writer l.desks.items l.cuts l.undo l.room c.args.self.now c.self.invariant c.self.view_is
+    (past_here c.args.session old l.writer l.desks.items l.cuts l.undo l.room c.args.self.now c.self.invariant.held c.self.view_is
     (IsClosed c.args.session) c.requires.may.1))
     (few_more mid.past (Begin c.args.session (mid.txns.begun + 1) c.args.level) (g.W.World.state c.add_begin.new.self) c.is_short.ensures.few
-    (ap (λ (w : WorldState). w.past) new_is)))
+    (ap (λ (w : WorldState). w.past) new_is))))
 
 pub returns-clause-ok : goal.returns-clause-ok
 returns-clause-ok g c =
     let l = c.self.inside in
     let old : WorldState = g.W.World.state l.world in
     let mine =
-    its_session c.args.session old l.writer l.desks.items l.cuts l.undo l.room c.args.self.now c.self.invariant c.self.view_is
+    its_session c.args.session old l.writer l.desks.items l.cuts l.undo l.room c.args.self.now c.self.invariant.held c.self.view_is
     c.requires.joined in
     let session : Session = mine.0 in
     let is : IsSession c.args.session session old = mine.1 in
@@ -274,9 +280,9 @@ returns-clause-ok g c =
     begun_is in
     let count : mid.txns.begun + 1 ≡ begins c.args.self.now.state.past + 1
     =
-    ap (λ (w : WorldState). w.txns.begun + 1) mid_is ∙ ap (λ (t : Txns). t.begun + 1) c.self.invariant.agrees.lists.txns_are ∙ ap
+    ap (λ (w : WorldState). w.txns.begun + 1) mid_is ∙ ap (λ (t : Txns). t.begun + 1) c.self.invariant.held.agrees.lists.txns_are ∙ ap
     (λ (x : Lists). begins x.state.past + 1) c.self.view_is in
-    adds c.args.session old l.writer l.desks.items l.cuts l.undo l.room c.args.self.now c.self.invariant c.self.view_is
+    adds c.args.session old l.writer l.desks.items l.cuts l.undo l.room c.args.self.now c.self.invariant.held c.self.view_is
     (Begin c.args.session (begins c.args.self.now.state.past + 1) c.args.level) (g.W.World.state c.add_begin.new.self)
     (opened c.args.session c.args.level roomed mid) l.desks.items new_is
     (ap (λ (w : WorldState). w.names) mid_is)
@@ -289,7 +295,7 @@ returns-clause-settings g c =
     let l = c.self.inside in
     let old : WorldState = g.W.World.state l.world in
     let mine =
-    its_session c.args.session old l.writer l.desks.items l.cuts l.undo l.room c.args.self.now c.self.invariant c.self.view_is
+    its_session c.args.session old l.writer l.desks.items l.cuts l.undo l.room c.args.self.now c.self.invariant.held c.self.view_is
     c.requires.joined in
     let session : Session = mine.0 in
     let is : IsSession c.args.session session old = mine.1 in
@@ -316,7 +322,7 @@ returns-clause-settings g c =
     let target : WorldState = opened c.args.session c.args.level roomed mid in
     let first : Session = begun_session in
     let last : Session = record begun_session { can_begin = false; work = Some (record (fresh_work (mid.txns.begun + 1) c.args.level) { can_end = true }) } in
-    reset c.args.session old l.writer l.desks.items l.cuts l.undo l.room c.args.self.now c.self.invariant c.self.view_is
+    reset c.args.session old l.writer l.desks.items l.cuts l.undo l.room c.args.self.now c.self.invariant.held c.self.view_is
     (g.W.World.state c.add_begin.new.self) target.sessions at_begin (ap (λ (w : WorldState). w.sessions) new_is)
     (settings_by old.sessions target.sessions c.args.session session last at_begin
     (length-set (slice_set mid.sessions c.args.session first) c.args.session last ∙ length-set mid.sessions c.args.session first ∙ ap
@@ -330,7 +336,7 @@ returns-clause-rows g c =
     let l = c.self.inside in
     let old : WorldState = g.W.World.state l.world in
     let mine =
-    its_session c.args.session old l.writer l.desks.items l.cuts l.undo l.room c.args.self.now c.self.invariant c.self.view_is
+    its_session c.args.session old l.writer l.desks.items l.cuts l.undo l.room c.args.self.now c.self.invariant.held c.self.view_is
     c.requires.joined in
     let session : Session = mine.0 in
     let is : IsSession c.args.session session old = mine.1 in
@@ -354,5 +360,5 @@ returns-clause-rows g c =
     c.in_ok-txn.ensures.number
     ∙ ap (λ (w : WorldState). begin_added c.args.session (mid.txns.begun + 1) c.args.level begun_session (fresh_work (mid.txns.begun + 1) c.args.level) w)
     begun_is in
-    same_rows c.args.session old l.writer l.desks.items l.cuts l.undo l.room c.args.self.now c.self.invariant c.self.view_is
+    same_rows c.args.session old l.writer l.desks.items l.cuts l.undo l.room c.args.self.now c.self.invariant.held c.self.view_is
     (g.W.World.state c.add_begin.new.self) (opened c.args.session c.args.level roomed mid) new_is (ap (λ (w : WorldState). w.rows) mid_is)

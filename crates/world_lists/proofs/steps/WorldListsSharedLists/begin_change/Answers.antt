@@ -1,9 +1,11 @@
-use Rattle.std.proofs.Common.{◌<◌, List, length, sym, subst, ◌∙◌}
+use Rattle.std.proofs.Common.{◌<◌, List, length, sym, subst, ◌∙◌, refl, ap}
 use Rattle.inno_types.specs.declared.value.Schema.{Schema}
 use Rattle.desks.specs.Shown.{lists_of}
 use Rattle.desks.specs.Undoing.{undo_left_in}
 use Rattle.shared_lists.specs.State.{Lists}
 use Rattle.world_lists.proofs.ChangeBegin.{MayBegin, Begins, item_of, keyed_at, can_edit, begun_held, begun_shows}
+use Rattle.world_lists.proofs.Awaiting.{kept_beside, same_no_more}
+use Rattle.world_lists.specs.Between.{can_await}
 use Rattle.world_lists.proofs.steps.WorldListsSharedLists.begin_change.Goals as goal
 
 pub bounds-as_slice-table : goal.bounds-as_slice-table
@@ -15,7 +17,7 @@ bounds-as_slice-table g c =
     (record { joined = c.requires.joined; is_open = c.requires.is_open; locked = c.requires.locked; idle = c.requires.idle; fits = c.requires.fits }) in
     let can =
     can_edit state c.args.session self.writer self.desks.items self.cuts self.undo self.room
-    (undo_left_in self.undo.table self.room.stage state) c.args.change c.self.invariant may c.in-Some.table c.in-Some.edit c.in-Some.ensures.some in
+    (undo_left_in self.undo.table self.room.stage state) c.args.change c.self.invariant.held may c.in-Some.table c.in-Some.edit c.in-Some.ensures.some in
     subst (λ (schemas : List Schema). c.in-Some.table < length schemas) (sym (c.as_slice.ensures ∙ c.tables.ensures)) can.within
 
 pub key_of_edit-requires : goal.key_of_edit-requires
@@ -27,7 +29,7 @@ key_of_edit-requires g c =
     (record { joined = c.requires.joined; is_open = c.requires.is_open; locked = c.requires.locked; idle = c.requires.idle; fits = c.requires.fits }) in
     let can =
     can_edit state c.args.session self.writer self.desks.items self.cuts self.undo self.room
-    (undo_left_in self.undo.table self.room.stage state) c.args.change c.self.invariant may c.in-Some.table c.in-Some.edit c.in-Some.ensures.some in
+    (undo_left_in self.undo.table self.room.stage state) c.args.change c.self.invariant.held may c.in-Some.table c.in-Some.edit c.in-Some.ensures.some in
     let found = c.index-as_slice-table.result in
     keyed_at state c.in-Some.table c.in-Some.edit found can
     (item_of state.schemas c.tables.result.now c.as_slice.result.now c.in-Some.table found c.index-as_slice-table.is c.as_slice.ensures c.tables.ensures)
@@ -40,10 +42,13 @@ invariant_of-self g c =
     subst (MayBegin c.args.session c.args.change) (sym c.self.view_is)
     (record { joined = c.requires.joined; is_open = c.requires.is_open; locked = c.requires.locked; idle = c.requires.idle; fits = c.requires.fits }) in
     let found = c.index-as_slice-table.result in
-    begun_held state c.args.session self.writer self.desks.items self.cuts self.undo self.room
-    (undo_left_in self.undo.table self.room.stage state) c.args.change c.self.invariant may c.in-Some.table c.in-Some.edit c.in-Some.ensures.some
+    kept_beside state state self.writer self.desks.items self.cuts self.undo self.room c.self.invariant (same_no_more state state refl) c.args.session _
+    c.give_doing.new.desks.items (ap can_await (nothing_if state self.writer self.desks.items (undo_left_in self.undo.table self.room.stage state)
+    c.args.session may.idle)) c.give_doing.ensures
+    (begun_held state c.args.session self.writer self.desks.items self.cuts self.undo self.room
+    (undo_left_in self.undo.table self.room.stage state) c.args.change c.self.invariant.held may c.in-Some.table c.in-Some.edit c.in-Some.ensures.some
     found (item_of state.schemas c.tables.result.now c.as_slice.result.now c.in-Some.table found c.index-as_slice-table.is c.as_slice.ensures c.tables.ensures)
-    c.in_ok-key.key c.in_ok-key.ensures c.in_ok-change.change c.in_ok-change.ensures c.give_doing.new.desks.items c.give_doing.ensures
+    c.in_ok-key.key c.in_ok-key.ensures c.in_ok-change.change c.in_ok-change.ensures c.give_doing.new.desks.items c.give_doing.ensures)
 
 pub returns : goal.returns
 returns g c =
@@ -55,7 +60,7 @@ returns g c =
     let found = c.index-as_slice-table.result in
     let shows =
     begun_shows state c.args.session self.writer self.desks.items self.cuts self.undo self.room
-    (undo_left_in self.undo.table self.room.stage state) c.args.change c.self.invariant may c.in-Some.table c.in-Some.edit c.in-Some.ensures.some
+    (undo_left_in self.undo.table self.room.stage state) c.args.change c.self.invariant.held may c.in-Some.table c.in-Some.edit c.in-Some.ensures.some
     found (item_of state.schemas c.tables.result.now c.as_slice.result.now c.in-Some.table found c.index-as_slice-table.is c.as_slice.ensures c.tables.ensures)
     c.in_ok-key.key c.in_ok-key.ensures c.in_ok-change.change c.in_ok-change.ensures c.give_doing.new.desks.items c.give_doing.ensures in
     let begins =

@@ -7,6 +7,9 @@ use Rattle.law_held_searches.specs.Begun.{IsBegun}
 use Rattle.law_held_searches.proofs.Begins.{new_search}
 use Rattle.world_lists.proofs.SearchBegins.{ReadsBy, reads_by_view, reads_newest, copied, joined_within, table_there, idle_now, writer_now, view_there, begun_held, begun_seen}
 use Rattle.world_lists.proofs.steps.WorldListsSharedLists.begin_search.Goals.{in-View+in_ok-sight-in-View, in-Newest}
+use Rattle.world_lists.proofs.Awaiting.{kept_beside, same_no_more}
+use Rattle.world_lists.specs.Between.{can_await}
+use Rattle.desks.specs.declared.desk.Doing.TheVariants.{Searching}
 use Rattle.world_lists.proofs.steps.WorldListsSharedLists.begin_search.Goals as goal
 
 pub bounds-as_slice-table : goal.bounds-as_slice-table
@@ -14,7 +17,7 @@ bounds-as_slice-table g c =
     let l = c.self.inside in
     let there : slice_get (g.W.World.state l.world).schemas c.args.table ≡ Some c.requires.there.0
     =
-    table_there c.args.session (g.W.World.state l.world) l.writer l.desks.items l.cuts l.undo l.room c.args.self.now c.self.invariant
+    table_there c.args.session (g.W.World.state l.world) l.writer l.desks.items l.cuts l.undo l.room c.args.self.now c.self.invariant.held
     c.self.view_is c.args.table c.requires.there.0 c.requires.there.1 in
     omega (
       arith,
@@ -26,7 +29,7 @@ bounds-as_slice-table g c =
 pub own_sight-requires : goal.own_sight-requires
 own_sight-requires g c =
     let l = c.self.inside in
-    view_there c.args.session (g.W.World.state l.world) l.writer l.desks.items l.cuts l.undo l.room c.args.self.now c.self.invariant
+    view_there c.args.session (g.W.World.state l.world) l.writer l.desks.items l.cuts l.undo l.room c.args.self.now c.self.invariant.held
     c.self.view_is c.requires.is_open (c.requires.view c.in-View.is)
 
 pub invariant_of-self : goal.invariant_of-self
@@ -36,7 +39,7 @@ invariant_of-self g c =
     let schema : Schema = c.requires.there.0 in
     let there : slice_get state.schemas c.args.table ≡ Some schema
     =
-    table_there c.args.session state l.writer l.desks.items l.cuts l.undo l.room c.args.self.now c.self.invariant c.self.view_is
+    table_there c.args.session state l.writer l.desks.items l.cuts l.undo l.room c.args.self.now c.self.invariant.held c.self.view_is
     c.args.table schema c.requires.there.1 in
     let same : c.in_ok-schema.schema ≡ schema
     =
@@ -57,14 +60,18 @@ invariant_of-self g c =
       | in-View+in_ok-sight-in-View w ↦ reads_by_view c.args.session state l.writer c.args.reading c.match-reading.sight w.in_ok-sight-in-View.sight
           w.sight-is w.in-View.is w.in_ok-sight-in-View.ensures
       | in-Newest w ↦ reads_newest c.args.session state l.writer c.args.reading c.match-reading.sight w.sight-is w.in-Newest.is
-          (writer_now c.args.session state l.writer l.desks.items l.cuts l.undo l.room c.args.self.now c.self.invariant c.self.view_is
+          (writer_now c.args.session state l.writer l.desks.items l.cuts l.undo l.room c.args.self.now c.self.invariant.held c.self.view_is
           (c.requires.newest w.in-Newest.is))
     ] in
-    begun_held c.args.session state l.writer l.desks.items l.cuts l.undo l.room c.args.self.now c.self.invariant c.self.view_is c.args.table
+    kept_beside state state l.writer l.desks.items l.cuts l.undo l.room c.self.invariant (same_no_more state state refl) c.args.session (Searching on)
+    c.give_doing.new.desks.items
+    (ap can_await (idle_now c.args.session state l.writer l.desks.items l.cuts l.undo l.room c.args.self.now c.self.invariant.held c.self.view_is
+    c.requires.idle)) c.give_doing.ensures
+    (begun_held c.args.session state l.writer l.desks.items l.cuts l.undo l.room c.args.self.now c.self.invariant.held c.self.view_is c.args.table
     c.args.plan c.args.reading c.match-reading.sight on is
     c.give_doing.new.desks.items c.give_doing.ensures reads (g.met.W.EngineWorld.tells l.world).told
-    (idle_now c.args.session state l.writer l.desks.items l.cuts l.undo l.room c.args.self.now c.self.invariant c.self.view_is c.requires.idle)
-    (there ∙ ap (λ (s : Schema). Some s) (sym same)) (subst (λ (s : Schema). c.args.plan.which ≤ length s.keys) (sym same) c.requires.there.2)
+    (idle_now c.args.session state l.writer l.desks.items l.cuts l.undo l.room c.args.self.now c.self.invariant.held c.self.view_is c.requires.idle)
+    (there ∙ ap (λ (s : Schema). Some s) (sym same)) (subst (λ (s : Schema). c.args.plan.which ≤ length s.keys) (sym same) c.requires.there.2))
 
 pub returns-clause-ok : goal.returns-clause-ok
 returns-clause-ok g c =
@@ -85,11 +92,11 @@ returns-clause-ok g c =
       | in-View+in_ok-sight-in-View w ↦ reads_by_view c.args.session state l.writer c.args.reading c.match-reading.sight w.in_ok-sight-in-View.sight
           w.sight-is w.in-View.is w.in_ok-sight-in-View.ensures
       | in-Newest w ↦ reads_newest c.args.session state l.writer c.args.reading c.match-reading.sight w.sight-is w.in-Newest.is
-          (writer_now c.args.session state l.writer l.desks.items l.cuts l.undo l.room c.args.self.now c.self.invariant c.self.view_is
+          (writer_now c.args.session state l.writer l.desks.items l.cuts l.undo l.room c.args.self.now c.self.invariant.held c.self.view_is
           (c.requires.newest w.in-Newest.is))
     ] in
-    begun_seen c.args.session state l.writer l.desks.items l.cuts l.undo l.room c.args.self.now c.self.invariant c.self.view_is c.args.table
+    begun_seen c.args.session state l.writer l.desks.items l.cuts l.undo l.room c.args.self.now c.self.invariant.held c.self.view_is c.args.table
     c.args.plan c.args.reading c.match-reading.sight on is
     c.give_doing.new.desks.items c.give_doing.ensures reads
-    (joined_within c.args.session state l.writer l.desks.items l.cuts l.undo l.room c.args.self.now c.self.invariant c.self.view_is
+    (joined_within c.args.session state l.writer l.desks.items l.cuts l.undo l.room c.args.self.now c.self.invariant.held c.self.view_is
     c.requires.joined)

@@ -11,9 +11,9 @@ returns g c =
     let joined : c.args.session < length old.names = subst (λ (l : Lists). c.args.session < length l.state.names) (sym c.self.view_is) c.requires in
     let found =
     there old c.self.inside.writer c.self.inside.desks.items c.self.inside.cuts c.self.inside.undo c.self.inside.room
-    c.self.invariant c.args.session joined in
+    c.self.invariant.held c.args.session joined in
     let session : Session = found.0 in
     let is : IsSession c.args.session session old = found.1 in
     ap (λ (s : _). s.own) (c.session.ensures session is)
     ∙ (own_is old c.self.inside.writer c.self.inside.desks.items c.self.inside.cuts c.self.inside.undo c.self.inside.room
-    c.self.invariant c.args.session session is ∙ ap (λ (l : Lists). length (own c.args.session l.state.past)) c.self.view_is)
+    c.self.invariant.held c.args.session session is ∙ ap (λ (l : Lists). length (own c.args.session l.state.past)) c.self.view_is)

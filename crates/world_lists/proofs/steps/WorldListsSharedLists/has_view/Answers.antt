@@ -12,12 +12,12 @@ returns g c =
     let joined : c.args.session < length old.names = subst (λ (l : Lists). c.args.session < length l.state.names) (sym c.self.view_is) c.requires.joined in
     let found =
     there old c.self.inside.writer c.self.inside.desks.items c.self.inside.cuts c.self.inside.undo c.self.inside.room
-    c.self.invariant c.args.session joined in
+    c.self.invariant.held c.args.session joined in
     let session : Session = found.0 in
     let is : IsSession c.args.session session old = found.1 in
     let opened =
     open_work old c.self.inside.writer c.self.inside.desks.items c.self.inside.cuts c.self.inside.undo c.self.inside.room
-    c.self.invariant c.args.session session is (subst (λ (l : Lists). IsOpen c.args.session l.state.past) (sym c.self.view_is) c.requires.is_open) in
+    c.self.invariant.held c.args.session session is (subst (λ (l : Lists). IsOpen c.args.session l.state.past) (sym c.self.view_is) c.requires.is_open) in
     c.has_view.ensures session opened.0 (record { session_is = is; work_is = opened.1 })
     ∙ (view_is old c.self.inside.writer c.self.inside.desks.items c.self.inside.cuts c.self.inside.undo c.self.inside.room
-    c.self.invariant c.args.session session is opened.0 opened.1 ∙ ap (λ (l : Lists). is_some (view_of c.args.session l.state.past)) c.self.view_is)
+    c.self.invariant.held c.args.session session is opened.0 opened.1 ∙ ap (λ (l : Lists). is_some (view_of c.args.session l.state.past)) c.self.view_is)

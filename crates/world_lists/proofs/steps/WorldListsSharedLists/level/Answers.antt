@@ -11,13 +11,13 @@ returns-in-Some-clause-level g c =
     let joined : c.args.session < length old.names = subst (λ (l : Lists). c.args.session < length l.state.names) (sym c.self.view_is) c.requires in
     let found =
     there old c.self.inside.writer c.self.inside.desks.items c.self.inside.cuts c.self.inside.undo c.self.inside.room
-    c.self.invariant c.args.session joined in
+    c.self.invariant.held c.args.session joined in
     let session : Session = found.0 in
     let is : IsSession c.args.session session old = found.1 in
     let same = c.session-standing.ensures session is in
     ap (λ (s : _). Some s.level) same
     ∙ (sym (level_is old c.self.inside.writer c.self.inside.desks.items c.self.inside.cuts c.self.inside.undo c.self.inside.room
-    c.self.invariant c.args.session session is _ (sym (ap (λ (s : _). s.txn) same) ∙ c.in-Some.is)) ∙ ap
+    c.self.invariant.held c.args.session session is _ (sym (ap (λ (s : _). s.txn) same) ∙ c.in-Some.is)) ∙ ap
     (λ (l : Lists). level c.args.session l.state.past) c.self.view_is)
 
 pub returns-in-None-clause-level : goal.returns-in-None-clause-level
@@ -26,10 +26,10 @@ returns-in-None-clause-level g c =
     let joined : c.args.session < length old.names = subst (λ (l : Lists). c.args.session < length l.state.names) (sym c.self.view_is) c.requires in
     let found =
     there old c.self.inside.writer c.self.inside.desks.items c.self.inside.cuts c.self.inside.undo c.self.inside.room
-    c.self.invariant c.args.session joined in
+    c.self.invariant.held c.args.session joined in
     let session : Session = found.0 in
     let is : IsSession c.args.session session old = found.1 in
     let same = c.session-standing.ensures session is in
     sym ((none_is old c.self.inside.writer c.self.inside.desks.items c.self.inside.cuts c.self.inside.undo c.self.inside.room
-    c.self.invariant c.args.session session is (sym (ap (λ (s : _). s.txn) same) ∙ c.in-None.is)).level_is) ∙ ap
+    c.self.invariant.held c.args.session session is (sym (ap (λ (s : _). s.txn) same) ∙ c.in-None.is)).level_is) ∙ ap
     (λ (l : Lists). level c.args.session l.state.past) c.self.view_is

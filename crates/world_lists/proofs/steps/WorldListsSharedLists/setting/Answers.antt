@@ -12,7 +12,7 @@ returns g c =
     let joined : c.args.session < length old.names = subst (λ (l : Lists). c.args.session < length l.state.names) (sym c.self.view_is) c.requires in
     let found =
     there old c.self.inside.writer c.self.inside.desks.items c.self.inside.cuts c.self.inside.undo c.self.inside.room
-    c.self.invariant c.args.session joined in
+    c.self.invariant.held c.args.session joined in
     let session : Session = found.0 in
     let is : IsSession c.args.session session old = found.1 in
     c.settings.ensures session is

@@ -12,7 +12,7 @@ unreachable-requires g c =
     let l = c.self.inside in
     let old : WorldState = g.W.World.state l.world in
     let mine =
-    its_work c.args.session old l.writer l.desks.items l.cuts l.undo l.room c.args.self.now c.self.invariant c.self.view_is
+    its_work c.args.session old l.writer l.desks.items l.cuts l.undo l.room c.args.self.now c.self.invariant.held c.self.view_is
     c.requires.joined c.requires.is_open in
     let session : Session = mine.0 in
     let work : Work = mine.1 in
@@ -24,10 +24,10 @@ returns g c =
     let l = c.self.inside in
     let old : WorldState = g.W.World.state l.world in
     let mine =
-    its_session c.args.session old l.writer l.desks.items l.cuts l.undo l.room c.args.self.now c.self.invariant c.self.view_is
+    its_session c.args.session old l.writer l.desks.items l.cuts l.undo l.room c.args.self.now c.self.invariant.held c.self.view_is
     c.requires.joined in
     let session : Session = mine.0 in
     let is : IsSession c.args.session session old = mine.1 in
-    sym (txn_is old l.writer l.desks.items l.cuts l.undo l.room c.self.invariant c.args.session session is c.in-Some.txn
+    sym (txn_is old l.writer l.desks.items l.cuts l.undo l.room c.self.invariant.held c.args.session session is c.in-Some.txn
     (sym (ap (λ (x : Standing). x.txn) (c.session.ensures session is)) ∙ c.in-Some.is))
     ∙ ap (λ (x : Lists). txn c.args.session x.state.past) c.self.view_is

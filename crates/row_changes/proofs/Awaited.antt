@@ -1,0 +1,226 @@
+-- Who is awaited after the calls of a world's indexes.
+use Rattle.std.proofs.Common.{◌≡◌, ◌⊎◌, ◌+◌, ap, inl, inr, ⊎_elim, ℕ, ◌≤◌, List, Option, Some, None, sym, subst, ◌∙◌, arith}
+use Rattle.std.specs.Prelude.{length, slice_get}
+use Rattle.std.proofs.lemmas.Bool.{cases_eq}
+use Rattle.inno_types.specs.declared.value.Schema.{Schema}
+use Rattle.store_api.specs.declared.answers.Undo.{Undo}
+use Rattle.store_api.specs.declared.moves.Move.{Move}
+use Rattle.store_api.specs.declared.moves.Move.TheVariants.{At, End, Done, Step, Latch, Again, Full, TooDeep, Failed, Bad, NoMemory}
+use Rattle.entries.specs.Index.{Index}
+use Rattle.entries.specs.Calls.{Delays, Fetches, NextKeys, Inserts, Replaces, Removes}
+use Rattle.law_coded_rows.specs.Edits.{clustered_index, key_index}
+use Rattle.world.specs.State.{WorldState, Session, Work}
+use Rattle.world.specs.Indexes.{InIndex, InsertsWith, ReplacesWith}
+use Rattle.inno_types.specs.declared.value.Value.{Value}
+use Rattle.inno_db.specs.declared.change.Change.{Change}
+use Rattle.row_versions.specs.Chains.{Chains}
+use Rattle.row_changes.specs.declared.record_change.RecordChange.{RecordChange}
+use Rattle.row_changes.specs.declared.entry_put.EntryPut.{EntryPut}
+use Rattle.row_changes.specs.declared.keys_change.KeysChange.{KeysChange}
+use Rattle.row_changes.specs.declared.key_entries.KeyEntries.{KeyEntries}
+use Rattle.row_changes.specs.declared.row_change.RowChange.TheVariants.{Record}
+use Rattle.row_changes.specs.Entering.{Enters}
+use Rattle.row_changes.specs.KeyEntries.{AreEntries}
+use Rattle.row_changes.specs.Keys.{IsChangingKeys}
+use Rattle.row_changes.specs.Rows.{IsChangingRow}
+use Rattle.row_changes.specs.Awaited.{AwaitsAt, AwaitsIn, IsOfTable}
+
+-- who is awaited in an index was so before, or is this actor
+abbrev pub AwaitsHere : ℕ → Index → Index → Type 0
+AwaitsHere actor old new = (by : ℕ) → new.awaited ≡ Some by → (old.awaited ≡ Some by) ⊎ (by ≡ actor)
+
+same_here : (actor : ℕ) (old new : Index) → new.awaited ≡ old.awaited → AwaitsHere actor old new
+same_here actor old new same by is = inl (sym same ∙ is)
+
+none_here : (actor : ℕ) (old new : Index) → new.awaited ≡ None → AwaitsHere actor old new
+none_here actor old new none by is = absurd (cc)
+
+mine_here : (actor : ℕ) (old new : Index) → new.awaited ≡ Some actor → AwaitsHere actor old new
+mine_here actor old new mine by is = inr (cc)
+
+delay_here : (actor : ℕ) (old new : Index) (move : Move) → Delays actor old new move → AwaitsHere actor old new
+delay_here actor old new Step h = same_here actor old new h.all.awaited
+delay_here actor old new (Latch by) h = same_here actor old new h.all.awaited
+delay_here actor old new Again h = same_here actor old new h.all.awaited
+delay_here actor old new Failed h = same_here actor old new h.awaited
+delay_here actor old new (Bad page rule) h = same_here actor old new h.all.awaited
+delay_here actor old new (At key value) h = absurd h
+delay_here actor old new End h = absurd h
+delay_here actor old new Done h = absurd h
+delay_here actor old new (Full need free) h = absurd h
+delay_here actor old new TooDeep h = absurd h
+delay_here actor old new NoMemory h = absurd h
+
+pub fetch_here : (actor : ℕ) (key read : List ℕ) (old new : Index) (move : Move) → Fetches actor key read old new move → AwaitsHere actor old new
+fetch_here actor key read old new Done h = same_here actor old new h.1.awaited
+fetch_here actor key read old new End h = same_here actor old new h.1.awaited
+fetch_here actor key read old new Step h = delay_here actor old new Step h
+fetch_here actor key read old new (Latch by) h = delay_here actor old new (Latch by) h
+fetch_here actor key read old new Again h = delay_here actor old new Again h
+fetch_here actor key read old new Failed h = delay_here actor old new Failed h
+fetch_here actor key read old new (Bad page rule) h = delay_here actor old new (Bad page rule) h
+fetch_here actor key read old new (At k value) h = absurd h
+fetch_here actor key read old new (Full need free) h = absurd h
+fetch_here actor key read old new TooDeep h = absurd h
+fetch_here actor key read old new NoMemory h = absurd h
+
+pub next_key_here : (actor : ℕ) (key read : List ℕ) (old new : Index) (move : Move) → NextKeys actor key read old new move → AwaitsHere actor old new
+next_key_here actor key read old new Done h = mine_here actor old new h.2.awaited
+next_key_here actor key read old new End h = mine_here actor old new h.2.awaited
+next_key_here actor key read old new (Latch by) h =
+    ⊎_elim (λ off. same_here actor old new off.all.awaited) (λ delay. same_here actor old new delay.all.awaited) h
+next_key_here actor key read old new Step h = delay_here actor old new Step h
+next_key_here actor key read old new Again h = delay_here actor old new Again h
+next_key_here actor key read old new Failed h = delay_here actor old new Failed h
+next_key_here actor key read old new (Bad page rule) h = delay_here actor old new (Bad page rule) h
+next_key_here actor key read old new (At k value) h = absurd h
+next_key_here actor key read old new (Full need free) h = absurd h
+next_key_here actor key read old new TooDeep h = absurd h
+next_key_here actor key read old new NoMemory h = absurd h
+
+insert_here : (actor : ℕ) (key value : List ℕ) (old new : Index) (move : Move) → Inserts actor key value old new move → AwaitsHere actor old new
+insert_here actor key value old new Done h = none_here actor old new h.2.awaited
+insert_here actor key value old new (At there kept) h = none_here actor old new h.3.awaited
+insert_here actor key value old new (Latch by) h =
+    ⊎_elim (λ off. same_here actor old new off.all.awaited) (λ delay. same_here actor old new delay.all.awaited) h
+insert_here actor key value old new NoMemory h = same_here actor old new h.1.awaited
+insert_here actor key value old new (Full need free) h = same_here actor old new h.all.awaited
+insert_here actor key value old new TooDeep h = same_here actor old new h.all.awaited
+insert_here actor key value old new Step h = delay_here actor old new Step h
+insert_here actor key value old new Again h = delay_here actor old new Again h
+insert_here actor key value old new Failed h = delay_here actor old new Failed h
+insert_here actor key value old new (Bad page rule) h = delay_here actor old new (Bad page rule) h
+insert_here actor key value old new End h = absurd h
+
+pub insert_with_here : (undo : Option Undo) (actor : ℕ) (key value : List ℕ) (old new : Index) (move : Move)
+    → InsertsWith undo actor key value old new move → AwaitsHere actor old new
+insert_with_here None actor key value old new move h = insert_here actor key value old new move h
+insert_with_here (Some undo) actor key value old new Done h = insert_here actor key value old new Done h
+insert_with_here (Some undo) actor key value old new (At there kept) h = insert_here actor key value old new (At there kept) h
+insert_with_here (Some undo) actor key value old new (Latch by) h = insert_here actor key value old new (Latch by) h
+insert_with_here (Some undo) actor key value old new NoMemory h = same_here actor old new h.awaited
+insert_with_here (Some undo) actor key value old new (Full need free) h = insert_here actor key value old new (Full need free) h
+insert_with_here (Some undo) actor key value old new TooDeep h = insert_here actor key value old new TooDeep h
+insert_with_here (Some undo) actor key value old new Step h = insert_here actor key value old new Step h
+insert_with_here (Some undo) actor key value old new Again h = insert_here actor key value old new Again h
+insert_with_here (Some undo) actor key value old new Failed h = insert_here actor key value old new Failed h
+insert_with_here (Some undo) actor key value old new (Bad page rule) h = insert_here actor key value old new (Bad page rule) h
+insert_with_here (Some undo) actor key value old new End h = insert_here actor key value old new End h
+
+replace_here : (actor : ℕ) (key value : List ℕ) (old new : Index) (move : Move) → Replaces actor key value old new move → AwaitsHere actor old new
+replace_here actor key value old new Done h = same_here actor old new h.1.awaited
+replace_here actor key value old new End h = same_here actor old new h.1.awaited
+replace_here actor key value old new NoMemory h = same_here actor old new h.1.awaited
+replace_here actor key value old new (Full need free) h = same_here actor old new h.1.all.awaited
+replace_here actor key value old new TooDeep h = same_here actor old new h.1.all.awaited
+replace_here actor key value old new (Latch by) h = delay_here actor old new (Latch by) h
+replace_here actor key value old new Step h = delay_here actor old new Step h
+replace_here actor key value old new Again h = delay_here actor old new Again h
+replace_here actor key value old new Failed h = delay_here actor old new Failed h
+replace_here actor key value old new (Bad page rule) h = delay_here actor old new (Bad page rule) h
+replace_here actor key value old new (At k v) h = absurd h
+
+pub replace_with_here : (undo : Option Undo) (actor : ℕ) (key value : List ℕ) (old new : Index) (move : Move)
+    → ReplacesWith undo actor key value old new move → AwaitsHere actor old new
+replace_with_here None actor key value old new move h = replace_here actor key value old new move h
+replace_with_here (Some undo) actor key value old new Done h = replace_here actor key value old new Done h
+replace_with_here (Some undo) actor key value old new (At there kept) h = replace_here actor key value old new (At there kept) h
+replace_with_here (Some undo) actor key value old new (Latch by) h = replace_here actor key value old new (Latch by) h
+replace_with_here (Some undo) actor key value old new NoMemory h = same_here actor old new h.awaited
+replace_with_here (Some undo) actor key value old new (Full need free) h = replace_here actor key value old new (Full need free) h
+replace_with_here (Some undo) actor key value old new TooDeep h = replace_here actor key value old new TooDeep h
+replace_with_here (Some undo) actor key value old new Step h = replace_here actor key value old new Step h
+replace_with_here (Some undo) actor key value old new Again h = replace_here actor key value old new Again h
+replace_with_here (Some undo) actor key value old new Failed h = replace_here actor key value old new Failed h
+replace_with_here (Some undo) actor key value old new (Bad page rule) h = replace_here actor key value old new (Bad page rule) h
+replace_with_here (Some undo) actor key value old new End h = replace_here actor key value old new End h
+
+pub remove_here : (actor : ℕ) (key : List ℕ) (old new : Index) (move : Move) → Removes actor key old new move → AwaitsHere actor old new
+remove_here actor key old new Done h = none_here actor old new h.2.awaited
+remove_here actor key old new End h = none_here actor old new h.2.awaited
+remove_here actor key old new (Latch by) h =
+    ⊎_elim (λ off. same_here actor old new off.all.awaited) (λ delay. same_here actor old new delay.all.awaited) h
+remove_here actor key old new Step h = delay_here actor old new Step h
+remove_here actor key old new Again h = delay_here actor old new Again h
+remove_here actor key old new Failed h = delay_here actor old new Failed h
+remove_here actor key old new (Bad page rule) h = delay_here actor old new (Bad page rule) h
+remove_here actor key old new NoMemory h = absurd h
+remove_here actor key old new (Full need free) h = absurd h
+remove_here actor key old new TooDeep h = absurd h
+remove_here actor key old new (At k v) h = absurd h
+
+-- ---- of a world
+
+-- what holds in the index of the call holds of the world
+pub awaits_at : (actor index : ℕ) (step : Index → Index → Type 0) (old new : WorldState) → InIndex index step old new
+    → AwaitsHere actor (old.indexes index) (new.indexes index) → AwaitsAt actor index old new
+awaits_at actor index step old new in_index here = record { each = go }
+  where
+    go : (i by : ℕ) → (new.indexes i).awaited ≡ Some by → ((old.indexes i).awaited ≡ Some by) ⊎ ((by ≡ actor) × (i ≡ index))
+    go i by is =
+        ⊎_elim (λ at. ⊎_elim (λ was. inl (subst (λ (k : ℕ). (old.indexes k).awaited ≡ Some by) (sym at) was)) (λ mine. inr (mine, at))
+        (here by (subst (λ (k : ℕ). (new.indexes k).awaited ≡ Some by) at is)))
+        (λ apart. inl (sym (in_index.elsewhere i apart).awaited ∙ is)) (cases_eq i index)
+
+-- no index was called
+pub awaits_as_before : (actor index : ℕ) (old new : WorldState) → ((i : ℕ) → (new.indexes i).awaited ≡ (old.indexes i).awaited) → AwaitsAt actor index old new
+awaits_as_before actor index old new same = record { each = λ i by is. inl (sym (same i) ∙ is) }
+
+pub awaits_same : (actor index : ℕ) (old new : WorldState) → new.indexes ≡ old.indexes → AwaitsAt actor index old new
+awaits_same actor index old new same = awaits_as_before actor index old new (λ i. ap (λ (indexes : ℕ → Index). (indexes i).awaited) same)
+
+-- a step that calls no index more
+pub awaits_then : (actor index : ℕ) (old mid new : WorldState) → AwaitsAt actor index old mid → new.indexes ≡ mid.indexes → AwaitsAt actor index old new
+awaits_then actor index old mid new awaits same =
+    record { each = λ i by is. awaits.each i by (ap (λ (indexes : ℕ → Index). (indexes i).awaited) (sym same) ∙ is) }
+
+-- where the index is one of the table
+pub awaits_in : (actor index table : ℕ) (old new : WorldState) → IsOfTable table old.schemas index → AwaitsAt actor index old new → AwaitsIn actor table old new
+awaits_in actor index table old new of_table awaits =
+    record {
+      each = λ i by is. ⊎_elim (λ was. inl was) (λ mine. inr (mine.0, subst (λ (k : ℕ). IsOfTable table old.schemas k) (sym mine.1) of_table))
+          (awaits.each i by is);
+    }
+
+pub awaits_none_in : (actor table : ℕ) (state : WorldState) → AwaitsIn actor table state state
+awaits_none_in actor table state = record { each = λ i by is. inl is }
+
+pub clustered_of_table : (table : ℕ) (schemas : List Schema) (schema : Schema) → slice_get schemas table ≡ Some schema
+    → IsOfTable table schemas (clustered_index table)
+clustered_of_table table schemas schema there =
+    record { schema = schema; there = there; which = 0; within = omega arith; number = omega arith }
+
+pub key_of_table : (table which : ℕ) (schemas : List Schema) (schema : Schema) → slice_get schemas table ≡ Some schema
+    → which + 1 ≤ length schema.keys → IsOfTable table schemas (key_index table which)
+key_of_table table which schemas schema there within =
+    record { schema = schema; there = there; which = 1 + which; within = omega arith; number = omega arith }
+
+-- the entry that is being put stands in an index of the table
+pub keys_await : (chains : Chains) (actor : ℕ) (old new : WorldState) (change : KeysChange) (put : EntryPut)
+    → IsChangingKeys chains old (record change { put = Some put }) → AwaitsAt actor put.index old new → AwaitsIn actor change.table old new
+keys_await chains actor old new change put is awaits =
+    let within = is.put.within in
+    let number = is.put.index_is in
+    awaits_in actor put.index change.table old new
+    (subst (λ (k : ℕ). IsOfTable change.table old.schemas k) (sym number)
+    (key_of_table change.table change.which old.schemas is.schema is.table.there (omega (arith, within)))) awaits
+
+pub mark_awaits : (chains : Chains) (actor index : ℕ) (old new : WorldState) (change : KeysChange) (entries : KeyEntries)
+    → (is : IsChangingKeys chains old change) → AreEntries is.schema change.which change.before change.after change.key entries
+    → index ≡ key_index change.table entries.which → AwaitsAt actor index old new → AwaitsIn actor change.table old new
+mark_awaits chains actor index old new change entries is are number awaits =
+    let within = are.within in
+    awaits_in actor index change.table old new
+    (subst (λ (k : ℕ). IsOfTable change.table old.schemas k) (sym number)
+    (key_of_table change.table entries.which old.schemas is.schema is.table.there (omega (arith, within)))) awaits
+
+pub record_awaits : (chains : Chains) (s : ℕ) (old new : WorldState) (change : RecordChange) (key : List ℕ) (after : Option (List Value))
+    → IsChangingRow s chains old (Record change key after) → AwaitsAt s (clustered_index change.table) old new → AwaitsIn s change.table old new
+record_awaits chains s old new change key after is awaits =
+    awaits_in s (clustered_index change.table) change.table old new (clustered_of_table change.table old.schemas is.0.schema is.0.table.there) awaits
+
+-- a record that was put, and then the entry of the history
+pub entered_awaits : (s index : ℕ) (step : Index → Index → Type 0) (old mid new : WorldState) (change : Change) (rows : ℕ) (session : Session) (work : Work)
+    → InIndex index step old mid → AwaitsHere s (old.indexes index) (mid.indexes index) → Enters s change rows session work mid new → AwaitsAt s index old new
+entered_awaits s index step old mid new change rows session work in_index here enters =
+    awaits_then s index old mid new (awaits_at s index step old mid in_index here) (ap (λ (state : WorldState). state.indexes) enters.rest)
