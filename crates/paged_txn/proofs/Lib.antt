@@ -1,6 +1,7 @@
 pub mod Brought
 pub mod Ended
 pub mod Fixed
+pub mod Flushed
 pub mod Made
 pub mod Meeting
 pub mod Opened

@@ -1,10 +1,11 @@
-//! All the memory that mini-transactions take: the frames of the pool, room for the copies of 24 pages, and for their records.
-//! It is taken once, before the first of them.
+//! All the memory that mini-transactions take: the frames of the pool, room for the copies of 24 pages and for their records, and
+//! for a batch of the flusher. It is taken once, before the first of them.
 
-ghost use Rattle.std.specs.Prelude.{◌≡◌, [], length, IfOk};
+ghost use Rattle.std.specs.Prelude.{◌≡◌, [], length, None, IfOk};
 ghost use Rattle.paged_txn.specs.View.{HasNoPage, HasFrames};
 
 use buffer_pool::Pool;
+use flusher::Flusher;
 use mini_txn::{Dealt, Edits};
 use std::alloc::Global;
 use store_api::NoMemory;
@@ -15,9 +16,11 @@ pub struct Room {
     pub(crate) pool: Pool,
     pub(crate) dealt: Dealt,
     pub(crate) edits: Edits,
+    pub(crate) flusher: Flusher,
     ghost no_page: { HasNoPage (length pool.slots) pool },
     ghost none_dealt: { dealt ≡ [] },
     ghost no_record: { edits ≡ [] },
+    ghost no_batch: { flusher ≡ None },
 }
 
 /// Frames for a file of so many pages, none of which is in.
@@ -45,6 +48,7 @@ impl Room {
             pool,
             dealt: Dealt::new(alloc)?,
             edits: Edits::new(alloc)?,
+            flusher: Flusher::new(alloc)?,
         })
     }
 }

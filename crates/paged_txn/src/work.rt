@@ -1,7 +1,7 @@
 //! What is under way: the pool, the log and the disk, the pages that are dealt with, and the records that stand.
 //! `PagedTxn` alone calls this, and gives it the form of the trait.
 
-ghost use Rattle.std.specs.Prelude.{◌≡◌, ℕ, ◌+◌, ◌<◌, ◌≤◌, [], ◌∷◌, ◌++◌, ◌||◌, true, false, length, is_some, IsTrue, IsOk, IfOk, OnOk, OnErr, Err, Ok};
+ghost use Rattle.std.specs.Prelude.{◌≡◌, ◌↔◌, ℕ, List, None, ◌+◌, ◌<◌, ◌≤◌, [], ◌∷◌, ◌++◌, ◌||◌, true, false, length, is_some, IsTrue, IsOk, IfOk, OnOk, OnErr, Err, Ok};
 ghost use Rattle.log_format.specs.declared.group.Record.TheVariants.{Put, Fresh};
 ghost use Rattle.redo_log.specs.View.{room_of};
 ghost use Rattle.store_api.specs.declared.visits.FreshBad.TheVariants.{Again as FreshAgain, NoMemory as NoFreshMemory};
@@ -16,16 +16,26 @@ ghost use Rattle.paged_txn.specs.View.{HasNoPage, Begins, IsPaged, state_of, see
 ghost use Rattle.paged_txn.specs.Ending.{IsPut};
 ghost use Rattle.paged_txn.specs.Fixing.{IsSecured};
 ghost use Rattle.paged_txn.specs.Bringing.{is_no_fault};
+ghost use Rattle.inno_types.specs.Order.{IsBelow};
+ghost use Rattle.store_api.specs.Causes.{HasCause};
+ghost use Rattle.store_api.specs.Past.{Now, Meanwhile};
+ghost use Rattle.log_format.specs.declared.group.Group.{Group as GroupValue};
+ghost use Rattle.doublewrite.specs.Kept.{IsReady};
+ghost use Rattle.flusher.specs.Cleaning.{HasSamePages, to_go};
+ghost use Rattle.flusher.specs.Flushing.{AreNewest, HoldsRun, KeepsSince, AreHome};
+ghost use Rattle.flusher.specs.Working.{IsAtRest, KeepsLog};
+ghost use Rattle.flusher.specs.declared.work.Worked.TheVariants.{Did, Idle};
 
 use crate::PAGE;
 use crate::bringing::bring;
 use crate::ending::{let_all_go, let_go};
 use crate::room::Room;
 use buffer_pool::Pool;
+use flusher::{Flusher, Worked};
 use mini_txn::{Dealt, Edits, place_copies, shown_in, tells, write_in};
 use page_format::read_u32;
 use redo_log::Log;
-use store_api::{Disk, FreshBad, NoMemory, Visit};
+use store_api::{Disk, Failed, FreshBad, NoMemory, Visit};
 
 /// A mini-transaction under way.
 #[derive(Drop)]
@@ -35,6 +45,7 @@ pub struct Work<D: Disk> {
     pub disk: D,
     pub dealt: Dealt,
     pub edits: Edits,
+    pub flusher: Flusher,
     pub told: bool,
     ghost is_paged: { IsPaged pool (D.past disk) dealt edits told },
 }
@@ -62,6 +73,13 @@ fn leaves_disk_whole(why: Visit) -> bool
     ensures { result ≡ is_no_fault why }
 {
     why != Visit::Failed
+}
+
+/// Whether a step of the flusher had nothing to do.
+fn is_idle(worked: Result<Worked, Failed>) -> bool
+    ensures { IsTrue result ↔ (worked ≡ Ok Idle) }
+{
+    worked == Ok(Worked::Idle)
 }
 
 /// Whether a page can be made: it is dealt with, or in the pool, or there is a frame for it.
@@ -93,11 +111,13 @@ impl<D: Disk> Work<D> {
         ensures log { result.log ≡ log }
         ensures dealt { result.dealt ≡ [] }
         ensures records { result.edits ≡ [] }
+        ensures batch { result.flusher ≡ None }
     {
         let Room {
             mut pool,
             dealt,
             edits,
+            flusher,
         } = room;
         let told = counts_few(&mut pool, &mut disk);
         Work {
@@ -106,8 +126,30 @@ impl<D: Disk> Work<D> {
             disk,
             dealt,
             edits,
+            flusher,
             told,
         }
+    }
+
+    /// The disk, without all else.
+    pub fn into_disk(self) -> D
+        ensures { result ≡ self.disk }
+    {
+        let Work {
+            pool,
+            log,
+            disk,
+            dealt,
+            edits,
+            flusher,
+            told: _,
+        } = self;
+        drop(pool);
+        drop(log);
+        drop(dealt);
+        drop(edits);
+        drop(flusher);
+        disk
     }
 
     /// Deals with a page, if it can be read.
@@ -218,5 +260,35 @@ impl<D: Disk> Work<D> {
     {
         let_all_go(&mut self.pool, &mut self.dealt);
         self.edits.clear();
+    }
+
+    /// A step of the flusher. The puts of the mini-transaction under way are not in the pool, so that it brings none of them.
+    pub fn flush_step(&mut self) -> Result<Worked, Failed>
+        ensures idle { (result ≡ Ok Idle) ↔ IsAtRest self.old.flusher self.old.pool }
+        ensures rests { result ≡ Ok Idle → (state_of self.new.pool (D.past self.new.disk) self.new.dealt self.new.edits self.new.told ≡ state_of self.old.pool (D.past self.old.disk) self.old.dealt self.old.edits self.old.told) }
+        ensures nears { result ≡ Ok Did → IsBelow (to_go self.new.flusher self.new.pool) (to_go self.old.flusher self.old.pool) }
+        ensures pages { HasSamePages self.old.pool self.new.pool }
+        ensures log { KeepsLog self.old.log self.new.log }
+        ensures dealt { self.new.dealt ≡ self.old.dealt }
+        ensures records { self.new.edits ≡ self.old.edits }
+        ensures cause { HasCause (D.past self.old.disk).faults (D.past self.new.disk).faults result }
+        ensures home { (first : ℕ) (groups : List GroupValue) (base : ℕ → List ℕ) → AreNewest groups base self.old.pool
+            → Now IsReady (D.past self.old.disk)
+            → Now (HoldsRun first groups base self.old.flusher self.old.log) (D.past self.old.disk)
+            → Now (AreHome self.old.pool self.new.pool) (D.past self.new.disk) }
+        ensures stands { (first : ℕ) (groups : List GroupValue) (base : ℕ → List ℕ) → AreNewest groups base self.old.pool
+            → Now IsReady (D.past self.old.disk)
+            → Now (HoldsRun first groups base self.old.flusher self.old.log) (D.past self.old.disk)
+            → OnOk result (Now (HoldsRun first groups base self.new.flusher self.new.log) (D.past self.new.disk)) }
+        ensures crash { (first : ℕ) (groups : List GroupValue) (base : ℕ → List ℕ) → AreNewest groups base self.old.pool
+            → Now IsReady (D.past self.old.disk)
+            → Now (HoldsRun first groups base self.old.flusher self.old.log) (D.past self.old.disk)
+            → Meanwhile (KeepsSince self.old.log.run first self.old.log.flushed groups base) (D.past self.old.disk) (D.past self.new.disk) }
+    {
+        let worked = self
+            .flusher
+            .step(&mut self.pool, &mut self.log, &mut self.disk);
+        self.told &= is_idle(worked);
+        worked
     }
 }
