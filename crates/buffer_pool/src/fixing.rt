@@ -1,9 +1,11 @@
 //! A page as it is read from the disk, and why it isn't fixed.
 //! The pool calls this for a page that it doesn't have.
 
-ghost use Rattle.std.specs.Prelude.{◌≡◌, ◌≤◌, ◌++◌, length, drop, MatchResult};
+ghost use Rattle.std.specs.Prelude.{◌≡◌, ◌≤◌, ◌++◌, length, drop, is_ok, MatchResult};
+ghost use Rattle.store_api.specs.Areas.{Within, Looked};
+ghost use Rattle.store_api.specs.declared.disk.Area.TheVariants.{Pages};
 ghost use Rattle.store_api.specs.Causes.{HasCause};
-ghost use Rattle.store_api.specs.Past.{Now};
+ghost use Rattle.store_api.specs.Past.{Now, Goes};
 ghost use Rattle.page_format.specs.Shape.{IsPage};
 ghost use Rattle.buffer_pool.specs.Fixing.{page_in, Looks, IsReadBad};
 
@@ -50,10 +52,10 @@ fn write_front(bytes: &mut [u8; PAGE], piece: &[u8])
     bytes[..piece.len()].copy_from_slice(piece);
 }
 
-/// The bytes of a page's place, zeros past the end of the area.
-fn bytes_of_place<D: Disk>(disk: &mut D, page: u32) -> Result<[u8; PAGE], Failed>
+/// The bytes of a page's place, zeros past the end of the area. Whether they are a page isn't looked at.
+pub fn bytes_of_place<D: Disk>(disk: &mut D, page: u32) -> Result<[u8; PAGE], Failed>
     ensures bytes { MatchResult result (λ bytes. Now (λ s. bytes ≡ page_in page s.pages.seen) (D.past disk.old)) (λ _. Unit {0}) }
-    ensures looks { Looks (D.past disk.old) (D.past disk.new) }
+    ensures looks { Goes (Within Pages (Looked (is_ok result))) (D.past disk.old) (D.past disk.new) }
     ensures cause { HasCause (D.past disk.old).faults (D.past disk.new).faults result }
 {
     let mut read = [0; PAGE];

@@ -8,6 +8,6 @@ mod order;
 mod pool;
 mod slots;
 
-pub use fixing::FixBad;
+pub use fixing::{FixBad, bytes_of_place};
 pub use frame::Content;
 pub use pool::Pool;

@@ -4,7 +4,7 @@
 ghost use Rattle.std.specs.Prelude.{◌≡◌, ◌⊎◌, ◌-◌, ◌^◌, ◌<◌, ◌≤◌, length, replicate, is_some, true, false, IsTrue, IsOk, IfOk, IfErr, OnOk, OnErr, Err, Some, None, MatchOption};
 ghost use Rattle.buffer_pool.specs.Frames.{HasOneMore, slot_of, is_pooled, is_dirty, is_standing, bytes_of, fixes_of, at_slot, fixed, unfixed, changed, placed, next_idle, with_used, moved};
 ghost use Rattle.buffer_pool.specs.Fixing.{IsBrought, IsFixBad, Looks};
-ghost use Rattle.buffer_pool.specs.declared.frame.Content.TheVariants.{New};
+ghost use Rattle.buffer_pool.specs.declared.frame.Content.TheVariants.{New, Clean};
 ghost use Rattle.buffer_pool.specs.declared.fixing.FixBad.TheVariants.{Again as FixAgain};
 
 use crate::fixing::{FixBad, read_page};
@@ -188,6 +188,22 @@ impl Pool {
         match last_idle(&self.order, &self.slots) {
             Some(from) => {
                 self.bring(from, page, &[0; PAGE], Content::New);
+                true
+            }
+            None => false,
+        }
+    }
+
+    /// Fixes a page that isn't in the pool, with these bytes, which stand on the disk. It answers whether there was a frame.
+    pub fn let_in(&mut self, page: u32, bytes: &[u8]) -> bool
+        requires within { page < length self.old.slots }
+        requires absent { is_pooled self.old page ≡ false }
+        requires size { length bytes.now ≡ 4096 }
+        ensures { MatchOption (next_idle self.old) ((result ≡ false) × (self.new ≡ self.old)) (λ from. (result ≡ true) × (self.new ≡ moved from page (record { bytes = bytes.now; content = Clean; fixes = 1 }) self.old)) }
+    {
+        match last_idle(&self.order, &self.slots) {
+            Some(from) => {
+                self.bring(from, page, bytes, Content::Clean);
                 true
             }
             None => false,

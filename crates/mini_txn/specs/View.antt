@@ -1,5 +1,5 @@
 -- What contracts see of a mini-transaction, and what the pages are to it.
-use Rattle.std.specs.Prelude.{◌≡◌, ◌≢◌, ◌⊎◌, ℕ, ◌<◌, ◌≤◌, Bool, true, ◌||◌, if◌then◌else◌, List, [], length, take, drop, ◌++◌, replicate, Option, Some}
+use Rattle.std.specs.Prelude.{◌≡◌, ◌≢◌, ◌⊎◌, ℕ, ◌<◌, ◌≤◌, Bool, true, false, ◌||◌, if◌then◌else◌, List, [], length, take, drop, ◌++◌, replicate, Option, Some}
 use Rattle.std.specs.Prelude.{None, is_some, IsTrue}
 use Rattle.std.specs.Option.{option_map_or}
 use Rattle.schema_codec.specs.Numbers.{u32_bytes, u64_bytes}
@@ -111,13 +111,20 @@ IsStamped page lsn (Some frame) = (frame.content ≡ Dirty) × (number_of frame.
 abbrev pub shows : PoolView → List Entry → ℕ → Bool
 shows pool dealt page = is_some (copy_of dealt page) || is_standing pool page
 
+-- each page dealt with that is in the pool is fixed
+abbrev pub AreHeld : PoolView → List Entry → Type 0
+AreHeld pool dealt = (page : ℕ) → is_in page (pages_of dealt) ≡ true → is_pooled pool page ≡ true → 0 < fixes_of pool page
+
 -- Some copies stand in the pool now, with that LSN, and each page is seen as before.
 pub record Places (lsn : ℕ) (old_pool : PoolView) (old : List Entry) (new_pool : PoolView) (new : List Entry) : Type 0 where
-  pub resident : IsResident new_pool
+  pub pooled : (page : ℕ) → is_pooled new_pool page ≡ is_pooled old_pool page
+  pub fixes : (page : ℕ) → fixes_of new_pool page ≡ fixes_of old_pool page
   pub slots : length new_pool.slots ≡ length old_pool.slots
   pub framed : AreFramed old_pool old → AreFramed new_pool new
   pub seen : AreFramed old_pool old → (page : ℕ) → seen_in new_pool new page ≡ seen_in old_pool old page
   pub shown : AreFramed old_pool old → (page : ℕ) → shows new_pool new page ≡ shows old_pool old page
+  pub slot_is : (page : ℕ) → ((slot_of new_pool page ≡ slot_of old_pool page)
+      × ((copy_of new page ≡ copy_of old page) ⊎ (is_pooled old_pool page ≡ false))) ⊎ IsStamped page lsn (slot_of new_pool page)
   pub frames : AreFramed old_pool old → (page : ℕ) → ((copy_of new page ≡ copy_of old page) × (slot_of new_pool page ≡ slot_of old_pool page))
       ⊎ IsStamped page lsn (slot_of new_pool page)
 

@@ -154,6 +154,21 @@ impl Dealt {
         self.count
     }
 
+    /// The entry at a place.
+    pub fn at(&self, place: usize) -> &Entry
+        requires { place < length self.now }
+        ensures { take (place + 1) self.now ≡ take place self.now ++ result.now ∷ [] }
+    {
+        &self.entries[place]
+    }
+
+    /// Forgets all pages, and keeps the room.
+    pub fn forget(&mut self)
+        ensures { self.new ≡ [] }
+    {
+        self.count = 0;
+    }
+
     /// The page that was asked for last.
     pub fn last(&self) -> &Entry
         requires { 0 < length self.now }

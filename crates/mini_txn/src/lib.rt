@@ -8,7 +8,11 @@ mod mini;
 mod placing;
 mod work;
 
+pub use dealt::{Dealt, Entry};
+pub use edits::Edits;
 pub use mini::MiniTxn;
+pub use placing::place_copies;
+pub use work::{shown_in, tells, write_in};
 
 /// The bytes of a page.
 const PAGE: usize = 4096;

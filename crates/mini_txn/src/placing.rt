@@ -1,10 +1,10 @@
 //! What a mini-transaction does to the pool: it takes frames for new pages, puts its copies there, and gives frames back.
 //! None of these calls takes memory, and none gives a page up.
 
-ghost use Rattle.std.specs.Prelude.{◌≡◌, ℕ, ◌<◌, ◌++◌, ◌∷◌, [], List, drop, length};
-ghost use Rattle.buffer_pool.specs.Frames.{fixes_of, at_slot, changed};
+ghost use Rattle.std.specs.Prelude.{◌≡◌, ℕ, ◌<◌, ◌++◌, ◌∷◌, [], List, drop, length, IsTrue};
+ghost use Rattle.buffer_pool.specs.Frames.{is_pooled, fixes_of, at_slot, changed};
 ghost use Rattle.mini_txn.specs.declared.dealt.Entry.{Entry as EntryValue};
-ghost use Rattle.mini_txn.specs.View.{IsResident, FixesPage, KeepsPages, TakesFrame, Places, IsStampOf, stamped};
+ghost use Rattle.mini_txn.specs.View.{IsResident, AreHeld, FixesPage, KeepsPages, TakesFrame, Places, IsStampOf, stamped};
 
 use crate::PAGE;
 use crate::dealt::{Dealt, Entry};
@@ -68,7 +68,7 @@ fn place(pool: &mut Pool, page: u32, bytes: &[u8; PAGE], lsn: u64)
 
 /// Puts the copy of an entry into the pool, if there is one, with the LSN of its group.
 fn place_entry(pool: &mut Pool, entry: &Entry, lsn: u64)
-    requires { IsResident pool.old }
+    requires { IsTrue (is_pooled pool.old entry.now.page) → 0 < fixes_of pool.old entry.now.page }
     ensures { (front : List EntryValue) → Places lsn pool.old (front ++ entry.now ∷ []) pool.new front }
 {
     if entry.copied && pool.is_pooled(entry.page) {
@@ -77,14 +77,14 @@ fn place_entry(pool: &mut Pool, entry: &Entry, lsn: u64)
 }
 
 /// Puts all copies into the pool, with the LSN of their group.
-pub fn place_copies(pool: &mut Pool, dealt: &mut Dealt, lsn: u64)
-    requires { IsResident pool.old }
-    ensures places { Places lsn pool.old dealt.old pool.new dealt.new }
-    ensures emptied { dealt.new ≡ [] }
+pub fn place_copies(pool: &mut Pool, dealt: &Dealt, lsn: u64)
+    requires { AreHeld pool.old dealt.now }
+    ensures { Places lsn pool.old dealt.now pool.new [] }
 {
-    while dealt.len() > 0 {
-        place_entry(pool, dealt.last(), lsn);
-        dealt.drop_last();
+    let mut left = dealt.len();
+    while left > 0 {
+        left -= 1;
+        place_entry(pool, dealt.at(left), lsn);
     }
 }
 

@@ -47,7 +47,7 @@ impl Model for Work {
 }
 
 /// The page with the mini-transaction's own puts.
-fn shown_in<'a>(pool: &'a Pool, dealt: &'a Dealt, page: u32) -> &'a [u8]
+pub fn shown_in<'a>(pool: &'a Pool, dealt: &'a Dealt, page: u32) -> &'a [u8]
     requires { IsReadable pool.now dealt.now page }
     ensures body { body_of result.now ≡ seen_in pool.now dealt.now page }
     ensures size { length result.now ≡ 4096 }
@@ -78,7 +78,7 @@ fn pool_counts_few(pool: &Pool) -> bool
 }
 
 /// Whether pages are told still, once bytes were put in a page.
-fn tells(told: bool, pool: &Pool, dealt: &Dealt, page: u32) -> bool
+pub fn tells(told: bool, pool: &Pool, dealt: &Dealt, page: u32) -> bool
     requires { IsReadable pool.now dealt.now page }
     ensures was { IsTrue result → IsTrue told }
     ensures few { IsTrue result → page ≡ 0 → u32_at 44 (seen_in pool.now dealt.now page) ≤ length pool.now.slots }
@@ -92,7 +92,7 @@ fn tells(told: bool, pool: &Pool, dealt: &Dealt, page: u32) -> bool
 }
 
 /// Puts bytes in a page's copy. The first put of a page copies it.
-fn write_in(pool: &Pool, dealt: &mut Dealt, page: u32, at: u16, bytes: &[u8])
+pub fn write_in(pool: &Pool, dealt: &mut Dealt, page: u32, at: u16, bytes: &[u8])
     requires dealt_with { IsTrue (is_in page (pages_of dealt.old)) }
     requires readable { IsReadable pool.now dealt.old page }
     requires begins { 20 ≤ at }
@@ -261,7 +261,8 @@ impl Work {
         ensures err { OnErr result (self.new ≡ self.old) }
     {
         let lsn = self.edits.append(&mut self.log)?;
-        place_copies(&mut self.pool, &mut self.dealt, lsn);
+        place_copies(&mut self.pool, &self.dealt, lsn);
+        self.dealt.forget();
         self.edits.clear();
         Ok(())
     }

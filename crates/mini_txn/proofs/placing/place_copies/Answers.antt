@@ -1,14 +1,23 @@
-use Rattle.std.proofs.Common.{◌-◌, sym, subst, List, take, length}
+use Rattle.std.proofs.Common.{◌≡◌, ◌+◌, ◌-◌, ◌≤◌, ◌++◌, ◌∷◌, [], List, take, length, sym, ap, subst, ◌∙◌, arith}
 use Rattle.mini_txn.specs.declared.dealt.Entry.{Entry}
-use Rattle.mini_txn.specs.View.{Places}
-use Rattle.mini_txn.proofs.Placed.{places_then}
+use Rattle.mini_txn.specs.View.{AreHeld, Places}
+use Rattle.mini_txn.proofs.Placed.{places_then, others_held}
 use Rattle.mini_txn.proofs.placing.place_copies.Goals as goal
 
-pub loop-pool-preserved : goal.loop-pool-preserved
-loop-pool-preserved c =
-    let pool = c.loop-pool.pool in
-    let dealt = c.loop-pool.dealt in
-    let front = take (length dealt - 1) dealt in
-    let one = subst (λ (l : List Entry). Places c.args.lsn pool l c.place_entry.new.pool front) c.last.ensures (c.place_entry.ensures front) in
-    let next = subst (λ (l : List Entry). Places c.args.lsn pool dealt c.place_entry.new.pool l) (sym c.drop_last.ensures) one in
-    places_then c.args.lsn c.args.pool.now c.args.dealt.now pool dealt c.place_entry.new.pool c.drop_last.new.self c.loop-pool.invariant next
+pub loop-left-preserved : goal.loop-left-preserved
+loop-left-preserved c =
+    let was = c.loop-left.invariant in
+    let dealt = c.args.dealt.now in
+    let left = c.loop-left.left in
+    let pool = c.loop-left.pool in
+    let new = c.place_entry.new.pool in
+    let front = take (left - 1) dealt in
+    let back : left - 1 + 1 ≡ left = omega (arith, c.loop-left-test.true) in
+    let whole : take left dealt ≡ front ++ c.at.result.now ∷ [] = ap (λ n. take n dealt) (sym back) ∙ c.at.ensures in
+    let all = c.place_entry.ensures front in
+    let one = subst (λ (l : List Entry). Places c.args.lsn pool l new front) (sym whole) all in
+    let held = subst (AreHeld pool) whole was.2 in (
+      omega (arith, was.0),
+      places_then c.args.lsn c.args.pool.now dealt pool (take left dealt) new front was.1 one,
+      others_held c.args.lsn pool new front c.at.result.now held all,
+    )

@@ -11,11 +11,11 @@ returns-then-is_pooled c = λ front.
     let there : is_pooled c.args.pool.now entry.page ≡ true = sym c.is_pooled.ensures ∙ c.if-is_pooled.true in
     let done = c.place.ensures in
     subst (λ (p : PoolView). Places c.args.lsn c.args.pool.now (front ++ entry ∷ []) p front) (sym done.2)
-    (last_places c.args.lsn c.args.pool.now front entry done.0 c.requires c.if-entry.true there done.1.number done.1.lsn_is done.1.behind)
+    (last_places c.args.lsn c.args.pool.now front entry done.0 c.if-entry.true there done.1.number done.1.lsn_is done.1.behind)
 
 pub returns-else-entry : goal.returns-else-entry
 returns-else-entry c = elim c.else-entry.branch [
-  | else-entry-via-then-entry+else-is_pooled w ↦ λ front. lost_places c.args.lsn c.args.pool.now front c.args.entry.now c.requires w.if-entry.true
+  | else-entry-via-then-entry+else-is_pooled w ↦ λ front. lost_places c.args.lsn c.args.pool.now front c.args.entry.now w.if-entry.true
       (sym w.is_pooled.ensures ∙ w.if-is_pooled.false)
-  | else-entry-via-else-entry w ↦ λ front. unread_places c.args.lsn c.args.pool.now front c.args.entry.now c.requires w.if-entry.false
+  | else-entry-via-else-entry w ↦ λ front. unread_places c.args.lsn c.args.pool.now front c.args.entry.now w.if-entry.false
 ]

@@ -1,0 +1,10 @@
+pub mod Brought
+pub mod Ended
+pub mod Fixed
+pub mod Flushed
+pub mod Made
+pub mod Meeting
+pub mod Opened
+pub mod Rooms
+pub mod Slots
+pub mod Told

@@ -1,0 +1,4 @@
+pub mod Bringing
+pub mod Ending
+pub mod Fixing
+pub mod View
