@@ -67,12 +67,12 @@ pub nears_found : (s : ℕ) (old new : State) (found : Found) (statement : ReadS
     → Nears to_go s old (machine.Found found) new statement answer
 nears_found s old new found statement advance.Went nears = below_more 4 5 (to_go s new statement) (omega arith) nears
 nears_found s old new found statement (advance.Waiting by blockers) nears = tt
-nears_found s old new found statement advance.NoMemory nears = tt
+nears_found s old new found statement advance.NoMemory nears = below_more 4 5 (to_go s new statement) (omega arith) nears
 nears_found s old new found statement (advance.Done reply) nears = tt
 
 pub nears_open : (s : ℕ) (old new : State) (stmt : _) (alone : _) (statement : ReadStatement) (answer : Advance) → NearsTo 4 s new statement answer
     → Nears to_go s old (machine.Open stmt alone) new statement answer
 nears_open s old new stmt alone statement advance.Went nears = below_more 4 8 (to_go s new statement) (omega arith) nears
 nears_open s old new stmt alone statement (advance.Waiting by blockers) nears = tt
-nears_open s old new stmt alone statement advance.NoMemory nears = tt
+nears_open s old new stmt alone statement advance.NoMemory nears = below_more 4 8 (to_go s new statement) (omega arith) nears
 nears_open s old new stmt alone statement (advance.Done reply) nears = tt

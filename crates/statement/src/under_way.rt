@@ -10,7 +10,7 @@ ghost use Rattle.sql_history.specs.Statements.{session_refusal, is_serializable}
 ghost use Rattle.sql_lists.specs.Kept.{OwesAck};
 ghost use Rattle.sql_lists.specs.Steps.{Steps, GoesOnAcked, changes_rows};
 ghost use Rattle.sql_lists.specs.Going.{Nears, NearsAcked};
-ghost use Rattle.statement.specs.Running.{IsRunning, IsOfKind, LooksAs, IsBegun, is_went, is_done, owes_ack, acked, wants_room, without_room};
+ghost use Rattle.statement.specs.Running.{IsRunning, IsOfKind, LooksAs, IsBegun, is_done, owes_ack, acked, wants_room, without_room};
 ghost use Rattle.statement.specs.Going.{statement_to_go};
 
 use create_statement::CreateStatement;
@@ -303,7 +303,7 @@ fn refuse_at_once<L: SharedLists>(
     requires running { IsRunning lists.old session (Statement.Asked stmt) }
     requires refused { LooksAs session stmt lists.old.past (Look.Refused error) }
     ensures steps { Steps IsRunning session lists.old lists.new result.0 result.1 }
-    ensures stays { is_went result.1 ≡ false }
+    ensures nears { Nears statement_to_go session lists.old (Statement.Asked stmt) lists.new result.0 result.1 }
     ensures quiet { count_by changes_rows lists.new.past ≡ count_by changes_rows lists.old.past }
 {
     drop(stmt);

@@ -1,16 +1,11 @@
 -- Who is awaited at indexes, after each step of the lists.
-use Rattle.std.proofs.Common.{◌≡◌, ◌≢◌, ◌⊎◌, ⊎_elim, inl, inr, ℕ, ◌+◌, ◌<◌, ◌≤◌, Bool, true, false, List, Option, Some, None, length, refl, sym, ap, subst, ◌∙◌, arith}
-use Rattle.std.specs.Prelude.{slice_get, ◌==◌, if◌then◌else◌}
-use Rattle.std.proofs.lemmas.Bool.{cases_eq}
+use Rattle.std.proofs.Common.{◌≡◌, ◌≢◌, ⊎_elim, ℕ, Bool, true, false, List, Option, Some, None, refl, sym, ap, subst, ◌∙◌}
+use Rattle.std.specs.Prelude.{if◌then◌else◌}
 use Rattle.std.proofs.lemmas.Bool.Decides.{eqb_tells}
 use Rattle.inno_types.specs.declared.value.Schema.{Schema}
-use Rattle.store_api.specs.declared.moves.Move.{Move}
 use Rattle.entries.specs.Index.{Index}
-use Rattle.entries.specs.Calls.{Leaves}
 use Rattle.row_versions.specs.Chains.{Chains}
-use Rattle.world.specs.State.{WorldState, index_of}
-use Rattle.world.specs.Indexes.{Calls}
-use Rattle.world.specs.Undoing.{HoldsRecord}
+use Rattle.world.specs.State.{WorldState}
 use Rattle.world.specs.declared.undo_room.UndoRoom.{UndoRoom}
 use Rattle.row_changes.specs.declared.row_change.RowChange.{RowChange}
 use Rattle.row_changes.specs.declared.row_change.RowChange.TheVariants.{Record, Keys}
@@ -22,13 +17,13 @@ use Rattle.undo_apply.specs.declared.work_room.WorkRoom.{WorkRoom}
 use Rattle.shared_lists.specs.State.{writer_without}
 use Rattle.desks.specs.declared.desk.Desk.{Desk}
 use Rattle.desks.specs.declared.desk.Doing.{Doing}
-use Rattle.desks.specs.declared.desk.Doing.TheVariants.{Nothing, Searching, Changing, Lagging, Undoing}
+use Rattle.desks.specs.declared.desk.Doing.TheVariants.{Nothing}
 use Rattle.desks.specs.Desks.{doing_at, with_doing}
 use Rattle.desks.specs.Holding.{IsHeld}
 use Rattle.law_held_searches.specs.Moving.{MovesPlaces}
 use Rattle.law_held_changes.specs.Leaving.{LeavesIndexes, LeavesTable}
 use Rattle.law_held_changes.specs.Making.{doing_after, given_up}
-use Rattle.law_held_changes.proofs.Desks.{doing_elsewhere, doing_here}
+use Rattle.law_held_changes.proofs.Desks.{doing_elsewhere}
 use Rattle.world_lists.specs.Between.{IsKept, AwaitsWriter, IsAwaitedFor, AwaitsOnly, AwaitsNobody, can_await, table_at}
 use Rattle.world_lists.specs.Parts.{StepsChange, LeavesIfOver}
 
@@ -54,7 +49,7 @@ pub awaits_on : (old new : WorldState) (writer later : Option ℕ) (desks now : 
     → AwaitsNoMore old new
     → ((by : ℕ) → writer ≡ Some by → can_await (doing_at by desks) ≡ true → (later ≡ Some by) × (doing_at by now ≡ doing_at by desks))
     → AwaitsWriter new later now undone
-awaits_on old new writer later desks now undone awaits more stays = record { each = go; }
+awaits_on old new writer later desks now undone awaits more stays = record { each = go }
   where
     go : (index by : ℕ) → (new.indexes index).awaited ≡ Some by → IsAwaitedFor new later now undone index by
     go index by is =
@@ -160,7 +155,7 @@ kept_locked s state writer desks cuts undo room kept free held = record {
 
 pub only_mine : (s : ℕ) (state : WorldState) (writer : Option ℕ) (desks : List Desk) (undone table : ℕ) → AwaitsWriter state writer desks undone
     → writer ≡ Some s → table_at undone (doing_at s desks) ≡ table → AwaitsOnly s table state
-only_mine s state writer desks undone table awaits mine at = record { each = go; }
+only_mine s state writer desks undone table awaits mine at = record { each = go }
   where
     go : (index by : ℕ) → (state.indexes index).awaited ≡ Some by → (by ≡ s) × IsOfTable table state.schemas index
     go index by is =
@@ -170,7 +165,7 @@ only_mine s state writer desks undone table awaits mine at = record { each = go;
 
 -- a step in a table, by its session
 pub only_then : (s table : ℕ) (old new : WorldState) → AwaitsOnly s table old → AwaitsIn s table old new → new.schemas ≡ old.schemas → AwaitsOnly s table new
-only_then s table old new only awaits same = record { each = go; }
+only_then s table old new only awaits same = record { each = go }
   where
     go : (index by : ℕ) → (new.indexes index).awaited ≡ Some by → (by ≡ s) × IsOfTable table new.schemas index
     go index by is =
@@ -183,7 +178,7 @@ only_left s table old new only leaves gone index by is =
 
 pub writer_of_only : (s table undone : ℕ) (new : WorldState) (desks : List Desk) → AwaitsOnly s table new → can_await (doing_at s desks) ≡ true
     → table_at undone (doing_at s desks) ≡ table → AwaitsWriter new (Some s) desks undone
-writer_of_only s table undone new desks only can at = record { each = go; }
+writer_of_only s table undone new desks only can at = record { each = go }
   where
     go : (index by : ℕ) → (new.indexes index).awaited ≡ Some by → IsAwaitedFor new (Some s) desks undone index by
     go index by is =

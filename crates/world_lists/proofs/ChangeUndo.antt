@@ -1,6 +1,6 @@
 -- A change is taken back: its undo record is read, and step by step its rows and keys are what was before. Then the record
 -- goes, the history tells it, and the indexes of the table are left.
-use Rattle.std.proofs.Common.{◌≡◌, ◌≢◌, ⊎_elim, ℕ, ◌-◌, ◌+◌, ◌<◌, ◌^◌, Bool, true, false, List, [], length, Option, Some, refl, sym, ap, subst, ◌∙◌, arith, slice_get}
+use Rattle.std.proofs.Common.{◌≡◌, ◌≢◌, ⊎_elim, ℕ, ◌-◌, ◌+◌, ◌<◌, ◌^◌, Bool, false, List, [], length, Option, Some, refl, sym, ap, subst, ◌∙◌, arith, slice_get}
 use Rattle.std.proofs.lemmas.Option.{slice_get_within}
 use Rattle.inno_model.specs.declared.event.Event.TheVariants.{Undone}
 use Rattle.inno_model.specs.Past.{own}
@@ -148,18 +148,18 @@ same_left table stage old new schemas kept =
 
 module _ (s : ℕ) (old new : WorldState) (writer : Option ℕ) (desks : List Desk) (cuts : ℕ) (undo : UndoRoom) (room : WorkRoom)
     (leaves : LeavesIndexes s old new) (memory : IsInMemory new) where
-  same_seen : lists_held old writer desks undo room ≡ lists_held new writer desks undo room
-  same_seen =
+  same_seen : doing_at s desks ≡ Nothing → lists_held old writer desks undo room ≡ lists_held new writer desks undo room
+  same_seen rest =
       ap (lists_of old writer desks) (sym (same_left undo.table room.stage old new (ap (λ (state : WorldState). state.schemas) leaves.rest)
       (leaves.versions.kept memory.told.versions)))
-      ∙ sym (left_shown s writer desks (undo_left_in undo.table room.stage new) old new leaves)
+      ∙ sym (left_shown s writer desks (undo_left_in undo.table room.stage new) old new leaves (ap is_searching rest) memory.told)
 
   pub left_held : doing_at s desks ≡ Nothing → IsHeld old writer desks cuts undo room → IsHeld new writer desks cuts undo room
   left_held rest held = held_left s writer old new leaves desks cuts undo room held (ap is_searching rest) memory.told
 
-  pub left_seen : (keep : ℕ) (was : Lists) (answer : Answer) → TakesBackIn s keep was (lists_held old writer desks undo room) answer
+  pub left_seen : doing_at s desks ≡ Nothing → (keep : ℕ) (was : Lists) (answer : Answer) → TakesBackIn s keep was (lists_held old writer desks undo room) answer
       → TakesBackIn s keep was (lists_held new writer desks undo room) answer
-  left_seen keep was answer takes = subst (λ (now : Lists). TakesBackIn s keep was now answer) same_seen takes
+  left_seen rest keep was answer takes = subst (λ (now : Lists). TakesBackIn s keep was now answer) (same_seen rest) takes
 
 -- the last step and what comes with it call no index but that of the table
 pub drops_same : (s : ℕ) (mid new : WorldState) → (drops : DropsNewest s mid new)
@@ -207,30 +207,6 @@ pub is_made : (s : ℕ) (old mid : WorldState) (writer : Option ℕ) (desks : Li
 is_made s old mid writer desks cuts undo room next held busy answer memory only put not_done not_step =
     ⊎_elim (λ done. not_done done) (λ step. not_step step)
     (goes_or_is_done s old mid writer desks cuts undo room next held busy answer memory (λ index by is. (only.each index by is).0) put)
-
--- ---- what a step leaves
-
-pub record StepsBack (s : ℕ) (writer : Option ℕ) (old : WorldState) (desks : List Desk) (undo : UndoRoom) (room next : WorkRoom)
-    (new : WorldState) (later : List Desk) (cuts : ℕ) (answer : Answer) : Type 0 where
-  pub held : IsHeld new writer later cuts undo next
-  pub takes : TakesBackIn s (length (own s old.past) - 1) (lists_held old writer desks undo room) (lists_held new writer later undo next) answer
-
--- where values have other names
-pub named : (s : ℕ) (writer : Option ℕ) (old : WorldState) (desks : List Desk) (undo : UndoRoom) (room next : WorkRoom)
-    (new now : WorldState) (later given : List Desk) (cuts more : ℕ) (answer is : Answer) → now ≡ new → given ≡ later → more ≡ cuts → is ≡ answer
-    → StepsBack s writer old desks undo room next new later cuts answer → StepsBack s writer old desks undo room next now given more is
-named s writer old desks undo room next new now later given cuts more answer is worlds gives count same step =
-    subst (λ (state : WorldState). StepsBack s writer old desks undo room next state given more is) (sym worlds)
-    (subst (λ (ds : List Desk). StepsBack s writer old desks undo room next new ds more is) (sym gives)
-    (subst (λ (n : ℕ). StepsBack s writer old desks undo room next new later n is) (sym count)
-    (subst (λ (a : Answer). StepsBack s writer old desks undo room next new later cuts a) (sym same) step)))
-
-pub awaits_named : (s table : ℕ) (desks : List Desk) (new now : WorldState) (later given : List Desk) (answer is : Answer) → now ≡ new → given ≡ later
-    → is ≡ answer → AwaitsAfter s table new desks later answer → AwaitsAfter s table now desks given is
-awaits_named s table desks new now later given answer is worlds gives same awaits =
-    subst (λ (state : WorldState). AwaitsAfter s table state desks given is) (sym worlds)
-    (subst (λ (ds : List Desk). AwaitsAfter s table new desks ds is) (sym gives)
-    (subst (λ (a : Answer). AwaitsAfter s table new desks later a) (sym same) awaits))
 
 -- who is awaited after it
 pub awaits_after : (s : ℕ) (new : WorldState) (writer : Option ℕ) (desks later : List Desk) (table : ℕ) (answer : Answer) → writer ≡ Some s

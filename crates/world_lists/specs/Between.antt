@@ -1,7 +1,6 @@
 -- What holds of the lists between calls, beside what is held of a world with its desks: the room for the undo record that is
 -- read, and who is awaited at indexes.
 use Rattle.std.specs.Prelude.{◌≡◌, ℕ, Bool, true, false, List, Option, Some}
-use Rattle.inno_types.specs.declared.value.Schema.{Schema}
 use Rattle.world.specs.State.{WorldState}
 use Rattle.world.specs.declared.undo_room.UndoRoom.{UndoRoom}
 use Rattle.world.specs.Undoing.{HoldsRecord}

@@ -3,6 +3,7 @@
 ghost use Rattle.std.specs.Prelude.{◌≡◌, ◌<◌, ◌^◌, length, IfOk};
 ghost use Rattle.desks.specs.Holding.{IsFresh};
 ghost use Rattle.shared_lists.specs.State.{IsFirst};
+ghost use Rattle.world_lists.specs.Between.{AwaitsNobody};
 
 use desks::Desk;
 use std::alloc::Global;
@@ -48,7 +49,8 @@ impl<W: EngineWorld> Model for WorldLists<W> {
 impl<W: EngineWorld> WorldLists<W> {
     /// The lists of a world that nobody has joined.
     pub fn new(alloc: Global, world: W) -> Result<Self, NoMemory>
-        requires { IsFresh (W.state world) }
+        requires fresh { IsFresh (W.state world) }
+        requires nobody { AwaitsNobody (W.state world) }
         ensures first { IfOk result IsFirst }
         ensures past { IfOk result (λ lists. lists.state.past ≡ (W.state world).past) }
     {

@@ -101,7 +101,7 @@ fn wait_for<L: SharedLists>(
     requires running { IsRunning lists.now session (WriteStatement.Locking stmt alone) }
     requires held { (lists.now.writer ≡ Some by) × (by ≢ session) × IsOpen by lists.now.past }
     ensures steps { Steps IsRunning session lists.now lists.now result.0 result.1 }
-    ensures waits { result.1 ≢ Advance.Went }
+    ensures nears { Nears to_go session lists.now (WriteStatement.Locking stmt alone) lists.now result.0 result.1 }
 {
     match lists.edge_to(session, by) {
         Ok(blockers) => (

@@ -1,5 +1,7 @@
-use Rattle.std.proofs.Common.{◌≡◌, arith}
+use Rattle.std.proofs.Common.{◌≡◌, ◌+◌, ◌≤◌, length, sym, ap, subst, arith}
+use Rattle.inno_types.specs.declared.value.Schema.{Schema}
 use Rattle.law_held_changes.proofs.Left.{one_more_below, all_gone}
+use Rattle.world_lists.proofs.ChangeBegin.{one_there, item_of}
 use Rattle.world_lists.proofs.undoing.leave_table.Goals as goal
 
 pub loop-which-preserved : goal.loop-which-preserved
@@ -8,4 +10,15 @@ loop-which-preserved g c =
     (g.W.World.state c.loop-which.world) (g.W.World.state c.leave.new.self) c.loop-which.invariant c.index_number.ensures c.leave.ensures
 
 pub returns-clause-gone : goal.returns-clause-gone
-returns-clause-gone g c = ?
+returns-clause-gone g c =
+    let old = g.W.World.state c.args.world.now in
+    let found = c.index-as_slice-table.result in
+    let one : c.requires.0 ≡ found =
+    one_there old.schemas c.args.table c.requires.0 found c.requires.1
+    (item_of old.schemas c.tables.result.now c.as_slice.result.now c.args.table found c.index-as_slice-table.is c.as_slice.ensures c.tables.ensures) in
+    let long = c.len-keys.ensures in
+    let all = c.loop-which-test.false in
+    let same = ap (λ (schema : Schema). length schema.keys) c.index-as_slice-table.is in
+    let enough : length found.keys + 1 ≤ c.loop-which.which = omega (arith, same, long, all) in
+    all_gone c.args.session c.args.table c.loop-which.which c.requires.0 old (g.W.World.state c.loop-which.world) c.requires.1
+    (subst (λ (schema : Schema). length schema.keys + 1 ≤ c.loop-which.which) (sym one) enough) c.loop-which.invariant

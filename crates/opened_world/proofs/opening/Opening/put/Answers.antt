@@ -1,4 +1,4 @@
-use Rattle.std.proofs.Common.{◌≡◌, ◌∙◌, ap, slice_get}
+use Rattle.std.proofs.Common.{◌≡◌, ◌∙◌, ap, arith, slice_get}
 use Rattle.std.proofs.lemmas.Option.{slice_get_within}
 use Rattle.std.specs.declared.result.Result.TheVariants.{Err}
 use Rattle.law_fitting_rows.specs.Fitting.{FitsTable}
@@ -61,4 +61,6 @@ leave_table-requires c =
     its_keys c.args.table c.table_of-schema.result.now c.args.row (world_of c.self.inside.world) (world_of c.put_record.new.world)
     (world_of c.enter_keys.new.world) c.in-Ok.key (ap (λ tables. slice_get tables c.args.table) c.self.invariant.schemas ∙ there)
     (c.self.invariant.fits.fitting.tables c.args.table c.table_of-schema.result.now there) c.in-Ok.ensures.ok c.in-Ok-enter_keys.ensures in
-    (c.table_of-schema.result.now, its.0, ?, ?)
+    let long = c.len-keys.ensures in
+    let few = its.1 in
+    (c.table_of-schema.result.now, its.0, long, omega (arith, long, few))

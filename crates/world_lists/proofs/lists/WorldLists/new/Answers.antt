@@ -14,7 +14,7 @@ invariant_of-result g c =
           (first_held (g.W.World.state c.args.world) c.in_ok-new.field-0 c.in_ok-new-3.field-0 c.requires.fresh c.in_ok-new-3.ensures.whole
           c.in_ok-new-3.ensures.stage);
       record_room = c.in_ok-new.ensures;
-      awaits = awaits_of_nobody (g.W.World.state c.args.world) None c.new.new.items 0 c.requires.nobody;
+      awaits = awaits_of_nobody (g.W.World.state c.args.world) None _ _ c.requires.nobody;
     }
 
 pub returns-clause-first : goal.returns-clause-first

@@ -12,15 +12,15 @@ invariant_of-self g c =
     record {
       held =
           read_held c.args.session (g.W.World.state self.world) (g.W.World.state c.last.new.self) self.writer self.desks.items self.cuts
-    self.undo c.last.new.into self.room c.last.new.there c.self.invariant.held may
-    (λ left busy. c.requires.waits left (ap (λ (lists : Lists). task_of c.args.session lists.state) (sym c.self.view_is) ∙ busy))
-    (g.met.W.EngineWorld.tells c.last.new.self) c.in-Done.ensures.answer c.give_doing.new.desks.items c.give_doing.ensures;
+          self.undo c.last.new.into self.room c.last.new.there c.self.invariant.held may
+          (λ left busy. c.requires.waits left (ap (λ (lists : Lists). task_of c.args.session lists.state) (sym c.self.view_is) ∙ busy))
+          (g.met.W.EngineWorld.tells c.last.new.self) c.in-Done.ensures.answer c.give_doing.new.desks.items c.give_doing.ensures;
       record_room = c.last.ensures.room;
       awaits =
           read_awaits c.args.session (g.W.World.state self.world) (g.W.World.state c.last.new.self) self.writer self.desks.items self.cuts
-    self.undo c.last.new.into self.room c.last.new.there c.self.invariant.held may
-    (λ left busy. c.requires.waits left (ap (λ (lists : Lists). task_of c.args.session lists.state) (sym c.self.view_is) ∙ busy))
-    (g.met.W.EngineWorld.tells c.last.new.self) c.in-Done.ensures.answer c.give_doing.new.desks.items c.give_doing.ensures
+          self.undo c.last.new.into self.room c.last.new.there c.self.invariant.held may
+          (λ left busy. c.requires.waits left (ap (λ (lists : Lists). task_of c.args.session lists.state) (sym c.self.view_is) ∙ busy))
+          (g.met.W.EngineWorld.tells c.last.new.self) c.in-Done.ensures.answer c.give_doing.new.desks.items c.give_doing.ensures
           c.self.invariant.awaits;
     }
 

@@ -6,6 +6,7 @@ use Rattle.shared_lists.specs.State.{Lists}
 use Rattle.world_lists.proofs.ChangeBegin.{MayBegin, Begins, item_of, keyed_at, can_edit, begun_held, begun_shows}
 use Rattle.world_lists.proofs.Awaiting.{kept_beside, same_no_more}
 use Rattle.world_lists.specs.Between.{can_await}
+use Rattle.world_lists.proofs.ChangeTasks.{nothing_if}
 use Rattle.world_lists.proofs.steps.WorldListsSharedLists.begin_change.Goals as goal
 
 pub bounds-as_slice-table : goal.bounds-as_slice-table

@@ -72,7 +72,7 @@ returns-in_err-found-clause-same g c =
     nothing_seen c.args.session (g.W.World.state l.world) l.writer l.desks.items l.cuts l.undo l.room c.args.self.now c.self.invariant.held
     c.self.view_is (g.W.World.state c.newest_rows-found.new.world) c.newest_rows-found.ensures.moves
     (g.met.W.EngineWorld.tells c.newest_rows-found.new.world).told
-    (idle_now c.args.session (g.W.World.state l.world) l.writer l.desks.items l.cuts l.undo l.room c.args.self.now c.self.invariant c.self.view_is
+    (idle_now c.args.session (g.W.World.state l.world) l.writer l.desks.items l.cuts l.undo l.room c.args.self.now c.self.invariant.held c.self.view_is
     c.requires.idle)
 
 pub invariant_of-self-2 : goal.invariant_of-self-2
@@ -91,7 +91,7 @@ returns-clause-same g c =
     nothing_seen c.args.session (g.W.World.state l.world) l.writer l.desks.items l.cuts l.undo l.room c.args.self.now c.self.invariant.held
     c.self.view_is (g.W.World.state c.newest_rows-found.new.world) c.newest_rows-found.ensures.moves
     (g.met.W.EngineWorld.tells c.newest_rows-found.new.world).told
-    (idle_now c.args.session (g.W.World.state l.world) l.writer l.desks.items l.cuts l.undo l.room c.args.self.now c.self.invariant c.self.view_is
+    (idle_now c.args.session (g.W.World.state l.world) l.writer l.desks.items l.cuts l.undo l.room c.args.self.now c.self.invariant.held c.self.view_is
     c.requires.idle)
 
 pub returns-clause-found : goal.returns-clause-found
