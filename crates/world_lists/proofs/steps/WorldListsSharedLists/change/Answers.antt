@@ -13,17 +13,17 @@ invariant_of-self g c =
     record {
       held =
           step_held c.args.session self.writer self.desks.items self.cuts self.undo self.room old new c.in-Changing.change
-    c.step_change-doing.result.0 c.step_change-doing.result.1 c.step_change-doing.ensures
-    (ap (λ (lists : Lists). lists.state.writer) c.self.view_is ∙ c.requires.locked) c.self.invariant.held (sym c.take_doing-doing.ensures.was ∙ c.in-Changing.is)
-    (g.met.W.EngineWorld.tells self.world).told (g.met.W.EngineWorld.tells c.step_change-doing.new.world).told
-    c.is_short.ensures.few c.take_doing-doing.new.desks.items c.give_doing.new.desks.items c.take_doing-doing.ensures.is c.give_doing.ensures;
+          c.step_change-doing.result.0 c.step_change-doing.result.1 c.step_change-doing.ensures
+          (ap (λ (lists : Lists). lists.state.writer) c.self.view_is ∙ c.requires.locked) c.self.invariant.held (sym c.take_doing-doing.ensures.was ∙ c.in-Changing.is)
+          (g.met.W.EngineWorld.tells self.world).told (g.met.W.EngineWorld.tells c.step_change-doing.new.world).told
+          c.is_short.ensures.few c.take_doing-doing.new.desks.items c.give_doing.new.desks.items c.take_doing-doing.ensures.is c.give_doing.ensures;
       record_room = c.self.invariant.record_room;
       awaits =
           step_awaits c.args.session self.writer self.desks.items self.cuts self.undo self.room old new c.in-Changing.change
-    c.step_change-doing.result.0 c.step_change-doing.result.1 c.step_change-doing.ensures
-    (ap (λ (lists : Lists). lists.state.writer) c.self.view_is ∙ c.requires.locked) c.self.invariant.held (sym c.take_doing-doing.ensures.was ∙ c.in-Changing.is)
-    (g.met.W.EngineWorld.tells self.world).told (g.met.W.EngineWorld.tells c.step_change-doing.new.world).told
-    c.is_short.ensures.few c.take_doing-doing.new.desks.items c.give_doing.new.desks.items c.take_doing-doing.ensures.is c.give_doing.ensures
+          c.step_change-doing.result.0 c.step_change-doing.result.1 c.step_change-doing.ensures
+          (ap (λ (lists : Lists). lists.state.writer) c.self.view_is ∙ c.requires.locked) c.self.invariant.held (sym c.take_doing-doing.ensures.was ∙ c.in-Changing.is)
+          (g.met.W.EngineWorld.tells self.world).told (g.met.W.EngineWorld.tells c.step_change-doing.new.world).told
+          c.is_short.ensures.few c.take_doing-doing.new.desks.items c.give_doing.new.desks.items c.take_doing-doing.ensures.is c.give_doing.ensures
           c.self.invariant.awaits;
     }
 
