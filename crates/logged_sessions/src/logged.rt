@@ -59,7 +59,7 @@ impl<L: SharedLists> Model for LoggedSessions<L> {
 impl<L: SharedLists> LoggedSessions<L> {
     ghost use Rattle.session_engine.specs.Seats.{seat_at, owes};
     ghost use Rattle.session_engine.specs.Calls.{Joins, Starts, StepsBy, Acknowledges, GivesUpInVain, Leaves, SameState};
-    ghost use Rattle.session_engine.specs.Going.{Nears};
+    ghost use Rattle.session_engine.specs.Going.{Nears, NearsLacking};
     ghost use Rattle.session_engine.specs.Places.{HasExactPlaces};
     ghost use Rattle.logged_sessions.specs.State.{IsJoined, IsIdle, IsWorking};
 
@@ -187,6 +187,7 @@ impl<L: SharedLists> LoggedSessions<L> {
         requires acked { owes (seat_at self.old.sessions.seats s) ≡ false }
         ensures steps { StepsBy s result self.old.sessions self.new.sessions }
         ensures nears { Nears s result self.old.sessions self.new.sessions }
+        ensures lacks { NearsLacking s result self.old.sessions self.new.sessions }
         ensures waited { GivesUpInVain s now result self.old.sessions }
         ensures phase { phase_at self.new.seats s ≡ phase_of (seat_at self.new.sessions.seats s) }
         ensures others { (u : ℕ) → u ≢ s → phase_at self.new.seats u ≡ phase_at self.old.seats u }
@@ -196,6 +197,7 @@ impl<L: SharedLists> LoggedSessions<L> {
         let wanted = self.sessions.wants_room(s);
         if !has_room(&mut self.log, s, wanted) {
             self.sessions.give_up(s);
+            self.seats[s as usize].phase = self.sessions.phase(s);
             return Progress::NoMemory;
         }
         let told = self.sessions.history().events().len();
@@ -258,6 +260,7 @@ impl<L: SharedLists> LoggedSessions<L> {
 fn has_room(log: &mut CommitLog, session: u32, wanted: bool) -> bool
     requires { IsDrafted session log.old }
     ensures room { result ≡ true → (wanted ≡ false) ⊎ ((draft_of session log.new.drafts).ready ≡ true) }
+    ensures lacks { result ≡ false → wanted ≡ true }
     ensures joined { length log.new.drafts ≡ length log.old.drafts }
     ensures kept { (root now : Past) (past : List EventValue) → IsLogging root now past log.old → IsLogging root now past log.new }
 {

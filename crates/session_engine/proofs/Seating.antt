@@ -33,10 +33,10 @@ use Rattle.session_engine.specs.declared.seats.SignalItem.{SignalItem}
 use Rattle.session_engine.specs.declared.seats.SignalItem.TheVariants.{Gives, Awaits}
 use Rattle.statement.specs.Running.{IsRunning, owes_ack, acked}
 use Rattle.statement.proofs.Acked.{goes_on_acked, acked_nears}
-use Rattle.statement.proofs.Rooms.{runs_without_room}
-use Rattle.session_engine.specs.Seats.{seat_at, is_working, IsSpelled, IsUnread, MayGoOut, IsGoingOut, HasAsked, IsSeatOf, SeatAgrees, AreSeats, owes, phase_of, without_room}
+use Rattle.session_engine.specs.Seats.{seat_at, is_working, IsSpelled, IsUnread, MayGoOut, IsGoingOut, HasAsked, IsSeatOf, SeatAgrees, AreSeats, owes, phase_of}
 use Rattle.session_engine.specs.Calls.{AreFirst, SameLists, Joins, Starts, SameState, OthersStay, KeepsItems, TellsOne, GoesOn, StepsOn, Settled, Refuses, GoesOut, HasGiven, EndsSignal, Signals, StepsBy, Acknowledges, GivesUp, WaitsInVain, GivesUpInVain, WaitsOn}
 use Rattle.statement.specs.Going.{statement_to_go}
+use Rattle.turn_board.specs.declared.Phase.TheVariants as phases
 use Rattle.session_engine.specs.Going.{Nears, NearsEnding, NearsLacking}
 use Rattle.session_engine.specs.Places.{IsExact, HasExactPlaces}
 use Rattle.session_engine.specs.Signals.{AreSpent, HasOnlyAsked}
@@ -490,6 +490,10 @@ module _ (old new : Lists) (seats : List Seat) (s : ℕ) (are : AreSeats old sea
   step_lacks before after advance.NoMemory seat answer was nears settled =
       rw settled.1 (step_nears_by before after seat was settled.0 nears)
   step_lacks before after (advance.Done reply) seat answer was nears settled = rw settled.1 tt
+
+  -- a statement that goes on keeps its session busy
+  pub stays_busy : (seat : Seat) (statement : Statement) → seat ≡ Busy statement → phase_of (seat_at (set (set seats s Idle) s seat) s) ≡ phases.Busy
+  stays_busy seat statement is = ap phase_of (is_at seat ∙ is)
 
   -- ---- the acknowledgement of the statement's commit
 

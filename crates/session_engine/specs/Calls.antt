@@ -25,7 +25,7 @@ use Rattle.session_engine.specs.declared.seats.Seat.{Seat}
 use Rattle.session_engine.specs.declared.seats.Seat.TheVariants as seats
 use Rattle.session_engine.specs.declared.seats.SignalItem.{SignalItem}
 use Rattle.session_engine.specs.declared.seats.SignalItem.TheVariants.{Gives, Awaits}
-use Rattle.session_engine.specs.Seats.{State, seat_at, is_working, phase_of, without_room, HasAsked, IsGoingOut}
+use Rattle.session_engine.specs.Seats.{State, seat_at, is_working, phase_of, HasAsked, IsGoingOut}
 
 -- the lists of this database, where nobody has joined
 pub record AreFirst (db : Database) (lists : Lists) : Type 0 where
@@ -189,12 +189,6 @@ pub record Acknowledges (s moment : ℕ) (old new : State) : Type 0 where
   -- its item goes on
   pub phase_was : phase_of (seat_at old.seats s) ≡ Busy
   pub phase_is : phase_of (seat_at new.seats s) ≡ Busy
-
--- the session's statement gives up, for want of room for its change
-pub record GivesUp (s : ℕ) (old new : State) : Type 0 where
-  pub lists_stay : new.lists ≡ old.lists
-  pub seat_is : seat_at new.seats s ≡ without_room (seat_at old.seats s)
-  pub others_stay : OthersStay s old.seats new.seats
 
 -- no entry that was added tells a change
 abbrev pub TellsNone : List Event → List Event → Type 0

@@ -16,7 +16,7 @@ use Rattle.shared_lists.specs.State.{State as Lists, state_code as lists_code, t
 use Rattle.sql_lists.specs.Steps.{HasRowsAlone}
 use Rattle.transaction_statements.specs.Running.{TakesBackTo}
 use Rattle.statement.specs.declared.under_way.Statement.TheVariants.{Asked}
-use Rattle.statement.specs.Running.{HasOnlyStarted, IsRunning, owes_ack, wants_room as statement_wants_room, without_room as statement_without_room}
+use Rattle.statement.specs.Running.{HasOnlyStarted, IsRunning, owes_ack, wants_room as statement_wants_room}
 use Rattle.turn_board.specs.declared.Phase.{Phase}
 use Rattle.turn_board.specs.declared.Phase.TheVariants as phases
 use Rattle.session_engine.specs.declared.seats.Seat.{Seat}
@@ -71,11 +71,6 @@ owes other = false
 abbrev pub wants_room : Seat → Bool
 wants_room (Busy statement) = statement_wants_room statement
 wants_room other = false
-
--- its statement gives up
-abbrev pub without_room : Seat → Seat
-without_room (Busy statement) = Busy (statement_without_room statement)
-without_room other = other
 
 abbrev pub IsJoined : ℕ → State → Type 0
 IsJoined s state = s < length state.lists.names

@@ -14,7 +14,7 @@ ghost use Rattle.session_engine.specs.Calls.{AreFirst};
 
 use crate::seats::{Seat, Seats};
 use crate::signalling::signal;
-use crate::steps::{go_out, read_item, refuse, settled, without_room};
+use crate::steps::{go_out, read_item, refuse, settled};
 use inno_model::History;
 use inno_types::{Bytes, Item};
 use shared_lists::SharedLists;
@@ -46,7 +46,7 @@ impl<L: SharedLists> Model for SessionEngine<L> {
 
 impl<L: SharedLists> SessionEngine<L> {
     ghost use Rattle.session_engine.specs.Seats.{IsJoined, IsIdle, IsWorking, HasEnded, IsSeatOf};
-    ghost use Rattle.session_engine.specs.Calls.{Joins, Starts, StepsBy, TellsNone, Acknowledges, GivesUp, GivesUpInVain, WaitsOn, Leaves, SameState};
+    ghost use Rattle.session_engine.specs.Calls.{Joins, Starts, StepsBy, TellsNone, Acknowledges, GivesUpInVain, WaitsOn, Leaves, SameState};
     ghost use Rattle.session_engine.specs.Going.{Nears, NearsLacking};
     ghost use Rattle.session_engine.specs.Places.{HasExactPlaces};
     ghost use Rattle.session_engine.specs.Seats.{has_left, is_working, owes, phase_of, wants_room, seat_at, AreSeats};
@@ -178,13 +178,23 @@ impl<L: SharedLists> SessionEngine<L> {
         self.seats.wants_room(s)
     }
 
-    /// The session's item gives up where there is no room for its change: it takes back what it has changed.
+    /// The session's item gives up where there is no room for its change: it takes back what it has changed. That is a step
+    /// which finds no memory.
     pub fn give_up(&mut self, s: u32)
-        requires { IsJoined s self.old }
-        ensures { GivesUp s self.old self.new }
+        requires joined { IsJoined s self.old }
+        requires wants { wants_room (seat_at self.old.seats s) ≡ true }
+        ensures steps { StepsBy s Progress.NoMemory self.old self.new }
+        ensures lacks { NearsLacking s Progress.NoMemory self.old self.new }
+        ensures busy { phase_of (seat_at self.new.seats s) ≡ Phase.Busy }
     {
-        let seat = self.seats.replace(s, Seat::Idle);
-        let _ = self.seats.replace(s, without_room(seat));
+        match self.seats.replace(s, Seat::Idle) {
+            Seat::Busy(statement) => {
+                let (statement, advance) = statement.without_room(s, &mut self.lists);
+                let (seat, _) = settled(statement, advance);
+                let _ = self.seats.replace(s, seat);
+            }
+            _ => unreachable!(),
+        }
     }
 
     /// Makes a step of the session's item under way, or of its ending, at a moment in seconds. It tells no change unless room

@@ -3,7 +3,7 @@
 ghost use Rattle.std.specs.Prelude.{◌≡◌, ◌<◌, length, IfOk};
 ghost use Rattle.inno_model.specs.Past.{own, IsOpen};
 ghost use Rattle.session_engine.specs.Calls.{Settled, Refuses, GoesOut, TellsNone};
-ghost use Rattle.session_engine.specs.Seats.{IsGoingOut, IsSeatOf, IsUnread, without_room};
+ghost use Rattle.session_engine.specs.Seats.{IsGoingOut, IsSeatOf, IsUnread};
 ghost use Rattle.session_engine.specs.Going.{NearsEnding};
 
 use crate::seats::{Seat, SignalItem, Wait};
@@ -66,16 +66,6 @@ pub fn settled(statement: Statement, advance: Advance) -> (Seat, Progress)
         ),
         Advance::NoMemory => (Seat::Busy(statement), Progress::NoMemory),
         Advance::Done(reply) => (Seat::Idle, Progress::Done(reply)),
-    }
-}
-
-/// The seat of a statement that gives up, since there is no room for its change.
-pub fn without_room(seat: Seat) -> Seat
-    ensures { result ≡ without_room seat }
-{
-    match seat {
-        Seat::Busy(statement) => Seat::Busy(statement.without_room()),
-        other => other,
     }
 }
 

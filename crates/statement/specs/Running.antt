@@ -76,12 +76,6 @@ wants_room (statements.Create statement) = of_create.wants_room statement
 wants_room (statements.Write statement) = of_write.wants_room statement
 wants_room other = false
 
--- the statement where there is no room for its change
-abbrev pub without_room : Statement → Statement
-without_room (statements.Create statement) = statements.Create (of_create.without_room statement)
-without_room (statements.Write statement) = statements.Write (of_write.without_room statement)
-without_room other = other
-
 -- ---- before it begins
 
 abbrev pub IsOfKind : Kind → Stmt → Type 0

@@ -10,7 +10,7 @@ ghost use Rattle.sql_history.specs.Statements.{session_refusal, is_serializable}
 ghost use Rattle.sql_lists.specs.Kept.{OwesAck};
 ghost use Rattle.sql_lists.specs.Steps.{Steps, GoesOnAcked, changes_rows};
 ghost use Rattle.sql_lists.specs.Going.{Nears, NearsAcked};
-ghost use Rattle.statement.specs.Running.{IsRunning, IsOfKind, LooksAs, IsBegun, is_done, owes_ack, acked, wants_room, without_room};
+ghost use Rattle.statement.specs.Running.{IsRunning, IsOfKind, LooksAs, IsBegun, is_done, owes_ack, acked, wants_room};
 ghost use Rattle.statement.specs.Going.{statement_to_go};
 
 use create_statement::CreateStatement;
@@ -89,21 +89,31 @@ impl Statement {
         }
     }
 
-    /// The statement where there is no room for its change: it gives up.
-    pub fn without_room(self) -> Self
-        ensures { result ≡ without_room self }
+    /// The statement where there is no room for its change: it gives up, and the change that is under way too.
+    pub fn without_room<L: SharedLists>(
+        self,
+        session: u32,
+        lists: &mut SqlLists<L>,
+    ) -> (Statement, Advance)
+        requires joined { session < length lists.old.names }
+        requires running { IsRunning lists.old session self }
+        requires wants { wants_room self ≡ true }
+        ensures steps { Steps IsRunning session lists.old lists.new result.0 result.1 }
+        ensures nears { Nears statement_to_go session lists.old self lists.new result.0 result.1 }
+        ensures lacks { result.1 ≡ Advance.NoMemory }
     {
         match self {
-            Statement::Create(statement) => Statement::Create(statement.without_room()),
-            Statement::Write(statement) => Statement::Write(statement.without_room()),
-            other => other,
+            Statement::Create(statement) => (
+                Statement::Create(statement.without_room()),
+                Advance::NoMemory,
+            ),
+            Statement::Write(statement) => {
+                let (statement, advance) = statement.without_room(session, lists);
+                (Statement::Write(statement), advance)
+            }
+            _ => unreachable!(),
         }
     }
-
-    /// A statement for whose change there is no room runs on.
-    pub fn a_lack_of_room_turns_it_back()
-        ensures { (state : State) (s : ℕ) (m : Statement) → IsRunning state s m → IsRunning state s (without_room m) }
-    {}
 
     /// One step of the session's statement. One that wants no room tells the history no change.
     pub fn step<L: SharedLists>(

@@ -1,17 +1,12 @@
--- A statement for whose next change there is no room, and one that wants none.
-use Rattle.std.proofs.Common.{◌≡◌, ℕ, false, None, refl, sym, ap, inl}
+-- A statement that wants no room for a change.
+use Rattle.std.proofs.Common.{◌≡◌, ℕ, false, None, refl, sym, ap}
 use Rattle.std.proofs.lemmas.Bool.{false≢true}
 use Rattle.shared_lists.specs.Tasks.{Task, Idle, Lagging, Undoing, MayTakeBack, asked}
 use Rattle.shared_lists.specs.State.{State, task_of}
 use Rattle.write_statement.specs.declared.machine.WriteStatement.{WriteStatement}
 use Rattle.write_statement.specs.declared.machine.WriteStatement.TheVariants as machine
-use Rattle.write_statement.specs.Running.{IsRunning, wants_room, without_room}
-use Rattle.write_statement.proofs.GivingUp.{changing_no_memory, may_take_back}
-
--- what is given up before a change is begun has nothing under way
-pub runs_without_room : (state : State) (s : ℕ) (m : WriteStatement) → IsRunning state s m → IsRunning state s (without_room m)
-runs_without_room state s (machine.Changing work todo) r = (changing_no_memory state.past state.writer s work todo.items r.0, inl r.1)
-runs_without_room state s other r = r
+use Rattle.write_statement.specs.Running.{IsRunning, wants_room}
+use Rattle.write_statement.proofs.GivingUp.{may_take_back}
 
 -- what is being taken back is told already
 taken_back_asks_none : (task : Task) → MayTakeBack task → asked task ≡ None

@@ -233,11 +233,6 @@ wants_room (machine.Changing work todo) = true
 wants_room (machine.Making work todo rows) = true
 wants_room other = false
 
--- the statement where there is no room for its next change, before that was begun
-abbrev pub without_room : WriteStatement → WriteStatement
-without_room (machine.Changing work todo) = machine.BackingOut (given_up work.alone work.before)
-without_room other = other
-
 -- its commit is yet to be acknowledged
 abbrev pub owes_ack : WriteStatement → Bool
 owes_ack (machine.Unacked kept given) = true

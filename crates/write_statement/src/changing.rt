@@ -36,6 +36,23 @@ pub fn step_changing<L: SharedLists>(
     }
 }
 
+/// There is no room for the next change: the statement gives up before it is begun.
+pub fn lack_room<L: SharedLists>(
+    work: Work,
+    todo: Vec<Change>,
+    session: u32,
+    lists: &mut SqlLists<L>,
+) -> (WriteStatement, Advance)
+    requires joined { session < length lists.old.names }
+    requires running { IsRunning lists.old session (WriteStatement.Changing work todo) }
+    ensures steps { Steps IsRunning session lists.old lists.new result.0 result.1 }
+    ensures nears { Nears to_go session lists.old (WriteStatement.Changing work todo) lists.new result.0 result.1 }
+    ensures lacks { result.1 ≡ Advance.NoMemory }
+{
+    drop(todo);
+    give_up(work.alone, work.before)
+}
+
 /// Begins the next change.
 fn make<L: SharedLists>(
     change: Change,

@@ -8,12 +8,12 @@ ghost use Rattle.sql_lists.specs.Kept.{OwesAck};
 ghost use Rattle.sql_lists.specs.Steps.{Steps, IsTaken, StaysRunning, GoesOnAcked};
 ghost use Rattle.sql_lists.specs.Going.{Nears, NearsAcked};
 ghost use Rattle.write_statement.specs.Going.{to_go};
-ghost use Rattle.write_statement.specs.Running.{IsRunning, owes_ack, acked, wants_room, without_room};
+ghost use Rattle.write_statement.specs.Running.{IsRunning, owes_ack, acked, wants_room};
 
 use crate::backing::step_backing;
-use crate::changing::step_changing;
+use crate::changing::{lack_room, step_changing};
 use crate::ending::{step_ending, step_unopened};
-use crate::making::{step_finishing, step_making};
+use crate::making::{step_finishing, step_making, stop_making};
 use crate::opening::{step_fresh, step_locking};
 use crate::searching::step_searching;
 use inno_db::Change;
@@ -136,17 +136,26 @@ impl WriteStatement {
         )
     }
 
-    /// The statement where there is no room for its next change: it takes back what it has made. Once a change is begun,
-    /// the statement stays.
-    pub fn without_room(self) -> Self
-        ensures { result ≡ without_room self }
+    /// The statement where there is no room for its next change: it takes back what it has made, and gives up the change that
+    /// is under way.
+    pub fn without_room<L: SharedLists>(
+        self,
+        session: u32,
+        lists: &mut SqlLists<L>,
+    ) -> (WriteStatement, Advance)
+        requires joined { session < length lists.old.names }
+        requires running { IsRunning lists.old session self }
+        requires wants { wants_room self ≡ true }
+        ensures steps { Steps IsRunning session lists.old lists.new result.0 result.1 }
+        ensures nears { Nears to_go session lists.old self lists.new result.0 result.1 }
+        ensures lacks { result.1 ≡ Advance.NoMemory }
     {
         match self {
-            WriteStatement::Changing { work, todo } => {
-                drop(todo);
-                WriteStatement::BackingOut(Work::given_up(work.alone, work.before))
+            WriteStatement::Changing { work, todo } => lack_room(work, todo, session, lists),
+            WriteStatement::Making { work, todo, rows } => {
+                stop_making(work, todo, rows, session, lists)
             }
-            other => other,
+            _ => unreachable!(),
         }
     }
 
@@ -189,10 +198,9 @@ pub fn an_acknowledgement_moves_it_on()
     ensures nears { (m : WriteStatement) → owes_ack m ≡ true → NearsAcked to_go m (acked m) }
 {}
 
-/// A statement for whose next change there is no room runs on, and one that wants no room has no change to tell.
-pub fn a_lack_of_room_turns_it_back()
-    ensures runs { (state : State) (s : ℕ) (m : WriteStatement) → IsRunning state s m → IsRunning state s (without_room m) }
-    ensures quiet { (state : State) (s : ℕ) (m : WriteStatement) → wants_room m ≡ false → IsRunning state s m → asked (task_of s state) ≡ None }
+/// A statement that wants no room has no change to tell.
+pub fn one_that_wants_no_room_tells_none()
+    ensures { (state : State) (s : ℕ) (m : WriteStatement) → wants_room m ≡ false → IsRunning state s m → asked (task_of s state) ≡ None }
 {}
 
 /// An entry of another session leaves what the machine knows.

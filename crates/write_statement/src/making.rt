@@ -27,12 +27,28 @@ pub fn step_making<L: SharedLists>(
 {
     match lists.overfull(rows) {
         // Since the change was begun, replies to others have filled the history.
-        Some(_) => {
-            lists.stop_change(session);
-            give_up(work.alone, work.before)
-        }
+        Some(_) => stop_making(work, todo, rows, session, lists),
         None => go_on(work, todo, rows, session, lists),
     }
+}
+
+/// Gives up the change, which the history doesn't tell, and the statement with it.
+pub fn stop_making<L: SharedLists>(
+    work: Work,
+    todo: Vec<Change>,
+    _rows: u64,
+    session: u32,
+    lists: &mut SqlLists<L>,
+) -> (WriteStatement, Advance)
+    requires joined { session < length lists.old.names }
+    requires running { IsRunning lists.old session (WriteStatement.Making work todo _rows) }
+    ensures steps { Steps IsRunning session lists.old lists.new result.0 result.1 }
+    ensures nears { Nears to_go session lists.old (WriteStatement.Making work todo _rows) lists.new result.0 result.1 }
+    ensures lacks { result.1 ≡ Advance.NoMemory }
+{
+    drop(todo);
+    lists.stop_change(session);
+    give_up(work.alone, work.before)
 }
 
 /// Makes a step of a change that the history may tell.
