@@ -85,7 +85,7 @@ table_dropped s state change may = table_there s may.0 state change may.1
 pub dropped : (s : ℕ) (chains : Chains) (state : WorldState) (change : RowChange) → is_told change ≡ false → IsChangingRow s chains state change
     → ChangesRow s chains state state change (Hindered change NoMemory)
 dropped s chains state (Record change key after) untold is =
-    let lacks = lacks_memory s state change is.0 in (refl, is, lacks.1, lacks.3, lacks.4, lacks.5)
+    let lacks = lacks_memory s state change is.0 in (refl, is, (lacks.1, lacks.3, lacks.4, lacks.5))
 dropped s chains state (Keys change) untold is = absurd (false≢true (sym untold))
 
 pub nothing_after : (change : RowChange) → is_told change ≡ false → Nothing ≡ doing_after change (Hindered change NoMemory)

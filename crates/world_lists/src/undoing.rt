@@ -1,6 +1,6 @@
 //! The parts of changes of rows, and of their taking back.
 
-ghost use Rattle.std.specs.Prelude.{◌≡◌, ◌≢◌, ℕ, ◌-◌, ◌<◌, Option, [], length, slice_get, Some, IsTrue, ◌↔◌, IfSome, IfNone};
+ghost use Rattle.std.specs.Prelude.{◌≡◌, ◌≢◌, ℕ, ◌-◌, ◌<◌, Option, false, [], length, slice_get, Some, IsTrue, ◌↔◌, IfSome, IfNone};
 ghost use Rattle.inno_types.specs.declared.value.Schema.{Schema};
 ghost use Rattle.row_versions.specs.Chains.{Chains};
 ghost use Rattle.world.specs.State.{Session, Work, IsSession, HasWork, standing_of};
