@@ -85,7 +85,9 @@ impl<D: Disk> PagedTxn<D> {
     /// mini-transaction under way aren't among them. After a step that did something the pages aren't told any more.
     pub fn flush_step(&mut self) -> Result<Worked, Failed>
         ensures idle { (result ≡ Ok Idle) ↔ IsAtRest self.old.work.flusher self.old.work.pool }
-        ensures rests { result ≡ Ok Idle → (state_of self.new.work.pool (D.past self.new.work.disk) self.new.work.dealt self.new.work.edits self.new.work.told ≡ state_of self.old.work.pool (D.past self.old.work.disk) self.old.work.dealt self.old.work.edits self.old.work.told) }
+        ensures rests { result ≡ Ok Idle →
+            (state_of self.new.work.pool (D.past self.new.work.disk) self.new.work.dealt self.new.work.edits self.new.work.told
+            ≡ state_of self.old.work.pool (D.past self.old.work.disk) self.old.work.dealt self.old.work.edits self.old.work.told) }
         ensures nears { result ≡ Ok Did → IsBelow (to_go self.new.work.flusher self.new.work.pool) (to_go self.old.work.flusher self.old.work.pool) }
         ensures pages { HasSamePages self.old.work.pool self.new.work.pool }
         ensures log { KeepsLog self.old.work.log self.new.work.log }
@@ -122,11 +124,16 @@ impl<D: Disk> Mtr for PagedTxn<D> {
     fn fresh(&mut self, page: u32) -> Result<(), FreshBad>
         requires few { length (visit page (state_of self.old.work.pool (D.past self.old.work.disk) self.old.work.dealt self.old.work.edits self.old.work.told).visited) ≤ 24 }
         requires within { IsWithin page (state_of self.old.work.pool (D.past self.old.work.disk) self.old.work.dealt self.old.work.edits self.old.work.told) }
-        ensures made { OnOk result (Makes page (state_of self.old.work.pool (D.past self.old.work.disk) self.old.work.dealt self.old.work.edits self.old.work.told) (state_of self.new.work.pool (D.past self.new.work.disk) self.new.work.dealt self.new.work.edits self.new.work.told)) }
-        ensures refused { OnErr result (state_of self.new.work.pool (D.past self.new.work.disk) self.new.work.dealt self.new.work.edits self.new.work.told ≡ state_of self.old.work.pool (D.past self.old.work.disk) self.old.work.dealt self.old.work.edits self.old.work.told) }
-        ensures shut { IsShut page (state_of self.old.work.pool (D.past self.old.work.disk) self.old.work.dealt self.old.work.edits self.old.work.told) → result ≡ Err FreshAgain }
+        ensures made { OnOk result (Makes page (state_of self.old.work.pool (D.past self.old.work.disk) self.old.work.dealt self.old.work.edits self.old.work.told)
+            (state_of self.new.work.pool (D.past self.new.work.disk) self.new.work.dealt self.new.work.edits self.new.work.told)) }
+        ensures refused { OnErr result
+            (state_of self.new.work.pool (D.past self.new.work.disk) self.new.work.dealt self.new.work.edits self.new.work.told
+            ≡ state_of self.old.work.pool (D.past self.old.work.disk) self.old.work.dealt self.old.work.edits self.old.work.told) }
+        ensures shut { IsShut page (state_of self.old.work.pool (D.past self.old.work.disk) self.old.work.dealt self.old.work.edits self.old.work.told)
+            → result ≡ Err FreshAgain }
         ensures again { result ≡ Err FreshAgain → IsShut page (state_of self.old.work.pool (D.past self.old.work.disk) self.old.work.dealt self.old.work.edits self.old.work.told) }
-        ensures memory { result ≡ Err NoFreshMemory → (state_of self.old.work.pool (D.past self.old.work.disk) self.old.work.dealt self.old.work.edits self.old.work.told).spare < 5 }
+        ensures memory { result ≡ Err NoFreshMemory
+            → (state_of self.old.work.pool (D.past self.old.work.disk) self.old.work.dealt self.old.work.edits self.old.work.told).spare < 5 }
 
         // It has one record more, and the log none.
         ensures records { OnOk result (self.new.work.edits ≡ self.old.work.edits ++ Fresh page ∷ []) }
@@ -140,8 +147,11 @@ impl<D: Disk> Mtr for PagedTxn<D> {
         requires ends { at + length bytes.now ≤ 4096 }
         requires dealt_with { IsTrue (is_in page (state_of self.old.work.pool (D.past self.old.work.disk) self.old.work.dealt self.old.work.edits self.old.work.told).visited) }
         requires within { IsWithin page (state_of self.old.work.pool (D.past self.old.work.disk) self.old.work.dealt self.old.work.edits self.old.work.told) }
-        ensures put { OnOk result (Puts page at bytes.now (state_of self.old.work.pool (D.past self.old.work.disk) self.old.work.dealt self.old.work.edits self.old.work.told) (state_of self.new.work.pool (D.past self.new.work.disk) self.new.work.dealt self.new.work.edits self.new.work.told)) }
-        ensures refused { OnErr result (state_of self.new.work.pool (D.past self.new.work.disk) self.new.work.dealt self.new.work.edits self.new.work.told ≡ state_of self.old.work.pool (D.past self.old.work.disk) self.old.work.dealt self.old.work.edits self.old.work.told) }
+        ensures put { OnOk result (Puts page at bytes.now (state_of self.old.work.pool (D.past self.old.work.disk) self.old.work.dealt self.old.work.edits self.old.work.told)
+            (state_of self.new.work.pool (D.past self.new.work.disk) self.new.work.dealt self.new.work.edits self.new.work.told)) }
+        ensures refused { OnErr result
+            (state_of self.new.work.pool (D.past self.new.work.disk) self.new.work.dealt self.new.work.edits self.new.work.told
+            ≡ state_of self.old.work.pool (D.past self.old.work.disk) self.old.work.dealt self.old.work.edits self.old.work.told) }
         ensures memory { OnErr result ((state_of self.old.work.pool (D.past self.old.work.disk) self.old.work.dealt self.old.work.edits self.old.work.told).spare < length bytes.now + 9) }
 
         // It has one record more, and neither the pool nor the log has it.
@@ -153,8 +163,11 @@ impl<D: Disk> Mtr for PagedTxn<D> {
     }
 
     fn commit(&mut self) -> Result<(), NoMemory>
-        ensures committed { OnOk result (Commits (state_of self.old.work.pool (D.past self.old.work.disk) self.old.work.dealt self.old.work.edits self.old.work.told) (state_of self.new.work.pool (D.past self.new.work.disk) self.new.work.dealt self.new.work.edits self.new.work.told)) }
-        ensures refused { OnErr result (state_of self.new.work.pool (D.past self.new.work.disk) self.new.work.dealt self.new.work.edits self.new.work.told ≡ state_of self.old.work.pool (D.past self.old.work.disk) self.old.work.dealt self.old.work.edits self.old.work.told) }
+        ensures committed { OnOk result (Commits (state_of self.old.work.pool (D.past self.old.work.disk) self.old.work.dealt self.old.work.edits self.old.work.told)
+            (state_of self.new.work.pool (D.past self.new.work.disk) self.new.work.dealt self.new.work.edits self.new.work.told)) }
+        ensures refused { OnErr result
+            (state_of self.new.work.pool (D.past self.new.work.disk) self.new.work.dealt self.new.work.edits self.new.work.told
+            ≡ state_of self.old.work.pool (D.past self.old.work.disk) self.old.work.dealt self.old.work.edits self.old.work.told) }
 
         // The log has one group more, whose records make of each page what the mini-transaction saw.
         ensures grouped { OnOk result (IsGrouped self.old.work.edits self.old.work.log self.new.work.log) }
@@ -172,7 +185,8 @@ impl<D: Disk> Mtr for PagedTxn<D> {
     }
 
     fn give_up(&mut self)
-        ensures gives_up { GivesUp (state_of self.old.work.pool (D.past self.old.work.disk) self.old.work.dealt self.old.work.edits self.old.work.told) (state_of self.new.work.pool (D.past self.new.work.disk) self.new.work.dealt self.new.work.edits self.new.work.told) }
+        ensures gives_up { GivesUp (state_of self.old.work.pool (D.past self.old.work.disk) self.old.work.dealt self.old.work.edits self.old.work.told)
+            (state_of self.new.work.pool (D.past self.new.work.disk) self.new.work.dealt self.new.work.edits self.new.work.told) }
         ensures log { self.new.work.log ≡ self.old.work.log }
         ensures ends { self.new.work.edits ≡ [] }
     {
