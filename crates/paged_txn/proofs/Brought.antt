@@ -1,7 +1,6 @@
 -- A page that was asked for is fixed now, or it is told why not.
-use Rattle.std.proofs.Common.{◌≡◌, ◌≢◌, ℕ, ◌+◌, ◌<◌, ◌≤◌, Bool, true, false, cond, ◌⊎◌, inl, inr, List, [], length, Option, Some, None, refl, sym, ap, subst, ◌∙◌, arith}
-use Rattle.std.specs.Prelude.{◌==◌, ◌&&◌, ◌||◌, nat_lt, is_some, IsTrue, option_map}
-use Rattle.std.specs.Option.{option_map_or}
+use Rattle.std.proofs.Common.{◌≡◌, ℕ, ◌<◌, ◌≤◌, Bool, true, false, cond, ◌⊎◌, inl, inr, List, length, Option, Some, None, refl, sym, ap, subst, ◌∙◌, arith}
+use Rattle.std.specs.Prelude.{◌&&◌, ◌||◌, nat_lt, is_some, option_map}
 use Rattle.std.proofs.lemmas.Bool.{lt-ltb, ltb-true}
 use Rattle.store_api.specs.declared.visits.Visit.{Visit}
 use Rattle.store_api.specs.declared.visits.Visit.TheVariants.{Failed, Again, Bad}
@@ -10,8 +9,8 @@ use Rattle.store_api.specs.Past.{Past, Now}
 use Rattle.buffer_pool.specs.Fixing.{page_in}
 use Rattle.log_format.specs.declared.group.Record.{Record}
 use Rattle.buffer_pool.specs.declared.frame.Content.TheVariants.{Clean}
-use Rattle.buffer_pool.specs.Frames.{FrameView, PoolView, slot_of, is_pooled, is_standing, is_idle_at, next_idle, fixed, moved}
-use Rattle.mtr.specs.Seen.{is_in, IsShut}
+use Rattle.buffer_pool.specs.Frames.{FrameView, PoolView, slot_of, is_pooled, is_standing, is_idle_at, fixed, moved}
+use Rattle.mtr.specs.Seen.{is_in}
 use Rattle.mtr.specs.Calls.{Looks as LooksAt, Explains}
 use Rattle.mini_txn.specs.declared.dealt.Entry.{Entry}
 use Rattle.mini_txn.specs.Dealt.{pages_of}
@@ -19,10 +18,10 @@ use Rattle.mini_txn.specs.View.{body_of}
 use Rattle.buffer_pool.proofs.Orders.{last_where_passes}
 use Rattle.buffer_pool.proofs.SlotEdits.{idle_within}
 use Rattle.mini_txn.proofs.Keeping.{edit_here, moved_here}
-use Rattle.paged_txn.specs.View.{is_good, is_known, tells, faults_of, place_in, can_be_read, holds, stands, bytes_in, standing_by, standing_in, fault_in, state_of, IsFrame, IsPaged}
+use Rattle.paged_txn.specs.View.{is_good, is_known, tells, faults_of, place_in, can_be_read, stands, standing_by, standing_in, fault_in, state_of, IsFrame, IsPaged}
 use Rattle.paged_txn.specs.Fixing.{Fixes}
-use Rattle.paged_txn.specs.Bringing.{Looks, IsHeld, IsLetIn, IsNoPage, IsRefused, is_no_fault}
-use Rattle.paged_txn.proofs.Slots.{same_read, bare_stands, stands_holds, frame_less, frame_is}
+use Rattle.paged_txn.specs.Bringing.{Looks, IsHeld, IsLetIn, IsRefused, is_no_fault}
+use Rattle.paged_txn.proofs.Slots.{same_read, bare_stands, frame_less, frame_is}
 use Rattle.paged_txn.proofs.Fixed.{held_fixes, moved_fixes}
 use Rattle.paged_txn.proofs.Told.{read_is, refused_is, known_told, known_tells, known_by, told_before, same_places, faults_rise, rose_too, stays_known}
 use Rattle.paged_txn.proofs.Meeting.{looked_paged, looked_looks}

@@ -1,27 +1,24 @@
 -- The end of a mini-transaction: what was placed stands, and each page is let go.
-use Rattle.std.proofs.Common.{◌≡◌, ◌≢◌, ℕ, ◌+◌, ◌<◌, ◌≤◌, Bool, true, false, cond, ◌⊎◌, inl, inr, List, [], ◌∷◌, ◌++◌, length, Option, Some, None, refl, sym, ap, subst}
+use Rattle.std.proofs.Common.{◌≡◌, ℕ, ◌≤◌, Bool, true, false, cond, ◌⊎◌, inl, inr, List, [], length, Option, Some, None, refl, sym, ap, subst}
 use Rattle.std.proofs.Common.{◌∙◌, arith}
-use Rattle.std.specs.Prelude.{◌==◌, ◌&&◌, ◌||◌, option_map, is_some, IsTrue}
+use Rattle.std.specs.Prelude.{◌==◌, ◌&&◌, ◌||◌, option_map, is_some}
 use Rattle.std.specs.Option.{option_map_or}
 use Rattle.store_api.specs.Past.{Past}
 use Rattle.page_format.specs.Words.{u32_at}
 use Rattle.log_format.specs.declared.group.Record.{Record}
-use Rattle.buffer_pool.specs.declared.frame.Content.{Content}
-use Rattle.buffer_pool.specs.declared.frame.Content.TheVariants.{Empty, New, Clean, Dirty}
 use Rattle.buffer_pool.specs.Frames.{FrameView, PoolView, slot_of, is_pooled, is_standing, is_written, unfixed, content_after}
 use Rattle.mtr.specs.Seen.{is_in}
 use Rattle.mtr.specs.Calls.{Commits, GivesUp}
 use Rattle.mini_txn.specs.declared.dealt.Entry.{Entry}
 use Rattle.mini_txn.specs.Dealt.{copy_of, pages_of}
-use Rattle.mini_txn.specs.Edits.{blank, edited}
-use Rattle.mini_txn.specs.View as mini
+use Rattle.mini_txn.specs.Edits.{blank}
 use Rattle.mini_txn.specs.View.{body_of, shows, IsReadable, IsStamped, Places}
 use Rattle.mini_txn.proofs.Entries.{copied_is_in}
-use Rattle.mini_txn.proofs.Meeting.{seen_copy, seen_none, one_stands}
+use Rattle.mini_txn.proofs.Meeting.{one_stands}
 use Rattle.paged_txn.specs.View.{is_known, place_in, can_be_read, holds, stands, fixes_in, bytes_in, is_clean, is_clean_in, standing_by, fault_by, standing_in}
 use Rattle.paged_txn.specs.View.{seen_in, fault_in, state_of, IsFrame, IsPaged}
 use Rattle.paged_txn.specs.Ending.{let_go, LetsGo, IsPut}
-use Rattle.paged_txn.proofs.Slots.{IsLetGo, lets_go, stands_holds}
+use Rattle.paged_txn.proofs.Slots.{IsLetGo, lets_go}
 use Rattle.paged_txn.proofs.Meeting.{seen_is}
 
 -- a frame that holds a page of the group

@@ -1,19 +1,18 @@
 -- A page is fixed: one of the pool, or one that takes the frame of another.
-use Rattle.std.proofs.Common.{◌≡◌, ◌≢◌, ℕ, ◌<◌, ◌≤◌, Bool, true, false, cond, ◌⊎◌, inl, inr, List, length, Option, Some, None, refl, sym, ap, subst, ◌∙◌, arith}
-use Rattle.std.specs.Prelude.{◌&&◌, nat_lt, option_map, slice_index_or, slice_set}
+use Rattle.std.proofs.Common.{◌≡◌, ◌≢◌, ℕ, ◌<◌, Bool, true, false, cond, inl, inr, length, Some, refl, sym, ap, subst, ◌∙◌}
+use Rattle.std.specs.Prelude.{◌&&◌, option_map}
 use Rattle.std.specs.List.{swap}
-use Rattle.std.specs.Option.{option_map_or}
 use Rattle.std.proofs.lemmas.Bool.{cases_eq, lt-ltb}
 use Rattle.std.proofs.lemmas.List.{length-set}
 use Rattle.std.proofs.lemmas.List.Edits.{length-swap}
 use Rattle.store_api.specs.Past.{Past}
-use Rattle.buffer_pool.specs.Frames.{FrameView, PoolView, slot_of, is_pooled, is_idle, is_idle_at, next_idle, at_slot, with_used, moved, fixed}
+use Rattle.buffer_pool.specs.Frames.{FrameView, PoolView, slot_of, is_pooled, is_idle_at, next_idle, at_slot, with_used, moved, fixed}
 use Rattle.buffer_pool.proofs.Orders.{last_where_passes}
 use Rattle.buffer_pool.proofs.SlotEdits.{idle_within}
 use Rattle.mini_txn.proofs.Keeping.{edit_here, edit_elsewhere, moved_here, moved_from, moved_elsewhere}
-use Rattle.paged_txn.specs.View.{is_good, place_in, can_be_read, holds, fixes_in, standing_by, fault_by, standing_in, fault_in, IsFrame}
+use Rattle.paged_txn.specs.View.{place_in, can_be_read, holds, fixes_in, standing_by, fault_by, standing_in, fault_in, IsFrame}
 use Rattle.paged_txn.specs.Fixing.{Fixes, IsGivenUp}
-use Rattle.paged_txn.proofs.Slots.{IsSame, same_self, same_is, same_bare, bare_stands, fixed_frame, fixed_same, idle_unfixed, given_same}
+use Rattle.paged_txn.proofs.Slots.{IsSame, same_is, fixed_frame, fixed_same, idle_unfixed, given_same}
 
 -- what is the same in a slot is the same of its page
 module _ (q : ℕ) (before now : Past) (old new : PoolView) (long : length new.slots ≡ length old.slots) (place : place_in now q ≡ place_in before q)

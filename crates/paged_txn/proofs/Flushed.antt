@@ -1,16 +1,16 @@
 -- A step of the flusher: everybody sees the same pages of the pool.
-use Rattle.std.proofs.Common.{◌≡◌, ℕ, Bool, true, false, cond, List, Option, Some, None, refl, sym, ap, subst, ◌∙◌}
+use Rattle.std.proofs.Common.{◌≡◌, Bool, true, false, cond, List, Option, Some, None, refl, sym, ap, subst, ◌∙◌}
 use Rattle.std.specs.Prelude.{◌&&◌}
 use Rattle.store_api.specs.Past.{Past}
 use Rattle.log_format.specs.declared.group.Record.{Record}
-use Rattle.buffer_pool.specs.Frames.{PoolView, slot_of}
+use Rattle.buffer_pool.specs.Frames.{PoolView}
 use Rattle.mtr.specs.Seen.{is_in}
 use Rattle.mini_txn.specs.declared.dealt.Entry.{Entry}
 use Rattle.mini_txn.specs.Dealt.{pages_of}
 use Rattle.mini_txn.specs.View.{body_of}
 use Rattle.doublewrite.specs.Batches.{StagedView}
 use Rattle.flusher.specs.Cleaning.{HasSamePages, Settles, finished}
-use Rattle.paged_txn.specs.View.{is_known, place_in, holds, fixes_in, IsFrame, IsPaged}
+use Rattle.paged_txn.specs.View.{is_known, IsPaged}
 use Rattle.paged_txn.proofs.Told.{known_told}
 
 -- whatever the disk tells now, nothing is said of it

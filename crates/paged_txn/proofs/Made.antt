@@ -1,5 +1,5 @@
 -- A page that is to be made has its frame.
-use Rattle.std.proofs.Common.{◌≡◌, ℕ, ◌<◌, ◌≤◌, Bool, true, false, ◌⊎◌, inl, inr, List, length, Option, Some, None, refl, sym, ap, subst, ◌∙◌, arith}
+use Rattle.std.proofs.Common.{◌≡◌, ℕ, ◌<◌, Bool, true, false, inl, inr, List, length, Option, Some, None, refl, sym, ap, subst, ◌∙◌}
 use Rattle.std.specs.Prelude.{◌||◌, option_map, is_some, MatchOption}
 use Rattle.std.proofs.lemmas.Bool.{cases_lt}
 use Rattle.store_api.specs.Past.{Past}
@@ -11,8 +11,8 @@ use Rattle.mtr.specs.Seen.{is_in}
 use Rattle.mini_txn.specs.declared.dealt.Entry.{Entry}
 use Rattle.mini_txn.specs.Dealt.{pages_of}
 use Rattle.mini_txn.proofs.Keeping.{edit_here, moved_here}
-use Rattle.paged_txn.specs.View.{is_known, place_in, can_be_read, holds, IsFrame, IsPaged}
-use Rattle.paged_txn.specs.Fixing.{Fixes, new_frame, IsSecured}
+use Rattle.paged_txn.specs.View.{is_known, place_in, can_be_read, holds, IsPaged}
+use Rattle.paged_txn.specs.Fixing.{new_frame, IsSecured}
 use Rattle.paged_txn.proofs.Slots.{same_bare, bare_stands, frame_is}
 use Rattle.paged_txn.proofs.Fixed.{held_fixes, moved_fixes}
 use Rattle.paged_txn.proofs.Meeting.{Readies, ready_known, ready_past, ready_fixed}

@@ -1,11 +1,10 @@
 -- What each call makes of the mini-transaction is what the trait asks of it: pages that are asked for, made and put.
-use Rattle.std.proofs.Common.{◌≡◌, ◌≢◌, ℕ, ◌+◌, ◌<◌, ◌≤◌, Bool, true, false, cond, ◌⊎◌, inl, inr, List, [], ◌∷◌, ◌++◌, length, Option, Some, None, refl, sym, ap, subst}
+use Rattle.std.proofs.Common.{◌≡◌, ◌≢◌, ℕ, ◌+◌, ◌<◌, ◌≤◌, Bool, true, false, cond, inl, inr, List, [], ◌∷◌, ◌++◌, length, Option, Some, None, refl, sym, ap, subst}
 use Rattle.std.proofs.Common.{◌∙◌, arith}
-use Rattle.std.specs.Prelude.{◌==◌, ◌&&◌, is_some, IsTrue}
+use Rattle.std.specs.Prelude.{◌==◌, ◌&&◌, is_some}
 use Rattle.std.specs.Option.{option_map_or}
 use Rattle.std.proofs.lemmas.Bool.{cases_eq, eq-eqb, eqb-true}
 use Rattle.std.proofs.lemmas.List.{get_or_past}
-use Rattle.store_api.specs.Causes.{Rose}
 use Rattle.store_api.specs.Past.{Past}
 use Rattle.page_format.specs.Words.{u32_at}
 use Rattle.log_format.specs.declared.group.Record.{Record}
@@ -24,7 +23,7 @@ use Rattle.mini_txn.proofs.Entries.{copied_is_in}
 use Rattle.mini_txn.proofs.Kept.{edited-push, spare-push, length-put, length-fresh}
 use Rattle.mini_txn.proofs.Meeting.{blank_counts, seen_copy, seen_none, one_stands}
 use Rattle.paged_txn.specs.View.{is_known, faults_of, place_in, holds, stands, fixes_in, standing_by, fault_by, standing_in, seen_in, fault_in, state_of}
-use Rattle.paged_txn.specs.View.{IsFrame, AreCounted, MayStand, IsPaged, can_be_read}
+use Rattle.paged_txn.specs.View.{IsFrame, MayStand, IsPaged, can_be_read}
 use Rattle.paged_txn.specs.Fixing.{Fixes, IsGivenUp}
 use Rattle.paged_txn.proofs.Told.{known_told, known_tells, known_by}
 use Rattle.paged_txn.proofs.Slots.{frame_less, frame_is, frame_bare, stands_holds}

@@ -1,16 +1,16 @@
 -- A pool without pages, of which page 0 was read once.
-use Rattle.std.proofs.Common.{◌≡◌, ◌≢◌, ℕ, ◌+◌, ◌<◌, ◌≤◌, Bool, true, false, cond, ◌⊎◌, inl, inr, List, [], ◌∷◌, length, Option, Some, None, refl, sym, ap, subst, ◌∙◌, arith}
-use Rattle.std.specs.Prelude.{◌==◌, ◌&&◌, ◌||◌, nat_lt, nat_le, option_map}
-use Rattle.std.proofs.lemmas.Bool.{ltb-true, leb-true, eqb-true, eqb-false, eq-eqb}
+use Rattle.std.proofs.Common.{◌≡◌, ℕ, ◌≤◌, Bool, true, false, cond, ◌⊎◌, inl, inr, List, [], ◌∷◌, length, None, refl, sym, ap, subst, ◌∙◌, arith}
+use Rattle.std.specs.Prelude.{◌==◌, ◌&&◌, ◌||◌, nat_lt, option_map}
+use Rattle.std.proofs.lemmas.Bool.{ltb-true, eqb-true, eqb-false, eq-eqb}
 use Rattle.store_api.specs.Past.{Past, Now}
 use Rattle.page_format.specs.Words.{u32_at}
 use Rattle.buffer_pool.specs.Fixing.{page_in}
-use Rattle.buffer_pool.specs.Frames.{FrameView, PoolView, slot_of, is_standing, bytes_of}
+use Rattle.buffer_pool.specs.Frames.{PoolView, slot_of, bytes_of}
 use Rattle.mtr.specs.Seen.{is_in}
 use Rattle.mini_txn.specs.Edits.{blank}
 use Rattle.mini_txn.specs.View.{body_of}
 use Rattle.mini_txn.proofs.Meeting.{count-body, blank_counts}
-use Rattle.paged_txn.specs.View.{is_good, is_known, tells, place_in, can_be_read, holds, stands, bytes_in, fixes_in, standing_by, standing_in, IsFrame, IsPaged}
+use Rattle.paged_txn.specs.View.{is_good, is_known, place_in, can_be_read, standing_by, standing_in, IsFrame, IsPaged}
 use Rattle.paged_txn.specs.View.{HasNoPage, Begins}
 use Rattle.paged_txn.specs.Ending.{let_go, LetsGo, LetsGoOne}
 use Rattle.paged_txn.specs.Bringing.{Looks, IsHeld, IsLetIn, IsNoPage}
@@ -18,7 +18,7 @@ use Rattle.paged_txn.proofs.Slots.{same_bare, bare_stands, frame_bare}
 use Rattle.paged_txn.proofs.Told.{known_told, known_tells, known_by, told_before, same_places, refused_is}
 use Rattle.paged_txn.proofs.Brought.{Brings, brings}
 use Rattle.paged_txn.proofs.Meeting.{fixed_frames}
-use Rattle.paged_txn.proofs.Ended.{gone, gone_frames, gone_standing}
+use Rattle.paged_txn.proofs.Ended.{gone_frames, gone_standing}
 
 alone_goes : (page : ℕ) (pool new : PoolView) → LetsGoOne page pool new → LetsGo (page ∷ []) pool new
 alone_goes page pool new one = record {

@@ -1,17 +1,15 @@
 -- Frames that are taken one by one, and frames that are let go one by one.
-use Rattle.std.proofs.Common.{◌≡◌, ◌≢◌, ℕ, ◌+◌, ◌-◌, ◌<◌, ◌≤◌, Bool, true, false, cond, ◌⊎◌, inl, inr, List, [], ◌∷◌, ◌++◌, length, Option, Some, None, refl, sym, ap, subst}
+use Rattle.std.proofs.Common.{◌≡◌, ◌≢◌, ℕ, ◌+◌, ◌-◌, ◌<◌, ◌≤◌, Bool, true, false, cond, inl, inr, List, [], ◌∷◌, ◌++◌, length, Option, Some, None, refl, sym, ap, subst}
 use Rattle.std.proofs.Common.{◌∙◌, arith}
 use Rattle.std.specs.Prelude.{◌==◌, ◌||◌, option_map, is_some, replicate}
 use Rattle.std.specs.Option.{option_map_or}
-use Rattle.std.proofs.lemmas.Bool.{cases_eq, cases_lt, eqb-true, eqb-false, eq-eqb}
-use Rattle.std.proofs.lemmas.List.{length-set, length-replicate, get_or-set_same, get_or-set_other, get_or-replicate}
-use Rattle.buffer_pool.specs.declared.frame.Content.{Content}
-use Rattle.buffer_pool.specs.declared.frame.Content.TheVariants.{Empty}
+use Rattle.std.proofs.lemmas.Bool.{cases_eq, eqb-true, eqb-false, eq-eqb}
+use Rattle.std.proofs.lemmas.List.{length-set, get_or-set_same, get_or-set_other}
 use Rattle.buffer_pool.specs.Frames.{FrameView, PoolView, slot_of, HasOneMore, is_page, unfixed}
 use Rattle.mtr.specs.Seen.{is_in}
 use Rattle.mini_txn.specs.declared.dealt.Entry.{Entry}
 use Rattle.mini_txn.specs.Dealt.{pages_of}
-use Rattle.paged_txn.specs.View.{HasNoPage, HasFrames, holds, fixes_in}
+use Rattle.paged_txn.specs.View.{HasFrames, holds, fixes_in}
 use Rattle.paged_txn.specs.Ending.{let_go, LetsGo, LetsGoOne}
 
 -- ---- frames that are taken

@@ -5,7 +5,7 @@ use Rattle.std.specs.Option.{option_map_or}
 use Rattle.std.proofs.lemmas.Bool.{eqb-true, eqb-false}
 use Rattle.buffer_pool.specs.declared.frame.Content.{Content}
 use Rattle.buffer_pool.specs.declared.frame.Content.TheVariants.{Empty, New, Clean, Dirty}
-use Rattle.buffer_pool.specs.Frames.{FrameView, is_page, is_written, is_kept, is_idle, holds_page, fixed, unfixed, marked, content_after}
+use Rattle.buffer_pool.specs.Frames.{FrameView, is_page, is_written, is_kept, is_idle, fixed, unfixed, marked, content_after}
 use Rattle.mini_txn.specs.Edits.{blank}
 use Rattle.mini_txn.specs.View.{body_of}
 use Rattle.paged_txn.specs.View.{is_good, can_be_read, holds, stands, fixes_in, bytes_in, is_clean, is_clean_in, standing_by, fault_by, IsFrame}

@@ -1,12 +1,12 @@
 -- What a look at the disk leaves of what is known of it.
-use Rattle.std.proofs.Common.{◌≡◌, ℕ, ◌+◌, ◌-◌, ◌^◌, ◌<◌, ◌≤◌, Bool, true, false, cond, List, [], Option, Some, None, refl, sym, ap, subst, ◌∙◌, arith}
-use Rattle.std.specs.Prelude.{◌&&◌, nat_lt, is_some, IsTrue}
+use Rattle.std.proofs.Common.{◌≡◌, ℕ, ◌+◌, ◌-◌, ◌^◌, ◌≤◌, Bool, true, false, cond, List, [], Option, Some, None, refl, sym, ap, ◌∙◌, arith}
+use Rattle.std.specs.Prelude.{◌&&◌, nat_lt, is_some}
 use Rattle.std.specs.Option.{option_map_or}
 use Rattle.std.proofs.lemmas.Bool.{ltb-true, lt-ltb}
 use Rattle.store_api.specs.Areas.{State, Within, Looked}
 use Rattle.store_api.specs.declared.disk.Area.TheVariants.{Pages}
-use Rattle.store_api.specs.Causes.{next_count, Rose}
-use Rattle.store_api.specs.Past.{Past, Ticks, Goes, Now}
+use Rattle.store_api.specs.Causes.{Rose}
+use Rattle.store_api.specs.Past.{Past, Ticks, Now}
 use Rattle.buffer_pool.specs.Fixing.{page_in}
 use Rattle.paged_txn.specs.View.{is_good, place_in, tells, is_known, faults_of}
 use Rattle.paged_txn.specs.Bringing.{Looks}

@@ -1,5 +1,5 @@
 -- What the end of a mini-transaction makes of the pool.
-use Rattle.std.specs.Prelude.{◌≡◌, ◌⊎◌, ℕ, ◌≤◌, ◌==◌, if◌then◌else◌, List, length, Option, None, option_map}
+use Rattle.std.specs.Prelude.{◌≡◌, ◌⊎◌, ℕ, ◌≤◌, ◌==◌, if◌then◌else◌, List, length, None, option_map}
 use Rattle.buffer_pool.specs.Frames.{FrameView, PoolView, slot_of, unfixed}
 use Rattle.mtr.specs.Seen.{is_in}
 use Rattle.mini_txn.specs.declared.dealt.Entry.{Entry}

@@ -9,7 +9,7 @@ use Rattle.log_format.specs.declared.group.Record.{Record}
 use Rattle.buffer_pool.specs.declared.frame.Content.{Content}
 use Rattle.buffer_pool.specs.declared.frame.Content.TheVariants.{Empty, New, Clean, Dirty}
 use Rattle.buffer_pool.specs.Fixing.{page_in}
-use Rattle.buffer_pool.specs.Frames.{FrameView, PoolView, slot_of, is_pooled, is_standing, bytes_of, next_idle, holds_page, is_written}
+use Rattle.buffer_pool.specs.Frames.{FrameView, PoolView, slot_of, is_standing, bytes_of, next_idle, holds_page, is_written}
 use Rattle.mtr.specs.Seen.{MtrState, is_in}
 use Rattle.mini_txn.specs.declared.dealt.Entry.{Entry}
 use Rattle.mini_txn.specs.Dealt.{copy_of, pages_of}

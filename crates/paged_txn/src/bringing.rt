@@ -53,7 +53,8 @@ fn let_in<D: Disk>(pool: &mut Pool, disk: &mut D, page: u32) -> Result<(), Visit
 /// Fixes a page that nobody has fixed. One that isn't in the pool is read.
 pub fn bring<D: Disk>(pool: &mut Pool, disk: &mut D, page: u32) -> Result<(), Visit>
     requires { fixes_of pool.old page ≡ 0 }
-    ensures ok { OnOk result (IsHeld page (D.past disk.old) (D.past disk.new) pool.old pool.new ⊎ IsLetIn page (D.past disk.old) (D.past disk.new) pool.old pool.new) }
+    ensures ok { OnOk result (IsHeld page (D.past disk.old) (D.past disk.new) pool.old pool.new
+        ⊎ IsLetIn page (D.past disk.old) (D.past disk.new) pool.old pool.new) }
     ensures refused { IfErr result (IsRefused page (D.past disk.old) (D.past disk.new) pool.old) }
     ensures same { IfErr result (λ _. pool.new ≡ pool.old) }
     ensures shut { is_pooled pool.old page ≡ false → next_idle pool.old ≡ None → result ≡ Err VisitAgain }

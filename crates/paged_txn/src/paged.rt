@@ -85,7 +85,9 @@ impl<D: Disk> PagedTxn<D> {
     /// mini-transaction under way aren't among them. After a step that did something the pages aren't told any more.
     pub fn flush_step(&mut self) -> Result<Worked, Failed>
         ensures idle { (result ≡ Ok Idle) ↔ IsAtRest self.old.work.flusher self.old.work.pool }
-        ensures rests { result ≡ Ok Idle → (state_of self.new.work.pool (D.past self.new.work.disk) self.new.work.dealt self.new.work.edits self.new.work.told ≡ state_of self.old.work.pool (D.past self.old.work.disk) self.old.work.dealt self.old.work.edits self.old.work.told) }
+        ensures rests { result ≡ Ok Idle →
+            (state_of self.new.work.pool (D.past self.new.work.disk) self.new.work.dealt self.new.work.edits self.new.work.told
+            ≡ state_of self.old.work.pool (D.past self.old.work.disk) self.old.work.dealt self.old.work.edits self.old.work.told) }
         ensures nears { result ≡ Ok Did → IsBelow (to_go self.new.work.flusher self.new.work.pool) (to_go self.old.work.flusher self.old.work.pool) }
         ensures pages { HasSamePages self.old.work.pool self.new.work.pool }
         ensures log { KeepsLog self.old.work.log self.new.work.log }
@@ -119,19 +121,75 @@ impl<D: Disk> Mtr for PagedTxn<D> {
         }
     }
 
-    fn fresh(&mut self, page: u32) -> Result<(), FreshBad> {
+    fn fresh(&mut self, page: u32) -> Result<(), FreshBad>
+        requires few { length (visit page (state_of self.old.work.pool (D.past self.old.work.disk) self.old.work.dealt self.old.work.edits self.old.work.told).visited) ≤ 24 }
+        requires within { IsWithin page (state_of self.old.work.pool (D.past self.old.work.disk) self.old.work.dealt self.old.work.edits self.old.work.told) }
+        ensures made { OnOk result (Makes page (state_of self.old.work.pool (D.past self.old.work.disk) self.old.work.dealt self.old.work.edits self.old.work.told)
+            (state_of self.new.work.pool (D.past self.new.work.disk) self.new.work.dealt self.new.work.edits self.new.work.told)) }
+        ensures refused { OnErr result
+            (state_of self.new.work.pool (D.past self.new.work.disk) self.new.work.dealt self.new.work.edits self.new.work.told
+            ≡ state_of self.old.work.pool (D.past self.old.work.disk) self.old.work.dealt self.old.work.edits self.old.work.told) }
+        ensures shut { IsShut page (state_of self.old.work.pool (D.past self.old.work.disk) self.old.work.dealt self.old.work.edits self.old.work.told)
+            → result ≡ Err FreshAgain }
+        ensures again { result ≡ Err FreshAgain → IsShut page (state_of self.old.work.pool (D.past self.old.work.disk) self.old.work.dealt self.old.work.edits self.old.work.told) }
+        ensures memory { result ≡ Err NoFreshMemory
+            → (state_of self.old.work.pool (D.past self.old.work.disk) self.old.work.dealt self.old.work.edits self.old.work.told).spare < 5 }
+
+        // It has one record more, and the log none.
+        ensures records { OnOk result (self.new.work.edits ≡ self.old.work.edits ++ Fresh page ∷ []) }
+        ensures log { self.new.work.log ≡ self.old.work.log }
+    {
         self.work.make(page)
     }
 
-    fn put(&mut self, page: u32, at: u16, bytes: &[u8]) -> Result<(), NoMemory> {
+    fn put(&mut self, page: u32, at: u16, bytes: &[u8]) -> Result<(), NoMemory>
+        requires begins { 20 ≤ at }
+        requires ends { at + length bytes.now ≤ 4096 }
+        requires dealt_with { IsTrue (is_in page (state_of self.old.work.pool (D.past self.old.work.disk) self.old.work.dealt self.old.work.edits self.old.work.told).visited) }
+        requires within { IsWithin page (state_of self.old.work.pool (D.past self.old.work.disk) self.old.work.dealt self.old.work.edits self.old.work.told) }
+        ensures put { OnOk result (Puts page at bytes.now (state_of self.old.work.pool (D.past self.old.work.disk) self.old.work.dealt self.old.work.edits self.old.work.told)
+            (state_of self.new.work.pool (D.past self.new.work.disk) self.new.work.dealt self.new.work.edits self.new.work.told)) }
+        ensures refused { OnErr result
+            (state_of self.new.work.pool (D.past self.new.work.disk) self.new.work.dealt self.new.work.edits self.new.work.told
+            ≡ state_of self.old.work.pool (D.past self.old.work.disk) self.old.work.dealt self.old.work.edits self.old.work.told) }
+        ensures memory { OnErr result ((state_of self.old.work.pool (D.past self.old.work.disk) self.old.work.dealt self.old.work.edits self.old.work.told).spare < length bytes.now + 9) }
+
+        // It has one record more, and neither the pool nor the log has it.
+        ensures records { OnOk result (self.new.work.edits ≡ self.old.work.edits ++ Put page at bytes.now ∷ []) }
+        ensures pool { self.new.work.pool ≡ self.old.work.pool }
+        ensures log { self.new.work.log ≡ self.old.work.log }
+    {
         self.work.put(page, at, bytes)
     }
 
-    fn commit(&mut self) -> Result<(), NoMemory> {
+    fn commit(&mut self) -> Result<(), NoMemory>
+        ensures committed { OnOk result (Commits (state_of self.old.work.pool (D.past self.old.work.disk) self.old.work.dealt self.old.work.edits self.old.work.told)
+            (state_of self.new.work.pool (D.past self.new.work.disk) self.new.work.dealt self.new.work.edits self.new.work.told)) }
+        ensures refused { OnErr result
+            (state_of self.new.work.pool (D.past self.new.work.disk) self.new.work.dealt self.new.work.edits self.new.work.told
+            ≡ state_of self.old.work.pool (D.past self.old.work.disk) self.old.work.dealt self.old.work.edits self.old.work.told) }
+
+        // The log has one group more, whose records make of each page what the mini-transaction saw.
+        ensures grouped { OnOk result (IsGrouped self.old.work.edits self.old.work.log self.new.work.log) }
+        ensures edits { (page : ℕ) → seen_in self.old.work.pool (D.past self.old.work.disk) self.old.work.dealt page
+            ≡ edited page self.old.work.edits (standing_in self.old.work.pool (D.past self.old.work.disk) page) }
+
+        // Each page that was put is in its frame, with its number and the LSN of that group. The bytes of the others stay.
+        ensures frames { OnOk result (IsTrue (is_known self.old.work.told (D.past self.old.work.disk)) → (lsn page : ℕ) → lsn + 1 ≡ self.new.work.log.next
+            → IsPut self.old.work.pool self.old.work.dealt self.new.work.pool lsn page) }
+        ensures ends { OnOk result (self.new.work.edits ≡ []) }
+        ensures suffices { room_of self.old.work.edits ≤ self.old.work.log.spare → IsOk result }
+        ensures kept { OnErr result (self.new.work.log ≡ self.old.work.log) }
+    {
         self.work.commit()
     }
 
-    fn give_up(&mut self) {
+    fn give_up(&mut self)
+        ensures gives_up { GivesUp (state_of self.old.work.pool (D.past self.old.work.disk) self.old.work.dealt self.old.work.edits self.old.work.told)
+            (state_of self.new.work.pool (D.past self.new.work.disk) self.new.work.dealt self.new.work.edits self.new.work.told) }
+        ensures log { self.new.work.log ≡ self.old.work.log }
+        ensures ends { self.new.work.edits ≡ [] }
+    {
         self.work.give_up();
     }
 }

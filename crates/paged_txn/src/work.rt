@@ -155,10 +155,12 @@ impl<D: Disk> Work<D> {
     /// Deals with a page, if it can be read.
     pub fn reach(&mut self, page: u32) -> Result<(), Visit>
         requires { length (visit page (pages_of self.old.dealt)) ≤ 24 }
-        ensures asks { Asks page (state_of self.old.pool (D.past self.old.disk) self.old.dealt self.old.edits self.old.told) result (state_of self.new.pool (D.past self.new.disk) self.new.dealt self.new.edits self.new.told) }
+        ensures asks { Asks page (state_of self.old.pool (D.past self.old.disk) self.old.dealt self.old.edits self.old.told) result
+            (state_of self.new.pool (D.past self.new.disk) self.new.dealt self.new.edits self.new.told) }
         ensures reached { OnOk result (IsTrue (is_in page (pages_of self.new.dealt))) }
         ensures dealt_with { IsTrue (is_in page (pages_of self.old.dealt)) → IsOk result }
-        ensures seen { OnOk result (IsTrue (is_known self.old.told (D.past self.old.disk)) → seen_in self.new.pool (D.past self.new.disk) self.new.dealt page ≡ seen_in self.old.pool (D.past self.old.disk) self.old.dealt page) }
+        ensures seen { OnOk result (IsTrue (is_known self.old.told (D.past self.old.disk))
+            → seen_in self.new.pool (D.past self.new.disk) self.new.dealt page ≡ seen_in self.old.pool (D.past self.old.disk) self.old.dealt page) }
         ensures shut { IsShut page (state_of self.old.pool (D.past self.old.disk) self.old.dealt self.old.edits self.old.told) → result ≡ Err VisitAgain }
         ensures log { self.new.log ≡ self.old.log }
         ensures records { self.new.edits ≡ self.old.edits }
@@ -191,13 +193,15 @@ impl<D: Disk> Work<D> {
     pub fn make(&mut self, page: u32) -> Result<(), FreshBad>
         requires few { length (visit page (pages_of self.old.dealt)) ≤ 24 }
         requires within { IsWithin page (state_of self.old.pool (D.past self.old.disk) self.old.dealt self.old.edits self.old.told) }
-        ensures made { OnOk result (Makes page (state_of self.old.pool (D.past self.old.disk) self.old.dealt self.old.edits self.old.told) (state_of self.new.pool (D.past self.new.disk) self.new.dealt self.new.edits self.new.told)) }
+        ensures made { OnOk result (Makes page (state_of self.old.pool (D.past self.old.disk) self.old.dealt self.old.edits self.old.told)
+            (state_of self.new.pool (D.past self.new.disk) self.new.dealt self.new.edits self.new.told)) }
         ensures shut { IsShut page (state_of self.old.pool (D.past self.old.disk) self.old.dealt self.old.edits self.old.told) → result ≡ Err FreshAgain }
         ensures again { result ≡ Err FreshAgain → IsShut page (state_of self.old.pool (D.past self.old.disk) self.old.dealt self.old.edits self.old.told) }
         ensures memory { result ≡ Err NoFreshMemory → spare_of self.old.edits < 5 }
         ensures records { OnOk result (self.new.edits ≡ self.old.edits ++ Fresh page ∷ []) }
         ensures log { self.new.log ≡ self.old.log }
-        ensures refused { OnErr result (state_of self.new.pool (D.past self.new.disk) self.new.dealt self.new.edits self.new.told ≡ state_of self.old.pool (D.past self.old.disk) self.old.dealt self.old.edits self.old.told) }
+        ensures refused { OnErr result (state_of self.new.pool (D.past self.new.disk) self.new.dealt self.new.edits self.new.told
+            ≡ state_of self.old.pool (D.past self.old.disk) self.old.dealt self.old.edits self.old.told) }
     {
         let known = self.dealt.contains(page);
         if !is_open(&self.pool, known, page) {
@@ -218,12 +222,14 @@ impl<D: Disk> Work<D> {
         requires begins { 20 ≤ at }
         requires ends { at + length bytes.now ≤ 4096 }
         requires dealt_with { IsTrue (is_in page (pages_of self.old.dealt)) }
-        ensures put { OnOk result (Puts page at bytes.now (state_of self.old.pool (D.past self.old.disk) self.old.dealt self.old.edits self.old.told) (state_of self.new.pool (D.past self.new.disk) self.new.dealt self.new.edits self.new.told)) }
+        ensures put { OnOk result (Puts page at bytes.now (state_of self.old.pool (D.past self.old.disk) self.old.dealt self.old.edits self.old.told)
+            (state_of self.new.pool (D.past self.new.disk) self.new.dealt self.new.edits self.new.told)) }
         ensures memory { OnErr result (spare_of self.old.edits < length bytes.now + 9) }
         ensures records { OnOk result (self.new.edits ≡ self.old.edits ++ Put page at bytes.now ∷ []) }
         ensures pool { self.new.pool ≡ self.old.pool }
         ensures log { self.new.log ≡ self.old.log }
-        ensures refused { OnErr result (state_of self.new.pool (D.past self.new.disk) self.new.dealt self.new.edits self.new.told ≡ state_of self.old.pool (D.past self.old.disk) self.old.dealt self.old.edits self.old.told) }
+        ensures refused { OnErr result (state_of self.new.pool (D.past self.new.disk) self.new.dealt self.new.edits self.new.told
+            ≡ state_of self.old.pool (D.past self.old.disk) self.old.dealt self.old.edits self.old.told) }
     {
         if self.edits.spare() < bytes.len() + 9 {
             return Err(NoMemory);
@@ -236,13 +242,17 @@ impl<D: Disk> Work<D> {
 
     /// Makes all the puts stand at once, with one group of the log.
     pub fn commit(&mut self) -> Result<(), NoMemory>
-        ensures committed { OnOk result (Commits (state_of self.old.pool (D.past self.old.disk) self.old.dealt self.old.edits self.old.told) (state_of self.new.pool (D.past self.new.disk) self.new.dealt self.new.edits self.new.told)) }
+        ensures committed { OnOk result (Commits (state_of self.old.pool (D.past self.old.disk) self.old.dealt self.old.edits self.old.told)
+            (state_of self.new.pool (D.past self.new.disk) self.new.dealt self.new.edits self.new.told)) }
         ensures grouped { OnOk result (IsGrouped self.old.edits self.old.log self.new.log) }
-        ensures edits { (page : ℕ) → seen_in self.old.pool (D.past self.old.disk) self.old.dealt page ≡ edited page self.old.edits (standing_in self.old.pool (D.past self.old.disk) page) }
-        ensures frames { OnOk result (IsTrue (is_known self.old.told (D.past self.old.disk)) → (lsn page : ℕ) → lsn + 1 ≡ self.new.log.next → IsPut self.old.pool self.old.dealt self.new.pool lsn page) }
+        ensures edits { (page : ℕ) → seen_in self.old.pool (D.past self.old.disk) self.old.dealt page
+            ≡ edited page self.old.edits (standing_in self.old.pool (D.past self.old.disk) page) }
+        ensures frames { OnOk result (IsTrue (is_known self.old.told (D.past self.old.disk))
+            → (lsn page : ℕ) → lsn + 1 ≡ self.new.log.next → IsPut self.old.pool self.old.dealt self.new.pool lsn page) }
         ensures ends { OnOk result (self.new.edits ≡ []) }
         ensures suffices { room_of self.old.edits ≤ self.old.log.spare → IsOk result }
-        ensures refused { OnErr result (state_of self.new.pool (D.past self.new.disk) self.new.dealt self.new.edits self.new.told ≡ state_of self.old.pool (D.past self.old.disk) self.old.dealt self.old.edits self.old.told) }
+        ensures refused { OnErr result (state_of self.new.pool (D.past self.new.disk) self.new.dealt self.new.edits self.new.told
+            ≡ state_of self.old.pool (D.past self.old.disk) self.old.dealt self.old.edits self.old.told) }
         ensures kept { OnErr result (self.new.log ≡ self.old.log) }
     {
         let lsn = self.edits.append(&mut self.log)?;
@@ -254,7 +264,8 @@ impl<D: Disk> Work<D> {
 
     /// Drops the puts.
     pub fn give_up(&mut self)
-        ensures gives_up { GivesUp (state_of self.old.pool (D.past self.old.disk) self.old.dealt self.old.edits self.old.told) (state_of self.new.pool (D.past self.new.disk) self.new.dealt self.new.edits self.new.told) }
+        ensures gives_up { GivesUp (state_of self.old.pool (D.past self.old.disk) self.old.dealt self.old.edits self.old.told)
+            (state_of self.new.pool (D.past self.new.disk) self.new.dealt self.new.edits self.new.told) }
         ensures log { self.new.log ≡ self.old.log }
         ensures ends { self.new.edits ≡ [] }
     {
@@ -265,7 +276,8 @@ impl<D: Disk> Work<D> {
     /// A step of the flusher. The puts of the mini-transaction under way are not in the pool, so that it brings none of them.
     pub fn flush_step(&mut self) -> Result<Worked, Failed>
         ensures idle { (result ≡ Ok Idle) ↔ IsAtRest self.old.flusher self.old.pool }
-        ensures rests { result ≡ Ok Idle → (state_of self.new.pool (D.past self.new.disk) self.new.dealt self.new.edits self.new.told ≡ state_of self.old.pool (D.past self.old.disk) self.old.dealt self.old.edits self.old.told) }
+        ensures rests { result ≡ Ok Idle → (state_of self.new.pool (D.past self.new.disk) self.new.dealt self.new.edits self.new.told
+            ≡ state_of self.old.pool (D.past self.old.disk) self.old.dealt self.old.edits self.old.told) }
         ensures nears { result ≡ Ok Did → IsBelow (to_go self.new.flusher self.new.pool) (to_go self.old.flusher self.old.pool) }
         ensures pages { HasSamePages self.old.pool self.new.pool }
         ensures log { KeepsLog self.old.log self.new.log }

@@ -1,5 +1,4 @@
-use Rattle.std.proofs.Common.{◌≡◌, ◌-◌, List, sym, ap, subst, take, length, arith}
-use Rattle.buffer_pool.specs.Frames.{PoolView}
+use Rattle.std.proofs.Common.{◌≡◌, ◌-◌, List, subst, take, length, arith}
 use Rattle.mini_txn.specs.declared.dealt.Entry.{Entry}
 use Rattle.mini_txn.specs.Dealt.{pages_of}
 use Rattle.paged_txn.specs.Ending.{LetsGo}

@@ -1,6 +1,4 @@
-use Rattle.std.proofs.Common.{◌≡◌, ◌+◌, ◌<◌, ◌≤◌, true, false, length, sym, ap, subst, ◌∙◌, arith}
-use Rattle.std.specs.Prelude.{is_some}
-use Rattle.buffer_pool.specs.Frames.{PoolView, slot_of}
+use Rattle.std.proofs.Common.{◌+◌, sym, subst, ◌∙◌, arith}
 use Rattle.paged_txn.specs.View.{HasFrames}
 use Rattle.paged_txn.proofs.Rooms.{frames_had, frames_more}
 use Rattle.paged_txn.proofs.room.pool_of_frames.Goals as goal

@@ -1,4 +1,4 @@
-use Rattle.std.proofs.Common.{◌≡◌, ℕ, List, [], sym, ap, subst, ◌∙◌, arith}
+use Rattle.std.proofs.Common.{◌≡◌, ℕ, [], sym, subst, arith}
 use Rattle.mtr.specs.Calls.{Commits}
 use Rattle.paged_txn.specs.View.{state_of, IsPaged}
 use Rattle.paged_txn.specs.Ending.{IsPut}

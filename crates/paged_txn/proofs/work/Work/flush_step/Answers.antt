@@ -1,4 +1,3 @@
-use Rattle.std.proofs.Common.{◌≡◌, true}
 use Rattle.paged_txn.proofs.Flushed.{none_settled, stepped_paged}
 use Rattle.paged_txn.proofs.work.Work.flush_step.Goals as goal
 

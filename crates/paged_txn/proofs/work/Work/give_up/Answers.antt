@@ -1,4 +1,4 @@
-use Rattle.std.proofs.Common.{◌≡◌, [], sym, subst}
+use Rattle.std.proofs.Common.{[], sym, subst}
 use Rattle.mtr.specs.Calls.{GivesUp}
 use Rattle.paged_txn.specs.View.{state_of, IsPaged}
 use Rattle.paged_txn.proofs.Ended.{dropped_paged, dropped_gives_up}

@@ -1,6 +1,5 @@
-use Rattle.std.proofs.Common.{◌≡◌, ◌<◌, Bool, true, false, List, sym, ap, subst, ◌∙◌}
-use Rattle.std.specs.Prelude.{◌||◌, is_some, IsTrue}
-use Rattle.log_format.specs.declared.group.Record.{Record}
+use Rattle.std.proofs.Common.{sym, ap, subst, ◌∙◌}
+use Rattle.std.specs.Prelude.{◌||◌, is_some}
 use Rattle.buffer_pool.specs.Frames.{is_pooled, next_idle}
 use Rattle.mtr.specs.Seen.{is_in}
 use Rattle.mtr.specs.Calls.{Makes}

@@ -1,4 +1,4 @@
-use Rattle.std.proofs.Common.{◌≡◌, ◌+◌, ◌≤◌, length, sym, subst, ◌∙◌, arith}
+use Rattle.std.proofs.Common.{◌+◌, ◌≤◌, length, sym, subst, arith}
 use Rattle.mtr.specs.Calls.{Puts}
 use Rattle.mini_txn.specs.Edits.{spare_of}
 use Rattle.paged_txn.specs.View.{state_of, IsPaged}

@@ -1,13 +1,12 @@
-use Rattle.std.proofs.Common.{◌≡◌, true, false, Option, sym, ap, subst, ◌∙◌}
+use Rattle.std.proofs.Common.{sym, ap, subst, ◌∙◌}
 use Rattle.std.specs.Prelude.{◌&&◌}
 use Rattle.std.specs.Option.{option_map_or}
-use Rattle.store_api.specs.declared.visits.Visit.{Visit}
 use Rattle.mtr.specs.Calls.{Looks, Explains}
 use Rattle.mini_txn.specs.Dealt.{copy_of, pages_of}
 use Rattle.mini_txn.specs.View.{body_of}
 use Rattle.paged_txn.specs.View.{standing_in, state_of, IsPaged}
-use Rattle.paged_txn.specs.Bringing.{IsRefused, is_no_fault}
-use Rattle.paged_txn.proofs.Brought.{brings, brings_shown, refuses, Refuses}
+use Rattle.paged_txn.specs.Bringing.{is_no_fault}
+use Rattle.paged_txn.proofs.Brought.{brings, brings_shown, refuses}
 use Rattle.paged_txn.proofs.Meeting.{brought_paged, brought_looks}
 use Rattle.paged_txn.proofs.Told.{faults_rise, stays_known}
 use Rattle.paged_txn.proofs.work.Work.reach.Goals as goal

@@ -1,4 +1,4 @@
-use Rattle.std.proofs.Common.{◌≡◌, ap, ◌∙◌}
+use Rattle.std.proofs.Common.{◌∙◌}
 use Rattle.mini_txn.proofs.Meeting.{shown_by}
 use Rattle.paged_txn.specs.View.{seen_in}
 use Rattle.paged_txn.proofs.Meeting.{seen_is}
