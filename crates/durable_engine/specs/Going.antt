@@ -1,5 +1,5 @@
 -- A step that went did work: what its session has before it at most, a list of sixteen numbers, gets smaller.
-use Rattle.std.specs.Prelude.{ℕ, List, ◌∷◌, Option, None, Some}
+use Rattle.std.specs.Prelude.{ℕ, List, ◌∷◌, Option, None, Some, IfSome}
 use Rattle.inno_types.specs.Order.{IsBelow}
 use Rattle.store_api.specs.declared.answers.Progress.{Progress}
 use Rattle.store_api.specs.declared.answers.Progress.TheVariants as progress
@@ -21,3 +21,8 @@ to_go s state = to_go_of s state.running
 abbrev pub Nears : {D : Type 0} → ℕ → Progress → State D → State D → Type 0
 Nears s progress.Went old new = IsBelow (to_go s new) (to_go s old)
 Nears s other old new = Unit {0}
+
+-- So does one that found no memory, as long as the engine runs.
+abbrev pub NearsLacking : {D : Type 0} → ℕ → Progress → State D → State D → Type 0
+NearsLacking s progress.NoMemory old new = IfSome new.running (λ sessions. IsBelow (session_to_go s sessions) (to_go s old))
+NearsLacking s other old new = Unit {0}

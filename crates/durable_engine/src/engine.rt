@@ -56,7 +56,7 @@ impl<D: Disk, R: Root, L: SharedLists> DurableEngine<D, R, L> {
     ghost use Rattle.durable_engine.specs.Calls.{Joins, Starts, StepsBy, Leaves, SameState};
     ghost use Rattle.session_engine.specs.Calls.{GivesUpInVain};
     ghost use Rattle.session_engine.specs.Places.{HasExactPlaces};
-    ghost use Rattle.durable_engine.specs.Going.{Nears};
+    ghost use Rattle.durable_engine.specs.Going.{Nears, NearsLacking};
     ghost use Rattle.durable_engine.specs.Whole.{HoldsAll};
 
     /// An engine that nobody has joined, over the lists of a database that the disk's files and the log stand for.
@@ -168,6 +168,7 @@ impl<D: Disk, R: Root, L: SharedLists> DurableEngine<D, R, L> {
         requires working { IsWorking s self.old }
         ensures steps { StepsBy s result self.old self.new }
         ensures nears { Nears s result self.old self.new }
+        ensures lacks { NearsLacking s result self.old self.new }
         ensures waited { IfSome self.old.running (GivesUpInVain s now result) }
     {
         let core = mem::replace(&mut self.core, Core::Changing);

@@ -24,6 +24,7 @@ use Rattle.law_past_agreement.specs.Order.{IsOfRow, IsNoOthers}
 use Rattle.shared_lists.specs.State.{State as Lists, Lists as AllLists, IsFirst, Adds, Stays, task_of}
 use Rattle.sql_lists.specs.declared.advance.Advance.{Advance}
 use Rattle.sql_lists.specs.declared.advance.Advance.TheVariants as advance
+use Rattle.sql_lists.specs.Going.{Nears as StatementNears}
 use Rattle.sql_lists.specs.Steps.{Moves, Adding, AsksToWrite, IsEntryOf, Steps, HasRowsAlone, is_apart, TellsOne as StepTellsOne}
 use Rattle.sql_lists.proofs.Moving.{adding_none, adding_one, moves_none, moves_stays, moves_adds}
 use Rattle.statement.specs.declared.under_way.Statement.{Statement}
@@ -33,8 +34,8 @@ use Rattle.session_engine.specs.declared.seats.SignalItem.{SignalItem}
 use Rattle.session_engine.specs.declared.seats.SignalItem.TheVariants.{Gives, Awaits}
 use Rattle.statement.specs.Running.{IsRunning, owes_ack, acked}
 use Rattle.statement.proofs.Acked.{goes_on_acked, acked_nears}
-use Rattle.session_engine.specs.Seats.{seat_at, is_working, IsSpelled, IsUnread, MayGoOut, IsGoingOut, HasAsked, IsSeatOf, SeatAgrees, AreSeats, owes, phase_of}
-use Rattle.session_engine.specs.Calls.{AreFirst, SameLists, Joins, Starts, SameState, OthersStay, KeepsItems, TellsOne, GoesOn, StepsOn, Settled, Refuses, GoesOut, HasGiven, EndsSignal, Signals, StepsBy, Acknowledges, GivesUp, WaitsInVain, GivesUpInVain, WaitsOn}
+use Rattle.session_engine.specs.Seats.{State, seat_at, is_working, IsSpelled, IsUnread, MayGoOut, IsGoingOut, HasAsked, IsSeatOf, SeatAgrees, AreSeats, owes, phase_of}
+use Rattle.session_engine.specs.Calls.{AreFirst, SameLists, Joins, Starts, SameState, OthersStay, KeepsItems, TellsOne, GoesOn, StepsOn, Settled, Refuses, GoesOut, HasGiven, EndsSignal, Signals, StepsBy, Acknowledges, WaitsInVain, GivesUpInVain, WaitsOn}
 use Rattle.statement.specs.Going.{statement_to_go}
 use Rattle.turn_board.specs.declared.Phase.TheVariants as phases
 use Rattle.session_engine.specs.Going.{Nears, NearsEnding, NearsLacking}
@@ -491,9 +492,27 @@ module _ (old new : Lists) (seats : List Seat) (s : ℕ) (are : AreSeats old sea
       rw settled.1 (step_nears_by before after seat was settled.0 nears)
   step_lacks before after (advance.Done reply) seat answer was nears settled = rw settled.1 tt
 
-  -- a statement that goes on keeps its session busy
-  pub stays_busy : (seat : Seat) (statement : Statement) → seat ≡ Busy statement → phase_of (seat_at (set (set seats s Idle) s seat) s) ≡ phases.Busy
-  stays_busy seat statement is = ap phase_of (is_at seat ∙ is)
+  -- ---- a statement that gives up for want of room
+
+  module _ (before after : Statement) (adv : Advance) (seat : Seat) (answer : Progress) (lacks : adv ≡ advance.NoMemory)
+      (settled : Settled after adv seat answer) where
+    gave_up : (seat ≡ Busy after) × (answer ≡ progress.NoMemory)
+    gave_up = subst (λ (a : Advance). Settled after a seat answer) lacks settled
+
+    pub gave_up_steps : Steps IsRunning s old new after adv
+        → StepsBy s progress.NoMemory (record { lists = old; seats = seats }) (record { lists = new; seats = set (set seats s Idle) s seat })
+    gave_up_steps steps =
+        subst (λ (p : Progress). StepsBy s p (record { lists = old; seats = seats }) (record { lists = new; seats = set (set seats s Idle) s seat }))
+        gave_up.1 (step_does after adv seat answer steps settled)
+
+    pub gave_up_lacks : seat_at seats s ≡ Busy before → StatementNears statement_to_go s old before new after adv
+        → NearsLacking s progress.NoMemory (record { lists = old; seats = seats }) (record { lists = new; seats = set (set seats s Idle) s seat })
+    gave_up_lacks was nears =
+        subst (λ (p : Progress). NearsLacking s p (record { lists = old; seats = seats }) (record { lists = new; seats = set (set seats s Idle) s seat }))
+        gave_up.1 (step_lacks before after adv seat answer was nears settled)
+
+    pub gave_up_busy : phase_of (seat_at (set (set seats s Idle) s seat) s) ≡ phases.Busy
+    gave_up_busy = ap phase_of (is_at seat ∙ gave_up.0)
 
   -- ---- the acknowledgement of the statement's commit
 
@@ -617,8 +636,6 @@ module _ (old new : Lists) (seats : List Seat) (s : ℕ) (are : AreSeats old sea
     pub out_keeps : (seat : Seat) (answer : Progress) → GoesOut s old new seat answer → AreSeats new (set (set seats s Idle) s seat)
     out_keeps seat progress.Went goes =
         kept seat (of_statement s old new goes.0) (subst (SeatAgrees new s) (sym goes.3) goes.2) (goes_exact s old.past new.past goes.1 are.exact)
-    out_keeps seat progress.NoMemory goes =
-        kept seat (of_statement s old new goes.0) (subst (SeatAgrees new s) (sym goes.3) goes.2) (exact_still goes.1)
     out_keeps seat (progress.Done reply) goes =
         kept seat (of_statement s old new (moves_is old new s goes.1))
         (subst (SeatAgrees new s) (sym goes.4) (subst (λ l. (under_way s l.past ≡ None) × IsClosed s l.past × (task_of s l ≡ tasks.Idle)) (sym goes.1)
@@ -650,3 +667,26 @@ pub signalling_lacks : (s now : ℕ) (item : SignalItem) (lists after : Lists) (
 signalling_lacks s now item lists after seat (progress.Done reply) does old new = tt
 signalling_lacks s now item lists after seat progress.NotYet does old new = tt
 signalling_lacks s now item lists after seat other does old new = elim does [ ]
+
+-- ---- what the calls do
+
+module _ (old new : Lists) (past-is : new.past ≡ old.past) (writer-is : new.writer ≡ old.writer) (tasks-are : (s : ℕ) → task_of s new ≡ task_of s old) where
+  pub joined_either : {X Y : Type 0} (result : Result X Y) (name : List ℕ) (seats : List Seat) → AreSeats old seats
+      → OnOk result (new.names ≡ old.names ++ name ∷ []) → OnErr result (new.names ≡ old.names) → AreSeats new (seats ++ Idle ∷ [])
+  joined_either (Ok x) name seats are ok err = seats_joined old new past-is writer-is tasks-are name seats ok are
+  joined_either (Err e) name seats are ok err = seats_wait old new past-is writer-is tasks-are seats err are
+
+  pub joins : {X Y : Type 0} (result : Result X Y) (name : List ℕ) (seats : List Seat) → OnOk result (new.names ≡ old.names ++ name ∷ [])
+      → OnOk result (Joins name (record { lists = old; seats = seats }) (record { lists = new; seats = seats ++ Idle ∷ [] }))
+  joins (Ok x) name seats ok =
+      record { names_are = ok; past_stays = past-is; writer_stays = writer-is; tasks_stay = tasks-are; seats_stay = joined_seats seats }
+  joins (Err e) name seats ok = tt
+
+  pub refused_join : {X Y : Type 0} (result : Result X Y) (seats : List Seat) → OnErr result (new.names ≡ old.names)
+      → OnErr result (SameState (record { lists = old; seats = seats }) (record { lists = new; seats = seats ++ Idle ∷ [] }))
+  refused_join (Ok x) seats err = tt
+  refused_join (Err e) seats err =
+      record {
+        lists_stay = record { names_stay = err; past_stays = past-is; writer_stays = writer-is; tasks_stay = tasks-are };
+        seats_stay = joined_seats seats;
+      }

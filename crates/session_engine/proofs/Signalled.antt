@@ -1,6 +1,6 @@
 -- What an item that gives a signal, or awaits one, may do, and what its step does.
 use Rattle.std.proofs.Common.{◌≡◌, ◌≢◌, ℕ, ◌+◌, ◌-◌, ◌<◌, ◌≤◌, true, false, cond, Option, Some, None, List, [], ◌∷◌, length, refl, sym, ap, subst, ◌∙◌, inl, inr, arith}
-use Rattle.std.specs.Prelude.{take, drop, reverse, bytes_eq, unwrap_or, Result, Ok, Err, OnOk, is_ok}
+use Rattle.std.specs.Prelude.{take, drop, reverse, bytes_eq, unwrap_or, Result, Ok, Err, OnOk, OnErr, is_ok}
 use Rattle.std.specs.List.{list_any}
 use Rattle.std.proofs.lemmas.Bool.Decides.{eqb_tells}
 use Rattle.std.proofs.lemmas.List.{length-reverse, length-drop, reverse-reverse, take_all}
@@ -17,7 +17,12 @@ use Rattle.law_past_agreement.specs.Order.{IsOrdered}
 use Rattle.shared_lists.specs.State.{State as Lists, Adds, Stays, task_of}
 use Rattle.sql_lists.specs.Kept.{MayReply}
 use Rattle.session_engine.specs.Signals.{AreSpent, HasOnlyAsked, gives, HasSeenNone}
-use Rattle.session_engine.specs.Calls.{EndsSignal}
+use Rattle.store_api.specs.declared.answers.Progress.{Progress}
+use Rattle.store_api.specs.declared.answers.Progress.TheVariants as progress
+use Rattle.session_engine.specs.declared.seats.Seat.{Seat}
+use Rattle.session_engine.specs.declared.seats.Seat.TheVariants.{Idle}
+use Rattle.session_engine.specs.declared.seats.SignalItem.TheVariants.{Gives}
+use Rattle.session_engine.specs.Calls.{EndsSignal, EndsItem, Signals}
 use Rattle.session_engine.proofs.Signals.{asks_more, done_within, same_name, given_some, given_none, seen_then, seen_all}
 
 -- ---- a signal is given
@@ -53,6 +58,24 @@ gave s name old mid new asked first second =
         inr (name, asked, refl),
         second.past_is ∙ ap (λ h. events.Ended s (started s h) replies.Done ∷ h) first.past_is,
       );
+    }
+
+-- it is not given, and the item ends
+pub gave_none : (s : ℕ) (name : List ℕ) (old new : Lists) (seat : Seat) (answer : Progress) → EndsSignal s replies.NoMemory old new → seat ≡ Idle
+    → answer ≡ progress.Done replies.NoMemory → Signals s 0 (Gives name) old new seat answer
+gave_none s name old new seat answer ends is-idle is =
+    subst (λ (a : Progress). Signals s 0 (Gives name) old new seat a) (sym is) (ends, is-idle, tt)
+
+pub ends_after : (s : ℕ) (reply : Reply) (old mid new : Lists) → Stays s old mid → EndsSignal s reply mid new → EndsSignal s reply old new
+ends_after s reply old mid new stays ends =
+    record {
+      names_stay = ends.names_stay ∙ stays.names_are;
+      writer_stays = ends.writer_stays ∙ stays.writer_is;
+      tasks_stay = λ u. ends.tasks_stay u ∙ elim (eqb_tells u s) [
+        | inl same ↦ subst (λ v. task_of v mid ≡ task_of v old) (sym same.1) stays.task_is
+        | inr differ ↦ stays.others u differ.1
+      ];
+      ends = subst (λ past. EndsItem s reply past new.past) stays.past_is ends.ends;
     }
 
 -- ---- a signal is awaited
@@ -107,6 +130,10 @@ rest_is seen es = take_all (length es - seen) (drop seen es) (let long = length-
 pub where_ok : {A B P : Type 0} (r : Result A B) → is_ok r ≡ true → OnOk r P → P
 where_ok (Ok u) is h = h
 where_ok (Err u) is h = absurd (cc)
+
+pub where_err : {A B P : Type 0} (r : Result A B) → is_ok r ≡ false → OnErr r P → P
+where_err (Ok u) is h = absurd (cc)
+where_err (Err u) is h = h
 
 -- the item has waited so long since its first step, which this is not
 pub waited_since : (o : Option ℕ) (now since waited : ℕ) → since ≡ unwrap_or o now → waited ≡ now - since → 50 ≤ waited

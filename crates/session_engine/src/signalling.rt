@@ -7,7 +7,8 @@ ghost use Rattle.shared_lists.specs.Tasks.{Idle as TaskIdle};
 ghost use Rattle.shared_lists.specs.State.{task_of};
 ghost use Rattle.session_engine.specs.Signals.{AreSpent, gives};
 ghost use Rattle.session_engine.specs.Seats.{HasAsked};
-ghost use Rattle.session_engine.specs.Calls.{Signals};
+ghost use Rattle.session_engine.specs.Calls.{EndsSignal, Signals};
+ghost use Rattle.inno_types.specs.declared.reply.Reply.TheVariants.{NoMemory as NoMemoryReply};
 
 use crate::seats::{Seat, SignalItem, Wait};
 use inno_model::Event;
@@ -62,7 +63,9 @@ fn give_none<L: SharedLists>(s: u32, name: Bytes, lists: &mut SqlLists<L>) -> (S
     requires joined { s < length lists.old.names }
     requires asked { HasAsked s (SignalItem.Gives name) lists.old.past }
     requires idle { task_of s lists.old ≡ TaskIdle }
-    ensures { Signals s 0 (SignalItem.Gives name) lists.old lists.new result.0 result.1 }
+    ensures ends { EndsSignal s NoMemoryReply lists.old lists.new }
+    ensures seat { result.0 ≡ Seat.Idle }
+    ensures answer { result.1 ≡ Progress.Done NoMemoryReply }
 {
     drop(name);
     lists.end(s, Reply::NoMemory);

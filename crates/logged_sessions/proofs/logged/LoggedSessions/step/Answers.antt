@@ -6,15 +6,30 @@ use Rattle.commit_records.specs.Room.{IsLoggable}
 use Rattle.commit_log.specs.View.{IsLogging}
 use Rattle.drafts.specs.View.{draft_of}
 use Rattle.law_logged_histories.proofs.Records.{tables_loggable, have_records}
+use Rattle.store_api.specs.declared.answers.Progress.TheVariants.{NoMemory}
 use Rattle.session_engine.specs.Calls.{TellsNone}
 use Rattle.logged_sessions.proofs.Adding.{steps_added, opening_stays, enters_added}
 use Rattle.logged_sessions.proofs.Seating.{stepped_seats, steps_on}
 use Rattle.logged_sessions.proofs.logged.LoggedSessions.step.Goals as goal
 
+pub give_up-requires-clause-wants : goal.give_up-requires-clause-wants
+give_up-requires-clause-wants g c = sym c.wants_room-wanted.ensures ∙ c.has_room.ensures.lacks c.if-not-has_room.true
+
+pub invariant_of-self : goal.invariant_of-self
+invariant_of-self g c =
+    let s = c.args.s in
+    let i = c.self.inside in
+    let new = c.give_up.new.self in
+    let joined : s < length i.sessions.lists.names = subst (λ st. s < length st.sessions.lists.names) (sym c.self.view_is) c.requires.joined in
+    let on = steps_on s NoMemory i.sessions new c.give_up.ensures.steps in
+    stepped_seats i.sessions new i.seats.items i.log c.has_room.new.log s c.self.invariant joined
+    c.has_room.ensures.joined c.index_mut.result.now c.index_mut.ensures.value c.phase.result c.phase.ensures
+    on.names_stay on.others_stay (steps_added s NoMemory i.sessions new c.give_up.ensures.steps)
+
 pub returns-then-not-has_room-clause-kept : goal.returns-then-not-has_room-clause-kept
 returns-then-not-has_room-clause-kept g c =
     λ root now is.
-    subst (λ l. IsLogging root now l.past c.has_room.new.log) (sym c.give_up.ensures.lists_stay)
+    subst (λ past. IsLogging root now past c.has_room.new.log) (sym c.give_up.ensures.steps.1)
     (c.has_room.ensures.kept root now c.self.inside.sessions.lists.past
     (subst (λ st. IsLogging root now st.sessions.lists.past st.log) (sym c.self.view_is) is))
 
@@ -48,7 +63,7 @@ invariant_of-self-2 g c =
     let joined : s < length i.sessions.lists.names = subst (λ st. s < length st.sessions.lists.names) (sym c.self.view_is) c.requires.joined in
     let on = steps_on s c.step-progress.result i.sessions new c.step-progress.ensures.steps in
     stepped_seats i.sessions new i.seats.items i.log c.take_over.new.log s c.self.invariant joined
-    (c.take_over.ensures.joined ∙ c.has_room.ensures.joined) c.index_mut.result.now c.index_mut.ensures.value c.phase.result c.phase.ensures
+    (c.take_over.ensures.joined ∙ c.has_room.ensures.joined) c.index_mut-2.result.now c.index_mut-2.ensures.value c.phase-2.result c.phase-2.ensures
     on.names_stay on.others_stay (steps_added s c.step-progress.result i.sessions new c.step-progress.ensures.steps)
 
 pub returns-clause-kept : goal.returns-clause-kept
