@@ -2,7 +2,8 @@
 use Rattle.std.proofs.Common.{◌≡◌, ℕ, ◌+◌, ◌*◌, ◌≤◌, ◌<◌, Bool, List, Option, length, take, drop, map, sym, ◌∙◌, ap, subst, arith}
 use Rattle.std.specs.Int.{w16, from_be_bytes}
 use Rattle.mtr.proofs.Behind.{drop-behind, u32-behind, byte-behind}
-use Rattle.page_format.specs.Words.{u16_at, level_of, count_of, record_len_of, right_of, records_of, pieces}
+use Rattle.page_format.specs.Words.{level_of, count_of, record_len_of, right_of, records_of, pieces}
+use Rattle.stored_pages.specs.Words.{u16_at}
 use Rattle.page_format.specs.Shape.{AreRising}
 use Rattle.btree.specs.declared.tree.Tree.{Tree}
 use Rattle.btree.specs.declared.page.Down.{Down}

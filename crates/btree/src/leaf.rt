@@ -10,8 +10,8 @@ ghost use Rattle.btree.specs.Walks.{IsReadableLeaf, HasRow, Meets, Begins};
 
 use crate::page::{COUNT, FIELD, LEVEL, first_place, is_laid_out, key_at, record_at};
 use crate::tree::{Bound, Tree};
-use page_format::{read_u16, read_u32};
 use store_api::Visit;
+use stored_pages::{read_u16, read_u32};
 
 const RIGHT: usize = 28;
 

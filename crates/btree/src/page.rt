@@ -3,7 +3,8 @@
 
 ghost use Rattle.std.specs.Prelude.{◌≡◌, ◌≢◌, ◌+◌, ◌*◌, ◌<◌, ◌≤◌, [], length, take, map, slice_index_or, MatchBool, IfOk, IfErr};
 ghost use Rattle.store_api.specs.declared.visits.Visit.TheVariants.{Bad};
-ghost use Rattle.page_format.specs.Words.{u16_at, level_of, count_of, record_len_of, records_of};
+ghost use Rattle.page_format.specs.Words.{level_of, count_of, record_len_of, records_of};
+ghost use Rattle.stored_pages.specs.Words.{u16_at};
 ghost use Rattle.page_format.specs.Shape.{AreRising};
 ghost use Rattle.law_flat_tree.specs.Pages.{child_of};
 ghost use Rattle.btree.specs.Layout.{IsLaidOut};
@@ -12,8 +13,8 @@ ghost use Rattle.btree.specs.Places.{passes, record_passes, StartsAt};
 
 use crate::tree::{Bound, Tree};
 use big_endian::u32_at;
-use page_format::read_u16;
 use store_api::Visit;
+use stored_pages::read_u16;
 
 const SIZE: usize = 4096;
 

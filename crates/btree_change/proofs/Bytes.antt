@@ -9,7 +9,8 @@ use Rattle.std.proofs.lemmas.List.{length-set, length-replicate, drop-replicate,
 use Rattle.std.proofs.Math.Seq.{take-append-add, drop-append-add, drop-append_seam}
 use Rattle.mtr.specs.Seen.{with_bytes}
 use Rattle.mtr.proofs.Behind.{drop-behind}
-use Rattle.page_format.specs.Words.{u16_at, count_of, record_len_of, records_of}
+use Rattle.page_format.specs.Words.{count_of, record_len_of, records_of}
+use Rattle.stored_pages.specs.Words.{u16_at}
 use Rattle.page_format.specs.Shape.{HasTreeFields}
 use Rattle.page_format.specs.Changes.{KeepsFields}
 use Rattle.page_format.proofs.Pieces.{AreWide, IsBody, length-pieces}

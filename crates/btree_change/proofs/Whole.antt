@@ -8,7 +8,8 @@ use Rattle.std.proofs.lemmas.Bool.Decides.{eqb_tells}
 use Rattle.std.specs.Int.{w32, from_be_bytes}
 use Rattle.entries.specs.Pairs.{Pair, AreRising, value_of, with_pair, without_key}
 use Rattle.entries.proofs.Order.{key_cmp_is}
-use Rattle.page_format.specs.Words.{u32_at, level_of, index_of, record_len_of, records_of}
+use Rattle.page_format.specs.Words.{level_of, index_of, record_len_of, records_of}
+use Rattle.stored_pages.specs.Words.{u32_at}
 use Rattle.page_format.specs.Shape.{HasTreeFields}
 use Rattle.page_format.specs.Shape as shape
 use Rattle.page_format.specs.Changes.{KeepsFields}

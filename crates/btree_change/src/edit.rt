@@ -4,7 +4,7 @@
 ghost use Rattle.std.specs.Prelude.{◌≡◌, ℕ, ◌+◌, ◌*◌, ◌-◌, ◌<◌, ◌≤◌, ◌++◌, length, take, drop};
 ghost use Rattle.page_format.specs.Words.{count_of, record_len_of};
 
-use page_format::read_u16;
+use stored_pages::read_u16;
 
 /// Where the records begin.
 const RECORDS: usize = 208;

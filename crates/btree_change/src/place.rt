@@ -10,9 +10,10 @@ ghost use Rattle.btree_change.specs.Edits.{HasRoom, IsPlace};
 
 use crate::edit::{COUNT, WIDTH};
 use btree::{Bound, Tree, first_place, is_readable_leaf, key_at};
-use page_format::{Found, read_u16};
+use page_format::Found;
 use std::cmp::Ordering;
 use store_api::Visit;
+use stored_pages::read_u16;
 
 const SIZE: usize = 4096;
 

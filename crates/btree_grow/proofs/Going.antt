@@ -9,7 +9,7 @@ use Rattle.store_api.specs.declared.visits.Visit.{Visit}
 use Rattle.store_api.specs.declared.visits.Visit.TheVariants.{Failed, Again, Bad}
 use Rattle.store_api.specs.declared.visits.SpaceBad.{SpaceBad}
 use Rattle.store_api.specs.declared.visits.SpaceBad.TheVariants as space
-use Rattle.page_format.specs.Words.{u32_at}
+use Rattle.stored_pages.specs.Words.{u32_at}
 use Rattle.mtr.specs.Seen.{MtrState, is_in, visit, visit_all, claim, AreAmong, Visits}
 use Rattle.mtr.specs.Calls.{Goes, Makes, Consults}
 use Rattle.mtr.proofs.Claims.{visited_now, visited_stays, claim_least}

@@ -9,7 +9,8 @@ use Rattle.std.proofs.lemmas.Bool.{cases_eq}
 use Rattle.std.proofs.lemmas.Bool.Decides.{nat_tests}
 use Rattle.std.proofs.lemmas.List.{length-take-le, length-drop}
 use Rattle.entries.specs.Pairs.{Pair, key_cmp}
-use Rattle.page_format.specs.Words.{u32_at, level_of, count_of, record_len_of, records_of}
+use Rattle.page_format.specs.Words.{level_of, count_of, record_len_of, records_of}
+use Rattle.stored_pages.specs.Words.{u32_at}
 use Rattle.page_format.specs.Shape.{HasTreeFields}
 use Rattle.page_format.proofs.Edited.{ordered}
 use Rattle.page_format.proofs.Pieces.{length-pieces}

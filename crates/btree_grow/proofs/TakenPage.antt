@@ -4,7 +4,7 @@ use Rattle.std.specs.Prelude.{IsTrue, slice_index}
 use Rattle.std.specs.Int.{bit_at}
 use Rattle.std.proofs.lemmas.Bool.{cases_lt}
 use Rattle.std.proofs.lemmas.List.{length-replicate}
-use Rattle.page_format.specs.Words.{u32_at}
+use Rattle.stored_pages.specs.Words.{u32_at}
 use Rattle.mtr.specs.Seen.{MtrState, IsWithin}
 use Rattle.mtr.specs.Calls.{Makes}
 use Rattle.space_map.specs.Map.{byte_of, mark_of}

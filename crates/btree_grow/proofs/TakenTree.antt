@@ -1,7 +1,8 @@
 -- A placed tree stays where a page is taken.
 use Rattle.std.proofs.Common.{◌≡◌, ◌≢◌, inr, inl, ℕ, ◌<◌, List, sym, ◌∙◌, ap, subst, arith}
 use Rattle.std.specs.List.{AllByRecursion}
-use Rattle.page_format.specs.Words.{u32_at, low_of, high_of}
+use Rattle.page_format.specs.Words.{low_of, high_of}
+use Rattle.stored_pages.specs.Words.{u32_at}
 use Rattle.law_flat_tree.specs.Levels.{Node, AreLevelsAlike}
 use Rattle.law_flat_tree.specs.Leaves.{IsFrom, IsUnder}
 use Rattle.law_flat_tree.specs.Descents.{Holds}

@@ -1,6 +1,7 @@
 -- A page that is to be cut, its parent, and the page that was taken for its upper half.
 use Rattle.std.specs.Prelude.{◌≡◌, ◌≢◌, ℕ, suc, ◌<◌, List, [], ◌∷◌, length, take, slice_index_or}
-use Rattle.page_format.specs.Words.{u32_at, records_of}
+use Rattle.page_format.specs.Words.{records_of}
+use Rattle.stored_pages.specs.Words.{u32_at}
 use Rattle.page_format.specs.Shape.{HasTreeFields}
 use Rattle.mtr.specs.Seen.{IsShown}
 use Rattle.btree.specs.declared.tree.Tree.{Tree}

@@ -2,7 +2,7 @@
 use Rattle.std.specs.Prelude.{◌≡◌, ◌⊎◌, ℕ, ◌+◌, ◌<◌, List, ◌∷◌, ◌++◌, length, false, if◌then◌else◌}
 use Rattle.std.specs.List.{AllByRecursion}
 use Rattle.entries.specs.Pairs.{Pair}
-use Rattle.page_format.specs.Words.{u32_at}
+use Rattle.stored_pages.specs.Words.{u32_at}
 use Rattle.mtr.specs.Seen.{is_in, AreDistinct}
 use Rattle.space_map.specs.Map.{mark_of, free_among}
 use Rattle.law_flat_tree.specs.Descents.{Holds}

@@ -1,6 +1,7 @@
 -- A root that gets a level below it, on a page that was taken.
 use Rattle.std.specs.Prelude.{◌≡◌, ◌≢◌, ℕ, suc, ◌<◌, List, length}
-use Rattle.page_format.specs.Words.{u32_at, level_of}
+use Rattle.page_format.specs.Words.{level_of}
+use Rattle.stored_pages.specs.Words.{u32_at}
 use Rattle.page_format.specs.Shape.{HasTreeFields}
 use Rattle.mtr.specs.Seen.{IsShown}
 

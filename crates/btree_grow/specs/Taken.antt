@@ -1,6 +1,6 @@
 -- What taking a page makes of the pages.
 use Rattle.std.specs.Prelude.{◌≡◌, ◌≢◌, ◌⊎◌, ℕ, ◌<◌, ◌≤◌, List, length}
-use Rattle.page_format.specs.Words.{u32_at}
+use Rattle.stored_pages.specs.Words.{u32_at}
 use Rattle.space_map.specs.Map.{mark_of}
 
 -- the first pages of the file are in use, and are no tree's

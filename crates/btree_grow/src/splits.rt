@@ -25,8 +25,8 @@ use btree::{Bound, Tree, child_at, first_place, is_laid_out, key_at};
 use btree_change::{Edit, has_room, put_edit};
 use btree_split::{lower_half, upper_half};
 use mtr::Mtr;
-use page_format::read_u16;
 use store_api::{NoMemory, SpaceBad, Visit};
+use stored_pages::read_u16;
 
 const LEVEL: usize = 21;
 

@@ -2,7 +2,7 @@
 use Rattle.std.proofs.Common.{◌≡◌, inl, inr, ℕ, ◌+◌, ◌/◌, ◌%◌, ◌<◌, ◌≤◌, List, sym, ◌∙◌, ap, subst, arith}
 use Rattle.std.specs.Prelude.{IsTrue, slice_index}
 use Rattle.std.specs.Int.{bit_at}
-use Rattle.page_format.specs.Words.{u32_at}
+use Rattle.stored_pages.specs.Words.{u32_at}
 use Rattle.mtr.specs.Seen.{MtrState, IsWithin}
 use Rattle.mtr.specs.Calls.{Makes}
 use Rattle.space_map.specs.Map.{byte_of, mark_of}

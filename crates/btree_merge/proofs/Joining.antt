@@ -6,12 +6,14 @@ use Rattle.std.specs.Int.{w16, w32, to_be_bytes, from_be_bytes}
 use Rattle.std.specs.List.{concat}
 use Rattle.std.proofs.lemmas.List.{take_at, drop_at, drop-drop, length-take-le, length-drop}
 use Rattle.std.proofs.lemmas.List.Elements.{All-drop}
-use Rattle.page_format.specs.Words.{u16_at, u32_at, index_of, count_of, record_len_of, right_of, records_of, fence}
+use Rattle.page_format.specs.Words.{index_of, count_of, record_len_of, right_of, records_of, fence}
+use Rattle.stored_pages.specs.Words.{u16_at, u32_at}
 use Rattle.page_format.specs.Changes.{KeepsFields}
 use Rattle.page_format.specs.Shape.{HasTreeFields}
 use Rattle.page_format.proofs.Pieces.{AreWide, AreWide-append, IsBody, concat-append, length-concat, length-pieces}
 use Rattle.page_format.proofs.Edited.{same_part, same_byte, byte_is, middle_part, middle_byte, same_width, body_of, edited, counted, few}
-use Rattle.page_format.proofs.Headed.{Over, over, back_part, back_byte, back_more, tree_from, tree_over}
+use Rattle.page_format.proofs.Headed.{Over, over, back_byte, back_more, tree_from, tree_over}
+use Rattle.stored_pages.proofs.Sealed.{back_part}
 use Rattle.law_tree_merges.specs.Merges.{IsJoined}
 use Rattle.btree_merge.specs.Merged.{FitTogether}
 

@@ -2,7 +2,7 @@
 use Rattle.std.proofs.Common.{◌≡◌, ℕ, suc, ◌<◌, List, sym, subst, arith}
 use Rattle.std.specs.Prelude.{IsTrue, Option, Some, MatchOption}
 use Rattle.store_api.specs.declared.visits.SpaceBad.{SpaceBad}
-use Rattle.page_format.specs.Words.{u32_at}
+use Rattle.stored_pages.specs.Words.{u32_at}
 use Rattle.mtr.specs.Seen.{MtrState, IsWithin}
 use Rattle.btree.specs.declared.tree.Tree.{Tree}
 use Rattle.law_tree_merges.specs.Merges.{child_under, MergesLeaves, FreesPage, Shrinks}

@@ -3,7 +3,8 @@ use Rattle.std.proofs.Common.{◌≡◌, ◌≢◌, ℕ, suc, ◌+◌, ◌<◌, 
 use Rattle.std.specs.Prelude.{IsTrue, slice_index}
 use Rattle.std.proofs.lemmas.List.{length-take-le, length-drop, drop_all}
 use Rattle.std.proofs.Math.Seq.{drop-append_seam}
-use Rattle.page_format.specs.Words.{u32_at, index_of, low_of, high_of, count_of, records_of, fence}
+use Rattle.page_format.specs.Words.{index_of, low_of, high_of, count_of, records_of, fence}
+use Rattle.stored_pages.specs.Words.{u32_at}
 use Rattle.page_format.specs.Shape.{HasTreeFields}
 use Rattle.page_format.proofs.Headed.{tree_from}
 use Rattle.mtr.specs.Seen.{MtrState, is_in, IsWithin, with_bytes, capacity_of}

@@ -8,7 +8,7 @@ ghost use Rattle.btree_merge.specs.Merged.{FitTogether, HoldsFew};
 
 use big_endian::u16_bytes;
 use btree_change::{begin_of, lay};
-use page_format::read_u16;
+use stored_pages::read_u16;
 
 const SIZE: usize = 4096;
 

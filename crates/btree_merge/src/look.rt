@@ -14,8 +14,8 @@ use crate::join::{COUNT, fit_together};
 use crate::reading::{FIELD, copy_of, leaf_copy};
 use btree::{Tree, child_at, is_laid_out};
 use mtr::Mtr;
-use page_format::read_u16;
 use store_api::Visit;
+use stored_pages::read_u16;
 
 const LEVEL: usize = 21;
 

@@ -24,8 +24,8 @@ use crate::parent::parent_of;
 use crate::reading::{FIELD, copy_of, leaf_copy};
 use btree::{Bound, Tree, child_at, first_place, is_laid_out};
 use mtr::Mtr;
-use page_format::read_u16;
 use store_api::{NoMemory, SpaceBad, Visit};
+use stored_pages::read_u16;
 
 const LEVEL: usize = 21;
 

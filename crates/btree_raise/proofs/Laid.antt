@@ -8,10 +8,12 @@ use Rattle.std.proofs.lemmas.List.{take-replicate, drop-replicate}
 use Rattle.std.proofs.lemmas.List.Elements.{All-replicate}
 use Rattle.std.proofs.lemmas.Bool.Decides.{nat_tests}
 use Rattle.std.proofs.lemmas.Nat.{from_be_bytes-to_be_bytes_2}
-use Rattle.page_format.specs.Words.{u16_at, u32_at, kind_of, level_of, count_of, index_of, right_of, record_len_of, records_of, pieces, fence}
+use Rattle.page_format.specs.Words.{kind_of, level_of, count_of, index_of, right_of, record_len_of, records_of, pieces, fence}
+use Rattle.stored_pages.specs.Words.{u16_at, u32_at}
 use Rattle.page_format.specs.Shape.{HasTreeFields}
 use Rattle.page_format.proofs.Edited.{same_part, same_byte, byte_is}
-use Rattle.page_format.proofs.Headed.{back_part, back_more, Over, over}
+use Rattle.page_format.proofs.Headed.{back_more, Over, over}
+use Rattle.stored_pages.proofs.Sealed.{back_part}
 use Rattle.btree.proofs.Shown.{same_level, same_width, same_right, same_records}
 use Rattle.btree_split.proofs.Laid.{Lays, laid_length}
 use Rattle.btree_split.proofs.Put.{same_low, same_high, same_number, fields_shown}

@@ -7,7 +7,8 @@ use Rattle.std.specs.Int.{w32, to_be_bytes, from_be_bytes, bit_at}
 use Rattle.std.specs.List.{AllByRecursion}
 use Rattle.std.proofs.lemmas.List.{take_at, drop_at, length-replicate}
 use Rattle.std.proofs.lemmas.Nat.{from_be_bytes-to_be_bytes_4}
-use Rattle.page_format.specs.Words.{u32_at, level_of, low_of, records_of}
+use Rattle.page_format.specs.Words.{level_of, low_of, records_of}
+use Rattle.stored_pages.specs.Words.{u32_at}
 use Rattle.page_format.specs.Shape.{AreRising}
 use Rattle.law_flat_tree.specs.Levels.{Node, IsRow, IsAbove, AreLevels}
 use Rattle.law_flat_tree.specs.Levels.Fence.{First, Last}

@@ -11,7 +11,8 @@ use Rattle.std.proofs.lemmas.List.{length-take-le}
 use Rattle.std.proofs.lemmas.Bool.{false≢true, cases_eq}
 use Rattle.entries.specs.Pairs.{Pair, key_cmp}
 use Rattle.entries.proofs.Order.{key_itself, lower_from}
-use Rattle.page_format.specs.Words.{u32_at, level_of, record_len_of, low_of, records_of}
+use Rattle.page_format.specs.Words.{level_of, record_len_of, low_of, records_of}
+use Rattle.stored_pages.specs.Words.{u32_at}
 use Rattle.page_format.specs.Shape.{AreRising}
 use Rattle.page_format.proofs.Edited.{same_byte, same_width, body_of}
 use Rattle.std.proofs.Math.Seq.{take-append_seam}

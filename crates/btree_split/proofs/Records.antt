@@ -10,7 +10,8 @@ use Rattle.std.proofs.lemmas.List.{take-map}
 use Rattle.entries.specs.Pairs.{key_cmp}
 use Rattle.entries.proofs.Order.{key_cmp_is, same_key, below_all}
 use Rattle.page_format.specs.Shape.{AreRising}
-use Rattle.page_format.specs.Words.{u32_at, index_of}
+use Rattle.page_format.specs.Words.{index_of}
+use Rattle.stored_pages.specs.Words.{u32_at}
 use Rattle.page_format.specs.Changes.{KeepsFields}
 use Rattle.page_format.proofs.Edited.{middle_part}
 use Rattle.page_format.proofs.Pieces.{AreWide}

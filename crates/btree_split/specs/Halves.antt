@@ -1,7 +1,8 @@
 -- What the bytes of three pages say once a page was split.
 use Rattle.std.specs.Prelude.{◌≡◌, ◌≢◌, ℕ, suc, ◌^◌, ◌<◌, List, [], ◌++◌, length, take, insert, slice_index_or}
 use Rattle.std.specs.Int.{w32, to_be_bytes}
-use Rattle.page_format.specs.Words.{u32_at, index_of, record_len_of, records_of}
+use Rattle.page_format.specs.Words.{index_of, record_len_of, records_of}
+use Rattle.stored_pages.specs.Words.{u32_at}
 use Rattle.page_format.specs.Shape.{HasTreeFields}
 use Rattle.page_format.specs.Changes.{KeepsFields}
 use Rattle.space_map.specs.Map.{mark_of}

@@ -7,7 +7,7 @@ ghost use Rattle.page_format.specs.Words.{count_of, record_len_of};
 
 use big_endian::{u16_bytes, u32_bytes};
 use btree_change::{begin_of, lay};
-use page_format::read_u16;
+use stored_pages::read_u16;
 
 const SIZE: usize = 4096;
 

@@ -2,7 +2,7 @@
 use Rattle.std.specs.Prelude.{◌≡◌, ℕ, ◌+◌, ◌-◌, ◌^◌, ◌<◌, Bool, true, false, ◌==◌, ◌&&◌, if◌then◌else◌, List, [], length, slice_index_or, slice_set, Option, Some, None, option_map}
 use Rattle.std.specs.List.{list_any, swap}
 use Rattle.std.specs.Option.{option_map_or}
-use Rattle.page_format.specs.Words.{lsn_of}
+use Rattle.stored_pages.specs.Words.{lsn_of}
 use Rattle.buffer_pool.specs.declared.frame.Content.{Content}
 use Rattle.buffer_pool.specs.declared.frame.Content.TheVariants.{Empty, New, Clean, Dirty}
 use Rattle.buffer_pool.specs.Order.{used, last_where}

@@ -2,15 +2,15 @@
 //! The pool alone makes frames and changes them.
 
 ghost use Rattle.std.specs.Prelude.{◌≡◌, ◌-◌, ◌^◌, ◌<◌, length, IfOk};
-ghost use Rattle.page_format.specs.Words.{lsn_of};
+ghost use Rattle.stored_pages.specs.Words.{lsn_of};
 ghost use Rattle.buffer_pool.specs.Frames.{is_idle, is_changed, is_written, holds_page, fixed, unfixed, changed, placed};
 ghost use Rattle.buffer_pool.specs.declared.frame.Content.TheVariants.{Empty};
 
-use page_format::read_u64;
 use std::alloc::Global;
 use std::boxed::Box;
 use std::marker::Model;
 use store_api::NoMemory;
+use stored_pages::read_u64;
 
 /// The bytes of a page.
 pub const PAGE: usize = 4096;

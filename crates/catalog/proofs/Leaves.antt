@@ -5,7 +5,8 @@ use Rattle.std.specs.Int.{w16, w32, from_be_bytes}
 use Rattle.std.proofs.lemmas.List.{get_or-append-add, length-take-le, drop_at, drop-drop, length-replicate}
 use Rattle.std.proofs.lemmas.List.Elements.{All-replicate, All-drop, All-take}
 use Rattle.std.proofs.lemmas.Nat.{from_be_bytes-to_be_bytes_2, from_be_bytes-to_be_bytes_4}
-use Rattle.page_format.specs.Words.{u16_at, u32_at, kind_of, level_of, count_of, index_of, right_of, record_len_of, fence, pieces}
+use Rattle.page_format.specs.Words.{kind_of, level_of, count_of, index_of, right_of, record_len_of, fence, pieces}
+use Rattle.stored_pages.specs.Words.{u16_at, u32_at}
 use Rattle.page_format.specs.Shape.{AreZeros, IsFence}
 use Rattle.mtr.specs.Seen.{with_bytes}
 use Rattle.catalog.specs.Creating.{leaf_head, IsEmptyLeaf}

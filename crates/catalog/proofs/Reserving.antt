@@ -5,7 +5,7 @@ use Rattle.std.proofs.lemmas.Bool.{cases_eq}
 use Rattle.std.proofs.lemmas.List.{length-take-le}
 use Rattle.std.proofs.lemmas.Bool.Decides.{nat_tests}
 use Rattle.std.proofs.lemmas.List.Folds.{list_any-append}
-use Rattle.page_format.specs.Words.{u32_at}
+use Rattle.stored_pages.specs.Words.{u32_at}
 use Rattle.mtr.specs.Seen.{MtrState, is_in, capacity_of, AreDistinct, with_bytes}
 use Rattle.mtr.specs.Calls.{SamePages, SeesAt, Consults}
 use Rattle.mtr.proofs.Consulting.{goes_then}

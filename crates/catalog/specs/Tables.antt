@@ -2,7 +2,8 @@
 -- of that number behind the first one. No table ever goes, so the pages in use come first.
 use Rattle.std.specs.Prelude.{◌≡◌, ℕ, ◌+◌, ◌<◌, ◌≤◌, Bool, true, not, List, length, take, drop, slice_get, slice_index, bytes_eq, All, Some}
 use Rattle.std.specs.List.{list_all}
-use Rattle.page_format.specs.Words.{u32_at, kind_of}
+use Rattle.page_format.specs.Words.{kind_of}
+use Rattle.stored_pages.specs.Words.{u32_at}
 use Rattle.catalog_entry.specs.declared.held.Held.{Held}
 use Rattle.catalog_entry.specs.Refused.{BeginsWith}
 use Rattle.catalog.specs.Makeable.{is_makeable}

@@ -1,1 +1,5 @@
 pub mod Logging
+mod Cut
+mod DraftSpelling
+mod Totals
+pub mod Short

@@ -14,8 +14,8 @@ use Rattle.law_crashes.specs.Commits.{is_none, leaves_log}
 use Rattle.law_crashes.specs.Records.{records_of}
 use Rattle.law_crashes.specs.Since.{IsDurable, all_groups}
 use Rattle.law_crashes.proofs.Durable.{durable_entry, durable_ack, durable_flush, durable_nothing, durable_commit}
-use Rattle.drafts.specs.View.{DraftView, no_draft, draft_of, promised_to_all, readied}
-use Rattle.drafts.specs.Logging.{IsAppended}
+use Rattle.commit_log.specs.DraftsView.{DraftView, no_draft, draft_of, promised_to_all, readied}
+use Rattle.commit_log.specs.DraftsLogging.{IsAppended}
 use Rattle.inno_db.specs.Database.{Database}
 use Rattle.log_format.specs.declared.group.Group.{Group}
 use Rattle.store_api.specs.Areas.{Contents}

@@ -6,8 +6,8 @@ use Rattle.inno_model.specs.Past.{is_of, own}
 use Rattle.store_api.specs.Past.{Past}
 use Rattle.redo_log.specs.View.{LogView}
 use Rattle.law_crashes.specs.Since.{IsDurable}
-use Rattle.commit_records.specs.Room.{HasRecord}
-use Rattle.drafts.specs.View.{DraftView, draft_of, promised_to_all}
+use Rattle.commit_log.specs.Room.{HasRecord}
+use Rattle.commit_log.specs.DraftsView.{DraftView, draft_of, promised_to_all}
 
 -- the log, the drafts and the dues of the sessions by number, and the last LSN that the log had at its opening
 pub record CommitView : Type 0 where

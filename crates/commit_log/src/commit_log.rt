@@ -7,12 +7,12 @@ ghost use Rattle.inno_model.specs.declared.event.Event.TheVariants.{Opened, Acke
 ghost use Rattle.inno_model.specs.Past.{begins_txn};
 ghost use Rattle.store_api.specs.Past.{Past};
 ghost use Rattle.store_api.specs.Causes.{HasCause};
-ghost use Rattle.drafts.specs.View.{draft_of};
+ghost use Rattle.commit_log.specs.DraftsView.{draft_of};
 ghost use Rattle.law_crashes.specs.Since.{IsMounted};
 ghost use Rattle.commit_log.specs.View.{due_of, IsEntryOf, IsJoined, IsLogging, IsReady, is_commit, is_acknowledgement};
 
+use crate::Drafts;
 use crate::redraft::redraft;
-use drafts::Drafts;
 use inno_model::Event;
 use redo_log::Log;
 use std::alloc::Global;

@@ -4,6 +4,18 @@
 #![tactic(auto)]
 
 mod commit_log;
+mod draft;
+mod draft_logging;
+mod drafts;
+mod laws;
 mod redraft;
+mod room;
+mod spelling;
+mod telling;
 
 pub use commit_log::CommitLog;
+pub use drafts::Drafts;
+pub use laws::{a_record_tells_its_change, a_short_change_has_a_record};
+pub use room::{MOST_RECORD, is_loggable};
+pub use spelling::{put_change, put_change_reserved};
+pub use telling::change_told;

@@ -3,10 +3,10 @@
 ghost use Rattle.std.specs.Prelude.{◌≡◌, ◌≢◌, ◌<◌, ◌≤◌, ◌∷◌, ℕ, List, length, true, false};
 ghost use Rattle.inno_model.specs.declared.event.Event.{Event as EventValue};
 ghost use Rattle.inno_model.specs.Past.{begins_txn, own};
-ghost use Rattle.drafts.specs.View.{draft_of, promised_to_all};
+ghost use Rattle.commit_log.specs.DraftsView.{draft_of, promised_to_all};
 ghost use Rattle.commit_log.specs.View.{is_commit, IsEntryOf, IsReady};
 
-use drafts::Drafts;
+use crate::Drafts;
 use inno_model::Event;
 
 /// Takes over into the session's draft what an entry of it, which is no commit, changes.

@@ -24,7 +24,7 @@ use Rattle.inno_types.specs.declared.lock.Level.{Level}
 use Rattle.inno_model.specs.declared.event.Event.{Event}
 use Rattle.inno_model.specs.declared.event.Event.TheVariants as events
 use Rattle.inno_model.specs.Past.{own, commits, committed, opening, changed}
-use Rattle.law_fitting_rows.proofs.Declared.{declared-IsStorable}
+use Rattle.law_stored_rows.proofs.Declared.{declared-IsStorable}
 use Rattle.sql_history.specs.Items.{own_before, base}
 use Rattle.sql_history.specs.Statements.{schemas_now}
 use Rattle.sql_history.specs.Legal.{IsCreation}

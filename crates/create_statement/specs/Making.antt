@@ -8,7 +8,7 @@ use Rattle.inno_db.specs.declared.limits.TheConstants.{MOST_TABLES}
 use Rattle.inno_db.specs.Database.{Database}
 use Rattle.inno_db.specs.Names.{table_place}
 use Rattle.inno_db.specs.Outcome.{outcome}
-use Rattle.law_fitting_rows.specs.Storable.{IsStorable}
+use Rattle.law_stored_rows.specs.Storable.{IsStorable}
 
 -- a table of the name that the statement gives is there
 abbrev pub is_there : List Schema → Stmt → Bool

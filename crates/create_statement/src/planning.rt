@@ -5,9 +5,8 @@ ghost use Rattle.inno_db.specs.Refusals.{refusal};
 ghost use Rattle.create_statement.specs.Making.{is_there, Makes};
 
 use inno_types::{Listed, Schema, Stmt};
-use sql_declarations::declare;
 use sql_refusals::refuse;
-use sql_values::place_of_table;
+use sql_values::{declare, place_of_table};
 use std::alloc::Global;
 
 /// A table of the statement's name is there.

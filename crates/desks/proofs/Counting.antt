@@ -2,9 +2,9 @@
 use Rattle.std.proofs.Common.{◌≡◌, ℕ, zero, suc, ◌+◌, ◌==◌, ◌≤◌, Bool, true, false, cond, List, [], ◌∷◌, length, Option, Some, None, refl, sym, ap, subst, ◌∙◌, arith, eq-eqb}
 use Rattle.std.proofs.lemmas.Bool.{ne_eqb}
 use Rattle.inno_types.specs.declared.value.Schema.{Schema}
-use Rattle.chain.specs.declared.kept.Kept.{Kept}
+use Rattle.row_versions.specs.declared.kept.Kept.{Kept}
 use Rattle.row_versions.specs.declared.version.Version.{Version}
-use Rattle.law_coded_rows.specs.Records.{LeadTo}
+use Rattle.law_stored_rows.specs.Records.{LeadTo}
 use Rattle.desks.specs.Undoing.{one_more, versions_from}
 
 cond_most : (b : Bool) (n most : ℕ) → n ≤ most → cond b 0 n ≤ most

@@ -4,8 +4,8 @@ use Rattle.std.specs.Prelude.{slice_get}
 use Rattle.std.proofs.lemmas.Bool.Decides.{nat_tests, eqb_tells}
 use Rattle.inno_types.specs.declared.value.Value.{Value}
 use Rattle.row_versions.specs.Chains.{Chains}
-use Rattle.law_coded_rows.specs.Tables.{in_table}
-use Rattle.law_coded_rows.specs.Records.{KeepsMore}
+use Rattle.law_stored_rows.specs.Tables.{in_table}
+use Rattle.law_stored_rows.specs.Records.{KeepsMore}
 use Rattle.world.specs.State.{WorldState, HasWork}
 use Rattle.row_search.specs.Sights.{rows_seen}
 use Rattle.row_search.specs.declared.sight.Sight.{Sight}

@@ -7,8 +7,8 @@ use Rattle.inno_types.specs.declared.value.Schema.{Schema}
 use Rattle.inno_model.specs.declared.event.Event.{Event}
 use Rattle.entries.specs.Pairs.{Pair}
 use Rattle.entries.specs.Index.{AreKept}
-use Rattle.chain.specs.Versions.{Stays}
-use Rattle.chain.specs.declared.kept.Kept.{Kept}
+use Rattle.row_versions.specs.Versions.{Stays}
+use Rattle.row_versions.specs.declared.kept.Kept.{Kept}
 use Rattle.world.specs.State.{WorldState, index_of}
 use Rattle.world.specs.Told.{IsTold, pairs_in, pairs_of}
 use Rattle.shared_lists.specs.Tasks as tasks

@@ -1,7 +1,7 @@
 -- What a search has before it, as the world shows it: the keys of its index first, and then what is left of its visit of one.
 use Rattle.std.specs.Prelude.{ℕ, ◌+◌, ◌-◌, ◌*◌, ◌^◌, List, [], ◌∷◌, length, Option}
 use Rattle.entries.specs.Pairs.{Pair}
-use Rattle.chain.specs.declared.kept.Kept.{Kept}
+use Rattle.row_versions.specs.declared.kept.Kept.{Kept}
 use Rattle.world.specs.State.{WorldState, index_of}
 use Rattle.world.specs.Told.{pairs_of}
 use Rattle.row_search.specs.declared.phase.Phase.{Phase}

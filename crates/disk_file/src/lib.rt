@@ -6,6 +6,7 @@ mod area;
 mod clock;
 mod disk;
 mod fault;
+mod gate;
 mod locking;
 mod path;
 mod reading;
@@ -14,6 +15,7 @@ mod source;
 
 pub use clock::SystemClock;
 pub use disk::FileDisk;
+pub use gate::FreeGate;
 pub use locking::LockFiles;
 pub use sink::StdSink;
 pub use source::FileSource;

@@ -18,7 +18,8 @@ use Rattle.disk_mem.specs.declared.call.Call.TheVariants.{Look, Write as WriteCa
 use Rattle.disk_mem.specs.declared.areas.Areas.{Areas}
 use Rattle.disk_mem.specs.Replay.{after_write, after_sync, after_call, area_after, resting, state_after, told_at, IsResting}
 use Rattle.store_api.specs.Past.{Past}
-use Rattle.disk_mem.specs.Seen.{length-overwritten, missed, all_before, all_last, furthest}
+use Rattle.disk_mem.specs.Seen.{all_before, all_last, furthest}
+use Rattle.store_api.proofs.Overwritten.{length-overwritten, missed}
 
 -- a write ends where its bytes end, wherever the area ended
 end_is : (seen : List ℕ) (at : ℕ) (bytes : List ℕ) → end_of (write_of seen at bytes) ≡ at + length bytes

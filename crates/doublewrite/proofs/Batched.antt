@@ -4,8 +4,8 @@ use Rattle.std.proofs.lemmas.Bool.{cases_lt, cases_eq}
 use Rattle.std.proofs.lemmas.List.{take_at, take_all}
 use Rattle.store_api.specs.Areas.{PassesSum, piece}
 use Rattle.store_api.proofs.Pieces.{piece_front, piece_behind}
-use Rattle.page_format.specs.Words.{number_of}
-use Rattle.doublewrite.specs.Reading.{IsGoodPage}
+use Rattle.stored_pages.specs.Words.{number_of}
+use Rattle.stored_pages.specs.Reading.{IsGoodPage}
 use Rattle.doublewrite.specs.Batches.{BatchView, IsBatch, IsInBatch, page_at, number_at}
 use Rattle.doublewrite.proofs.Bytes.{length-page}
 

@@ -2,13 +2,9 @@
 use Rattle.std.proofs.Common.{◌≡◌, ◌⊎◌, inl, inr, ⊎_elim, ℕ, ◌+◌, ◌-◌, ◌*◌, ◌<◌, ◌≤◌, List, ◌++◌, length, take, drop, replicate, get_or, refl, sym, ◌∙◌, ap, arith, append_assoc, length-append, length-take, length-drop, get_or-take, get_or-drop}
 use Rattle.std.proofs.lemmas.Bool.{cases_lt}
 use Rattle.std.proofs.lemmas.List.{take_at, drop_at, take-append-le, length-take-le, length-replicate, get_or-replicate, get_or_past, get_or_append_left, get_or-append_right, ext_get_or}
-use Rattle.disk_mem.specs.Seen.{missed, length-overwritten}
+use Rattle.store_api.proofs.Overwritten.{missed, length-overwritten}
 use Rattle.store_api.specs.Areas.{piece, write_of, overwritten, end_of}
 use Rattle.doublewrite.specs.Kept.{filled}
-
--- a piece of full size is inside
-pub inside : (k : ℕ) (xs : List ℕ) → length (piece 4096 k xs) ≡ 4096 → 4096 * k + 4096 ≤ length xs
-inside k xs size = omega (arith, size, length-take 4096 (drop (4096 * k) xs), length-drop (4096 * k) xs)
 
 pub length-page : (k : ℕ) (xs : List ℕ) → 4096 * k + 4096 ≤ length xs → length (piece 4096 k xs) ≡ 4096
 length-page k xs within = length-take-le 4096 (drop (4096 * k) xs) (omega (arith, length-drop (4096 * k) xs, within))

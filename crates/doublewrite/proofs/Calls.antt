@@ -5,7 +5,7 @@ use Rattle.store_api.specs.declared.disk.Area.TheVariants.{Log, Double, Pages}
 use Rattle.store_api.specs.Areas.{Contents, State, MayLeave, IsImage, seen_image, Within, Wrote, Synced, overwritten}
 use Rattle.store_api.specs.Past.{Past, Now, Goes, Meanwhile}
 use Rattle.store_api.proofs.Moments.{Now-goes, Now-weaker, Meanwhile-none, Meanwhile-goes}
-use Rattle.doublewrite.specs.Reading.{place_of}
+use Rattle.stored_pages.specs.Reading.{place_of}
 use Rattle.doublewrite.specs.Batches.{BatchView, StagedView, IsBatch, page_at, number_at}
 use Rattle.doublewrite.specs.Kept.{IsReady, IsReadyAs, KeepsPages, IsStaged, IsStagedHonestly, HasHonestReads, HasPlaced}
 use Rattle.doublewrite.proofs.Batched.{good_at}

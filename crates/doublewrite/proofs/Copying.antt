@@ -3,10 +3,11 @@ use Rattle.std.proofs.Common.{◌≡◌, ◌⊎◌, inl, inr, ⊎_elim, ℕ, ◌
 use Rattle.std.proofs.lemmas.List.{take_at, take_all}
 use Rattle.store_api.specs.Areas.{Write, Contents, State, Image, MayLeave, IsImage, IsHonest, PassesSum, Puts, WasWhole, piece, write_of, overwritten}
 use Rattle.store_api.proofs.Pieces.{piece_front}
-use Rattle.doublewrite.specs.Reading.{IsGoodPage, IsCopyIn, IsPageIn, place_of}
+use Rattle.stored_pages.specs.Reading.{IsGoodPage, IsCopyIn, IsPageIn, place_of}
 use Rattle.doublewrite.specs.Batches.{BatchView, IsBatch, IsInBatch, IsInBatchToo, page_at}
 use Rattle.doublewrite.specs.Kept.{HadCopy, IsSettled, IsReady, IsPageReady, WasPage, KeepsPages, IsStaged, filled}
-use Rattle.doublewrite.proofs.Bytes.{inside, filled_same, filled_whole, untouched}
+use Rattle.doublewrite.proofs.Bytes.{filled_same, filled_whole, untouched}
+use Rattle.stored_pages.proofs.Newest.{inside}
 use Rattle.doublewrite.proofs.Wholes.{wrote_by, honest_page, settled_good}
 
 -- the write of all copies, as it is made

@@ -5,10 +5,11 @@ use Rattle.std.proofs.lemmas.Bool.{cases_lt, cases_eq}
 use Rattle.std.proofs.lemmas.List.{drop_at, take_all, get_or_append_left, get_or-replicate}
 use Rattle.std.proofs.lemmas.List.Elements.{All-nil, All-push, Contains-push}
 use Rattle.store_api.specs.Areas.{Write, Contents, State, MayLeave, PassesSum, Puts, WasWhole, write_of, overwritten, end_of}
-use Rattle.doublewrite.specs.Reading.{IsGoodPage, place_of}
+use Rattle.stored_pages.specs.Reading.{IsGoodPage, place_of}
 use Rattle.doublewrite.specs.Batches.{BatchView, IsBatch, IsInBatch, page_at, number_at}
 use Rattle.doublewrite.specs.Kept.{IsSettled, Spares, HasHonestReads, IsStaged, HasPlaced, filled}
-use Rattle.doublewrite.proofs.Bytes.{inside, filled_same, filled_whole, length-gap, end_is, untouched, written_there, length-written}
+use Rattle.doublewrite.proofs.Bytes.{filled_same, filled_whole, length-gap, end_is, untouched, written_there, length-written}
+use Rattle.stored_pages.proofs.Newest.{inside}
 use Rattle.doublewrite.proofs.Zeros.{blank_fails}
 use Rattle.doublewrite.proofs.Batched.{good_at, in_batch_at, one_number}
 use Rattle.doublewrite.proofs.Wholes.{WasWhole-same, wrote_before, wrote_by, stood, stood_page, settled_good}

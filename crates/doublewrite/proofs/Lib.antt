@@ -4,7 +4,6 @@ mod Calls
 mod Copying
 mod InPlace
 mod Looked
-mod Newest
 mod Repaired
 mod Repairs
 mod Staging

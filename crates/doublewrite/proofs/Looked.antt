@@ -4,7 +4,7 @@ use Rattle.std.specs.Prelude.{MatchBool}
 use Rattle.std.proofs.lemmas.Bool.{cases_Bool}
 use Rattle.std.proofs.lemmas.Bool.Decides.{nat_tests}
 use Rattle.std.proofs.lemmas.List.{take_all}
-use Rattle.doublewrite.specs.Reading.{IsGoodPage, place_of}
+use Rattle.stored_pages.specs.Reading.{IsGoodPage, place_of}
 
 module _ (number at len : ℕ) (into seen : List ℕ) (size : length into ≡ 4096) (is_at : at ≡ number) (read : take len into ≡ take (length into) (drop (4096 * at) seen)) where
   place_is : place_of number seen ≡ take len into

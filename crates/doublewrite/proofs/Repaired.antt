@@ -6,11 +6,12 @@ use Rattle.std.proofs.lemmas.List.{length-replicate, get_or-replicate}
 use Rattle.std.proofs.lemmas.List.Elements.{All-nil}
 use Rattle.store_api.specs.Areas.{Contents, State, Image, MayLeave, IsImage, IsHonest, PassesSum, Puts, WasWhole, piece, write_of, overwritten}
 use Rattle.store_api.proofs.Pieces.{piece-take}
-use Rattle.disk_mem.specs.Seen.{length-overwritten}
-use Rattle.doublewrite.specs.Reading.{IsGoodPage, place_of, IsCopyIn, IsNewestCopy, IsPageIn}
+use Rattle.store_api.proofs.Overwritten.{length-overwritten}
+use Rattle.stored_pages.specs.Reading.{IsGoodPage, place_of, IsCopyIn, IsNewestCopy, IsPageIn}
 use Rattle.doublewrite.specs.Kept.{Spares, filled}
 use Rattle.doublewrite.specs.Repairing.{IsQuiet, WasRead, ReadsAs, IsUnharmed, IsRestoring, IsRestored, IsClearing, IsRepaired}
-use Rattle.doublewrite.proofs.Bytes.{inside, length-page, filled_whole, end_is}
+use Rattle.doublewrite.proofs.Bytes.{length-page, filled_whole, end_is}
+use Rattle.stored_pages.proofs.Newest.{inside}
 use Rattle.doublewrite.proofs.Zeros.{blank_fails}
 use Rattle.doublewrite.proofs.Wholes.{WasWhole-same, wrote_by, stood, stood_page, left_alone, honest_page, settled_good}
 use Rattle.doublewrite.proofs.InPlace.{still_settled, put_page, still_honest, place_written, place_other, filled_other}

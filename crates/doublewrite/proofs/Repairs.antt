@@ -4,7 +4,7 @@ use Rattle.store_api.specs.declared.disk.Area.TheVariants.{Log, Double, Pages}
 use Rattle.store_api.specs.Areas.{Contents, State, MayLeave, IsImage, seen_image, Within, Looked, Wrote, Synced, piece}
 use Rattle.store_api.specs.Past.{Past, Now, Goes, Meanwhile}
 use Rattle.store_api.proofs.Moments.{Now-goes, Now-weaker, Meanwhile-none, Meanwhile-goes}
-use Rattle.doublewrite.specs.Reading.{IsGoodPage, IsNewestCopy, place_of}
+use Rattle.stored_pages.specs.Reading.{IsGoodPage, IsNewestCopy, place_of}
 use Rattle.doublewrite.specs.Repairing.{IsQuietAs, ReadsAs, IsUnharmed, IsRestoringFrom, IsRestored, IsClearingFrom, IsRepaired}
 use Rattle.doublewrite.proofs.Repaired.{reads_unharmed, begun, still_unharmed, still_restoring, one_more, wrote_copy, restored_copy, all_restored, reads_restored, still_restored, no_copy_there, wrote_zeros, cleared_one, all_cleared, repaired, good_copy, no_good_copy, newest_too, read_whole}
 

@@ -2,8 +2,8 @@
 use Rattle.std.proofs.Common.{◌≡◌, ◌⊎◌, inl, inr, ⊎_elim, ℕ, ◌*◌, ◌<◌, Option, Some, None, List, sym, ◌∙◌, ap, subst, arith}
 use Rattle.std.proofs.lemmas.Bool.{cases_lt}
 use Rattle.store_api.specs.Areas.{Contents, State, Image, IsImage, IsHonest, WasWhole, piece}
-use Rattle.page_format.specs.Words.{number_of, lsn_of}
-use Rattle.doublewrite.specs.Reading.{IsGoodPage, IsCopyIn, IsNewestCopy, IsPageIn, place_of}
+use Rattle.stored_pages.specs.Words.{number_of, lsn_of}
+use Rattle.stored_pages.specs.Reading.{IsGoodPage, IsCopyIn, IsNewestCopy, IsPageIn, place_of}
 use Rattle.doublewrite.specs.Batches.{BatchView, IsBatch, IsInBatch, IsInBatchToo, number_at}
 use Rattle.doublewrite.specs.Kept.{HadCopy, IsSettled, IsPageReady, WasPage, KeepsPages, IsStaged}
 use Rattle.doublewrite.proofs.Batched.{good_at, in_or_out}

@@ -5,9 +5,9 @@ use Rattle.std.proofs.lemmas.List.{ext_get_or}
 use Rattle.std.proofs.lemmas.List.Elements.{All-nil, All-weaker, Contains-append_left, Contains-push_cases}
 use Rattle.store_api.specs.Areas.{Write, Contents, MayLeave, Misses, IsHonestArea, Puts, WasWhole, piece, end_of}
 use Rattle.store_api.proofs.Pieces.{same_part}
-use Rattle.doublewrite.specs.Reading.{IsGoodPage, place_of}
+use Rattle.stored_pages.specs.Reading.{IsGoodPage, place_of}
 use Rattle.doublewrite.specs.Kept.{IsSettled, Spares}
-use Rattle.doublewrite.proofs.Bytes.{inside}
+use Rattle.stored_pages.proofs.Newest.{inside}
 
 -- ---- one write more
 

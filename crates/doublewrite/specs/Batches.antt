@@ -1,7 +1,7 @@
 -- What contracts see of a batch of pages, and of one whose copies are staged.
 use Rattle.std.specs.Prelude.{◌≡◌, ◌≢◌, ℕ, ◌*◌, ◌<◌, ◌≤◌, Option, Some, None, List, length}
 use Rattle.store_api.specs.Areas.{PassesSum, piece}
-use Rattle.page_format.specs.Words.{number_of}
+use Rattle.stored_pages.specs.Words.{number_of}
 
 -- how many pages, and their bytes one behind the other
 pub record BatchView : Type 0 where

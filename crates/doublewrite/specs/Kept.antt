@@ -1,8 +1,8 @@
 -- What the areas hold before, while and after a batch is staged and placed, and what a crash leaves of each page.
 use Rattle.std.specs.Prelude.{◌≡◌, ◌⊎◌, ℕ, ◌+◌, ◌*◌, ◌<◌, ◌≤◌, Option, Some, None, List, [], ◌++◌, take, drop, replicate, All}
 use Rattle.store_api.specs.Areas.{Write, Contents, State, Image, IsImage, IsHonest, PassesSum, WasWhole, piece, end_of}
-use Rattle.page_format.specs.Words.{lsn_of}
-use Rattle.doublewrite.specs.Reading.{IsGoodPage, place_of, IsPageIn}
+use Rattle.stored_pages.specs.Words.{lsn_of}
+use Rattle.stored_pages.specs.Reading.{IsGoodPage, place_of, IsPageIn}
 use Rattle.doublewrite.specs.Batches.{BatchView, StagedView, IsInBatch, IsInBatchToo, page_at, number_at}
 
 -- ---- what may be found in an area

@@ -1,4 +1,3 @@
 pub mod Batches
 pub mod Kept
-pub mod Reading
 pub mod Repairing

@@ -4,7 +4,7 @@ use Rattle.store_api.specs.Areas.{State, Image, IsImage, IsHonest, WasWhole, pie
 use Rattle.store_api.specs.Causes.{Rose}
 use Rattle.doublewrite.specs.declared.restoring.RepairBad.{RepairBad}
 use Rattle.doublewrite.specs.declared.restoring.RepairBad.TheVariants.{Failed, NoMemory}
-use Rattle.doublewrite.specs.Reading.{IsGoodPage, place_of, IsCopyIn, IsPageIn}
+use Rattle.stored_pages.specs.Reading.{IsGoodPage, place_of, IsCopyIn, IsPageIn}
 use Rattle.doublewrite.specs.Kept.{IsSettled, HasHonestReads, filled}
 
 -- Nothing is pending in Pages and Double, and a read gives no page by chance.

@@ -3,14 +3,14 @@
 
 ghost use Rattle.std.specs.Prelude.{◌≡◌, ◌≢◌, [], ◌+◌, ◌*◌, ◌<◌, ◌≤◌, ◌++◌, ℕ, length, vec_len, vec_capacity, IfOk, MatchBool};
 ghost use Rattle.store_api.specs.Areas.{PassesSum};
-ghost use Rattle.page_format.specs.Words.{number_of};
+ghost use Rattle.stored_pages.specs.Words.{number_of};
 ghost use Rattle.doublewrite.specs.Batches.{IsBatch, page_at, number_at};
 
-use crate::numbers::number_in;
 use page_format::Page;
 use std::alloc::Global;
 use std::marker::Model;
 use store_api::NoMemory;
+use stored_pages::number_in;
 
 pub const PAGE: usize = 4096;
 

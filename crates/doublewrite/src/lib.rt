@@ -3,12 +3,9 @@
 #![tactic(auto)]
 
 mod batch;
-mod copies;
-mod numbers;
 mod placing;
 mod restoring;
 
 pub use batch::Batch;
-pub use copies::{good_number, newest_copy};
 pub use placing::{Staged, stage};
 pub use restoring::{RepairBad, repair};

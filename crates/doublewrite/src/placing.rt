@@ -9,9 +9,9 @@ ghost use Rattle.doublewrite.specs.Batches.{BatchView, StagedView};
 ghost use Rattle.doublewrite.specs.Kept.{IsReadyAs, IsStaged, IsStagedHonestly, KeepsPages, HasPlaced};
 
 use crate::batch::Batch;
-use crate::numbers::number_in;
 use std::marker::Model;
 use store_api::{Area, Disk, Failed};
+use stored_pages::number_in;
 
 /// A batch whose copies are synced, and how many of its pages are in place.
 #[derive(Drop)]

@@ -7,13 +7,13 @@ ghost use Rattle.store_api.specs.Causes.{HasCause};
 ghost use Rattle.store_api.specs.Past.{Now, Goes, Meanwhile};
 ghost use Rattle.store_api.specs.declared.disk.Area.TheVariants.{Double, Pages};
 ghost use Rattle.doublewrite.specs.declared.restoring.RepairBad.TheVariants.{Failed as DiskFailed, NoMemory};
-ghost use Rattle.doublewrite.specs.Reading.{IsGoodPage, place_of};
+ghost use Rattle.stored_pages.specs.Reading.{IsGoodPage, place_of};
 ghost use Rattle.doublewrite.specs.Repairing.{IsQuietAs, ReadsAs, IsRestoringFrom, IsClearingFrom, IsRepaired, FailedRose};
 
 use crate::batch::{PAGE, SLOTS};
-use crate::copies::{copy_at, good_number, newest_slot, number_of_copy, restorable};
 use std::alloc::{AllocError, Global};
 use store_api::{Area, Disk, Failed};
+use stored_pages::{copy_at, good_number, newest_slot, number_of_copy, restorable};
 
 /// Why a repair gave up. It may be made again.
 #[derive(Clone, Copy, Debug, PartialEq, Eq)]

@@ -1,2 +1,5 @@
 mod Keeping
 mod Whole
+mod Taking
+mod Adding
+mod Seating

@@ -10,13 +10,13 @@ use Rattle.inno_model.specs.declared.event.Event.TheVariants.{Started}
 use Rattle.inno_model.specs.Past.{is_of, started}
 use Rattle.store_api.specs.declared.answers.Progress.{Progress}
 use Rattle.store_api.specs.declared.answers.Progress.TheVariants as progress
-use Rattle.turn_board.specs.declared.Phase.TheVariants.{Idle, Leaving, Left}
+use Rattle.inno_model.specs.declared.board.Phase.TheVariants.{Idle, Leaving, Left}
 use Rattle.sql_lists.specs.Steps.{WaitsFor}
 use Rattle.session_engine.specs.Calls.{KeepsItems, EndsItem, IsAwaited}
 use Rattle.stopped_sessions.specs.declared.seats.Seat.{Seat}
 use Rattle.stopped_sessions.specs.Seats.{State as StoppedState, phase_at, halted, ended, phase_after}
 use Rattle.stopped_sessions.specs.Calls.{is_at_work, StepsBy as StoppedStepsBy}
-use Rattle.logged_sessions.specs.State.{State as LoggedState}
+use Rattle.durable_engine.specs.SessionsState.{State as LoggedState}
 use Rattle.durable_engine.specs.State.{State}
 
 -- the other sessions are as far as they were

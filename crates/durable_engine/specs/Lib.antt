@@ -2,3 +2,5 @@ pub mod State
 pub mod Calls
 pub mod Going
 pub mod Whole
+pub mod Entering
+pub mod SessionsState

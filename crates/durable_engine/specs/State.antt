@@ -6,14 +6,14 @@ use Rattle.inno_model.specs.declared.event.Event.{Event}
 use Rattle.inno_model.specs.contracts.event.Event as of_event
 use Rattle.store_api.specs.Past.{Past}
 use Rattle.store_api.specs.Causes.{Rose}
-use Rattle.turn_board.specs.declared.Phase.TheVariants.{Idle}
+use Rattle.inno_model.specs.declared.board.Phase.TheVariants.{Idle}
 use Rattle.law_crashes.specs.Since.{KeepsSince}
 use Rattle.commit_log.specs.View.{IsLogging}
 use Rattle.session_engine.specs.Places.{HasExactPlaces}
 use Rattle.session_engine.specs.Seats.{State as Sessions, state_code as sessions_code, seat_at, owes}
 use Rattle.stopped_sessions.specs.declared.seats.Seat.{Seat}
 use Rattle.stopped_sessions.specs.contracts.seats.Seat as of_seat
-use Rattle.logged_sessions.specs.State.{State as LoggedState}
+use Rattle.durable_engine.specs.SessionsState.{State as LoggedState}
 use Rattle.stopped_sessions.specs.Seats.{State as StoppedState, phase_at}
 use Rattle.stopped_sessions.specs.Calls.{is_at_work}
 use Rattle.durable_engine.specs.declared.parts.Core.{Core}

@@ -4,9 +4,12 @@
 #![tactic(auto)]
 
 mod engine;
+mod entering;
+mod logged;
 mod parts;
 mod root;
 mod stepping;
 
 pub use engine::DurableEngine;
+pub use logged::LoggedSessions;
 pub use root::Root;

@@ -1,7 +1,7 @@
 //! What an engine consists of beside its disk: sessions that run, or those of an engine that has stopped.
 //! Only the engine's own calls see it.
 
-use logged_sessions::LoggedSessions;
+use crate::LoggedSessions;
 use shared_lists::SharedLists;
 use stopped_sessions::StoppedSessions;
 

@@ -12,13 +12,13 @@ ghost use Rattle.durable_engine.specs.State.{state_of, running_state, IsJoined, 
 ghost use Rattle.durable_engine.specs.Calls.{StepsBy, StopsBy};
 ghost use Rattle.durable_engine.specs.Going.{Nears, NearsLacking};
 
+use crate::LoggedSessions;
 use crate::parts::Core;
+use inno_model::Phase;
 use inno_types::{Cause, Item};
-use logged_sessions::LoggedSessions;
 use shared_lists::SharedLists;
 use stopped_sessions::StoppedSessions;
 use store_api::{Disk, Failed, NoMemory, Progress};
-use turn_board::Phase;
 
 /// A step of the session.
 pub(crate) fn step_of<D: Disk, L: SharedLists>(

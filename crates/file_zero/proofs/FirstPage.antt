@@ -4,10 +4,10 @@ use Rattle.std.specs.Int.{w32, w64, to_be_bytes, from_be_bytes}
 use Rattle.std.proofs.lemmas.List.{take_all}
 use Rattle.sum64.specs.Fnv.{fnv_of}
 use Rattle.store_api.specs.Areas.{PassesSum}
-use Rattle.page_format.specs.Words.{u32_at, u64_at, number_of}
-use Rattle.page_format.proofs.Headed.{back_part}
-use Rattle.page_format.proofs.Sealed.{sealed}
-use Rattle.doublewrite.specs.Reading.{IsGoodPage}
+use Rattle.stored_pages.specs.Words.{u32_at, u64_at, number_of}
+use Rattle.stored_pages.proofs.Sealed.{back_part}
+use Rattle.stored_pages.proofs.Sealed.{sealed}
+use Rattle.stored_pages.specs.Reading.{IsGoodPage}
 use Rattle.law_crashes.specs.Header.{IsHeader}
 
 -- its fields behind the sum

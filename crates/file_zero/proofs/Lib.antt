@@ -7,3 +7,6 @@ mod Places
 mod Refusals
 mod Results
 mod Stored
+mod GoingOn
+mod Zeroing
+mod ZeroRest

@@ -13,8 +13,8 @@ use Rattle.store_api.proofs.Moments.{Now-goes, Now-weaker, Meanwhile-none, Meanw
 use Rattle.log_format.specs.Block.{IsGood}
 use Rattle.log_format.specs.Group.{group_bytes}
 use Rattle.log_format.proofs.Groups.{length-group}
-use Rattle.page_format.specs.Words.{number_of}
-use Rattle.doublewrite.specs.Reading.{IsGoodPage, place_of, IsCopyIn, IsPageIn}
+use Rattle.stored_pages.specs.Words.{number_of}
+use Rattle.stored_pages.specs.Reading.{IsGoodPage, place_of, IsCopyIn, IsPageIn}
 use Rattle.law_crashes.specs.Header.{IsHeader}
 use Rattle.law_crashes.specs.RowScan.{HasRowsOnly, IsRowScan}
 use Rattle.law_crashes.specs.Records.{no_db}

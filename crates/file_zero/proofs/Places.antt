@@ -6,8 +6,8 @@ use Rattle.std.proofs.lemmas.Bool.Decides.{nat_tests}
 use Rattle.std.proofs.lemmas.List.{take_all, take_at}
 use Rattle.store_api.proofs.Pieces.{piece-take}
 use Rattle.sum64.specs.Fnv.{fnv_of}
-use Rattle.page_format.specs.Words.{u64_at}
-use Rattle.doublewrite.specs.Reading.{IsGoodPage, place_of, IsCopyIn, IsNewestCopy, IsPageIn}
+use Rattle.stored_pages.specs.Words.{u64_at}
+use Rattle.stored_pages.specs.Reading.{IsGoodPage, place_of, IsCopyIn, IsNewestCopy, IsPageIn}
 use Rattle.file_zero.specs.Reading.{IsRead}
 use Rattle.file_zero.specs.Refused.{IsDamaged}
 

@@ -8,7 +8,7 @@ use Rattle.store_api.specs.Past.{Past, Now}
 use Rattle.inno_db.specs.Database.{Database}
 use Rattle.inno_model.specs.Past.{changed}
 use Rattle.log_format.specs.declared.group.Group.{Group}
-use Rattle.doublewrite.specs.Reading.{IsPageIn}
+use Rattle.stored_pages.specs.Reading.{IsPageIn}
 use Rattle.law_crashes.specs.Header.{IsHeader}
 use Rattle.law_crashes.specs.Records.{no_db, changes_in}
 use Rattle.law_crashes.specs.RowScan.{HasRowsOnly}

@@ -6,7 +6,7 @@ use Rattle.store_api.specs.Areas.{Contents, State, Image, IsImage, IsHonest, see
 use Rattle.store_api.specs.Causes.{Rose}
 use Rattle.store_api.specs.Past.{Past, Now}
 use Rattle.sql_history.specs.Counts.{capped}
-use Rattle.doublewrite.specs.Reading.{IsGoodPage, IsPageIn}
+use Rattle.stored_pages.specs.Reading.{IsGoodPage, IsPageIn}
 use Rattle.law_crashes.specs.Header.{IsHeader}
 use Rattle.law_crashes.specs.Records.{no_db}
 use Rattle.law_crashes.specs.Files.{IsAtRest, StandsFor}

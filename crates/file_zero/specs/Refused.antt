@@ -11,8 +11,8 @@ use Rattle.inno_db.specs.Database.{Database}
 use Rattle.inno_model.specs.Past.{changed}
 use Rattle.sql_history.specs.Counts.{rows_in, capped, most_rows}
 use Rattle.log_format.specs.declared.group.Group.{Group}
-use Rattle.page_format.specs.Words.{u64_at}
-use Rattle.doublewrite.specs.Reading.{IsPageIn, place_of}
+use Rattle.stored_pages.specs.Words.{u64_at}
+use Rattle.stored_pages.specs.Reading.{IsPageIn, place_of}
 use Rattle.law_crashes.specs.Header.{HasMagic, version_of}
 use Rattle.law_crashes.specs.RowScan.{IsRowScan}
 use Rattle.law_crashes.specs.Records.{no_db, changes_in}

@@ -5,8 +5,8 @@ ghost use Rattle.std.specs.Prelude.{◌≡◌, length, IfOk, IfErr};
 ghost use Rattle.law_crashes.specs.Header.{IsHeader};
 ghost use Rattle.file_zero.specs.Refused.{IsOther};
 
-use page_format::{read_u32, read_u64};
 use store_api::MountBad;
+use stored_pages::{read_u32, read_u64};
 
 pub const PAGE: usize = 4096;
 

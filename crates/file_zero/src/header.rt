@@ -3,16 +3,15 @@
 
 ghost use Rattle.std.specs.Prelude.{◌≡◌, ◌≤◌, ℕ, List, length, IfOk, IfErr, OnOk, MatchBool};
 ghost use Rattle.store_api.specs.Past.{Now};
-ghost use Rattle.doublewrite.specs.Reading.{IsGoodPage, place_of};
+ghost use Rattle.stored_pages.specs.Reading.{IsGoodPage, place_of};
 ghost use Rattle.file_zero.specs.Looks.{Looks, LeavesState};
 ghost use Rattle.file_zero.specs.Reading.{IsRead, SaysHeader};
 ghost use Rattle.file_zero.specs.Refused.{IsRefused, IsMissing};
 
 use crate::fields::{Header, PAGE, header_of};
-use doublewrite::{good_number, newest_copy};
-use page_format::read_u64;
 use std::alloc::Global;
 use store_api::{Area, Disk, MountBad};
+use stored_pages::{good_number, newest_copy, read_u64};
 use sum64::fnv;
 
 /// The copies of the doublewrite take so many bytes.

@@ -8,6 +8,8 @@ mod header;
 mod log;
 mod making;
 mod mounting;
+mod zero;
 
 pub use making::init;
 pub use mounting::{Mounted, mount};
+pub use zero::zero_rest;

@@ -3,7 +3,7 @@
 
 ghost use Rattle.std.specs.Prelude.{◌≡◌, ◌+◌, ◌≤◌, ◌++◌, length, take, drop, IfOk, IfErr, OnOk};
 ghost use Rattle.store_api.specs.Past.{Now, Meanwhile};
-ghost use Rattle.doublewrite.specs.Reading.{IsGoodPage};
+ghost use Rattle.stored_pages.specs.Reading.{IsGoodPage};
 ghost use Rattle.law_crashes.specs.Header.{IsHeader};
 ghost use Rattle.law_crashes.specs.Files.{IsAtRest};
 ghost use Rattle.file_zero.specs.Looks.{Looks, LeavesState};

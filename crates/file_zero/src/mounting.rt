@@ -18,9 +18,9 @@ use crate::database::{database_of, rows_in};
 use crate::fields::Header;
 use crate::header::read_header;
 use crate::log::{Stored, read_log, zeros};
+use crate::zero_rest;
 use inno_db::Db;
 use log_format::Group;
-use log_rest::zero_rest;
 use std::alloc::Global;
 use store_api::{Disk, Failed, MOST_ROWS, MountBad, NoMemory};
 

@@ -2,7 +2,7 @@
 use Rattle.std.proofs.Common.{◌≡◌, inl, inr, ℕ, ◌-◌, ◌<◌, Bool, true, false, Option, Some, None, length, refl, ◌∙◌, ap, arith}
 use Rattle.std.specs.Prelude.{not, ◌&&◌}
 use Rattle.inno_types.specs.Order.{IsBelow}
-use Rattle.page_format.specs.Words.{lsn_of}
+use Rattle.stored_pages.specs.Words.{lsn_of}
 use Rattle.buffer_pool.specs.Frames.{PoolView, is_dirty, bytes_of}
 use Rattle.doublewrite.specs.Batches.{BatchView, StagedView}
 use Rattle.flusher.specs.Cleaning.{is_among, waits, count_below, to_go, Settles, finished}

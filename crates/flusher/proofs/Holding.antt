@@ -2,7 +2,7 @@
 use Rattle.std.proofs.Common.{◌≡◌, ℕ, ◌+◌, ◌<◌, ◌≤◌, Some, None, List, [], length, take, sym, ◌∙◌, ap, subst, arith, length-append}
 use Rattle.std.proofs.lemmas.List.{take_all, append-nil}
 use Rattle.store_api.specs.Areas.{Contents, State}
-use Rattle.page_format.specs.Words.{lsn_of}
+use Rattle.stored_pages.specs.Words.{lsn_of}
 use Rattle.log_format.specs.declared.group.Group.{Group}
 use Rattle.redo_log.specs.View.{LogView}
 use Rattle.redo_log.specs.Logged.{IsLogged, LeavesPrefix, Stands, StandsMeanwhile}

@@ -5,12 +5,12 @@ use Rattle.std.specs.Prelude.{not, ◌&&◌, ◌||◌, ◌==◌, All}
 use Rattle.std.proofs.lemmas.Bool.Decides.{eqb_tells}
 use Rattle.store_api.specs.Areas.{State, Write}
 use Rattle.store_api.proofs.Pieces.{length-piece}
-use Rattle.page_format.specs.Words.{lsn_of}
+use Rattle.stored_pages.specs.Words.{lsn_of}
 use Rattle.log_format.specs.declared.group.Group.{Group}
 use Rattle.log_format.specs.Group.{AreGroups}
 use Rattle.log_format.proofs.Groups.{AreGroups-take}
 use Rattle.buffer_pool.specs.Frames.{PoolView, is_dirty, bytes_of}
-use Rattle.doublewrite.specs.Reading.{IsGoodPage, place_of}
+use Rattle.stored_pages.specs.Reading.{IsGoodPage, place_of}
 use Rattle.doublewrite.specs.Batches.{BatchView, StagedView, IsInBatch, page_at, number_at}
 use Rattle.doublewrite.specs.Kept.{HasPlaced, Spares}
 use Rattle.law_logged_pages.specs.Applied.{page_after, logical}

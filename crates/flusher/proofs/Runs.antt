@@ -3,7 +3,7 @@ use Rattle.std.proofs.Common.{◌≡◌, ⊎_elim, ◌↔◌, ℕ, ◌+◌, ◌<
 use Rattle.std.proofs.lemmas.Bool.{cases_lt}
 use Rattle.store_api.specs.Areas.{Contents, State}
 use Rattle.store_api.specs.Past.{Past, Now, Meanwhile}
-use Rattle.page_format.specs.Words.{lsn_of}
+use Rattle.stored_pages.specs.Words.{lsn_of}
 use Rattle.log_format.specs.declared.group.Group.{Group}
 use Rattle.redo_log.specs.View.{LogView}
 use Rattle.redo_log.specs.Logged.{IsLogged, Stands, StandsMeanwhile}

@@ -6,7 +6,7 @@ use Rattle.std.proofs.lemmas.Bool.{cases_lt}
 use Rattle.std.specs.Int.{w32, to_be_bytes, from_be_bytes}
 use Rattle.std.proofs.lemmas.Nat.{from_be_bytes-to_be_bytes_4, be_bytes_4}
 use Rattle.store_api.specs.Areas.{PassesSum}
-use Rattle.page_format.specs.Words.{u32_at, number_of}
+use Rattle.stored_pages.specs.Words.{u32_at, number_of}
 use Rattle.law_logged_pages.specs.Stages.{AreBytes}
 use Rattle.flusher.specs.Gathering.{IsSealed}
 

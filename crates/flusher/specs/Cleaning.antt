@@ -1,7 +1,7 @@
 -- What a pool's pages are once a batch is in its places, and how much is left to be done.
 use Rattle.std.specs.Prelude.{◌≡◌, ℕ, zero, suc, ◌+◌, ◌-◌, Bool, false, not, ◌&&◌}
 use Rattle.std.specs.Prelude.{◌||◌, ◌==◌, if◌then◌else◌, Option, Some, None, option_map, List, [], ◌∷◌, length}
-use Rattle.page_format.specs.Words.{number_of, lsn_of}
+use Rattle.stored_pages.specs.Words.{number_of, lsn_of}
 use Rattle.buffer_pool.specs.declared.frame.Content.TheVariants.{Clean}
 use Rattle.buffer_pool.specs.Frames.{FrameView, PoolView, slot_of, is_pooled, is_dirty, is_standing, is_changed, bytes_of, fixes_of, marked}
 use Rattle.doublewrite.specs.Batches.{BatchView, StagedView, page_at, number_at}

@@ -1,13 +1,13 @@
 -- What the disk holds of a run while its pages are flushed, and what whatever a crash leaves stands for.
 use Rattle.std.specs.Prelude.{◌≡◌, ℕ, ◌≤◌, true, false, Option, Some, None, List, length}
 use Rattle.store_api.specs.Areas.{State}
-use Rattle.page_format.specs.Words.{number_of}
+use Rattle.stored_pages.specs.Words.{number_of}
 use Rattle.log_format.specs.declared.group.Group.{Group}
 use Rattle.redo_log.specs.View.{LogView}
 use Rattle.redo_log.specs.Logged.{IsLogged}
 use Rattle.buffer_pool.specs.Frames.{PoolView, is_dirty, bytes_of}
 use Rattle.doublewrite.specs.Batches.{BatchView, StagedView, IsBatch, IsInBatch}
-use Rattle.doublewrite.specs.Reading.{place_of}
+use Rattle.stored_pages.specs.Reading.{place_of}
 use Rattle.doublewrite.specs.Kept.{IsSettled, IsStaged, HasPlaced}
 use Rattle.law_logged_pages.specs.Applied.{logical}
 use Rattle.law_logged_pages.specs.Stages.{AreBytes, SameButSum}

@@ -1,7 +1,7 @@
 -- Which pages of a pool a batch has, and as which bytes.
 use Rattle.std.specs.Prelude.{◌≡◌, ℕ, ◌<◌, true, false, List, length, drop}
 use Rattle.store_api.specs.Areas.{PassesSum}
-use Rattle.page_format.specs.Words.{number_of}
+use Rattle.stored_pages.specs.Words.{number_of}
 use Rattle.buffer_pool.specs.Frames.{PoolView, is_dirty, bytes_of}
 use Rattle.doublewrite.specs.Batches.{BatchView, page_at, number_at}
 use Rattle.law_logged_pages.specs.Stages.{AreBytes}

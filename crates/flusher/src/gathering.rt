@@ -4,7 +4,7 @@
 ghost use Rattle.std.specs.Prelude.{◌≡◌, ℕ, suc, ◌<◌, ◌≤◌, ◌++◌, length, take, drop};
 ghost use Rattle.std.specs.Int.{w32, to_be_bytes};
 ghost use Rattle.store_api.specs.Areas.{PassesSum};
-ghost use Rattle.page_format.specs.Words.{lsn_of};
+ghost use Rattle.stored_pages.specs.Words.{lsn_of};
 ghost use Rattle.doublewrite.specs.Batches.{page_at};
 ghost use Rattle.law_logged_pages.specs.Stages.{AreBytes};
 ghost use Rattle.flusher.specs.Gathering.{IsSealed, Gathers};
@@ -12,7 +12,7 @@ ghost use Rattle.flusher.specs.Gathering.{IsSealed, Gathers};
 use big_endian::{u32_bytes, u64_bytes};
 use buffer_pool::Pool;
 use doublewrite::Batch;
-use page_format::read_u64;
+use stored_pages::read_u64;
 use sum64::fnv;
 
 const PAGE: usize = 4096;

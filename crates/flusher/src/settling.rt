@@ -6,7 +6,7 @@ ghost use Rattle.flusher.specs.Cleaning.{Cleans, CleansOne};
 
 use buffer_pool::Pool;
 use doublewrite::Batch;
-use page_format::{read_u32, read_u64};
+use stored_pages::{read_u32, read_u64};
 
 /// A page is in its place as these bytes. It is clean, unless it was changed since.
 fn settle_page(pool: &mut Pool, bytes: &[u8])

@@ -6,7 +6,7 @@ ghost use Rattle.inno_types.specs.Order.{IsBelow};
 ghost use Rattle.store_api.specs.Areas.{State, Contents};
 ghost use Rattle.store_api.specs.Causes.{HasCause};
 ghost use Rattle.store_api.specs.Past.{Now, Meanwhile};
-ghost use Rattle.page_format.specs.Words.{lsn_of};
+ghost use Rattle.stored_pages.specs.Words.{lsn_of};
 ghost use Rattle.log_format.specs.declared.group.Group.{Group as GroupValue};
 ghost use Rattle.redo_log.specs.View.{LogView};
 ghost use Rattle.redo_log.specs.Logged.{Stands, StandsMeanwhile};

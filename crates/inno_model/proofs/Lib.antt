@@ -1,2 +1,4 @@
 pub mod Untouched
 pub mod Commits
+pub mod Keeping
+pub mod Places

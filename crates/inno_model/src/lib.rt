@@ -2,9 +2,11 @@
 //! Everything that is proved of the engine is stated by the definitions of specs/.
 #![tactic(auto)]
 
+mod board;
 mod event;
 mod history;
 
+pub use board::{Board, Phase, Recorded};
 pub use event::Event;
 pub use history::History;
 pub use inno_db::{Change, Db};

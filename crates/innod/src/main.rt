@@ -3,8 +3,7 @@
 //! it has done. All that it does there is `script_runner::run`.
 #![tactic(auto)]
 
-use disk_file::{FileDisk, FileSource, StdSink, SystemClock};
-use disk_mem::OpenGate;
+use disk_file::{FileDisk, FileSource, FreeGate, StdSink, SystemClock};
 use inno_types::{Bytes, Listed};
 use script_runner::{Fault, cause_line, run};
 use std::alloc::{AllocError, Global};
@@ -35,7 +34,7 @@ fn main(rt: HostRuntime) -> io::Result<ExitCode> {
         disk,
         &mut sink,
         &clock,
-        &OpenGate,
+        &FreeGate,
     );
     let (fault, status) = (outcome.fault, outcome.status);
     drop(outcome);

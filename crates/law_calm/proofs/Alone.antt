@@ -25,17 +25,17 @@ use Rattle.sql_history.specs.Counts.{has_stopped}
 use Rattle.sql_history.specs.Legal.{IsLegal, MayEnd, EndsBy, EndsItem, EndsEarly, EndsAsked, EndsTaken, EndsCreate, AnswersRows, is_alone}
 use Rattle.sql_history.specs.Serial.{Piece, compared, with_later, AreWorks, after_work, WorkAnswers, WorksAnswer, alone, AnswersAsAlone}
 use Rattle.sql_history.proofs.Pasts.{commit_adds, point_now, point_closing, point_stays}
-use Rattle.law_work.specs.Work.{AllIn, committed_db}
-use Rattle.law_work.proofs.Pieces.{tracks-work, tracks-answers}
-use Rattle.law_work.proofs.Alike.{ReadsOne}
-use Rattle.law_work.proofs.Entries.{by_session, no_item, before_settled, begun_settled, true_false, some_none}
-use Rattle.law_work.proofs.Outcomes.{creation-answer}
+use Rattle.law_histories.specs.Work.{AllIn, committed_db}
+use Rattle.law_histories.proofs.Pieces.{tracks-work, tracks-answers}
+use Rattle.law_histories.proofs.Alike.{ReadsOne}
+use Rattle.law_histories.proofs.Entries.{by_session, no_item, before_settled, begun_settled, true_false, some_none}
+use Rattle.law_histories.proofs.Outcomes.{creation-answer}
 use Rattle.law_calm.proofs.Commits.{commit_work}
 use Rattle.law_calm.specs.Calm.{IsUnbroken, SeesLatest, IsCalm, AreCalm}
 use Rattle.law_calm.proofs.Spans.{Spans, unbroken_step}
 use Rattle.law_calm.proofs.Carried.{over_more}
 use Rattle.law_calm.proofs.Kept.{all_kept}
-use Rattle.law_work.proofs.Items.{did_same}
+use Rattle.law_histories.proofs.Items.{did_same}
 
 -- ---- points
 

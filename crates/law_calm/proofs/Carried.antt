@@ -23,9 +23,9 @@ use Rattle.sql_history.specs.Counts.{has_stopped}
 use Rattle.sql_history.specs.Legal.{IsLegal, ChangesBy, MayUndo, is_leaving}
 use Rattle.sql_history.specs.Serial.{Piece, HasDone, pieces_to}
 use Rattle.sql_history.proofs.Pasts.{commit_adds}
-use Rattle.law_work.proofs.Alike.{ReadsOne}
-use Rattle.law_work.proofs.Entries.{by_session, open_not, true_false, no_item}
-use Rattle.law_work.specs.Work.{committed_db, Tracks, settled}
+use Rattle.law_histories.proofs.Alike.{ReadsOne}
+use Rattle.law_histories.proofs.Entries.{by_session, open_not, true_false, no_item}
+use Rattle.law_histories.specs.Work.{committed_db, Tracks, settled}
 use Rattle.law_calm.specs.Calm.{IsCalm}
 use Rattle.law_calm.proofs.Going.{reads_back}
 use Rattle.law_calm.specs.Work.{IsDropped, Carries, HasWork}

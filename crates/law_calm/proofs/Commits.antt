@@ -21,11 +21,11 @@ use Rattle.sql_history.specs.Serial.{Piece, HasWorked, compared}
 use Rattle.sql_history.proofs.Pasts.{point_now}
 use Rattle.law_db.specs.RowChanges.{AreOfTables}
 use Rattle.law_beside.proofs.Apart.{schemas_stay}
-use Rattle.law_work.specs.Work.{AllIn, committed_db, IsReplied, Tracks, settled}
-use Rattle.law_work.proofs.Pieces.{tracks-in}
-use Rattle.law_work.proofs.Alike.{ReadsOne, keeps_changes, never_begins}
-use Rattle.law_work.proofs.Entries.{open_not, begun_settled, now_base, level_kept, true_false}
-use Rattle.law_work.proofs.Items.{kept_own, none_begun}
+use Rattle.law_histories.specs.Work.{AllIn, committed_db, IsReplied, Tracks, settled}
+use Rattle.law_histories.proofs.Pieces.{tracks-in}
+use Rattle.law_histories.proofs.Alike.{ReadsOne, keeps_changes, never_begins}
+use Rattle.law_histories.proofs.Entries.{open_not, begun_settled, now_base, level_kept, true_false}
+use Rattle.law_histories.proofs.Items.{kept_own, none_begun}
 use Rattle.law_calm.specs.Calm.{SeesLatest, IsCalm}
 use Rattle.law_calm.specs.Work.{HasWork}
 use Rattle.law_calm.proofs.Standing.{stands_whole}

@@ -11,8 +11,8 @@ use Rattle.inno_model.specs.Past.{under_way, did, begins_txn, changed, IsOpen}
 use Rattle.sql_history.specs.Items.{Language, is_over, base, point}
 use Rattle.sql_history.specs.Legal.{IsLegal}
 use Rattle.sql_history.proofs.Pasts.{point_now, point_closing, point_stays}
-use Rattle.law_work.specs.Work.{committed_db, settled}
-use Rattle.law_work.proofs.Entries.{by_session, no_item, now_base, true_false}
+use Rattle.law_histories.specs.Work.{committed_db, settled}
+use Rattle.law_histories.proofs.Entries.{by_session, no_item, now_base, true_false}
 use Rattle.law_calm.specs.Calm.{IsCalm}
 
 module _ (says : Language) (s : ℕ) (text table : List ℕ) (skips : Bool) (definitions : List Definition)

@@ -8,8 +8,8 @@ use Rattle.inno_model.specs.declared.event.Event.TheVariants.{Begin, Started, En
 use Rattle.inno_model.specs.Past.{under_way, did, begins_txn, commits_txn, rolls_back_txn}
 use Rattle.sql_history.specs.Items.{Language, Asks}
 use Rattle.sql_history.specs.Legal.{IsLegal, BeginsBy, CommitsBy, RollsBackBy}
-use Rattle.law_work.proofs.Alike.{ReadsOne}
-use Rattle.law_work.proofs.Entries.{by_session, no_item}
+use Rattle.law_histories.proofs.Alike.{ReadsOne}
+use Rattle.law_histories.proofs.Entries.{by_session, no_item}
 
 abbrev pub GoesNowhere : ℕ → List Event → Type 0
 GoesNowhere s past = (did begins_txn s past ≡ false) × (did commits_txn s past ≡ false) × (did rolls_back_txn s past ≡ false)

@@ -15,12 +15,12 @@ use Rattle.sql_history.specs.Items.{Language}
 use Rattle.sql_history.specs.Settings.{at_first}
 use Rattle.sql_history.specs.Counts.{has_stopped}
 use Rattle.sql_history.specs.Legal.{IsLegal, MayEnd, EndsBy, EndsSignal, EndsAwait}
-use Rattle.law_work.specs.Work.{AllIn, committed_db}
-use Rattle.law_work.proofs.Placing.{AllIn-append}
-use Rattle.law_work.proofs.Pieces.{tracks-in}
-use Rattle.law_work.proofs.Alike.{ReadsOne}
-use Rattle.law_work.proofs.Entries.{by_session, open_not, true_false, some_none}
-use Rattle.law_work.proofs.Items.{empty_unmoved}
+use Rattle.law_histories.specs.Work.{AllIn, committed_db}
+use Rattle.law_histories.proofs.Placing.{AllIn-append}
+use Rattle.law_histories.proofs.Pieces.{tracks-in}
+use Rattle.law_histories.proofs.Alike.{ReadsOne}
+use Rattle.law_histories.proofs.Entries.{by_session, open_not, true_false, some_none}
+use Rattle.law_histories.proofs.Items.{empty_unmoved}
 use Rattle.law_calm.specs.Calm.{SeesLatest, IsCalm, AreCalm}
 use Rattle.law_calm.specs.Work.{HasWork}
 use Rattle.law_calm.proofs.Carried.{work_other, work_mine}

@@ -26,8 +26,8 @@ use Rattle.sql_history.specs.Items.{Language}
 use Rattle.sql_history.specs.Statements.{is_on_rows}
 use Rattle.sql_history.specs.Serial.{Piece, HasDone, DoesItem, with_item, with_answer, pieces_to, is_kept_as}
 use Rattle.law_db.specs.RowChanges.{AreOfTables}
-use Rattle.law_work.proofs.Entries.{by_session}
-use Rattle.law_work.specs.Work.{Tracks}
+use Rattle.law_histories.proofs.Entries.{by_session}
+use Rattle.law_histories.specs.Work.{Tracks}
 use Rattle.law_beside.specs.Beside.{is_change_at, touches, AreOfRows}
 use Rattle.law_calm.specs.Pieces.{is_answered, AreAnswered}
 use Rattle.law_beside.proofs.Apart.{schemas_stay}

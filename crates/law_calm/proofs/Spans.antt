@@ -17,10 +17,10 @@ use Rattle.sql_history.specs.Statements.{is_on_rows, is_select}
 use Rattle.sql_history.specs.Answers.{seen_by}
 use Rattle.sql_history.specs.Waiting.{is_victim}
 use Rattle.sql_history.specs.Legal.{IsLegal}
-use Rattle.law_work.specs.Work.{AllIn}
-use Rattle.law_work.proofs.Placing.{rows_over}
-use Rattle.law_work.proofs.Alike.{Alike, ReadsOne, commits_rows, rolls_back_rows, select_changes}
-use Rattle.law_work.proofs.Entries.{by_session, no_item, open_is, level_kept, true_false}
+use Rattle.law_histories.specs.Work.{AllIn}
+use Rattle.law_histories.proofs.Placing.{rows_over}
+use Rattle.law_histories.proofs.Alike.{Alike, ReadsOne, commits_rows, rolls_back_rows, select_changes}
+use Rattle.law_histories.proofs.Entries.{by_session, no_item, open_is, level_kept, true_false}
 use Rattle.law_calm.specs.Calm.{IsUnbroken}
 
 pub alone_closed : (autocommit : Bool) (l : Option Level) → (autocommit && is_none l) ≡ true → l ≡ None

@@ -15,15 +15,15 @@ use Rattle.sql_history.specs.Settings.{Setting, HasSet, made_at, back_to}
 use Rattle.sql_history.specs.Waiting.{is_victim}
 use Rattle.sql_history.specs.Legal.{IsLegal, UndoesBy, MayUndo}
 use Rattle.sql_history.specs.Serial.{Piece, HasDone, pieces_to}
-use Rattle.law_work.proofs.Alike.{ReadsOne}
-use Rattle.law_work.proofs.Entries as entries
-use Rattle.law_work.proofs.Items.{set_kept, set_one}
-use Rattle.law_work.specs.Work.{Tracks}
-use Rattle.law_work.proofs.Pieces.{tracks-back}
+use Rattle.law_histories.proofs.Alike.{ReadsOne}
+use Rattle.law_histories.proofs.Entries as entries
+use Rattle.law_histories.proofs.Items.{set_kept, set_one}
+use Rattle.law_histories.specs.Work.{Tracks}
+use Rattle.law_histories.proofs.Pieces.{tracks-back}
 use Rattle.law_calm.proofs.Going.{reads_back, goes_nowhere}
 use Rattle.law_beside.specs.Beside.{touches, AreOfRows}
 use Rattle.law_calm.specs.Pieces.{AreBeside, AreAnswered}
-use Rattle.law_work.specs.Work.{settled}
+use Rattle.law_histories.specs.Work.{settled}
 use Rattle.law_calm.specs.Standing.{HasStanding}
 use Rattle.law_calm.specs.Work.{IsDropped, IsLost, Back, Carries}
 use Rattle.law_calm.proofs.Beside.{tracks_beside, touches-append, or_right}

@@ -29,13 +29,13 @@ use Rattle.sql_history.specs.Counts.{has_stopped}
 use Rattle.sql_history.specs.Legal.{IsLegal, is_alone, sight_in, AnswersRows, EndsRows, EndsTaken, EndsCreate, EndsSavepoint, EndsAutocommit, EndsAsked, EndsEarly, EndsItem, IsGivenUp, LeavesIt, CommittedFirst, BringsCommit}
 use Rattle.sql_history.specs.Serial.{Piece, with_item, with_answer, DoesItem}
 use Rattle.sql_history.proofs.Pasts.{point_now}
-use Rattle.law_work.specs.Work.{AllIn, committed_db, Tracks, settled}
-use Rattle.law_work.proofs.Placing.{AllIn-append}
-use Rattle.law_work.proofs.Pieces.{tracks-in, tracks-without}
-use Rattle.law_work.proofs.Alike.{ReadsOne, sets_nothing, keeps_changes}
-use Rattle.law_work.proofs.Entries.{before_settled, now_base, unbegun_settled, begun_settled, closed_own, legal_before, open_not}
-use Rattle.law_work.proofs.Outcomes.{is_answer, outcome-plain}
-use Rattle.law_work.proofs.Items.{IsUnmoved, set_kept, set_one, kept_own, begun_closed, empty_unmoved, backs_out, goes_on}
+use Rattle.law_histories.specs.Work.{AllIn, committed_db, Tracks, settled}
+use Rattle.law_histories.proofs.Placing.{AllIn-append}
+use Rattle.law_histories.proofs.Pieces.{tracks-in, tracks-without}
+use Rattle.law_histories.proofs.Alike.{ReadsOne, sets_nothing, keeps_changes}
+use Rattle.law_histories.proofs.Entries.{before_settled, now_base, unbegun_settled, begun_settled, closed_own, legal_before, open_not}
+use Rattle.law_histories.proofs.Outcomes.{is_answer, outcome-plain}
+use Rattle.law_histories.proofs.Items.{IsUnmoved, set_kept, set_one, kept_own, begun_closed, empty_unmoved, backs_out, goes_on}
 use Rattle.law_calm.specs.Calm.{IsUnbroken, SeesLatest}
 use Rattle.law_calm.specs.Work.{HasWork}
 use Rattle.law_calm.proofs.Standing.{stands_whole, back_ends}

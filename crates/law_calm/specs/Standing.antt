@@ -5,7 +5,7 @@ use Rattle.inno_model.specs.declared.event.Event.{Event}
 use Rattle.inno_model.specs.Past.{own}
 use Rattle.sql_history.specs.Items.{Language, Asks}
 use Rattle.sql_history.specs.Serial.{Piece, HasDone, pieces_to}
-use Rattle.law_work.specs.Work.{settled}
+use Rattle.law_histories.specs.Work.{settled}
 
 -- The item under way has put back some of what stood before it: of the work, what lies before the savepoint that it asks
 -- for is left, and with a rollback of the whole transaction nothing.

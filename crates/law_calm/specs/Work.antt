@@ -13,7 +13,7 @@ use Rattle.sql_history.specs.Waiting.{is_victim}
 use Rattle.sql_history.specs.Counts.{has_stopped}
 use Rattle.sql_history.specs.Legal.{is_leaving}
 use Rattle.sql_history.specs.Serial.{Piece, HasDone, pieces_to}
-use Rattle.law_work.specs.Work.{committed_db, Tracks, settled}
+use Rattle.law_histories.specs.Work.{committed_db, Tracks, settled}
 
 module _ (says : Language) where
   -- the transaction is on its way to be rolled back whole

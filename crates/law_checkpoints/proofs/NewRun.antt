@@ -7,12 +7,12 @@ use Rattle.std.proofs.lemmas.List.Elements.{All-nil, All-contains}
 use Rattle.store_api.specs.Areas.{State, Image, Write, Contents, Puts, MayLeave, IsImage, IsHonest, IsHonestArea, end_of}
 use Rattle.schema_codec.specs.Numbers.{u32_bytes}
 use Rattle.schema_codec.proofs.Lengths.{length-u32}
-use Rattle.page_format.specs.Words.{number_of, lsn_of}
+use Rattle.stored_pages.specs.Words.{number_of, lsn_of}
 use Rattle.log_format.specs.declared.group.Group.{Group}
 use Rattle.log_format.specs.Group.{group_bytes, body}
 use Rattle.log_format.specs.Scan.{NoGroup}
 use Rattle.redo_log.specs.Logged.{LeavesPrefix}
-use Rattle.doublewrite.specs.Reading.{IsGoodPage, IsPageIn, place_of}
+use Rattle.stored_pages.specs.Reading.{IsGoodPage, IsPageIn, place_of}
 use Rattle.doublewrite.specs.Batches.{BatchView, IsInBatch, IsInBatchToo, page_at}
 use Rattle.doublewrite.specs.Kept.{HadCopy, Spares, IsSettled, WasPage, IsPageReady, KeepsPages}
 use Rattle.law_logged_pages.specs.Applied.{logical}

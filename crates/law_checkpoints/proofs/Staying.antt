@@ -5,9 +5,9 @@ use Rattle.std.specs.Prelude.{All, Contains}
 use Rattle.std.proofs.lemmas.Bool.{cases_eq, cases_lt}
 use Rattle.std.proofs.lemmas.List.Elements.{All-nil}
 use Rattle.store_api.specs.Areas.{State, Write, WasWhole, Puts}
-use Rattle.page_format.specs.Words.{lsn_of}
+use Rattle.stored_pages.specs.Words.{lsn_of}
 use Rattle.log_format.specs.declared.group.Group.{Group}
-use Rattle.doublewrite.specs.Reading.{IsGoodPage, place_of}
+use Rattle.stored_pages.specs.Reading.{IsGoodPage, place_of}
 use Rattle.doublewrite.specs.Batches.{StagedView, IsInBatch, page_at}
 use Rattle.doublewrite.specs.Kept.{HadCopy, Spares, IsSettled, WasPage, IsStaged, HasPlaced}
 use Rattle.law_logged_pages.specs.Stages.{AreBytes, SameButSum, WasOnce, IsStage}

@@ -1,7 +1,7 @@
 -- A checkpoint: page 0 alone is a batch, and says a new run, whose log is empty.
 use Rattle.std.specs.Prelude.{◌≡◌, ◌⊎◌, ℕ, ◌+◌, ◌<◌, ◌==◌, if◌then◌else◌, Some, List, length}
 use Rattle.store_api.specs.Areas.{State, MayLeave, IsHonestArea}
-use Rattle.page_format.specs.Words.{lsn_of}
+use Rattle.stored_pages.specs.Words.{lsn_of}
 use Rattle.log_format.specs.declared.group.Group.{Group}
 use Rattle.log_format.specs.Block.{IsGood}
 use Rattle.doublewrite.specs.Batches.{BatchView, IsBatch, page_at, number_at}

@@ -7,7 +7,7 @@ ghost use Rattle.log_format.specs.declared.group.Group.{Group as GroupValue};
 ghost use Rattle.redo_log.specs.Logged.{LeavesPrefix};
 ghost use Rattle.doublewrite.specs.Batches.{BatchView, StagedView, page_at};
 ghost use Rattle.doublewrite.specs.Kept.{KeepsPages, IsStaged, HasPlaced};
-ghost use Rattle.doublewrite.specs.Reading.{IsPageIn};
+ghost use Rattle.stored_pages.specs.Reading.{IsPageIn};
 ghost use Rattle.law_logged_pages.specs.Applied.{logical};
 ghost use Rattle.law_logged_pages.specs.Keeping.{IsRun, IsPlaced};
 ghost use Rattle.page_recovery.specs.Leaving.{IsFileRun, LeavesRun};

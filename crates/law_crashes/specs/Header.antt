@@ -1,7 +1,7 @@
 -- Page 0 of files that keep no rows in pages: which run the log is of, and the LSN of the log's first group.
 use Rattle.std.specs.Prelude.{◌≡◌, ℕ, List, Some}
-use Rattle.page_format.specs.Words.{u32_at, u64_at}
-use Rattle.doublewrite.specs.Reading.{IsPageIn}
+use Rattle.stored_pages.specs.Words.{u32_at, u64_at}
+use Rattle.stored_pages.specs.Reading.{IsPageIn}
 
 -- the bytes `INNODPRF` as a number
 abbrev pub magic : ℕ

@@ -17,7 +17,8 @@ use Rattle.page_format.specs.Words.{low_of, high_of, right_of, level_of, records
 use Rattle.page_format.specs.Found.{IsFound}
 use Rattle.page_format.specs.Changes.{KeepsFields}
 use Rattle.page_format.proofs.Edited.{same_byte, middle_byte, middle_part}
-use Rattle.page_format.specs.Words.{u32_at, fence}
+use Rattle.page_format.specs.Words.{fence}
+use Rattle.stored_pages.specs.Words.{u32_at}
 use Rattle.std.specs.Int.{w32, from_be_bytes}
 use Rattle.page_format.specs.declared.records.Found.TheVariants.{At, Before}
 use Rattle.law_flat_tree.specs.Levels.{Fence, AreHalves}

@@ -8,10 +8,10 @@ use Rattle.inno_types.specs.declared.value.Schema.{Schema}
 use Rattle.inno_db.specs.Database.{Database, rows_of}
 use Rattle.inno_model.specs.Past.{own, view_of, commits, changed}
 use Rattle.entries.specs.Pairs.{Pair}
-use Rattle.chain.specs.declared.kept.Kept.{Kept}
+use Rattle.row_versions.specs.declared.kept.Kept.{Kept}
 use Rattle.row_versions.specs.Chains.{Chains, newest}
-use Rattle.law_coded_rows.specs.Records.{IsClustered}
-use Rattle.law_coded_rows.specs.Tables.{in_table}
+use Rattle.law_stored_rows.specs.Records.{IsClustered}
+use Rattle.law_stored_rows.specs.Tables.{in_table}
 use Rattle.sql_plan.specs.Visits.{IsRowOf}
 use Rattle.law_past_agreement.specs.Rows.{seen}
 use Rattle.law_past_agreement.specs.DatabaseTables.{with_all_tables}

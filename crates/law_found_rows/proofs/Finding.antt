@@ -3,11 +3,11 @@ use Rattle.std.proofs.Common.{◌≡◌, ◌≤◌, ◌<◌, sym, subst, ℕ, le
 use Rattle.inno_types.specs.declared.value.Schema.{Schema}
 use Rattle.entries.specs.Pairs.{Pair}
 use Rattle.store_api.specs.declared.moves.Move.{Move}
-use Rattle.chain.specs.declared.kept.Kept.{Kept}
-use Rattle.chain.specs.Versions.{Stays}
+use Rattle.row_versions.specs.declared.kept.Kept.{Kept}
+use Rattle.row_versions.specs.Versions.{Stays}
 use Rattle.row_versions.specs.Chains.{Chains}
-use Rattle.law_coded_rows.specs.Records.{KeepsMore}
-use Rattle.law_coded_rows.specs.Tables.{in_table}
+use Rattle.law_stored_rows.specs.Records.{KeepsMore}
+use Rattle.law_stored_rows.specs.Tables.{in_table}
 use Rattle.world.specs.State.{WorldState}
 use Rattle.world.specs.Told.{IsTold}
 use Rattle.row_search.specs.declared.scan.Scan.{Scan}

@@ -13,9 +13,9 @@ use Rattle.row_codec.specs.Rows.{IsRowOf as IsCodableRow}
 use Rattle.sql_plan.specs.Visits.{IsRowOf}
 use Rattle.row_search.proofs.Keys.{fits_in}
 use Rattle.row_search.proofs.Others.{bits_in}
-use Rattle.law_fitting_rows.specs.Fitting.{FitsTable, AreFitting}
-use Rattle.law_fitting_rows.specs.Numbers.{RowsHave64Bits}
-use Rattle.law_fitting_rows.proofs.Rows.{IsFoundIn, all_found, at_schema}
+use Rattle.law_stored_rows.specs.Fitting.{FitsTable, AreFitting}
+use Rattle.law_stored_rows.specs.Numbers.{RowsHave64Bits}
+use Rattle.law_stored_rows.proofs.Rows.{IsFoundIn, all_found, at_schema}
 
 -- what holds of the row of each key of a table holds of the table's rows
 module _ (P : List Value → Type 0) (db : Database) (n : ℕ) (each : (key : Value) (row : List Value) → get db.rows (n, key) ≡ Some row → P row) where

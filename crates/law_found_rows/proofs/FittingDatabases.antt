@@ -21,12 +21,12 @@ use Rattle.law_past_agreement.proofs.Tables.{key_stays}
 use Rattle.law_past_agreement.specs.DatabaseTables.{with_all_tables}
 use Rattle.sql_history.specs.Items.{own_before, base}
 use Rattle.sql_lists.specs.Kept.{made, AreInOrder, IsInOrder, AreStanding}
-use Rattle.law_fitting_rows.specs.Storable.{AreStorable}
-use Rattle.law_fitting_rows.specs.Fitting.{FitsTables, AreFitting}
-use Rattle.law_fitting_rows.specs.Numbers.{ChangeHas64Bits, RowsHave64Bits, Stores64Bits}
-use Rattle.law_fitting_rows.proofs.Applying.{AreFitting-apply_one, AreFitting-changed, AreFitting-no_rows, AreFitting-mixed}
-use Rattle.law_fitting_rows.proofs.Numbers.{changed-Has64Bits, empty-Has64Bits, outcome-Has64Bits}
-use Rattle.law_fitting_rows.proofs.Outcomes.{outcome-FitsTables}
+use Rattle.law_stored_rows.specs.Storable.{AreStorable}
+use Rattle.law_stored_rows.specs.Fitting.{FitsTables, AreFitting}
+use Rattle.law_stored_rows.specs.Numbers.{ChangeHas64Bits, RowsHave64Bits, Stores64Bits}
+use Rattle.law_stored_rows.proofs.Applying.{AreFitting-apply_one, AreFitting-changed, AreFitting-no_rows, AreFitting-mixed}
+use Rattle.law_stored_rows.proofs.Numbers.{changed-Has64Bits, empty-Has64Bits, outcome-Has64Bits}
+use Rattle.law_stored_rows.proofs.Outcomes.{outcome-FitsTables}
 use Rattle.shared_lists.specs.Fitting.{CanBeCoded, FitsWell, FitsThen}
 use Rattle.law_found_rows.proofs.FittingChanges.{none_there, tables_storable, own_fits, own_before_fits, committed_fits}
 

@@ -12,9 +12,9 @@ use Rattle.inno_types.specs.declared.value.Value.{Value}
 use Rattle.inno_types.specs.declared.value.Schema.{Schema}
 use Rattle.inno_db.specs.Database.{place_cmp, value_cmp, key_of}
 use Rattle.entries.specs.Pairs.{key_cmp}
-use Rattle.law_coded_rows.specs.Entries.{is_same_value}
-use Rattle.law_coded_rows.proofs.Values.{in_one_table, same_value}
-use Rattle.law_coded_rows.proofs.FirstPlaces.{keys_order}
+use Rattle.law_stored_rows.specs.Entries.{is_same_value}
+use Rattle.law_stored_rows.proofs.Values.{in_one_table, same_value}
+use Rattle.law_stored_rows.proofs.FirstPlaces.{keys_order}
 use Rattle.sql_plan.specs.Visits.{kind_at, primary_key}
 use Rattle.law_past_agreement.specs.DatabaseTables.{at_places, rows_in}
 use Rattle.row_search.specs.declared.found.FoundRow.{FoundRow}

@@ -15,7 +15,7 @@ use Rattle.inno_model.proofs.Untouched.{untouched}
 use Rattle.inno_model.proofs.Commits.{committed_stays, view_within}
 use Rattle.row_versions.specs.declared.place.Place.{Place}
 use Rattle.row_versions.specs.Chains.{Chains, first_seen, sees}
-use Rattle.law_coded_rows.specs.Tables.{in_table}
+use Rattle.law_stored_rows.specs.Tables.{in_table}
 use Rattle.law_past_agreement.specs.Order.{created, IsTabled, IsOrdered, IsNoOthers}
 use Rattle.law_past_agreement.specs.Rows.{is_at, row_at, row_of, row_opened, seen, row_seen}
 use Rattle.law_past_agreement.specs.Agreement.{ViewAgrees}

@@ -9,10 +9,10 @@ use Rattle.entries.specs.Pairs.{Pair}
 use Rattle.row_versions.specs.declared.place.Place.{Place}
 use Rattle.row_versions.specs.declared.version.Version.{Version}
 use Rattle.row_versions.specs.Chains.{Chains, versions_at, first_seen, older, is_same_place}
-use Rattle.law_coded_rows.specs.Edits.{clustered_index, key_index}
-use Rattle.law_coded_rows.specs.Entries.{value_in, has_value}
-use Rattle.law_coded_rows.specs.Tables.{Said, HasItsColumns, AreCodedAs, AreCoded, LagAt, in_table, what_is_there}
-use Rattle.law_coded_rows.proofs.Values.{same_place}
+use Rattle.law_stored_rows.specs.Edits.{clustered_index, key_index}
+use Rattle.law_stored_rows.specs.Entries.{value_in, has_value}
+use Rattle.law_stored_rows.specs.Tables.{Said, HasItsColumns, AreCodedAs, AreCoded, LagAt, in_table, what_is_there}
+use Rattle.law_stored_rows.proofs.Values.{same_place}
 use Rattle.world.specs.State.{WorldState, index_of}
 use Rattle.world.specs.Told.{IsTold, pairs_in, pairs_of}
 use Rattle.row_search.specs.declared.scan.Scan.{Scan}
@@ -20,7 +20,7 @@ use Rattle.row_search.specs.Sights.{sees_by, rows_seen}
 use Rattle.row_search.specs.Tables.{most_versions, ShowsTable, HoldsTable, HaveKeys, ShowsRows}
 use Rattle.row_search.proofs.Keys.{key_there_at}
 use Rattle.row_search.proofs.Others.{in_clustered, in_keyed, seen_among}
-use Rattle.law_coded_rows.specs.Tables.{TellsOfOlder}
+use Rattle.law_stored_rows.specs.Tables.{TellsOfOlder}
 
 told_pairs : (found : Option (List Pair)) → IsSome found → found ≡ Some (pairs_in found)
 told_pairs None is = cc

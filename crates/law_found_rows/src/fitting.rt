@@ -14,8 +14,8 @@ ghost use Rattle.law_past_agreement.specs.Rows.{seen};
 ghost use Rattle.law_past_agreement.specs.DatabaseTables.{with_all_tables};
 ghost use Rattle.sql_history.specs.Items.{own_before, base};
 ghost use Rattle.sql_lists.specs.Kept.{AreStanding, IsInOrder};
-ghost use Rattle.law_fitting_rows.specs.Storable.{AreStorable};
-ghost use Rattle.law_fitting_rows.specs.Numbers.{Stores64Bits};
+ghost use Rattle.law_stored_rows.specs.Storable.{AreStorable};
+ghost use Rattle.law_stored_rows.specs.Numbers.{Stores64Bits};
 ghost use Rattle.shared_lists.specs.Fitting.{CanBeCoded, FitsWell, FitsThen};
 
 /// Each table that was made can be stored.

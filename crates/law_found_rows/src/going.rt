@@ -5,7 +5,7 @@ ghost use Rattle.std.specs.Global.{Global};
 ghost use Rattle.inno_types.specs.declared.value.Schema.{Schema};
 ghost use Rattle.store_api.specs.declared.moves.Move.{Move};
 ghost use Rattle.row_versions.specs.Chains.{Chains};
-ghost use Rattle.law_coded_rows.specs.Tables.{in_table};
+ghost use Rattle.law_stored_rows.specs.Tables.{in_table};
 ghost use Rattle.world.specs.State.{WorldState};
 ghost use Rattle.world.specs.Told.{IsTold};
 ghost use Rattle.row_search.specs.declared.found.FoundRow.{FoundRow};

@@ -12,8 +12,8 @@ ghost use Rattle.sql_plan.specs.declared.choice.Plan.{Plan};
 ghost use Rattle.sql_plan.specs.Covers.{CoversMatches};
 ghost use Rattle.inno_types.specs.Ranges.{is_within};
 ghost use Rattle.sql_plan.specs.Visits.{index_key, IsRowOf};
-ghost use Rattle.law_fitting_rows.specs.Fitting.{AreFitting};
-ghost use Rattle.law_fitting_rows.specs.Numbers.{RowsHave64Bits};
+ghost use Rattle.law_stored_rows.specs.Fitting.{AreFitting};
+ghost use Rattle.law_stored_rows.specs.Numbers.{RowsHave64Bits};
 ghost use Rattle.law_found_rows.specs.Plans.{SearchesFor, IsOpenRange};
 
 /// With only those rows that lie in its plan's range a statement has the outcome that it has with all: where the plan covers

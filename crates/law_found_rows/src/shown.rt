@@ -5,13 +5,13 @@ ghost use Rattle.inno_types.specs.declared.value.Schema.{Schema};
 ghost use Rattle.row_versions.specs.declared.place.Place.{Place};
 ghost use Rattle.row_versions.specs.declared.version.Version.{Version};
 ghost use Rattle.row_versions.specs.Chains.{Chains, versions_at};
-ghost use Rattle.law_coded_rows.specs.Tables.{Said, HasItsColumns, AreCodedAs, AreCoded, LagAt, in_table};
+ghost use Rattle.law_stored_rows.specs.Tables.{Said, HasItsColumns, AreCodedAs, AreCoded, LagAt, in_table};
 ghost use Rattle.world.specs.State.{WorldState};
 ghost use Rattle.world.specs.Told.{IsTold, pairs_of};
 ghost use Rattle.row_search.specs.declared.scan.Scan.{Scan};
 ghost use Rattle.row_search.specs.Sights.{sees_by};
 ghost use Rattle.row_search.specs.Tables.{most_versions, HoldsTable, ShowsRows};
-ghost use Rattle.law_coded_rows.specs.Tables.{TellsOfOlder};
+ghost use Rattle.law_stored_rows.specs.Tables.{TellsOfOlder};
 
 /// A world whose indexes are certain rows shows them to each search. While keys lag it shows them to a search through the
 /// clustered index; and to one through a key where they lag at one place alone, tell of all its versions but the newest, and

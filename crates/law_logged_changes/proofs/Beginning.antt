@@ -7,15 +7,15 @@ use Rattle.inno_types.specs.declared.value.Schema.{Schema}
 use Rattle.inno_db.specs.declared.change.Change.{Change}
 use Rattle.key_codec.specs.Keys.{HasKey, key_code}
 use Rattle.entries.specs.Pairs.{Pair}
-use Rattle.chain.specs.declared.kept.Kept.{Kept}
+use Rattle.row_versions.specs.declared.kept.Kept.{Kept}
 use Rattle.row_versions.specs.declared.place.Place.{Place}
 use Rattle.row_versions.specs.declared.version.Version.{Version}
 use Rattle.row_versions.specs.Chains.{Chains, versions_at, is_same_place, older}
-use Rattle.law_coded_rows.specs.Entries.{entry_of, TellAlike}
-use Rattle.law_coded_rows.specs.Records.{shown}
-use Rattle.law_coded_rows.specs.Tables.{Said, in_table, AreCodedAs, LagAt, what_is_there}
-use Rattle.law_coded_rows.proofs.Values.{one_key, same_place}
-use Rattle.law_coded_rows.proofs.Keys.{said_alike}
+use Rattle.law_stored_rows.specs.Entries.{entry_of, TellAlike}
+use Rattle.law_stored_rows.specs.Records.{shown}
+use Rattle.law_stored_rows.specs.Tables.{Said, in_table, AreCodedAs, LagAt, what_is_there}
+use Rattle.law_stored_rows.proofs.Values.{one_key, same_place}
+use Rattle.law_stored_rows.proofs.Keys.{said_alike}
 use Rattle.law_past_agreement.specs.Rows.{place_in}
 use Rattle.world.specs.State.{WorldState, Logged}
 use Rattle.world.specs.Told.{IsTold, pairs_of}

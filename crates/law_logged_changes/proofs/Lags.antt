@@ -9,9 +9,9 @@ use Rattle.store_api.specs.declared.answers.Version.{Version as Coded}
 use Rattle.row_versions.specs.declared.place.Place.{Place}
 use Rattle.row_versions.specs.declared.version.Version.{Version}
 use Rattle.row_versions.specs.Chains.{Chains}
-use Rattle.law_coded_rows.specs.Entries.{has_value}
-use Rattle.law_coded_rows.specs.Records.{shown}
-use Rattle.law_coded_rows.specs.Tables.{AreClustered, AreCoded}
+use Rattle.law_stored_rows.specs.Entries.{has_value}
+use Rattle.law_stored_rows.specs.Records.{shown}
+use Rattle.law_stored_rows.specs.Tables.{AreClustered, AreCoded}
 use Rattle.world.specs.State.{WorldState}
 use Rattle.world.specs.Told.{IsTold, pairs_of}
 use Rattle.undo_apply.specs.declared.work_room.WorkRoom.{WorkRoom}

@@ -7,9 +7,9 @@ use Rattle.inno_db.specs.declared.change.Change.{Change}
 use Rattle.inno_db.specs.declared.change.Change.TheVariants.{Create}
 use Rattle.inno_model.specs.Past.{own}
 use Rattle.entries.specs.Pairs.{value_of}
-use Rattle.chain.specs.declared.kept.Kept.{Kept}
-use Rattle.law_coded_rows.specs.Edits.{clustered_index, key_index}
-use Rattle.law_coded_rows.proofs.Pairs.{no_key}
+use Rattle.row_versions.specs.declared.kept.Kept.{Kept}
+use Rattle.law_stored_rows.specs.Edits.{clustered_index, key_index}
+use Rattle.law_stored_rows.proofs.Pairs.{no_key}
 use Rattle.world.specs.State.{WorldState, Session, Work, Logged, HasWork}
 use Rattle.world.specs.Told.{pairs_of, IsTold, LeavesRows}
 use Rattle.row_changes.specs.Asides.{StepsAside}

@@ -9,3 +9,8 @@ pub mod TakenBack
 pub mod Cutting
 pub mod Logging
 pub mod Crossing
+pub mod Listed
+pub mod Staying
+pub mod Entering
+pub mod ReadersLeft
+pub mod Readable

@@ -13,15 +13,15 @@ use Rattle.inno_model.specs.declared.event.Event.TheVariants.{Changed}
 use Rattle.store_api.specs.declared.answers.Undo.{Undo}
 use Rattle.store_api.specs.declared.answers.Version.{Version as Coded}
 use Rattle.entries.specs.Pairs.{value_of}
-use Rattle.chain.specs.declared.kept.Kept.{Kept}
-use Rattle.chain.specs.Versions.{Stays}
+use Rattle.row_versions.specs.declared.kept.Kept.{Kept}
+use Rattle.row_versions.specs.Versions.{Stays}
 use Rattle.row_codec.specs.Rows.{version_code}
 use Rattle.row_versions.specs.declared.place.Place.{Place}
 use Rattle.row_versions.specs.Chains.{Chains}
-use Rattle.law_coded_rows.specs.Edits.{clustered_index, Puts}
-use Rattle.law_coded_rows.specs.Records.{IsCodeOf, KeepsMore}
-use Rattle.law_coded_rows.specs.Tables.{AreClustered}
-use Rattle.law_coded_rows.proofs.Pairs.{at_index, value_now}
+use Rattle.law_stored_rows.specs.Edits.{clustered_index, Puts}
+use Rattle.law_stored_rows.specs.Records.{IsCodeOf, KeepsMore}
+use Rattle.law_stored_rows.specs.Tables.{AreClustered}
+use Rattle.law_stored_rows.proofs.Pairs.{at_index, value_now}
 use Rattle.law_past_agreement.specs.Rows.{place_in}
 use Rattle.world.specs.State.{WorldState, Session, Work, Logged, HasWork}
 use Rattle.world.specs.Indexes.{IsUndo, KeepsVersion}

@@ -11,7 +11,7 @@ use Rattle.inno_db.specs.Database.{key_in}
 use Rattle.inno_db.proofs.Keys.{key_in-at}
 use Rattle.store_api.specs.declared.answers.Undo.{Undo}
 use Rattle.entries.specs.Pairs.{key_cmp}
-use Rattle.chain.specs.declared.kept.Kept.{Kept}
+use Rattle.row_versions.specs.declared.kept.Kept.{Kept}
 use Rattle.row_versions.specs.declared.place.Place.{Place}
 use Rattle.law_past_agreement.specs.Rows.{place_in}
 use Rattle.world.specs.State.{Logged}

@@ -5,9 +5,9 @@ use Rattle.inno_types.specs.declared.value.Schema.{Schema}
 use Rattle.inno_db.specs.Database.{key_of}
 use Rattle.store_api.specs.declared.answers.Version.{Version as Coded}
 use Rattle.key_codec.specs.Keys.{key_code}
-use Rattle.chain.specs.declared.kept.Kept.{Kept}
+use Rattle.row_versions.specs.declared.kept.Kept.{Kept}
 use Rattle.row_versions.specs.declared.version.Version.{Version}
-use Rattle.law_coded_rows.specs.Records.{IsCodeOf, LeadTo, KeepsMore}
+use Rattle.law_stored_rows.specs.Records.{IsCodeOf, LeadTo, KeepsMore}
 use Rattle.law_logged_changes.specs.Pointers.{Reaches}
 
 one_kept : (there : Option Kept) (a b : Kept) → there ≡ Some a → there ≡ Some b → a ≡ b

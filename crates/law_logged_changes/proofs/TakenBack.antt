@@ -5,12 +5,12 @@ use Rattle.inno_db.specs.declared.change.Change.{Change}
 use Rattle.inno_model.specs.Past.{own}
 use Rattle.store_api.specs.declared.answers.Undo.{Undo}
 use Rattle.entries.specs.Pairs.{Pair, value_of}
-use Rattle.chain.specs.declared.kept.Kept.{Kept}
+use Rattle.row_versions.specs.declared.kept.Kept.{Kept}
 use Rattle.row_versions.specs.declared.place.Place.{Place}
 use Rattle.row_versions.specs.Chains.{Chains, Pops}
-use Rattle.law_coded_rows.specs.Edits.{clustered_index, Puts}
-use Rattle.law_coded_rows.specs.Records.{LeadTo}
-use Rattle.law_coded_rows.specs.Tables.{AreClustered}
+use Rattle.law_stored_rows.specs.Edits.{clustered_index, Puts}
+use Rattle.law_stored_rows.specs.Records.{LeadTo}
+use Rattle.law_stored_rows.specs.Tables.{AreClustered}
 use Rattle.law_past_agreement.specs.Rows.{place_in}
 use Rattle.world.specs.State.{WorldState, Session, Work, Logged, HasWork}
 use Rattle.world.specs.Told.{IsTold, pairs_of}

@@ -1,7 +1,7 @@
 -- What keys still say of a place while a change of it is under way.
 use Rattle.row_versions.specs.declared.place.Place.{Place}
 use Rattle.row_versions.specs.Chains.{Chains}
-use Rattle.law_coded_rows.specs.Tables.{Said, LagAt, TellsOfOlder, AreCodedAs}
+use Rattle.law_stored_rows.specs.Tables.{Said, LagAt, TellsOfOlder, AreCodedAs}
 use Rattle.world.specs.State.{WorldState}
 use Rattle.world.specs.Told.{pairs_of}
 

@@ -2,3 +2,5 @@ pub mod Pointers
 pub mod Logs
 pub mod Steps
 pub mod Lagging
+pub mod GoingOn
+pub mod EntriesLag

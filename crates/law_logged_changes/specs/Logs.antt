@@ -10,10 +10,10 @@ use Rattle.inno_model.specs.Past.{own}
 use Rattle.store_api.specs.declared.answers.Undo.{Undo}
 use Rattle.store_api.specs.declared.answers.Version.{Version as Coded}
 use Rattle.entries.specs.Pairs.{key_cmp, value_of}
-use Rattle.chain.specs.declared.kept.Kept.{Kept}
+use Rattle.row_versions.specs.declared.kept.Kept.{Kept}
 use Rattle.row_versions.specs.declared.place.Place.{Place}
-use Rattle.law_coded_rows.specs.Edits.{clustered_index}
-use Rattle.law_coded_rows.specs.Records.{IsCodeOf}
+use Rattle.law_stored_rows.specs.Edits.{clustered_index}
+use Rattle.law_stored_rows.specs.Records.{IsCodeOf}
 use Rattle.law_past_agreement.specs.Rows.{place_in}
 use Rattle.world.specs.State.{WorldState, Session, Work, Logged, HasWork}
 use Rattle.world.specs.Told.{IsTold, pairs_of}

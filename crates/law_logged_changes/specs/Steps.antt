@@ -4,8 +4,8 @@ use Rattle.inno_types.specs.declared.value.Schema.{Schema}
 use Rattle.inno_db.specs.declared.change.Change.{Change}
 use Rattle.inno_model.specs.Past.{own}
 use Rattle.entries.specs.Index.{AreKept}
-use Rattle.chain.specs.Versions.{Stays}
-use Rattle.law_coded_rows.specs.Edits.{clustered_index}
+use Rattle.row_versions.specs.Versions.{Stays}
+use Rattle.law_stored_rows.specs.Edits.{clustered_index}
 use Rattle.world.specs.State.{WorldState, Session, Work, Logged, HasWork}
 use Rattle.world.specs.Told.{IsTold, pairs_of}
 use Rattle.row_changes.specs.declared.record_change.RecordChange.{RecordChange}

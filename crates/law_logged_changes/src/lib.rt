@@ -4,11 +4,15 @@
 #![tactic(auto)]
 
 mod changing;
+mod entry_changes;
 mod others;
+mod readers;
 mod taking_back;
 
 pub use changing::{a_change_is_logged, a_log_begins, each_step_keeps_logs};
+pub use entry_changes::{a_change_begins, a_change_goes_on};
 pub use others::{others_leave_logs, sessions_stand_apart};
+pub use readers::{others_leave_a_change, what_a_change_leaves_to_readers};
 pub use taking_back::{
     a_change_is_taken_back, a_log_is_cut_back, a_taking_back_goes_on, a_taking_back_may_begin,
     what_a_taking_back_leaves_to_readers,

@@ -5,7 +5,7 @@ ghost use Rattle.inno_db.specs.declared.change.Change.{Change};
 ghost use Rattle.inno_model.specs.Past.{own};
 ghost use Rattle.world.specs.State.{WorldState, Session, Work, Logged, HasWork};
 ghost use Rattle.world.specs.Told.{LeavesRows};
-ghost use Rattle.law_coded_rows.specs.Edits.{key_index};
+ghost use Rattle.law_stored_rows.specs.Edits.{key_index};
 ghost use Rattle.row_changes.specs.Asides.{StepsAside};
 ghost use Rattle.row_changes.specs.Pairs.{RowsStay, PutsPair};
 ghost use Rattle.law_logged_changes.specs.Pointers.{PointersApart};

@@ -11,7 +11,7 @@ ghost use Rattle.row_versions.specs.Chains.{Chains, Pops};
 ghost use Rattle.law_past_agreement.specs.Rows.{place_in};
 ghost use Rattle.world.specs.State.{WorldState, Session, Work, Logged, HasWork};
 ghost use Rattle.world.specs.Told.{IsTold, pairs_of};
-ghost use Rattle.law_coded_rows.specs.Tables.{AreCoded};
+ghost use Rattle.law_stored_rows.specs.Tables.{AreCoded};
 ghost use Rattle.world.specs.Undoing.{IsCutBack};
 ghost use Rattle.row_changes.specs.declared.keys_change.KeysChange.{KeysChange};
 ghost use Rattle.row_changes.specs.Told.{HasRows};

@@ -12,9 +12,9 @@ use Rattle.sql_history.specs.Items.{Language, base, own_before}
 use Rattle.sql_history.specs.Statements.{is_on_rows}
 use Rattle.sql_history.specs.Counts.{has_stopped}
 use Rattle.sql_history.specs.Legal.{IsLegal, MayCommit, CommitsBy, IsSettled, EndsBy, sight_in}
-use Rattle.law_work.proofs.Alike.{ReadsOne, keeps_changes, never_begins}
-use Rattle.law_work.proofs.Entries.{by_session, no_item, asks_not, before_settled}
-use Rattle.law_work.proofs.Items.{kept_own, none_begun}
+use Rattle.law_histories.proofs.Alike.{ReadsOne, keeps_changes, never_begins}
+use Rattle.law_histories.proofs.Entries.{by_session, no_item, asks_not, before_settled}
+use Rattle.law_histories.proofs.Items.{kept_own, none_begun}
 use Rattle.law_logged_histories.proofs.Outcomes.{MakeOnly, make_drop}
 use Rattle.law_logged_histories.proofs.Ends.{DeclareOnly, makes_here, asked_makes, answered, ends_making}
 

@@ -13,11 +13,11 @@ use Rattle.sql_grammar.specs.Grammar.{Spells}
 use Rattle.sql_history.specs.Legal.{IsLegal}
 use Rattle.law_past_agreement.specs.Order.{created, IsOrdered}
 use Rattle.shared_lists.specs.Fitting.{FitsThen}
-use Rattle.commit_records.specs.Room.{IsLoggable}
-use Rattle.law_loggable_changes.proofs.Declared.{declared_loggable}
-use Rattle.law_loggable_changes.proofs.Fits.{fitting_has_record}
-use Rattle.law_loggable_changes.proofs.Names.{spelled_short}
-use Rattle.law_work.proofs.Spelled.{spells_one}
+use Rattle.commit_log.specs.Room.{IsLoggable}
+use Rattle.law_logged_histories.proofs.Declared.{declared_loggable}
+use Rattle.law_logged_histories.proofs.Fits.{fitting_has_record}
+use Rattle.law_logged_histories.proofs.Names.{spelled_short}
+use Rattle.law_histories.proofs.Spelled.{spells_one}
 use Rattle.law_logged_histories.specs.Creations.{HasNoOpenCreation}
 use Rattle.law_logged_histories.specs.Records.{HasItsRecord}
 use Rattle.law_logged_histories.proofs.Ends.{DeclareOnly}

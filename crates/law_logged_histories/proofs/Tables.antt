@@ -13,8 +13,8 @@ use Rattle.inno_model.specs.Past.{own, oldest, opening}
 use Rattle.sql_history.specs.Items.{Language}
 use Rattle.sql_history.specs.Legal.{IsLegal, MayCommit}
 use Rattle.law_past_agreement.specs.Order.{created, is_creation, IsUndoable, MayCome, IsOrdered}
-use Rattle.law_work.proofs.Alike.{ReadsOne}
-use Rattle.law_work.proofs.Entries.{by_session, closed_own}
+use Rattle.law_histories.proofs.Alike.{ReadsOne}
+use Rattle.law_histories.proofs.Entries.{by_session, closed_own}
 use Rattle.law_logged_histories.specs.Creations.{HasNoOpenCreation}
 use Rattle.law_logged_histories.proofs.Outcomes.{MakeOnly}
 use Rattle.law_logged_histories.proofs.Ends.{DeclareOnly}

@@ -7,7 +7,7 @@ use Rattle.inno_model.specs.Past.{own}
 use Rattle.sql_history.specs.Items.{Language, is_over, point, before_turn}
 use Rattle.sql_history.specs.Legal.{IsLegal}
 use Rattle.sql_history.proofs.Pasts.{point_now, point_closing, point_stays}
-use Rattle.law_work.proofs.Entries.{by_session, true_false}
+use Rattle.law_histories.proofs.Entries.{by_session, true_false}
 use Rattle.law_logged_histories.proofs.Outcomes.{MakeOnly, make_drop}
 
 -- what ends the item's changes begins no turn

@@ -10,7 +10,7 @@ ghost use Rattle.sql_grammar.specs.Grammar.{Spells};
 ghost use Rattle.sql_history.specs.Legal.{IsLegal};
 ghost use Rattle.law_past_agreement.specs.Order.{created, IsOrdered};
 ghost use Rattle.shared_lists.specs.Fitting.{FitsThen};
-ghost use Rattle.commit_records.specs.Room.{IsLoggable};
+ghost use Rattle.commit_log.specs.Room.{IsLoggable};
 ghost use Rattle.law_logged_histories.specs.Creations.{HasNoOpenCreation};
 ghost use Rattle.law_logged_histories.specs.Records.{HasItsRecord};
 

@@ -3,5 +3,7 @@
 #![tactic(auto)]
 
 mod laws;
+mod loggable;
 
 pub use laws::{each_change_has_a_record, each_table_can_be_logged};
+pub use loggable::{a_change_that_fits_has_a_record, a_spelled_table_can_be_logged};

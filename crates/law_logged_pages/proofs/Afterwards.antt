@@ -5,9 +5,9 @@ use Rattle.std.proofs.lemmas.Bool.{cases_lt, cases_eq}
 use Rattle.std.proofs.lemmas.List.{length-take-le}
 use Rattle.std.proofs.lemmas.List.Elements.{All-nil}
 use Rattle.store_api.specs.Areas.{Write, Contents, State, Puts, WasWhole, piece}
-use Rattle.page_format.specs.Words.{number_of}
+use Rattle.stored_pages.specs.Words.{number_of}
 use Rattle.log_format.specs.declared.group.Group.{Group}
-use Rattle.doublewrite.specs.Reading.{IsGoodPage, place_of}
+use Rattle.stored_pages.specs.Reading.{IsGoodPage, place_of}
 use Rattle.doublewrite.specs.Batches.{BatchView, StagedView, IsBatch, IsInBatch, page_at, number_at}
 use Rattle.doublewrite.specs.Kept.{HadCopy, Spares, IsSettled, WasPage, IsStaged, HasPlaced}
 use Rattle.law_logged_pages.specs.Stages.{IsStage}

@@ -6,7 +6,7 @@ use Rattle.std.proofs.lemmas.Bool.Decides.{nat_tests}
 use Rattle.std.proofs.lemmas.List.{take-append-le}
 use Rattle.store_api.specs.Areas.{State, Image, IsImage, IsHonest}
 use Rattle.log_format.specs.declared.group.Group.{Group}
-use Rattle.doublewrite.specs.Reading.{IsPageIn}
+use Rattle.stored_pages.specs.Reading.{IsPageIn}
 use Rattle.law_logged_pages.specs.Applied.{page_after, logical}
 use Rattle.law_logged_pages.specs.Stages.{or_zeros}
 use Rattle.law_logged_pages.specs.Keeping.{IsRun, Keeps, Recovers, durable}

@@ -6,7 +6,7 @@ use Rattle.std.proofs.lemmas.List.{get_or-take, get_or-drop, get_or_past, drop_a
 use Rattle.std.proofs.lemmas.List.Elements.{All-head, All-tail}
 use Rattle.std.specs.Int.{w64, from_be_bytes}
 use Rattle.schema_codec.specs.Numbers.{u32_bytes, u64_bytes}
-use Rattle.page_format.specs.Words.{u64_at, lsn_of}
+use Rattle.stored_pages.specs.Words.{u64_at, lsn_of}
 use Rattle.log_format.specs.declared.group.Group.{Group}
 use Rattle.log_format.specs.declared.group.Record.{Record}
 use Rattle.log_format.specs.declared.group.Record.TheVariants.{Put, Fresh, RowPut, RowRemove, NewTable}

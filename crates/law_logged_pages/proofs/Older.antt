@@ -5,7 +5,7 @@ use Rattle.std.proofs.lemmas.Bool.{cases_lt}
 use Rattle.std.proofs.lemmas.List.{length-take-le}
 use Rattle.std.proofs.lemmas.Nat.{be_bytes_8}
 use Rattle.store_api.specs.Areas.{PassesSum}
-use Rattle.page_format.specs.Words.{lsn_of}
+use Rattle.stored_pages.specs.Words.{lsn_of}
 use Rattle.log_format.specs.declared.group.Group.{Group}
 use Rattle.law_logged_pages.specs.Applied.{logical}
 use Rattle.law_logged_pages.specs.Stages.{AreBytes, SameButSum, WasOnce}

@@ -3,11 +3,11 @@ use Rattle.std.proofs.Common.{◌≡◌, ◌⊎◌, inl, inr, ⊎_elim, ℕ, ◌
 use Rattle.std.specs.Prelude.{IsTrue}
 use Rattle.std.proofs.lemmas.List.Elements.{All-weaker}
 use Rattle.store_api.specs.Areas.{Write, Contents, State, Image, MayLeave, Misses, IsImage, IsHonest, IsHonestArea, WasWhole, PassesSum, piece, end_of}
-use Rattle.page_format.specs.Words.{lsn_of}
+use Rattle.stored_pages.specs.Words.{lsn_of}
 use Rattle.store_api.proofs.Pieces.{same_part}
 use Rattle.log_format.specs.declared.group.Group.{Group}
 use Rattle.redo_log.specs.Logged.{LeavesPrefix}
-use Rattle.doublewrite.specs.Reading.{IsGoodPage, IsPageIn, place_of}
+use Rattle.stored_pages.specs.Reading.{IsGoodPage, IsPageIn, place_of}
 use Rattle.doublewrite.specs.Batches.{BatchView, IsInBatch, IsInBatchToo}
 use Rattle.doublewrite.specs.Kept.{HadCopy, Spares, IsSettled, WasPage, IsPageReady, KeepsPages}
 use Rattle.law_logged_pages.specs.Stages.{begins_fresh, records_in, WasOnce, IsUnwritten, IsStage}

@@ -6,7 +6,7 @@ use Rattle.std.proofs.lemmas.Bool.{eqb-true}
 use Rattle.std.proofs.lemmas.List.{drop_at, drop-drop, drop-take, drop-append-le, take-append-le, take-take, length-take-le, drop-replicate, take-replicate}
 use Rattle.std.proofs.lemmas.List.Elements.{All-head, All-tail, All-take}
 use Rattle.store_api.specs.Areas.{State, Image, IsImage, IsHonest}
-use Rattle.page_format.specs.Words.{u64_at, lsn_of}
+use Rattle.stored_pages.specs.Words.{u64_at, lsn_of}
 use Rattle.log_format.specs.declared.group.Group.{Group}
 use Rattle.log_format.specs.declared.group.Record.{Record}
 use Rattle.log_format.specs.declared.group.Record.TheVariants.{Put, Fresh, RowPut, RowRemove, NewTable}
@@ -16,7 +16,7 @@ use Rattle.mtr.specs.Seen.{with_bytes}
 use Rattle.mini_txn.specs.Edits.{blank, edited_by, edited}
 use Rattle.mini_txn.specs.View.{stamped}
 use Rattle.mini_txn.proofs.Bodies.{drop-stamped}
-use Rattle.doublewrite.specs.Reading.{IsPageIn}
+use Rattle.stored_pages.specs.Reading.{IsPageIn}
 use Rattle.law_logged_pages.specs.Applied.{names, with_group, page_after, logical}
 use Rattle.law_logged_pages.specs.Stages.{WasOnce, IsUnwritten, IsBase}
 use Rattle.law_logged_pages.specs.Heads.{head_of, SparesHead, SpareHead}

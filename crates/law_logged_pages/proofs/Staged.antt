@@ -3,8 +3,8 @@ use Rattle.std.proofs.Common.{◌≡◌, ◌⊎◌, inl, inr, ⊎_elim, ℕ, ◌
 use Rattle.std.proofs.lemmas.List.Elements.{All-nil}
 use Rattle.store_api.specs.Areas.{Contents, State, Image, MayLeave, Misses, IsImage, IsHonest, piece}
 use Rattle.store_api.proofs.Pieces.{same_part}
-use Rattle.page_format.specs.Words.{number_of, lsn_of}
-use Rattle.doublewrite.specs.Reading.{IsGoodPage, IsCopyIn, IsPageIn}
+use Rattle.stored_pages.specs.Words.{number_of, lsn_of}
+use Rattle.stored_pages.specs.Reading.{IsGoodPage, IsCopyIn, IsPageIn}
 use Rattle.doublewrite.specs.Batches.{BatchView, StagedView, IsBatch, IsInBatch, IsInBatchToo, page_at, number_at}
 use Rattle.doublewrite.specs.Kept.{HadCopy, IsSettled, WasPage, IsPageReady, KeepsPages, IsStaged}
 use Rattle.law_logged_pages.proofs.Placement.{inside, settled_good, was_whole}

@@ -1,7 +1,7 @@
 -- What groups of the log make of a page, by LSN.
 use Rattle.std.specs.Prelude.{ℕ, Bool, false, ◌&&◌, ◌==◌, if◌then◌else◌, nat_lt, List, [], ◌∷◌, take}
 use Rattle.std.specs.List.{list_any}
-use Rattle.page_format.specs.Words.{lsn_of}
+use Rattle.stored_pages.specs.Words.{lsn_of}
 use Rattle.log_format.specs.declared.group.Group.{Group}
 use Rattle.log_format.specs.declared.group.Record.{Record}
 use Rattle.log_format.specs.declared.group.Record.TheVariants.{Put, Fresh, RowPut, RowRemove, NewTable}

@@ -1,6 +1,6 @@
 -- What a commit leaves of a page that its group names.
 use Rattle.std.specs.Prelude.{◌≡◌, ◌⊎◌, ℕ, IsTrue, List, length, drop}
-use Rattle.page_format.specs.Words.{number_of, lsn_of}
+use Rattle.stored_pages.specs.Words.{number_of, lsn_of}
 use Rattle.log_format.specs.declared.group.Group.{Group}
 use Rattle.mini_txn.specs.Edits.{edited}
 use Rattle.mini_txn.specs.View.{body_of}

@@ -1,12 +1,12 @@
 -- What a disk holds of the pages of a run at a moment, and what recovery makes of whatever a crash leaves then.
 use Rattle.std.specs.Prelude.{◌≡◌, ◌⊎◌, ℕ, ◌+◌, ◌-◌, ◌<◌, ◌≤◌, IsTrue, Option, None, List, length, take}
 use Rattle.store_api.specs.Areas.{State, Image, IsImage, IsHonest}
-use Rattle.page_format.specs.Words.{lsn_of}
+use Rattle.stored_pages.specs.Words.{lsn_of}
 use Rattle.log_format.specs.declared.group.Group.{Group}
 use Rattle.log_format.specs.Group.{AreGroups}
 use Rattle.log_format.specs.Scan.{IsScan}
 use Rattle.redo_log.specs.Logged.{LeavesPrefix}
-use Rattle.doublewrite.specs.Reading.{IsPageIn}
+use Rattle.stored_pages.specs.Reading.{IsPageIn}
 use Rattle.doublewrite.specs.Batches.{BatchView, IsBatch, IsInBatch}
 use Rattle.doublewrite.specs.Kept.{HadCopy, IsSettled, WasPage}
 use Rattle.law_logged_pages.specs.Applied.{page_after, logical}

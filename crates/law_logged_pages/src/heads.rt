@@ -2,10 +2,10 @@
 
 ghost use Rattle.std.specs.Prelude.{◌≡◌, ◌≢◌, ℕ, Some, None, List};
 ghost use Rattle.store_api.specs.Areas.{State, Image, IsImage, IsHonest};
-ghost use Rattle.page_format.specs.Words.{u64_at};
+ghost use Rattle.stored_pages.specs.Words.{u64_at};
 ghost use Rattle.log_format.specs.declared.group.Group.{Group as GroupValue};
 ghost use Rattle.log_format.specs.Group.{AreGroups};
-ghost use Rattle.doublewrite.specs.Reading.{IsPageIn};
+ghost use Rattle.stored_pages.specs.Reading.{IsPageIn};
 ghost use Rattle.law_logged_pages.specs.Stages.{IsBase, WasOnce};
 ghost use Rattle.law_logged_pages.specs.Heads.{head_of, SpareHead};
 ghost use Rattle.law_logged_pages.specs.Keeping.{IsRun, Keeps};

@@ -5,7 +5,7 @@ ghost use Rattle.std.specs.Prelude.{◌≡◌, ℕ, ◌+◌, ◌<◌, ◌≤◌,
 ghost use Rattle.store_api.specs.Areas.{State, Image, IsImage, IsHonest};
 ghost use Rattle.inno_db.specs.Database.{Database};
 ghost use Rattle.log_format.specs.declared.group.Group.{Group as GroupValue};
-ghost use Rattle.doublewrite.specs.Reading.{IsPageIn};
+ghost use Rattle.stored_pages.specs.Reading.{IsPageIn};
 ghost use Rattle.law_logged_pages.specs.Applied.{logical};
 ghost use Rattle.law_logged_pages.specs.Keeping.{IsRun, Keeps, durable};
 ghost use Rattle.law_logged_pages.specs.Readings.{IgnoresSums, ReadsAlong, HoldsCommits};

@@ -1,7 +1,7 @@
 //! Stages of a page: what it was after some groups of a run, by LSN.
 
 ghost use Rattle.std.specs.Prelude.{◌≡◌, ℕ, ◌+◌, ◌<◌, ◌≤◌, IsTrue, Option, None, List, ◌++◌, length, take};
-ghost use Rattle.page_format.specs.Words.{lsn_of};
+ghost use Rattle.stored_pages.specs.Words.{lsn_of};
 ghost use Rattle.log_format.specs.declared.group.Group.{Group as GroupValue};
 ghost use Rattle.log_format.specs.Group.{AreGroups};
 ghost use Rattle.law_logged_pages.specs.Applied.{page_after, logical};

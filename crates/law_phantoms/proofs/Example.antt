@@ -36,14 +36,14 @@ use Rattle.sql_history.specs.Statements.{refused_at_once}
 use Rattle.sql_history.specs.LooseReading.{newest}
 use Rattle.sql_history.specs.Legal.{IsLegal, Takes, MayBegin, MayChange, MayCommit, MayEnd}
 use Rattle.sql_history.specs.Serial.{Piece, HasDone, with_item, IsSerializable, IsSetUp}
-use Rattle.law_one_tree.specs.Trees.{filter_tree, tree_of}
-use Rattle.law_one_tree.specs.Trees as tree
-use Rattle.law_one_tree.proofs.Outcomes.{plain_same}
-use Rattle.law_one_tree.proofs.Statements.{one_tree}
+use Rattle.law_histories.specs.Trees.{filter_tree, tree_of}
+use Rattle.law_histories.specs.Trees as tree
+use Rattle.law_histories.proofs.OneOutcome.{plain_same}
+use Rattle.law_histories.proofs.Statements.{one_tree}
 use Rattle.law_beside.specs.Beside.{is_change_at, passed, IsUnmet}
 use Rattle.law_beside.proofs.Apart.{get_one}
-use Rattle.law_work.specs.Work.{committed_db}
-use Rattle.law_work.proofs.Entries.{by_session}
+use Rattle.law_histories.specs.Work.{committed_db}
+use Rattle.law_histories.proofs.Entries.{by_session}
 use Rattle.law_calm.specs.Pieces.{AreBeside}
 use Rattle.law_calm.specs.Standing.{HasStanding}
 use Rattle.law_serial.specs.Turns.{IsSerial}

@@ -17,8 +17,8 @@ use Rattle.inno_model.specs.Past.{own}
 use Rattle.sql_history.specs.Items.{Language}
 use Rattle.sql_history.specs.LooseReading.{newest}
 use Rattle.sql_history.specs.Legal.{MayFollow}
-use Rattle.law_work.proofs.Placing.{key_in-more}
-use Rattle.law_work.proofs.Entries.{by_session}
+use Rattle.law_histories.proofs.Placing.{key_in-more}
+use Rattle.law_histories.proofs.Entries.{by_session}
 use Rattle.law_beside.specs.Beside.{is_change_at, touches}
 use Rattle.law_phantoms.specs.Phantoms.{AllApart}
 

@@ -22,10 +22,10 @@ use Rattle.sql_history.specs.Serial.{Piece, IsSerializable, IsUnstarted, IsSetUp
 use Rattle.sql_history.proofs.Pasts.{changed_append, commit_adds}
 use Rattle.law_beside.specs.Beside.{AreOfRows}
 use Rattle.law_beside.proofs.Apart.{schemas_stay}
-use Rattle.law_work.specs.Work.{committed_db}
-use Rattle.law_work.proofs.Placing.{made_of, schemas_after}
-use Rattle.law_work.proofs.Alike.{ReadsOne}
-use Rattle.law_work.proofs.Entries.{by_session, open_not, some_none, true_false}
+use Rattle.law_histories.specs.Work.{committed_db}
+use Rattle.law_histories.proofs.Placing.{made_of, schemas_after}
+use Rattle.law_histories.proofs.Alike.{ReadsOne}
+use Rattle.law_histories.proofs.Entries.{by_session, open_not, some_none, true_false}
 use Rattle.law_calm.specs.Pieces.{AreBeside}
 use Rattle.law_calm.specs.Calm.{SeesLatest, MeetsNone, IsCalm, IsCalmTo, AreCalm}
 use Rattle.law_calm.proofs.Made.{of_rows}

@@ -17,9 +17,9 @@ use Rattle.sql_history.specs.Settings.{Setting}
 use Rattle.sql_history.specs.Statements.{refused_at_once}
 use Rattle.sql_history.specs.Legal.{IsLegal}
 use Rattle.sql_history.specs.Serial.{IsUnstarted, IsSetUp}
-use Rattle.law_work.proofs.Alike.{ReadsOne}
-use Rattle.law_work.proofs.Entries.{by_session, no_item, true_false}
-use Rattle.law_work.proofs.Items.{read_as, did_same}
+use Rattle.law_histories.proofs.Alike.{ReadsOne}
+use Rattle.law_histories.proofs.Entries.{by_session, no_item, true_false}
+use Rattle.law_histories.proofs.Items.{read_as, did_same}
 use Rattle.law_serial.specs.Turns.{IsOfOne}
 use Rattle.law_phantoms.specs.Phantoms.{AllApart, is_setup, SetsUpFirst}
 

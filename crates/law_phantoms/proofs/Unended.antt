@@ -23,11 +23,11 @@ use Rattle.sql_history.specs.Statements.{refused_at_once}
 use Rattle.sql_history.specs.LooseReading.{newest}
 use Rattle.sql_history.specs.Legal.{IsLegal, Takes, MayBegin, MayChange, MayCommit, MayEnd, MayView}
 use Rattle.sql_history.specs.Serial.{Piece, HasDone, HasWorked, with_item, WorksAnswer, AnswersAsAlone, IsSerializable}
-use Rattle.law_one_tree.specs.Trees.{tree_of}
-use Rattle.law_one_tree.proofs.Outcomes.{plain_same}
-use Rattle.law_one_tree.proofs.Statements.{one_tree}
-use Rattle.law_work.specs.Work.{committed_db}
-use Rattle.law_work.proofs.Entries.{by_session, true_false}
+use Rattle.law_histories.specs.Trees.{tree_of}
+use Rattle.law_histories.proofs.OneOutcome.{plain_same}
+use Rattle.law_histories.proofs.Statements.{one_tree}
+use Rattle.law_histories.specs.Work.{committed_db}
+use Rattle.law_histories.proofs.Entries.{by_session, true_false}
 use Rattle.law_calm.specs.Pieces.{AreBeside}
 use Rattle.law_calm.specs.Standing.{HasStanding}
 use Rattle.law_serial.specs.Example.{one_column, empty_table, a_row, putting, reading}

@@ -15,9 +15,9 @@ use Rattle.sql_history.specs.Statements.{is_on_rows, sight_of}
 use Rattle.sql_history.specs.Answers.{MaySee}
 use Rattle.sql_history.specs.Legal.{IsLegal, owed_by, owes_commit, PaysCommit}
 use Rattle.sql_history.specs.Serial.{IsSerializable}
-use Rattle.law_work.specs.Work.{AllIn}
-use Rattle.law_work.proofs.Alike.{ReadsOne}
-use Rattle.law_work.proofs.Entries.{by_session}
+use Rattle.law_histories.specs.Work.{AllIn}
+use Rattle.law_histories.proofs.Alike.{ReadsOne}
+use Rattle.law_histories.proofs.Entries.{by_session}
 use Rattle.law_calm.specs.Calm.{SeesLatest}
 use Rattle.law_calm.proofs.Spans.{Spans, sees_view}
 

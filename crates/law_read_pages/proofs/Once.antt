@@ -15,7 +15,7 @@ use Rattle.inno_types.specs.declared.value.Schema.{Schema}
 use Rattle.inno_db.specs.Database.{Database}
 use Rattle.key_codec.specs.Keys.{HasKey, key_code}
 use Rattle.entries.specs.Pairs.{Pair, value_of}
-use Rattle.chain.specs.declared.kept.Kept.{Kept}
+use Rattle.row_versions.specs.declared.kept.Kept.{Kept}
 use Rattle.row_versions.specs.declared.place.Place.{Place}
 use Rattle.row_versions.specs.Chains.{in_model}
 use Rattle.catalog_entry.specs.declared.held.Held.{Held}
@@ -25,7 +25,7 @@ use Rattle.catalog.proofs.Catalogs.{filled}
 use Rattle.catalog.proofs.Makeables.{parts_of, place_within}
 use Rattle.btree.specs.declared.tree.Tree.{Tree}
 use Rattle.btree.specs.Sound.{tree_pairs}
-use Rattle.law_coded_rows.specs.Edits.{clustered_index}
+use Rattle.law_stored_rows.specs.Edits.{clustered_index}
 use Rattle.law_read_pages.specs.Rows.{ReadsAs}
 use Rattle.law_read_pages.specs.Pages.{IsTreeOf, StandForDb}
 use Rattle.law_read_pages.proofs.Reading.{reads_one_way}

@@ -13,7 +13,7 @@ use Rattle.inno_model.specs.Past.{changed, committed, commits, IsOpen}
 use Rattle.inno_db.specs.Database.{RowMap}
 use Rattle.key_codec.specs.Keys.{HasKey, key_code}
 use Rattle.entries.specs.Pairs.{Pair, value_of}
-use Rattle.chain.specs.declared.kept.Kept.{Kept}
+use Rattle.row_versions.specs.declared.kept.Kept.{Kept}
 use Rattle.txn_table.specs.Txns.{Entry, ids_of as active_of}
 use Rattle.row_versions.specs.declared.place.Place.{Place}
 use Rattle.row_versions.specs.declared.version.Version.{Version}
@@ -25,10 +25,10 @@ use Rattle.law_past_agreement.specs.Agreement.{AreVersions}
 use Rattle.law_past_agreement.specs.DatabaseTables.{with_all_tables}
 use Rattle.law_past_agreement.proofs.Ids.{ids_of}
 use Rattle.law_past_agreement.proofs.Opens.{IsEntry, active_open, opens_of}
-use Rattle.law_coded_rows.specs.Edits.{clustered_index}
-use Rattle.law_coded_rows.specs.Records.{IsRecordWith}
-use Rattle.law_coded_rows.specs.Tables.{AreClustered, in_table}
-use Rattle.law_coded_rows.proofs.RowRecords.{one_record}
+use Rattle.law_stored_rows.specs.Edits.{clustered_index}
+use Rattle.law_stored_rows.specs.Records.{IsRecordWith}
+use Rattle.law_stored_rows.specs.Tables.{AreClustered, in_table}
+use Rattle.law_stored_rows.proofs.RowRecords.{one_record}
 use Rattle.law_logged_pages.specs.HeldRows.{AreSlots}
 use Rattle.law_logged_pages.proofs.FirstCommitted.{row_read}
 use Rattle.law_read_pages.specs.Rows.{has_id, is_settled_id, ReadsAs, ReadAs}

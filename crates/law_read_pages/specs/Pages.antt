@@ -4,7 +4,7 @@ use Rattle.inno_db.specs.Database.{Database}
 use Rattle.inno_model.specs.declared.event.Event.{Event}
 use Rattle.inno_model.specs.Past.{changed, commits, committed}
 use Rattle.entries.specs.Pairs.{Pair}
-use Rattle.chain.specs.declared.kept.Kept.{Kept}
+use Rattle.row_versions.specs.declared.kept.Kept.{Kept}
 use Rattle.catalog_entry.specs.declared.held.Held.{Held}
 use Rattle.catalog.specs.Tables.{IsCatalog}
 use Rattle.catalog.specs.Creating.{key_bytes_at, clustered_len}
@@ -13,7 +13,7 @@ use Rattle.btree.specs.Sound.{tree_pairs}
 use Rattle.btree_split.specs.Placed.{IsPlacedTree}
 use Rattle.law_past_agreement.specs.Order.{created}
 use Rattle.law_past_agreement.specs.DatabaseTables.{with_all_tables}
-use Rattle.law_coded_rows.specs.Edits.{clustered_index}
+use Rattle.law_stored_rows.specs.Edits.{clustered_index}
 use Rattle.law_read_pages.specs.Rows.{ReadAs}
 
 -- what is committed, with all tables that have been made

@@ -9,12 +9,12 @@ use Rattle.inno_types.specs.declared.value.Schema.{Schema}
 use Rattle.inno_db.specs.Database.{RowMap}
 use Rattle.key_codec.specs.Keys.{HasKey, key_code}
 use Rattle.entries.specs.Pairs.{Pair, value_of}
-use Rattle.chain.specs.declared.kept.Kept.{Kept}
+use Rattle.row_versions.specs.declared.kept.Kept.{Kept}
 use Rattle.txn_table.specs.Txns.{Entry, ids_of}
 use Rattle.row_versions.specs.declared.version.Version.{Version}
 use Rattle.row_versions.specs.Chains.{first_seen}
-use Rattle.law_coded_rows.specs.Edits.{clustered_index}
-use Rattle.law_coded_rows.specs.Records.{IsRecordWith}
+use Rattle.law_stored_rows.specs.Edits.{clustered_index}
+use Rattle.law_stored_rows.specs.Records.{IsRecordWith}
 
 -- one of these open transactions has the id
 abbrev pub has_id : List Entry → ℕ → Bool

@@ -5,7 +5,7 @@ ghost use Rattle.std.specs.FinMap.{get};
 ghost use Rattle.inno_db.specs.Database.{Database};
 ghost use Rattle.inno_model.specs.declared.event.Event.{Event};
 ghost use Rattle.entries.specs.Pairs.{Pair};
-ghost use Rattle.chain.specs.declared.kept.Kept.{Kept};
+ghost use Rattle.row_versions.specs.declared.kept.Kept.{Kept};
 ghost use Rattle.catalog_entry.specs.declared.held.Held.{Held};
 ghost use Rattle.row_versions.specs.declared.place.Place.{Place};
 ghost use Rattle.row_versions.specs.Chains.{Chains, versions_at, in_model};
@@ -13,7 +13,7 @@ ghost use Rattle.law_past_agreement.specs.Order.{IsOrdered, created};
 ghost use Rattle.law_past_agreement.specs.Ids.{opens};
 ghost use Rattle.law_past_agreement.specs.Rows.{is_at, row_opened};
 ghost use Rattle.law_past_agreement.specs.Agreement.{AreVersions};
-ghost use Rattle.law_coded_rows.specs.Tables.{AreClustered};
+ghost use Rattle.law_stored_rows.specs.Tables.{AreClustered};
 ghost use Rattle.law_read_pages.specs.Rows.{has_id};
 ghost use Rattle.law_read_pages.specs.Pages.{latest, Show, StandForDb};
 

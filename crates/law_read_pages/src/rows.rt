@@ -6,7 +6,7 @@ ghost use Rattle.inno_types.specs.declared.value.Schema.{Schema};
 ghost use Rattle.inno_model.specs.declared.event.Event.{Event};
 ghost use Rattle.inno_model.specs.Past.{changed, commits, committed};
 ghost use Rattle.entries.specs.Pairs.{Pair};
-ghost use Rattle.chain.specs.declared.kept.Kept.{Kept};
+ghost use Rattle.row_versions.specs.declared.kept.Kept.{Kept};
 ghost use Rattle.row_versions.specs.declared.place.Place.{Place};
 ghost use Rattle.row_versions.specs.declared.version.Version.{Version};
 ghost use Rattle.row_versions.specs.Chains.{Chains, versions_at};
@@ -15,8 +15,8 @@ ghost use Rattle.law_past_agreement.specs.Ids.{opens};
 ghost use Rattle.law_past_agreement.specs.Rows.{is_at, row_opened};
 ghost use Rattle.law_past_agreement.specs.Agreement.{AreVersions};
 ghost use Rattle.law_past_agreement.specs.DatabaseTables.{with_all_tables};
-ghost use Rattle.law_coded_rows.specs.Records.{IsRecordWith};
-ghost use Rattle.law_coded_rows.specs.Tables.{AreClustered};
+ghost use Rattle.law_stored_rows.specs.Records.{IsRecordWith};
+ghost use Rattle.law_stored_rows.specs.Tables.{AreClustered};
 ghost use Rattle.law_read_pages.specs.Rows.{has_id, ReadsAs, ReadAs};
 
 /// A record reads one way: whoever reads it as two rows reads one.

@@ -6,7 +6,7 @@ use Rattle.inno_model.specs.declared.event.Event.{Event}
 use Rattle.inno_model.specs.declared.event.Event.TheVariants.{Committed}
 use Rattle.sql_history.specs.Items.{Language}
 use Rattle.sql_history.specs.Legal.{IsLegal}
-use Rattle.law_work.proofs.Alike.{ReadsOne}
+use Rattle.law_histories.proofs.Alike.{ReadsOne}
 use Rattle.law_calm.specs.Calm.{SeesLatest, MeetsNone, IsCalm}
 use Rattle.law_serial.specs.Turns.{IsSerial}
 use Rattle.law_serial.proofs.Turns.{no_commit, open_works}

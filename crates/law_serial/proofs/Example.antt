@@ -32,7 +32,7 @@ use Rattle.sql_history.specs.Settings.{HasSet, at_first}
 use Rattle.sql_history.specs.Statements.{refused_at_once}
 use Rattle.sql_history.specs.LooseReading.{newest}
 use Rattle.sql_history.specs.Legal.{IsLegal, Takes, MayBegin, MayChange, MayCommit, MayEnd, MayView}
-use Rattle.law_work.proofs.Entries.{by_session}
+use Rattle.law_histories.proofs.Entries.{by_session}
 use Rattle.law_serial.proofs.Turns.{work_untouched, one_serial}
 use Rattle.law_serial.specs.Turns.{is_at_work, IsSerial, IsOfOne}
 use Rattle.std.proofs.lemmas.Bool.Decides.{nat_tests}

@@ -16,7 +16,7 @@ use Rattle.sql_history.specs.Items.{Language, Asks}
 use Rattle.sql_history.specs.LooseReading.{beginners, uncommitted, newest, LeavesAlone}
 use Rattle.sql_history.specs.Legal.{IsLegal}
 use Rattle.law_serial.specs.Turns.{is_statement, is_at_work}
-use Rattle.law_work.proofs.Entries.{by_session, closed_own, open_is, true_false}
+use Rattle.law_histories.proofs.Entries.{by_session, closed_own, open_is, true_false}
 use Rattle.law_serial.proofs.Turns.{idle_closed}
 
 -- ---- one writer

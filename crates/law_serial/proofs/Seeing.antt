@@ -19,9 +19,9 @@ use Rattle.sql_history.specs.Statements.{Sight, is_on_rows, is_select, locking_s
 use Rattle.sql_history.specs.LooseReading.{newest, IsQuiet}
 use Rattle.sql_history.specs.Answers.{MaySee}
 use Rattle.law_serial.specs.Turns.{is_at_work, IsSerial}
-use Rattle.law_work.specs.Work.{AllIn}
-use Rattle.law_work.proofs.Alike.{ReadsOne}
-use Rattle.law_work.proofs.Entries.{by_session, no_item, closed_own, unbegun_before, legal_before}
+use Rattle.law_histories.specs.Work.{AllIn}
+use Rattle.law_histories.proofs.Alike.{ReadsOne}
+use Rattle.law_histories.proofs.Entries.{by_session, no_item, closed_own, unbegun_before, legal_before}
 use Rattle.law_calm.proofs.Spans as spans
 use Rattle.law_serial.proofs.Turns.{statement_works, others_idle, no_commit, view_latest, idle_closed, idle_asks}
 use Rattle.law_serial.proofs.Newest.{newest_own, idle_quiet}

@@ -12,7 +12,7 @@ use Rattle.inno_model.proofs.Untouched.{untouched}
 use Rattle.sql_history.specs.Items.{Language}
 use Rattle.sql_history.specs.Legal.{IsLegal}
 use Rattle.law_serial.specs.Turns.{is_statement, is_at_work, IsSerial, IsOfOne}
-use Rattle.law_work.proofs.Entries.{by_session, true_false, open_not}
+use Rattle.law_histories.proofs.Entries.{by_session, true_false, open_not}
 
 one_session : (s t : ℕ) (e : Event) → is_of s e ≡ true → t ≢ s → is_of t e ≡ false
 one_session s t e is apart = grind (arith, nat_tests, is, apart)

@@ -1,7 +1,8 @@
 -- A placed tree stays where a page outside it is given back.
 use Rattle.std.proofs.Common.{◌≡◌, ◌≢◌, inl, inr, ℕ, suc, ◌<◌, List, ◌++◌, ◌∷◌, [], length, sym, ◌∙◌, subst, arith}
 use Rattle.std.specs.List.{AllByRecursion}
-use Rattle.page_format.specs.Words.{u32_at, records_of}
+use Rattle.page_format.specs.Words.{records_of}
+use Rattle.stored_pages.specs.Words.{u32_at}
 use Rattle.law_flat_tree.specs.Levels.{AreLevelsAlike}
 use Rattle.law_flat_tree.specs.PageSplits.{StandsNowhere}
 use Rattle.law_flat_tree.proofs.Apart.{with_both, levels_alike_by, behind_of}

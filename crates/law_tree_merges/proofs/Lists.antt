@@ -5,7 +5,8 @@ use Rattle.std.specs.List.{AllByRecursion}
 use Rattle.std.specs.Int.{w32, from_be_bytes}
 use Rattle.std.proofs.lemmas.Bool.Decides.{eqb_tells}
 use Rattle.page_format.specs.Changes.{KeepsFields}
-use Rattle.page_format.specs.Words.{u32_at, index_of}
+use Rattle.page_format.specs.Words.{index_of}
+use Rattle.stored_pages.specs.Words.{u32_at}
 use Rattle.page_format.proofs.Edited.{middle_part}
 use Rattle.law_flat_tree.specs.Levels.{Fence}
 use Rattle.law_flat_tree.specs.Descents.{BeginsAt}

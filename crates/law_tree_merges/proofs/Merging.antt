@@ -5,7 +5,8 @@ use Rattle.std.specs.Int.{bit_at}
 use Rattle.std.specs.Prelude.{slice_index}
 use Rattle.std.specs.List.{AllByRecursion}
 use Rattle.std.proofs.lemmas.List.{length-take-le}
-use Rattle.page_format.specs.Words.{u32_at, level_of, low_of, count_of, record_len_of, records_of}
+use Rattle.page_format.specs.Words.{level_of, low_of, count_of, record_len_of, records_of}
+use Rattle.stored_pages.specs.Words.{u32_at}
 use Rattle.page_format.specs.Shape.{AreRising}
 use Rattle.page_format.proofs.Edited.{same_byte, same_width}
 use Rattle.page_format.proofs.Orders.{rising_remove}

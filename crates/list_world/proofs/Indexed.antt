@@ -12,7 +12,7 @@ use Rattle.entries.specs.Pairs.{Pair, AreSound}
 use Rattle.entries.specs.Index.{Index, Told, IsAsBefore}
 use Rattle.entries.specs.Calls.{is_done, released, Tidies, Inserts, Replaces, Leaves}
 use Rattle.entries.specs.Lists.{shown, empty_index}
-use Rattle.chain.specs.declared.kept.Kept.{Kept}
+use Rattle.row_versions.specs.declared.kept.Kept.{Kept}
 use Rattle.world.specs.State.{WorldState, IsIndex}
 use Rattle.world.specs.Indexes.{InIndex, StaysBeside, Calls, Changes, Brings, IsLogged, InsertsWith, ReplacesWith, KeepsIf}
 use Rattle.world_parts.specs.Slots.{slotted, kept_behind, filled_if}

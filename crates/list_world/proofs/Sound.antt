@@ -10,7 +10,7 @@ use Rattle.std.proofs.lemmas.Option.{slice_get_within, get_or_from_slice_get}
 use Rattle.world.specs.State.{Session, txn_of}
 use Rattle.world_parts.specs.Owed.{owed_of, owed_by_all, puts_of, puts_of_all}
 use Rattle.world_parts.specs.Holding.{AreApart, HaveBegun, txn_in, txn_at}
-use Rattle.chain.specs.declared.kept.Kept.{Kept}
+use Rattle.row_versions.specs.declared.kept.Kept.{Kept}
 use Rattle.world_parts.specs.Slots.{filled_if}
 use Rattle.list_world.specs.Parts.{Parts, HasSlot, ArePromised, IsSound}
 use Rattle.world_parts.proofs.Places.{get_set_here, get_set_elsewhere, element, kept_taken, kept_past, kept_elsewhere}

@@ -5,7 +5,7 @@ use Rattle.inno_model.specs.declared.event.Event.{Event}
 use Rattle.entries.specs.Index.{Index}
 use Rattle.entries.specs.declared.list_index.ListIndex.{ListIndex}
 use Rattle.entries.specs.Lists.{shown, empty_index}
-use Rattle.chain.specs.declared.kept.Kept.{Kept}
+use Rattle.row_versions.specs.declared.kept.Kept.{Kept}
 use Rattle.txn_table.specs.Txns.{Txns}
 use Rattle.world.specs.State.{WorldState, Session}
 use Rattle.world_parts.specs.Slots.{slotted, kept_behind}

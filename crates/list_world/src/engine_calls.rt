@@ -10,7 +10,7 @@ use entries::ListIndex;
 use inno_db::Change;
 use inno_model::{Event, History};
 use inno_types::{Bytes, Item, Listed, Reply, Schema, Stmt};
-use session_settings::SessionSettings;
+use sql_history::SessionSettings;
 use std::alloc::Global;
 use store_api::NoMemory;
 use world::EngineWorld;

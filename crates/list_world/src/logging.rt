@@ -3,7 +3,7 @@
 ghost use Rattle.std.specs.Prelude.{◌≡◌, ◌==◌, ◌≤◌, ◌<◌, length, Some, IfSome, OnOk, OnErr};
 ghost use Rattle.entries.specs.Index.{IsAsBefore};
 ghost use Rattle.world.specs.Undoing.{IsReady, IsUnchanged};
-ghost use Rattle.chain.specs.Versions.{IsShort};
+ghost use Rattle.row_versions.specs.Versions.{IsShort};
 ghost use Rattle.world_parts.specs.Slots.{filled_if};
 ghost use Rattle.world.specs.State.{IsIndex};
 ghost use Rattle.world.specs.Indexes.{Calls, Changes, MayLog, IsLogged, InsertsWith, ReplacesWith};
@@ -11,9 +11,9 @@ ghost use Rattle.world_parts.specs.Brought.{KeepsOnly};
 ghost use Rattle.list_world.specs.Parts.{world_of};
 
 use crate::list_world::ListWorld;
-use chain::Kept;
 use entries::Entries;
 use inno_types::Bytes;
+use row_versions::Kept;
 use store_api::{Move, NoMemory, Undo};
 use world_parts::{Brought, Slots, bring};
 

@@ -5,11 +5,11 @@ ghost use Rattle.std.specs.Prelude.{◌≡◌, ◌+◌, ◌<◌, ◌^◌, true};
 ghost use Rattle.world_parts.specs.Owed.{bit};
 
 use crate::list_world::ListWorld;
-use chain::ChainBad;
 use entries::Entries;
 use inno_db::Change;
 use inno_model::Event;
 use inno_types::{Bytes, Ids, Level, Row, Schema, Value};
+use row_versions::ChainBad;
 use store_api::{Move, NoMemory, Standing, Undo, Version, Visit};
 use world::{UndoRoom, World};
 use world_parts::{SeenIds, copy_ids, holder, read_undo, take_room, take_room_unless};

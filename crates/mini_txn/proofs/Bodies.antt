@@ -6,7 +6,7 @@ use Rattle.std.specs.Int.{w32, w64, from_be_bytes}
 use Rattle.std.proofs.lemmas.Nat.{from_be_bytes-to_be_bytes_4, from_be_bytes-to_be_bytes_8}
 use Rattle.schema_codec.specs.Numbers.{u32_bytes, u64_bytes}
 use Rattle.schema_codec.proofs.Lengths.{length-u32, length-u64}
-use Rattle.page_format.specs.Words.{u32_at, u64_at, number_of, lsn_of}
+use Rattle.stored_pages.specs.Words.{u32_at, u64_at, number_of, lsn_of}
 use Rattle.mtr.specs.Seen.{with_bytes}
 use Rattle.mini_txn.specs.Edits.{blank}
 use Rattle.mini_txn.specs.View.{body_of, stamped}

@@ -5,7 +5,7 @@ use Rattle.std.specs.Prelude.{◌==◌, ◌||◌, option_map, is_some}
 use Rattle.std.specs.Option.{option_map_or}
 use Rattle.std.proofs.lemmas.Bool.{cases_eq, eq-eqb, eqb-true}
 use Rattle.std.proofs.lemmas.List.{length-set}
-use Rattle.page_format.specs.Words.{number_of, lsn_of}
+use Rattle.stored_pages.specs.Words.{number_of, lsn_of}
 use Rattle.buffer_pool.specs.Frames.{FrameView, PoolView, slot_of, is_pooled, is_standing, fixes_of, at_slot, changed}
 use Rattle.mtr.specs.Seen.{is_in}
 use Rattle.mini_txn.specs.declared.dealt.Entry.{Entry}

@@ -3,7 +3,7 @@ use Rattle.std.specs.Prelude.{◌≡◌, ◌≢◌, ◌⊎◌, ℕ, ◌<◌, ◌
 use Rattle.std.specs.Prelude.{None, is_some, IsTrue}
 use Rattle.std.specs.Option.{option_map_or}
 use Rattle.schema_codec.specs.Numbers.{u32_bytes, u64_bytes}
-use Rattle.page_format.specs.Words.{u32_at, number_of, lsn_of}
+use Rattle.stored_pages.specs.Words.{u32_at, number_of, lsn_of}
 use Rattle.log_format.specs.declared.group.Record.{Record}
 use Rattle.redo_log.specs.View.{LogView}
 use Rattle.buffer_pool.specs.declared.frame.Content.TheVariants.{Dirty}

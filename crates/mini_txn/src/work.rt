@@ -2,7 +2,7 @@
 //! `MiniTxn` alone calls this, and gives it the form of the trait.
 
 ghost use Rattle.std.specs.Prelude.{◌≡◌, ℕ, ◌+◌, ◌<◌, ◌≤◌, ◌↔◌, [], ◌∷◌, ◌++◌, true, false, length, None, is_some, IsTrue, IsOk, IfOk, OnOk, OnErr, Err, Ok};
-ghost use Rattle.page_format.specs.Words.{u32_at};
+ghost use Rattle.stored_pages.specs.Words.{u32_at};
 ghost use Rattle.log_format.specs.declared.group.Record.TheVariants.{Put, Fresh};
 ghost use Rattle.redo_log.specs.View.{room_of};
 ghost use Rattle.buffer_pool.specs.Frames.{HasOneMore, slot_of};
@@ -20,11 +20,11 @@ use crate::dealt::Dealt;
 use crate::edits::Edits;
 use crate::placing::{keep_all, place_copies, release_all, take_frame};
 use buffer_pool::Pool;
-use page_format::read_u32;
 use redo_log::Log;
 use std::alloc::Global;
 use std::marker::Model;
 use store_api::{FreshBad, NoMemory, Visit};
+use stored_pages::read_u32;
 
 /// A mini-transaction under way. Contracts see the pool and the log without its puts, its copies and its records.
 #[derive(Drop)]

@@ -3,7 +3,7 @@ use Rattle.std.proofs.Common.{◌≡◌, ℕ, ◌+◌, ◌-◌, ◌≤◌, List,
 use Rattle.std.specs.Prelude.{slice_index}
 use Rattle.std.proofs.lemmas.List.{drop-drop}
 use Rattle.std.specs.Int.{w32, from_be_bytes}
-use Rattle.page_format.specs.Words.{u32_at}
+use Rattle.stored_pages.specs.Words.{u32_at}
 
 pub drop-behind : (at : ℕ) (a b : List ℕ) → 20 ≤ at → drop 20 a ≡ drop 20 b → drop at a ≡ drop at b
 drop-behind at a b begins same =

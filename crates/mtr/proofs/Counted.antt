@@ -2,7 +2,7 @@
 use Rattle.std.proofs.Common.{◌≡◌, ℕ, ◌-◌, ◌≤◌, List, take, replicate, refl, ap, ◌∙◌, arith}
 use Rattle.std.specs.Int.{w32, from_be_bytes}
 use Rattle.std.proofs.lemmas.List.{drop-replicate, take-replicate}
-use Rattle.page_format.specs.Words.{u32_at}
+use Rattle.stored_pages.specs.Words.{u32_at}
 
 -- the zeros are so many, which are not to be written out
 no_pages : (n : ℕ) → n ≡ 4096 → u32_at 44 (replicate n 0) ≡ 0

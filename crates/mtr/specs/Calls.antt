@@ -1,6 +1,6 @@
 -- What the calls of a mini-transaction make of what it sees.
 use Rattle.std.specs.Prelude.{◌≡◌, ◌≢◌, ◌⊎◌, ℕ, ◌+◌, ◌≤◌, List, [], length, replicate, IsTrue, Option, Some, None, Result, MatchResult, if◌then◌else◌}
-use Rattle.page_format.specs.Words.{u32_at}
+use Rattle.stored_pages.specs.Words.{u32_at}
 use Rattle.store_api.specs.Causes.{Rose}
 use Rattle.store_api.specs.declared.visits.Visit.{Visit}
 use Rattle.store_api.specs.declared.visits.Visit.TheVariants.{Failed, Again, Bad}

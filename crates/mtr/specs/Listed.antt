@@ -1,6 +1,6 @@
 -- What pages in two vectors show to a mini-transaction: each page is in the pool, and none breaks a rule.
 use Rattle.std.specs.Prelude.{◌≡◌, ℕ, ◌≤◌, List, slice_index_or, true, None, IsTrue}
-use Rattle.page_format.specs.Words.{u32_at}
+use Rattle.stored_pages.specs.Words.{u32_at}
 use Rattle.mtr.specs.declared.store.Store.{Store}
 use Rattle.mtr.specs.Seen.{MtrState, capacity_of}
 use Rattle.mtr.specs.Calls.{SeesAt}

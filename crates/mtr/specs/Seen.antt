@@ -1,7 +1,7 @@
 -- The pages by number, as one mini-transaction sees them.
 use Rattle.std.specs.Prelude.{◌≡◌, ℕ, ◌+◌, ◌<◌, ◌==◌, List, [], ◌∷◌, ◌++◌, length, take, drop, Bool, false, IsTrue, Option, if◌then◌else◌}
 use Rattle.std.specs.List.{list_any}
-use Rattle.page_format.specs.Words.{u32_at}
+use Rattle.stored_pages.specs.Words.{u32_at}
 
 -- What a mini-transaction sees, and how much it may still do. Of a page's bytes only those from 20 on are spoken of:
 -- its sum, number and LSN are the pool's, and what stands in their places here means nothing.

@@ -2,13 +2,13 @@
 //! What asks for one page and reads one number of it is here.
 
 ghost use Rattle.std.specs.Prelude.{◌≡◌, ◌+◌, ◌≤◌, length, IsTrue, IfOk};
-ghost use Rattle.page_format.specs.Words.{u32_at};
+ghost use Rattle.stored_pages.specs.Words.{u32_at};
 ghost use Rattle.mtr.specs.Seen.{visit, capacity_of};
 ghost use Rattle.mtr.specs.Calls.{Asks};
 
 use crate::pages::Mtr;
-use page_format::read_u32;
 use store_api::Visit;
+use stored_pages::read_u32;
 
 /// The number of 4 bytes at a place of a page.
 pub fn u32_on<M: Mtr>(m: &mut M, page: u32, at: usize) -> Result<u32, Visit>

@@ -2,13 +2,13 @@
 //! Only `ListedPages` uses this.
 
 ghost use Rattle.std.specs.Prelude.{◌≡◌, ℕ, ◌+◌, ◌<◌, ◌≤◌, [], length, vec_len, vec_capacity, slice_index_or, slice_set, IsTrue, IfOk, OnOk, OnErr};
-ghost use Rattle.page_format.specs.Words.{u32_at};
+ghost use Rattle.stored_pages.specs.Words.{u32_at};
 ghost use Rattle.mtr.specs.Seen.{visit, IsWithin, with_bytes};
 ghost use Rattle.mtr.specs.Calls.{Looks, Makes, Puts, Commits, GivesUp};
 
-use page_format::read_u32;
 use std::alloc::{AllocError, Global};
 use store_api::NoMemory;
+use stored_pages::read_u32;
 
 const PAGE: usize = 4096;
 

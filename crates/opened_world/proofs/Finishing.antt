@@ -6,12 +6,12 @@ use Rattle.inno_db.specs.Database.{Database, key_of}
 use Rattle.inno_db.specs.declared.limits.TheConstants.{MOST_TABLES}
 use Rattle.inno_model.specs.declared.event.Event.TheVariants.{Opened}
 use Rattle.sql_history.specs.Counts.{rows_in, most_rows}
-use Rattle.chain.specs.declared.kept.Kept.{Kept}
+use Rattle.row_versions.specs.declared.kept.Kept.{Kept}
 use Rattle.row_versions.specs.declared.place.Place.{Place}
 use Rattle.row_versions.specs.Chains.{in_model, versions_at, older}
 use Rattle.law_past_agreement.specs.Agreement.{IsOpenedWith}
-use Rattle.law_coded_rows.specs.Records.{LeadTo}
-use Rattle.law_coded_rows.proofs.FromTables.{decoded}
+use Rattle.law_stored_rows.specs.Records.{LeadTo}
+use Rattle.law_stored_rows.proofs.FromTables.{decoded}
 use Rattle.law_logged_changes.specs.Pointers.{Reaches, PointersApart}
 use Rattle.world.specs.State.{WorldState}
 use Rattle.world.specs.Told.{IsTold, pairs_of}

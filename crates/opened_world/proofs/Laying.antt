@@ -15,22 +15,22 @@ use Rattle.row_codec.specs.Rows.{version_code}
 use Rattle.entries.specs.Pairs.{value_of}
 use Rattle.entries.specs.Index.{Index}
 use Rattle.entries.specs.Lists.{empty_index}
-use Rattle.chain.specs.declared.kept.Kept.{Kept}
-use Rattle.chain.specs.Versions.{Versions}
+use Rattle.row_versions.specs.declared.kept.Kept.{Kept}
+use Rattle.row_versions.specs.Versions.{Versions}
 use Rattle.row_versions.specs.declared.place.Place.{Place}
 use Rattle.row_versions.specs.declared.version.Version.{Version}
 use Rattle.row_versions.specs.Chains.{Chains, in_model, is_same_place, versions_at, newest, Pushes}
 use Rattle.row_versions.specs.Laws.{same_place_equiv}
-use Rattle.law_fitting_rows.specs.Storable.{IsStorable}
-use Rattle.law_fitting_rows.proofs.Applying.{AreFitting-no_rows, AreFitting-apply_one}
-use Rattle.law_fitting_rows.proofs.Numbers.{empty-Has64Bits, apply_one-Has64Bits}
-use Rattle.law_coded_rows.specs.Edits.{clustered_index}
-use Rattle.law_coded_rows.specs.Records.{IsRecordWith}
-use Rattle.law_coded_rows.specs.Tables.{HasNoPairs, AreCoded, AreCodedAs, what_is_there, in_table}
-use Rattle.law_coded_rows.proofs.Values.{same_place}
-use Rattle.law_coded_rows.proofs.Tables.{lag_stays, pushed_here, pushed_elsewhere}
-use Rattle.law_coded_rows.proofs.FromTables.{absent}
-use Rattle.law_coded_rows.proofs.Made.{no_tables, a_table_more}
+use Rattle.law_stored_rows.specs.Storable.{IsStorable}
+use Rattle.law_stored_rows.proofs.Applying.{AreFitting-no_rows, AreFitting-apply_one}
+use Rattle.law_stored_rows.proofs.Numbers.{empty-Has64Bits, apply_one-Has64Bits}
+use Rattle.law_stored_rows.specs.Edits.{clustered_index}
+use Rattle.law_stored_rows.specs.Records.{IsRecordWith}
+use Rattle.law_stored_rows.specs.Tables.{HasNoPairs, AreCoded, AreCodedAs, what_is_there, in_table}
+use Rattle.law_stored_rows.proofs.Values.{same_place}
+use Rattle.law_stored_rows.proofs.Tables.{lag_stays, pushed_here, pushed_elsewhere}
+use Rattle.law_stored_rows.proofs.FromTables.{absent}
+use Rattle.law_stored_rows.proofs.Made.{no_tables, a_table_more}
 use Rattle.world.specs.State.{WorldState, index_of}
 use Rattle.world.specs.Told.{IsTold, pairs_in, pairs_of}
 use Rattle.world.specs.EngineCalls.{IsNew, LaysTable}
@@ -39,15 +39,15 @@ use Rattle.row_changes.specs.Edits.{IsKeyAt}
 use Rattle.row_changes.specs.Keys.{IsChangingKeys}
 use Rattle.row_changes.proofs.Pushed.{key_at, first_rows}
 use Rattle.row_changes.proofs.Telling.{HasPut, pairs_told, puts_pairs, tells, coded_again}
-use Rattle.law_changing_rows.proofs.Entering.{with_version, pushed_version}
-use Rattle.law_held_entries.proofs.Tables.{its_columns}
+use Rattle.law_logged_changes.proofs.Entering.{with_version, pushed_version}
+use Rattle.law_held_steps.proofs.Tables.{its_columns}
 use Rattle.shared_lists.specs.Fitting.{FitsWell}
 use Rattle.opened_world.specs.Laid.{no_db, version_of, IsLaid, PutsNewRecord, HasRecordThere, TakesKeysOver, AwaitsNobody}
 use Rattle.std.proofs.lemmas.Bool.{cases_eq}
 use Rattle.world.specs.Told.{LeavesRows}
 use Rattle.row_changes.specs.Awaited.{IsOfTable}
-use Rattle.law_changing_rows.proofs.Leaving.{has_rows_left}
-use Rattle.law_held_changes.specs.Leaving.{LeavesIndexes, LeavesTable}
+use Rattle.law_logged_changes.proofs.ReadersLeft.{has_rows_left}
+use Rattle.law_held_steps.specs.Leaving.{LeavesIndexes, LeavesTable}
 
 -- ---- a database without tables
 

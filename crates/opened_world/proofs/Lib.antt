@@ -2,3 +2,8 @@ mod Laying
 mod Finishing
 mod Sums
 mod Taking
+mod Below
+mod Each
+mod Fitting
+mod Grown
+mod Last

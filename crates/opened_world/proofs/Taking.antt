@@ -7,13 +7,13 @@ use Rattle.inno_types.specs.declared.value.Schema.{Schema}
 use Rattle.inno_db.specs.Database.{key_of}
 use Rattle.key_codec.specs.Keys.{Has64Bits, key_code}
 use Rattle.row_versions.specs.Chains.{Chains}
-use Rattle.law_fitting_rows.specs.Storable.{IsStorable}
-use Rattle.law_fitting_rows.specs.Fitting.{FitsTable}
-use Rattle.law_fitting_rows.proofs.Coding.{short_key, short_value}
+use Rattle.law_stored_rows.specs.Storable.{IsStorable}
+use Rattle.law_stored_rows.specs.Fitting.{FitsTable}
+use Rattle.law_stored_rows.proofs.Coding.{short_key, short_value}
 use Rattle.row_codec.specs.Rows.{version_code}
 use Rattle.store_api.specs.declared.moves.Move.TheVariants as moves
 use Rattle.entries.specs.Calls.{Inserts}
-use Rattle.law_coded_rows.specs.Edits.{clustered_index}
+use Rattle.law_stored_rows.specs.Edits.{clustered_index}
 use Rattle.world.specs.State.{WorldState}
 use Rattle.world.specs.Stores.{StoreGoes}
 use Rattle.world.proofs.Stores.{store_stays, store_goes_on}

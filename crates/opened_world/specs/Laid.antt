@@ -13,7 +13,7 @@ use Rattle.entries.specs.Calls.{Inserts}
 use Rattle.row_versions.specs.declared.place.Place.{Place}
 use Rattle.row_versions.specs.declared.version.Version.{Version}
 use Rattle.row_versions.specs.Chains.{Chains, in_model, versions_at}
-use Rattle.law_coded_rows.specs.Edits.{clustered_index}
+use Rattle.law_stored_rows.specs.Edits.{clustered_index}
 use Rattle.world.specs.State.{WorldState}
 use Rattle.world.specs.Stores.{StoreGoes}
 use Rattle.world.specs.Indexes.{Changes}

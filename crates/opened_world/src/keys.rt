@@ -6,13 +6,13 @@ ghost use Rattle.inno_db.specs.Database.{key_of};
 ghost use Rattle.key_codec.specs.Keys.{IsOfKind, key_code, Has64Bits};
 ghost use Rattle.row_codec.specs.Rows.{IsRowOf, version_code};
 ghost use Rattle.row_versions.specs.Chains.{Chains};
-ghost use Rattle.law_fitting_rows.specs.Storable.{IsStorable};
-ghost use Rattle.law_fitting_rows.specs.Fitting.{FitsTable};
+ghost use Rattle.law_stored_rows.specs.Storable.{IsStorable};
+ghost use Rattle.law_stored_rows.specs.Fitting.{FitsTable};
 ghost use Rattle.list_world.specs.Parts.{world_of};
 ghost use Rattle.row_changes.specs.Edits.{IsRowFor};
 ghost use Rattle.row_changes.specs.Keys.{IsChangingKeys};
 ghost use Rattle.inno_types.specs.declared.value.Schema.{Schema as ASchema};
-ghost use Rattle.law_held_changes.specs.Leaving.{LeavesIndexes, LeavesTable};
+ghost use Rattle.law_held_steps.specs.Leaving.{LeavesIndexes, LeavesTable};
 ghost use Rattle.opened_world.specs.Laid.{PutsNewRecord, HasRecordThere, TakesKeysOver};
 
 use crate::opening::PutBad;

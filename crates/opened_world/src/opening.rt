@@ -8,7 +8,7 @@ ghost use Rattle.inno_db.specs.Database.{key_in};
 ghost use Rattle.inno_db.specs.declared.change.Change.TheVariants.{Create, Put};
 ghost use Rattle.inno_db.specs.declared.limits.TheConstants.{MOST_TABLES};
 ghost use Rattle.list_world.specs.Parts.{world_of};
-ghost use Rattle.law_fitting_rows.specs.Storable.{IsStorable};
+ghost use Rattle.law_stored_rows.specs.Storable.{IsStorable};
 ghost use Rattle.shared_lists.specs.Fitting.{FitsWell};
 ghost use Rattle.opened_world.specs.Laid.{no_db, IsFreshOf, IsTooLarge, AwaitsNobody};
 

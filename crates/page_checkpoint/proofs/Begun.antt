@@ -8,7 +8,7 @@ use Rattle.redo_log.specs.Logged.{IsLogged, LeavesPrefix}
 use Rattle.buffer_pool.specs.Frames.{PoolView, bytes_of}
 use Rattle.doublewrite.specs.Batches.{BatchView, StagedView, page_at}
 use Rattle.doublewrite.specs.Kept.{IsReady, IsReadyAs, IsStaged, KeepsPages, HasPlaced}
-use Rattle.doublewrite.specs.Reading.{IsGoodPage, IsPageIn}
+use Rattle.stored_pages.specs.Reading.{IsGoodPage, IsPageIn}
 use Rattle.std.proofs.lemmas.Bool.{cases_eq}
 use Rattle.law_logged_pages.specs.Stages.{AreBytes}
 use Rattle.law_logged_pages.specs.Applied.{logical}

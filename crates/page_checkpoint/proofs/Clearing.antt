@@ -18,7 +18,7 @@ use Rattle.redo_log.specs.Logged.{GoesOnAt, IsLogged, HoldsPrefix}
 use Rattle.buffer_pool.specs.Frames.{PoolView, bytes_of}
 use Rattle.page_recovery.specs.Leaving.{IsFileRun}
 use Rattle.redo_log.proofs.GoesOn.{zeros_fail}
-use Rattle.doublewrite.specs.Reading.{place_of}
+use Rattle.stored_pages.specs.Reading.{place_of}
 use Rattle.doublewrite.specs.Kept.{HadCopy, IsSettled, WasPage}
 use Rattle.law_logged_pages.specs.Stages.{SameButSum}
 use Rattle.law_logged_pages.specs.Keeping.{IsPlaced}

@@ -6,7 +6,7 @@ use Rattle.std.proofs.lemmas.Bool.{cases_lt}
 use Rattle.std.proofs.lemmas.List.{drop-drop, drop-take, take-take}
 use Rattle.std.proofs.lemmas.List.Elements.{All-weaker}
 use Rattle.store_api.specs.Areas.{State, Write, Contents, MayLeave, IsHonestArea, PassesSum}
-use Rattle.page_format.specs.Words.{u32_at, u64_at, number_of, lsn_of}
+use Rattle.stored_pages.specs.Words.{u32_at, u64_at, number_of, lsn_of}
 use Rattle.log_format.specs.declared.group.Group.{Group}
 use Rattle.log_format.specs.Group.{group_bytes}
 use Rattle.log_format.specs.Block.{IsGood, payloads}
@@ -16,7 +16,7 @@ use Rattle.redo_log.specs.View.{LogView}
 use Rattle.redo_log.specs.Logged.{IsLogged, WritesFront}
 use Rattle.redo_log.proofs.Crash.{good_before}
 use Rattle.buffer_pool.specs.Frames.{PoolView, bytes_of}
-use Rattle.doublewrite.specs.Reading.{IsGoodPage}
+use Rattle.stored_pages.specs.Reading.{IsGoodPage}
 use Rattle.doublewrite.specs.Batches.{IsBatch, page_at}
 use Rattle.law_logged_pages.specs.Heads.{head_of}
 use Rattle.law_logged_pages.specs.Stages.{AreBytes}

@@ -3,12 +3,12 @@ use Rattle.std.proofs.Common.{◌≡◌, inr, ⊎_elim, ℕ, ◌+◌, ◌<◌, �
 use Rattle.std.specs.Int.{w64, from_be_bytes}
 use Rattle.std.proofs.lemmas.List.{drop-replicate, take-replicate}
 use Rattle.store_api.specs.Areas.{State, Image, IsImage, IsHonest}
-use Rattle.page_format.specs.Words.{u64_at, lsn_of}
+use Rattle.stored_pages.specs.Words.{u64_at, lsn_of}
 use Rattle.log_format.specs.declared.group.Group.{Group}
 use Rattle.mini_txn.specs.Edits.{blank}
 use Rattle.doublewrite.specs.Batches.{page_at}
 use Rattle.doublewrite.specs.Kept.{HadCopy, IsPageReady, KeepsPages, WasPage}
-use Rattle.doublewrite.specs.Reading.{IsGoodPage, IsPageIn}
+use Rattle.stored_pages.specs.Reading.{IsGoodPage, IsPageIn}
 use Rattle.law_logged_pages.specs.Applied.{logical}
 use Rattle.law_logged_pages.specs.Stages.{WasOnce}
 use Rattle.law_logged_pages.specs.Keeping.{IsRun, IsPlaced, durable}

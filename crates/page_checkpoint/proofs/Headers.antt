@@ -4,11 +4,12 @@ use Rattle.std.specs.Int.{w32, w64, to_be_bytes, from_be_bytes}
 use Rattle.std.proofs.lemmas.Nat.{from_be_bytes-to_be_bytes_8}
 use Rattle.sum64.specs.Fnv.{fnv_of}
 use Rattle.store_api.specs.Areas.{PassesSum}
-use Rattle.page_format.specs.Words.{u32_at, u64_at}
+use Rattle.stored_pages.specs.Words.{u32_at, u64_at}
 use Rattle.page_format.proofs.Edited.{same_part}
-use Rattle.page_format.proofs.Headed.{Over, over, back_part, back_more}
-use Rattle.page_format.proofs.Sealed.{sealed}
-use Rattle.doublewrite.specs.Reading.{IsGoodPage}
+use Rattle.page_format.proofs.Headed.{Over, over, back_more}
+use Rattle.stored_pages.proofs.Sealed.{back_part}
+use Rattle.stored_pages.proofs.Sealed.{sealed}
+use Rattle.stored_pages.specs.Reading.{IsGoodPage}
 use Rattle.page_checkpoint.specs.Header.{IsNextHeader}
 
 module _ (lsn run first sum : ℕ) (zeros a b c d e f : List ℕ) (lsn_fits : lsn < 2 ^ 64) (run_fits : run < 2 ^ 64) (first_fits : first < 2 ^ 64)

@@ -5,9 +5,9 @@ use Rattle.std.specs.Prelude.{All, Contains}
 use Rattle.std.proofs.lemmas.Bool.{ne_eqb}
 use Rattle.std.proofs.lemmas.List.Elements.{All-nil, All-contains}
 use Rattle.store_api.specs.Areas.{State, Write, WasWhole, Puts, end_of}
-use Rattle.page_format.specs.Words.{number_of}
+use Rattle.stored_pages.specs.Words.{number_of}
 use Rattle.log_format.specs.declared.group.Group.{Group}
-use Rattle.doublewrite.specs.Reading.{IsGoodPage, place_of}
+use Rattle.stored_pages.specs.Reading.{IsGoodPage, place_of}
 use Rattle.doublewrite.specs.Batches.{IsInBatch, page_at}
 use Rattle.doublewrite.specs.Kept.{Spares, IsSettled, IsStaged, HasPlaced}
 use Rattle.law_logged_pages.specs.Applied.{logical}

@@ -4,7 +4,7 @@ use Rattle.std.specs.Prelude.{IsTrue, option_map, ◌==◌}
 use Rattle.std.specs.Option.{option_map_or}
 use Rattle.std.proofs.lemmas.Bool.{cases_lt, eq-eqb}
 use Rattle.std.proofs.lemmas.List.{length-set, get_or-set_same, get_or-set_other, get_or_past}
-use Rattle.page_format.specs.Words.{lsn_of}
+use Rattle.stored_pages.specs.Words.{lsn_of}
 use Rattle.buffer_pool.specs.declared.frame.Content.TheVariants.{Clean, Dirty}
 use Rattle.buffer_pool.specs.Frames.{FrameView, PoolView, slot_of, is_pooled, is_changed, is_written, holds_page, bytes_of, at_slot, changed, placed}
 use Rattle.page_checkpoint.specs.Beginning.{HasHeader}

@@ -3,13 +3,13 @@ use Rattle.std.specs.Prelude.{◌≡◌, ◌≢◌, ◌⊎◌, ℕ, ◌+◌, ◌
 use Rattle.store_api.specs.Areas.{State, Contents, Image, Write, IsImage, IsHonest}
 use Rattle.store_api.specs.Causes.{Rose}
 use Rattle.store_api.specs.Past.{Past}
-use Rattle.page_format.specs.Words.{u64_at}
+use Rattle.stored_pages.specs.Words.{u64_at}
 use Rattle.log_format.specs.declared.group.Group.{Group}
 use Rattle.log_format.specs.Block.{IsGood}
 use Rattle.redo_log.specs.View.{LogView}
 use Rattle.buffer_pool.specs.Frames.{PoolView, slot_of, is_dirty, is_standing, bytes_of, fixes_of}
 use Rattle.doublewrite.specs.Batches.{BatchView}
-use Rattle.doublewrite.specs.Reading.{IsPageIn}
+use Rattle.stored_pages.specs.Reading.{IsPageIn}
 use Rattle.law_logged_pages.specs.Applied.{logical}
 use Rattle.law_logged_pages.specs.Stages.{SameButSum}
 use Rattle.law_logged_pages.specs.Keeping.{IsPlaced}

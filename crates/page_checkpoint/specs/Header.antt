@@ -1,6 +1,6 @@
 -- Page 0 as it says the next run.
 use Rattle.std.specs.Prelude.{◌≡◌, ℕ, List, take, drop}
-use Rattle.page_format.specs.Words.{u64_at, number_of, lsn_of}
+use Rattle.stored_pages.specs.Words.{u64_at, number_of, lsn_of}
 
 -- It has this LSN, and says this run and this first LSN. But for them and the sum it is as before.
 pub record IsNextHeader (lsn run first : ℕ) (old new : List ℕ) : Type 0 where

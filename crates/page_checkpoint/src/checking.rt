@@ -7,8 +7,8 @@ ghost use Rattle.page_checkpoint.specs.Beginning.{IsNextRun, IsCause, IsNoFault}
 ghost use Rattle.page_checkpoint.specs.declared.checking.CheckpointBad.TheVariants.{NoNumbers};
 
 use buffer_pool::Pool;
-use page_format::read_u64;
 use redo_log::Log;
+use stored_pages::read_u64;
 
 /// A run without groups: its number, and the LSN of its first group.
 #[derive(Clone, Copy, Debug, PartialEq, Eq)]

@@ -2,7 +2,7 @@
 //! Nothing here meets the disk.
 
 ghost use Rattle.std.specs.Prelude.{◌≡◌, ◌+◌, ◌≤◌, ◌++◌, length, take, drop};
-ghost use Rattle.doublewrite.specs.Reading.{IsGoodPage};
+ghost use Rattle.stored_pages.specs.Reading.{IsGoodPage};
 ghost use Rattle.law_logged_pages.specs.Stages.{AreBytes};
 ghost use Rattle.page_checkpoint.specs.Header.{IsNextHeader};
 

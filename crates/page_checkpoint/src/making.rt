@@ -6,7 +6,7 @@ ghost use Rattle.store_api.specs.Areas.{State};
 ghost use Rattle.store_api.specs.Past.{Now, Meanwhile};
 ghost use Rattle.log_format.specs.declared.group.Group.{Group as GroupValue};
 ghost use Rattle.buffer_pool.specs.Frames.{is_pooled, bytes_of, fixes_of};
-ghost use Rattle.doublewrite.specs.Reading.{IsGoodPage};
+ghost use Rattle.stored_pages.specs.Reading.{IsGoodPage};
 ghost use Rattle.doublewrite.specs.Kept.{IsReady, IsReadyAs, IsStaged, HasPlaced, KeepsPages};
 ghost use Rattle.law_logged_pages.specs.Stages.{AreBytes};
 ghost use Rattle.law_checkpoints.specs.Checkpoints.{begun};

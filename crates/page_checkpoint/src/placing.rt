@@ -5,7 +5,7 @@ ghost use Rattle.std.specs.Prelude.{◌≡◌, [], OnOk};
 ghost use Rattle.store_api.specs.Areas.{State};
 ghost use Rattle.store_api.specs.Causes.{HasCause};
 ghost use Rattle.store_api.specs.Past.{Now, Meanwhile};
-ghost use Rattle.doublewrite.specs.Reading.{IsGoodPage};
+ghost use Rattle.stored_pages.specs.Reading.{IsGoodPage};
 ghost use Rattle.doublewrite.specs.Kept.{IsReadyAs, IsStagedHonestly, IsStaged, HasPlaced, KeepsPages};
 ghost use Rattle.page_checkpoint.specs.Beginning.{alone};
 

@@ -5,7 +5,8 @@ use Rattle.std.specs.Int.{w16, to_be_bytes, from_be_bytes}
 use Rattle.std.specs.List.{concat}
 use Rattle.std.proofs.lemmas.List.{length-set, take_at, drop_at, take-take, drop-take, drop-drop, take-append-le, drop-append-le, get_or-take, get_or-drop, length-take-le, length-drop}
 use Rattle.std.proofs.lemmas.Nat.{from_be_bytes-to_be_bytes_2}
-use Rattle.page_format.specs.Words.{u16_at, kind_of, level_of, count_of, record_len_of, records_of, pieces}
+use Rattle.page_format.specs.Words.{kind_of, level_of, count_of, record_len_of, records_of, pieces}
+use Rattle.stored_pages.specs.Words.{u16_at}
 use Rattle.page_format.specs.Changes.{KeepsFields, with_byte}
 use Rattle.page_format.specs.Shape.{HasTreeFields}
 use Rattle.std.specs.Prelude.{insert, remove, replicate}

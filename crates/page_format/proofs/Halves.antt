@@ -3,10 +3,12 @@ use Rattle.std.proofs.Common.{◌≡◌, ℕ, List, take, drop, Some, ap, ◌∙
 use Rattle.std.specs.Prelude.{slice_index}
 use Rattle.std.specs.Int.{w16, w32, w64, from_be_bytes}
 use Rattle.page_format.specs.Changes.{KeepsFields, IsLowerHalf, IsUpperHalf}
-use Rattle.page_format.specs.Words.{u16_at, u32_at, u64_at, number_of, right_of, low_of, high_of, records_of, fence}
+use Rattle.page_format.specs.Words.{right_of, low_of, high_of, records_of, fence}
+use Rattle.stored_pages.specs.Words.{u16_at, u32_at, u64_at, number_of}
 use Rattle.page_format.specs.Shape.{HasTreeFields}
 use Rattle.page_format.proofs.Edited.{same_part, same_byte, middle_part, middle_byte}
-use Rattle.page_format.proofs.Headed.{back_part, back_byte}
+use Rattle.page_format.proofs.Headed.{back_byte}
+use Rattle.stored_pages.proofs.Sealed.{back_part}
 
 -- after keep_first, set_high and set_right
 pub lower : (old a b new : List ℕ) (i : ℕ) (key : List ℕ) (number : ℕ) → KeepsFields old a → records_of a ≡ take i (records_of old) → records_of b ≡ records_of a → high_of b ≡ Some key → take 35 b ≡ take 35 a → take 80 (drop 36 b) ≡ take 80 (drop 36 a)

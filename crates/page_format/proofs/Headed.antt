@@ -6,16 +6,13 @@ use Rattle.std.proofs.lemmas.Bool.{ne_eqb, cond-false}
 use Rattle.std.proofs.lemmas.List.{take_at, drop_at, take-take, drop-take, drop-drop, length-take-le, length-drop, length-replicate}
 use Rattle.std.proofs.lemmas.List.Elements.{All-replicate}
 use Rattle.std.proofs.lemmas.Nat.{from_be_bytes-to_be_bytes_4}
-use Rattle.page_format.specs.Words.{u16_at, u32_at, kind_of, level_of, count_of, record_len_of, records_of, low_of, high_of, pieces, fence}
+use Rattle.page_format.specs.Words.{kind_of, level_of, count_of, record_len_of, records_of, low_of, high_of, pieces, fence}
+use Rattle.stored_pages.specs.Words.{u16_at, u32_at}
 use Rattle.page_format.specs.Shape.{AreZeros, HasTreeFields, IsFence, fence_width}
+use Rattle.stored_pages.proofs.Sealed.{back_part}
 use Rattle.page_format.proofs.Edited.{same_part, same_byte, byte_is}
 
 -- parts of equal ends are equal
-pub back_part : (a b : List ℕ) (to at size : ℕ) → to ≤ at → drop to a ≡ drop to b → take size (drop at a) ≡ take size (drop at b)
-back_part a b to at size behind e =
-    let place : to + (at - to) ≡ at = omega (arith, behind) in
-    ap (λ (k : ℕ). take size (drop k a)) (sym place) ∙ ap (take size) (sym (drop-drop (at - to) to a) ∙ ap (drop (at - to)) e ∙ drop-drop (at - to) to b) ∙ ap (λ (k : ℕ). take size (drop k b)) place
-
 pub back_byte : (a b : List ℕ) (to at : ℕ) → to ≤ at → drop to a ≡ drop to b → get_or a at 0 ≡ get_or b at 0
 back_byte a b to at behind e = byte_is a at ∙ ap (λ (l : List ℕ). get_or l 0 0) (back_part a b to at 1 behind e) ∙ sym (byte_is b at)
 

@@ -7,16 +7,11 @@ use Rattle.std.proofs.lemmas.Nat.{from_be_bytes-to_be_bytes_8}
 use Rattle.sum64.specs.Fnv.{fnv_of}
 use Rattle.sum64.proofs.Bound.{fnv_of_below}
 use Rattle.store_api.specs.Areas.{PassesSum}
-use Rattle.page_format.specs.Words.{u16_at, u32_at, number_of, kind_of, low_of, high_of, records_of, fence, pieces}
+use Rattle.page_format.specs.Words.{kind_of, low_of, high_of, records_of, fence, pieces}
+use Rattle.stored_pages.specs.Words.{u16_at, u32_at, number_of}
 use Rattle.page_format.specs.Shape.{HasFields, HasOrder, HasTreeFields, HasPlainFields, HasTreeOrder, IsOrdered, IsPage, is_tree}
-use Rattle.page_format.proofs.Headed.{back_part, back_byte, back_more, tree_from}
-
-pub sealed : (old new : List ℕ) (sum : ℕ) → sum ≡ fnv_of (drop 8 old) → new ≡ to_be_bytes w64 sum ++ drop 8 old → PassesSum new × (drop 8 new ≡ drop 8 old)
-sealed old new sum sum_is new_is =
-    let rest : drop 8 new ≡ drop 8 old = ap (drop 8) new_is ∙ drop_at (to_be_bytes w64 sum) (drop 8 old) 8 refl in
-    let front : take 8 new ≡ to_be_bytes w64 sum = ap (take 8) new_is ∙ take_at (to_be_bytes w64 sum) (drop 8 old) 8 refl in
-    let below : sum < 2 ^ 64 = rw sum_is (fnv_of_below (drop 8 old)) in
-    (ap (from_be_bytes w64) front ∙ from_be_bytes-to_be_bytes_8 sum below ∙ sum_is ∙ ap fnv_of (sym rest), rest)
+use Rattle.page_format.proofs.Headed.{back_byte, back_more, tree_from}
+use Rattle.stored_pages.proofs.Sealed.{back_part}
 
 -- ---- all words but the sum stand behind it
 

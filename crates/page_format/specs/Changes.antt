@@ -1,6 +1,7 @@
 -- What an edit of a page keeps.
 use Rattle.std.specs.Prelude.{◌≡◌, List, [], ℕ, take, drop, slice_set, slice_index_or, Some, Bool, if◌then◌else◌}
-use Rattle.page_format.specs.Words.{number_of, lsn_of, kind_of, level_of, index_of, right_of, record_len_of, low_of, high_of, records_of}
+use Rattle.page_format.specs.Words.{kind_of, level_of, index_of, right_of, record_len_of, low_of, high_of, records_of}
+use Rattle.stored_pages.specs.Words.{number_of, lsn_of}
 use Rattle.page_format.specs.Shape.{HasTreeFields}
 
 -- All stays but the records and their count: sum, number, LSN, kind and level; index, neighbour, record length and fences.

@@ -5,7 +5,7 @@ use Rattle.sum64.specs.Fnv.{fnv_of}
 use Rattle.store_api.specs.Areas.{PassesSum}
 use Rattle.page_format.specs.declared.read.PageBad.{PageBad}
 use Rattle.page_format.specs.declared.read.PageBad.TheVariants.{Sum, Number, Shape}
-use Rattle.page_format.specs.Words.{number_of}
+use Rattle.stored_pages.specs.Words.{number_of}
 use Rattle.page_format.specs.Shape.{HasFields, HasOrder}
 
 -- the rule that a page's shape breaks: 1 of its fields, 2 of the order of its records and fences

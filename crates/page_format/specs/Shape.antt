@@ -4,7 +4,8 @@ use Rattle.std.specs.declared.cmp.Ordering.TheVariants.{Less}
 use Rattle.std.specs.Ordering.{nat_cmp}
 use Rattle.std.specs.Cmp.Lexicographic.{slice_cmp}
 use Rattle.store_api.specs.Areas.{PassesSum}
-use Rattle.page_format.specs.Words.{number_of, kind_of, level_of, count_of, record_len_of, low_of, high_of, records_of}
+use Rattle.page_format.specs.Words.{kind_of, level_of, count_of, record_len_of, low_of, high_of, records_of}
+use Rattle.stored_pages.specs.Words.{number_of}
 use Rattle.page_format.specs.Fences.{DoFencesRise, BeginsInside, EndsInside}
 
 abbrev pub AreZeros : List ℕ → Type 0

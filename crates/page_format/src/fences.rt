@@ -7,10 +7,11 @@ ghost use Rattle.page_format.specs.Found.{key_cmp};
 ghost use Rattle.page_format.specs.Fences.{DoFencesRise, BeginsInside, EndsInside};
 ghost use Rattle.page_format.specs.Shape.{HasTreeFields};
 
-use crate::numbers::{behind, read_u16};
+use crate::behind::behind;
 use crate::records::place_of;
 use crate::shape::NO_FENCE;
 use std::cmp::Ordering;
+use stored_pages::read_u16;
 
 /// A fence's bytes.
 fn fence_at(bytes: &[u8], at: usize, len: u8) -> &[u8]

@@ -2,7 +2,8 @@
 //! A split of a page is made of these and of the edits of records.
 
 ghost use Rattle.std.specs.Prelude.{◌≡◌, ℕ, ◌≤◌, length, take, drop, slice_index, Some};
-ghost use Rattle.page_format.specs.Words.{number_of, right_of, low_of, high_of, records_of};
+ghost use Rattle.page_format.specs.Words.{right_of, low_of, high_of, records_of};
+ghost use Rattle.stored_pages.specs.Words.{number_of};
 ghost use Rattle.page_format.specs.Shape.{HasTreeFields};
 
 use crate::edits::{clear, write_over};

@@ -2,17 +2,16 @@
 //! Contracts see a page as its bytes; specs/Words.antt names what stands in them. No call takes memory.
 #![tactic(auto)]
 
+mod behind;
 mod edits;
 mod fences;
 mod header;
-mod numbers;
 mod page;
 mod read;
 mod records;
 mod shape;
 mod split;
 
-pub use numbers::{read_u16, read_u32, read_u64};
 pub use page::Page;
 pub use read::PageBad;
 pub use records::Found;

@@ -3,20 +3,22 @@
 
 ghost use Rattle.std.specs.Prelude.{◌≡◌, ℕ, [], ◌+◌, ◌*◌, ◌<◌, ◌≤◌, length, drop, take, map, slice_index_or, insert, remove, IfOk, IfErr, MatchBool};
 ghost use Rattle.store_api.specs.Areas.{PassesSum};
-ghost use Rattle.page_format.specs.Words.{number_of, count_of, record_len_of, records_of};
+ghost use Rattle.page_format.specs.Words.{count_of, record_len_of, records_of};
+ghost use Rattle.stored_pages.specs.Words.{number_of};
 ghost use Rattle.page_format.specs.Shape.{IsPage, HasFields, HasOrder, HasTreeFields, HasPlainFields, AreRising};
 ghost use Rattle.page_format.specs.Refused.{IsRefused};
 ghost use Rattle.page_format.specs.Found.{IsFound};
 ghost use Rattle.page_format.specs.Changes.{KeepsFields, with_byte, mark_byte, IsLowerHalf, IsUpperHalf};
 
+use crate::behind::behind;
 use crate::edits::write_over;
-use crate::numbers::{behind, read_u16, read_u32, read_u64};
 use crate::read::PageBad;
 use crate::records::{Found, find_record, insert_record, mark_record, remove_record};
 use crate::shape::{RECORDS, SIZE, has_fields, has_order, is_tree_kind};
 use crate::split::{keep_lower, keep_upper, key_of};
 use big_endian::u64_bytes;
 use std::marker::Model;
+use stored_pages::{read_u16, read_u32, read_u64};
 use sum64::fnv;
 
 /// A page. Contracts see its bytes.
@@ -35,7 +37,7 @@ impl Model for Page {
 
 impl Page {
     /// The page of that number that these bytes are.
-    #[tactic(auto, unfolding(crate::specs::Words::u64_at))]
+    #[tactic(auto, unfolding(stored_pages::specs::Words::u64_at))]
     pub fn read(bytes: &[u8], number: u32) -> Result<Page, PageBad>
         requires { length bytes.now ≡ 4096 }
         ensures page { IfOk result (λ page. (page ≡ bytes.now) × IsPage number page) }

@@ -8,11 +8,12 @@ ghost use Rattle.page_format.specs.Found.{IsFound};
 ghost use Rattle.page_format.specs.Words.{count_of, record_len_of, records_of};
 ghost use Rattle.page_format.specs.Shape.{HasTreeFields, AreRising};
 
+use crate::behind::behind;
 use crate::edits::{clear, insert_piece, remove_piece, write_over};
-use crate::numbers::{behind, read_u16};
 use crate::shape::RECORDS;
 use big_endian::u16_bytes;
 use std::cmp::Ordering;
+use stored_pages::read_u16;
 
 /// Where a key stands: at the record of that number, or before it.
 #[derive(Clone, Copy, Debug, PartialEq, Eq)]

@@ -5,9 +5,10 @@ ghost use Rattle.std.specs.Prelude.{◌≡◌, ◌+◌, ◌*◌, ◌≤◌, ◌<
 ghost use Rattle.page_format.specs.Words.{kind_of, level_of, count_of, record_len_of, records_of, pieces};
 ghost use Rattle.page_format.specs.Shape.{AreZeros, IsFence, HasTreeFields, HasPlainFields, HasFields, AreRising, IsOrdered, HasTreeOrder, HasOrder, fence_width, is_tree};
 
+use crate::behind::behind;
 use crate::fences::{begins_inside, do_fences_rise, ends_inside};
-use crate::numbers::{behind, read_u16};
 use std::cmp::Ordering;
+use stored_pages::read_u16;
 
 pub const SIZE: usize = 4096;
 

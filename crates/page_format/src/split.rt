@@ -6,8 +6,8 @@ ghost use Rattle.page_format.specs.Changes.{IsLowerHalf, IsUpperHalf};
 ghost use Rattle.page_format.specs.Words.{count_of, record_len_of, records_of};
 ghost use Rattle.page_format.specs.Shape.{HasTreeFields};
 
+use crate::behind::behind;
 use crate::header::{set_high, set_low, set_number, set_right};
-use crate::numbers::behind;
 use crate::records::{keep_first, keep_last, place_of};
 
 /// The key of a record, its first bytes.

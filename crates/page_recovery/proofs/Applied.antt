@@ -9,7 +9,7 @@ use Rattle.std.proofs.lemmas.List.{drop-take, drop-append-le, take-append-le, ta
 use Rattle.std.proofs.lemmas.List.Elements.{All-head, All-tail}
 use Rattle.std.proofs.lemmas.List.Folds.{list_any-append}
 use Rattle.std.proofs.lemmas.List.Sums.{fold-append}
-use Rattle.page_format.specs.Words.{u64_at, lsn_of}
+use Rattle.stored_pages.specs.Words.{u64_at, lsn_of}
 use Rattle.log_format.specs.declared.group.Group.{Group}
 use Rattle.log_format.specs.declared.group.Record.{Record}
 use Rattle.log_format.specs.declared.group.Record.TheVariants.{Put, Fresh, RowPut, RowRemove, NewTable}

@@ -4,7 +4,7 @@ use Rattle.std.specs.Prelude.{IfSome, IfNone}
 use Rattle.std.specs.Int.{w32, w64, from_be_bytes}
 use Rattle.std.proofs.lemmas.List.{drop-drop, drop-take, take-take, length-take-le}
 use Rattle.store_api.specs.Areas.{State, seen_image}
-use Rattle.page_format.specs.Words.{u32_at, u64_at}
+use Rattle.stored_pages.specs.Words.{u32_at, u64_at}
 use Rattle.log_format.specs.declared.group.Group.{Group}
 use Rattle.log_format.specs.Scan.{IsScan, EndsAt}
 use Rattle.log_format.proofs.Scanned.{one_scan}

@@ -6,7 +6,7 @@ use Rattle.std.proofs.lemmas.List.Elements.{All-nil}
 use Rattle.store_api.specs.Areas.{State, Contents, Write, Puts, IsImage, WasWhole, seen_image}
 use Rattle.log_format.specs.declared.group.Group.{Group}
 use Rattle.log_format.proofs.Groups.{AreGroups-take}
-use Rattle.doublewrite.specs.Reading.{IsGoodPage, place_of}
+use Rattle.stored_pages.specs.Reading.{IsGoodPage, place_of}
 use Rattle.doublewrite.specs.Repairing.{IsRepaired, WasRead}
 use Rattle.doublewrite.specs.Kept.{HadCopy, Spares, WasPage}
 use Rattle.law_logged_pages.specs.Applied.{page_after, logical}

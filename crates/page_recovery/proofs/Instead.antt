@@ -4,7 +4,7 @@ use Rattle.std.specs.Prelude.{slice_index_or, slice_set}
 use Rattle.std.specs.Int.{w64, from_be_bytes}
 use Rattle.std.proofs.lemmas.Bool.{cases_eq}
 use Rattle.std.proofs.lemmas.List.{set-set, length-set, get_or-set_same, get_or-set_other, drop-replicate, take-replicate, length-replicate}
-use Rattle.page_format.specs.Words.{u64_at, lsn_of}
+use Rattle.stored_pages.specs.Words.{u64_at, lsn_of}
 use Rattle.mini_txn.specs.Edits.{blank}
 use Rattle.law_logged_pages.specs.Stages.{or_zeros}
 use Rattle.law_logged_pages.proofs.Edits.{length-blank}

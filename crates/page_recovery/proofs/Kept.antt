@@ -12,7 +12,7 @@ use Rattle.redo_log.specs.Logged.{HoldsPrefix}
 use Rattle.flusher.specs.Flushing.{KeepsSince}
 use Rattle.law_logged_pages.specs.Stages.{IsStage}
 use Rattle.law_logged_pages.specs.Keeping.{durable}
-use Rattle.doublewrite.specs.Reading.{IsCopyIn, IsPageIn}
+use Rattle.stored_pages.specs.Reading.{IsCopyIn, IsPageIn}
 use Rattle.doublewrite.specs.Repairing.{IsQuietAs, WasRead, ReadsAs, IsRepaired}
 use Rattle.page_recovery.specs.Looking.{HoldsSame, HoldsAs, Looks}
 use Rattle.page_recovery.specs.Reading.{StandsIn}

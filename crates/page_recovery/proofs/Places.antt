@@ -5,7 +5,7 @@ use Rattle.std.proofs.lemmas.List.{take_all, take_at}
 use Rattle.std.proofs.lemmas.List.Elements.{All-nil, All-cons}
 use Rattle.log_format.specs.declared.group.Group.{Group}
 use Rattle.log_format.specs.Group.{IsGroup, AreGroups}
-use Rattle.doublewrite.specs.Reading.{IsGoodPage, place_of}
+use Rattle.stored_pages.specs.Reading.{IsGoodPage, place_of}
 
 module _ (page len : ℕ) (place area : List ℕ) (size : length place ≡ 4096) (read : take len place ≡ place_of page area) where
   whole : 4096 ≤ len → place_of page area ≡ place

@@ -5,7 +5,7 @@ use Rattle.std.proofs.lemmas.Bool.{cases_lt, cases_eq}
 use Rattle.std.proofs.lemmas.List.{get_or-set_same, get_or-set_other}
 use Rattle.store_api.specs.Areas.{State}
 use Rattle.store_api.specs.Past.{Past, Ticks, Now}
-use Rattle.doublewrite.specs.Reading.{IsGoodPage, place_of}
+use Rattle.stored_pages.specs.Reading.{IsGoodPage, place_of}
 use Rattle.page_recovery.specs.declared.bad.RecoverBad.{RecoverBad}
 use Rattle.page_recovery.specs.declared.bad.RecoverBad.TheVariants.{Failed, NoMemory, NoHeader, NoDatabase, Version, Capacity, PastTheEnd, LogFull}
 use Rattle.page_recovery.specs.Looking.{Looks, LeavesState, Since}

@@ -3,7 +3,7 @@ use Rattle.std.specs.Prelude.{◌≡◌, ℕ, ◌<◌, ◌≤◌, [], Option, Li
 use Rattle.store_api.specs.Areas.{State, Image, IsImage, IsHonest}
 use Rattle.log_format.specs.declared.group.Group.{Group}
 use Rattle.redo_log.specs.Logged.{HoldsPrefix}
-use Rattle.doublewrite.specs.Reading.{IsPageIn}
+use Rattle.stored_pages.specs.Reading.{IsPageIn}
 use Rattle.doublewrite.specs.Repairing.{IsQuiet, WasRead}
 use Rattle.law_logged_pages.specs.Stages.{IsStage}
 use Rattle.law_logged_pages.specs.Heads.{SpareHead}

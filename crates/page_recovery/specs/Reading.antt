@@ -1,9 +1,9 @@
 -- What recovery reads: page 0, which says the log's run, the pages that are good in their places, and the log's groups.
 use Rattle.std.specs.Prelude.{◌≡◌, ◌≢◌, ℕ, ◌<◌, ◌≤◌, Option, Some, None, IfSome, IfNone, List, slice_index_or}
-use Rattle.page_format.specs.Words.{u32_at, u64_at}
+use Rattle.stored_pages.specs.Words.{u32_at, u64_at}
 use Rattle.log_format.specs.declared.scan.Found.{Found}
 use Rattle.log_format.specs.Scan.{IsScan, EndsAt}
-use Rattle.doublewrite.specs.Reading.{IsGoodPage, place_of}
+use Rattle.stored_pages.specs.Reading.{IsGoodPage, place_of}
 use Rattle.law_crashes.specs.Header.{HasMagic, version_of}
 
 -- page 0 of files that keep rows in pages: how many pages there may be, the log's run, and the LSN of its first group

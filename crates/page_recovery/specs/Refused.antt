@@ -1,7 +1,7 @@
 -- Why a repair gave up, and what is wrong with page 0.
 use Rattle.std.specs.Prelude.{◌≡◌, ◌≢◌, ◌⊎◌, ℕ, ◌<◌, List}
 use Rattle.store_api.specs.Causes.{Rose}
-use Rattle.page_format.specs.Words.{u32_at}
+use Rattle.stored_pages.specs.Words.{u32_at}
 use Rattle.doublewrite.specs.declared.restoring.RepairBad.{RepairBad}
 use Rattle.doublewrite.specs.declared.restoring.RepairBad.TheVariants as repair
 use Rattle.law_crashes.specs.Header.{HasMagic, version_of}

@@ -6,7 +6,7 @@ ghost use Rattle.page_recovery.specs.Reading.{IsFileHeader};
 ghost use Rattle.page_recovery.specs.Refused.{IsOther};
 
 use crate::bad::RecoverBad;
-use page_format::{read_u32, read_u64};
+use stored_pages::{read_u32, read_u64};
 
 /// The bytes `INNODPRF`.
 const MAGIC: u64 = 5_282_245_515_307_668_038;

@@ -3,7 +3,7 @@
 
 ghost use Rattle.std.specs.Prelude.{◌≡◌, ℕ, ◌+◌, ◌<◌, Option, List, length, take};
 ghost use Rattle.store_api.specs.Areas.{State, Image, IsImage, IsHonest, seen_image};
-ghost use Rattle.page_format.specs.Words.{lsn_of};
+ghost use Rattle.stored_pages.specs.Words.{lsn_of};
 ghost use Rattle.log_format.specs.declared.group.Group.{Group as GroupValue};
 ghost use Rattle.doublewrite.specs.Repairing.{IsRepaired, WasRead};
 ghost use Rattle.law_logged_pages.specs.Applied.{logical};

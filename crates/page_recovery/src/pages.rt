@@ -2,19 +2,19 @@
 //! Recovery alone changes them; who opens a database takes them from there.
 
 ghost use Rattle.std.specs.Prelude.{◌≡◌, ◌+◌, ◌<◌, ◌≤◌, length, replicate, slice_index_or, slice_set, option_copied, IfOk, IfSome, OnOk, Some, None};
-ghost use Rattle.page_format.specs.Words.{lsn_of};
+ghost use Rattle.stored_pages.specs.Words.{lsn_of};
 ghost use Rattle.mtr.specs.Seen.{with_bytes};
 ghost use Rattle.mini_txn.specs.Edits.{blank};
 ghost use Rattle.mini_txn.specs.View.{stamped};
 ghost use Rattle.page_recovery.specs.Pages.{page_of, ArePages, HasInstead};
 
 use big_endian::{u32_bytes, u64_bytes};
-use page_format::read_u64;
 use std::alloc::Global;
 use std::boxed::Box;
 use std::marker::Model;
 use std::mem;
 use store_api::NoMemory;
+use stored_pages::read_u64;
 
 /// A page has so many bytes.
 pub const PAGE: usize = 4096;

@@ -5,7 +5,7 @@ ghost use Rattle.std.specs.Prelude.{◌≡◌, ◌≤◌, ◌<◌, ℕ, List, le
 ghost use Rattle.store_api.specs.Causes.{HasCause};
 ghost use Rattle.store_api.specs.Past.{Now};
 ghost use Rattle.log_format.specs.Group.{IsGroup};
-ghost use Rattle.doublewrite.specs.Reading.{place_of};
+ghost use Rattle.stored_pages.specs.Reading.{place_of};
 ghost use Rattle.page_recovery.specs.Looking.{Looks, LeavesState, Since};
 ghost use Rattle.page_recovery.specs.Reading.{StandsIn, AreStanding, IsTaken, HasGroups};
 ghost use Rattle.page_recovery.specs.Recovering.{SaysHeader, IsCause, IsFault};
@@ -14,10 +14,10 @@ ghost use Rattle.page_recovery.specs.Refused.{IsFailed};
 use crate::bad::RecoverBad;
 use crate::header::{Header, header_of};
 use crate::pages::{PAGE, Pages};
-use doublewrite::good_number;
 use log_format::{Found, scan_log};
 use std::alloc::Global;
 use store_api::{Area, Disk, Failed};
+use stored_pages::good_number;
 
 /// Whether what was read of a page's place is the page.
 fn is_page(place: &[u8], len: usize, page: u32) -> bool

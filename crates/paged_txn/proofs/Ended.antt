@@ -4,7 +4,7 @@ use Rattle.std.proofs.Common.{◌∙◌, arith}
 use Rattle.std.specs.Prelude.{◌==◌, ◌&&◌, ◌||◌, option_map, is_some}
 use Rattle.std.specs.Option.{option_map_or}
 use Rattle.store_api.specs.Past.{Past}
-use Rattle.page_format.specs.Words.{u32_at}
+use Rattle.stored_pages.specs.Words.{u32_at}
 use Rattle.log_format.specs.declared.group.Record.{Record}
 use Rattle.buffer_pool.specs.Frames.{FrameView, PoolView, slot_of, is_pooled, is_standing, is_written, unfixed, content_after}
 use Rattle.mtr.specs.Seen.{is_in}

@@ -6,7 +6,7 @@ use Rattle.std.specs.Option.{option_map_or}
 use Rattle.std.proofs.lemmas.Bool.{cases_eq, eq-eqb, eqb-true}
 use Rattle.std.proofs.lemmas.List.{get_or_past}
 use Rattle.store_api.specs.Past.{Past}
-use Rattle.page_format.specs.Words.{u32_at}
+use Rattle.stored_pages.specs.Words.{u32_at}
 use Rattle.log_format.specs.declared.group.Record.{Record}
 use Rattle.log_format.specs.declared.group.Record.TheVariants.{Put, Fresh}
 use Rattle.buffer_pool.specs.Frames.{PoolView, slot_of, is_pooled, is_standing, bytes_of}

@@ -3,7 +3,7 @@ use Rattle.std.proofs.Common.{◌≡◌, ℕ, ◌≤◌, Bool, true, false, cond
 use Rattle.std.specs.Prelude.{◌==◌, ◌&&◌, ◌||◌, nat_lt, option_map}
 use Rattle.std.proofs.lemmas.Bool.{ltb-true, eqb-true, eqb-false, eq-eqb}
 use Rattle.store_api.specs.Past.{Past, Now}
-use Rattle.page_format.specs.Words.{u32_at}
+use Rattle.stored_pages.specs.Words.{u32_at}
 use Rattle.buffer_pool.specs.Fixing.{page_in}
 use Rattle.buffer_pool.specs.Frames.{PoolView, slot_of, bytes_of}
 use Rattle.mtr.specs.Seen.{is_in}

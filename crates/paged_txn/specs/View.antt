@@ -4,7 +4,7 @@ use Rattle.std.specs.Prelude.{is_some}
 use Rattle.std.specs.Option.{option_map_or}
 use Rattle.sum64.specs.Fnv.{fnv_of}
 use Rattle.store_api.specs.Past.{Past}
-use Rattle.page_format.specs.Words.{u32_at, u64_at, number_of}
+use Rattle.stored_pages.specs.Words.{u32_at, u64_at, number_of}
 use Rattle.log_format.specs.declared.group.Record.{Record}
 use Rattle.buffer_pool.specs.declared.frame.Content.{Content}
 use Rattle.buffer_pool.specs.declared.frame.Content.TheVariants.{Empty, New, Clean, Dirty}

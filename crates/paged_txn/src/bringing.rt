@@ -10,8 +10,8 @@ ghost use Rattle.paged_txn.specs.Bringing.{IsHeld, IsLetIn, IsRefused};
 
 use crate::PAGE;
 use buffer_pool::{Pool, bytes_of_place};
-use page_format::{read_u32, read_u64};
 use store_api::{Disk, Visit};
+use stored_pages::{read_u32, read_u64};
 use sum64::fnv;
 
 /// The sum of a page's bytes, but for those where its own sum stands.

@@ -33,9 +33,9 @@ use crate::room::Room;
 use buffer_pool::Pool;
 use flusher::{Flusher, Worked};
 use mini_txn::{Dealt, Edits, place_copies, shown_in, tells, write_in};
-use page_format::read_u32;
 use redo_log::Log;
 use store_api::{Disk, Failed, FreshBad, NoMemory, Visit};
+use stored_pages::read_u32;
 
 /// A mini-transaction under way.
 #[derive(Drop)]

@@ -16,9 +16,8 @@ use inno_db::{Change, Changes, Db, Outcome, Written};
 use inno_types::{
     Bytes, Definitions, Filter, Listed, Names, Reply, Rows, Schema, Selected, Sets, Stmt, Tuples,
 };
-use sql_declarations::declare;
 use sql_refusals::refuse;
-use sql_values::place_of_table;
+use sql_values::{declare, place_of_table};
 use std::alloc::{AllocError, Global};
 use store_api::NoMemory;
 

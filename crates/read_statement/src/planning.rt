@@ -6,7 +6,7 @@ ghost use Rattle.inno_db.specs.declared.limits.TheConstants.{MOST_KEYS, MOST_TAB
 ghost use Rattle.inno_db.specs.Declarations.{is_short, is_indexable};
 ghost use Rattle.inno_db.proofs.Outcomes.{table_read};
 ghost use Rattle.sql_history.specs.Readings.{is_plain_select};
-ghost use Rattle.law_fitting_rows.specs.Storable.{AreStorable};
+ghost use Rattle.law_stored_rows.specs.Storable.{AreStorable};
 ghost use Rattle.sql_plan.specs.Visits.{are_indexable};
 ghost use Rattle.law_past_agreement.specs.Order.{created};
 ghost use Rattle.read_statement.specs.Planning.{IsChosen, IsPlanned};

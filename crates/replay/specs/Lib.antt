@@ -2,3 +2,4 @@ pub mod Replay
 pub mod Tables
 pub mod Pending
 pub mod Entries
+pub mod Report

@@ -3,8 +3,12 @@
 #![tactic(auto)]
 
 mod changes;
+mod commit_count;
 mod commits;
 mod copies;
+mod line;
 mod pending;
+mod total;
 
 pub use commits::{committed_db, replayed_db};
+pub use line::report;

@@ -8,7 +8,7 @@ use Rattle.store_api.specs.declared.moves.Move.{Move}
 use Rattle.store_api.specs.declared.moves.Move.TheVariants.{At, End, Done, Step, Latch, Again, Full, TooDeep, Failed, Bad, NoMemory}
 use Rattle.entries.specs.Index.{Index}
 use Rattle.entries.specs.Calls.{Delays, Fetches, NextKeys, Inserts, Replaces, Removes}
-use Rattle.law_coded_rows.specs.Edits.{clustered_index, key_index}
+use Rattle.law_stored_rows.specs.Edits.{clustered_index, key_index}
 use Rattle.world.specs.State.{WorldState, Session, Work}
 use Rattle.world.specs.Indexes.{InIndex, InsertsWith, ReplacesWith}
 use Rattle.inno_types.specs.declared.value.Value.{Value}

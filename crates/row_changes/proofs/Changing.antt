@@ -5,10 +5,10 @@ use Rattle.std.proofs.lemmas.Bool.{cases_eq}
 use Rattle.inno_types.specs.declared.value.Schema.{Schema}
 use Rattle.entries.specs.Pairs.{Pair, value_of}
 use Rattle.entries.specs.Index.{Index, Told, Goes, AreKept}
-use Rattle.law_coded_rows.specs.Edits.{clustered_index}
+use Rattle.law_stored_rows.specs.Edits.{clustered_index}
 use Rattle.std.specs.Prelude.{slice_set, length}
 use Rattle.std.proofs.lemmas.List.{length-set}
-use Rattle.chain.specs.Versions.{Stays}
+use Rattle.row_versions.specs.Versions.{Stays}
 use Rattle.world.specs.State.{WorldState, Session, Work, IsSession, HasWork, with_session}
 use Rattle.world.specs.Stores.{StoreGoes}
 use Rattle.world.proofs.Stores.{store_stays}
@@ -31,7 +31,7 @@ use Rattle.row_changes.specs.Records.{IsTable, IsListed, IsFormer, StageHolds, I
 use Rattle.row_changes.specs.declared.row_edit.RowEdit.{RowEdit}
 use Rattle.row_changes.specs.declared.row_edit.RowEdit.TheVariants.{Put, Remove}
 use Rattle.row_changes.specs.Edits.{IsPut, FindsRow, HasNoRow, LacksRow}
-use Rattle.law_coded_rows.specs.Records.{IsCodeOf}
+use Rattle.law_stored_rows.specs.Records.{IsCodeOf}
 use Rattle.std.proofs.Common.{cond, Bool, true, false}
 use Rattle.row_changes.specs.declared.record_change.RecordReached.TheVariants.{Went, Hindered}
 use Rattle.store_api.specs.declared.moves.Move.{Move}

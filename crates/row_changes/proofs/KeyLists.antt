@@ -8,8 +8,8 @@ use Rattle.inno_types.specs.declared.value.Column.{Column}
 use Rattle.inno_types.specs.declared.value.Schema.{Schema}
 use Rattle.key_codec.specs.Keys.{IsOfKindOrNull, entry_code}
 use Rattle.row_codec.specs.Rows.{IsRowOf}
-use Rattle.law_fitting_rows.proofs.Coding.{value_in-kind}
-use Rattle.law_coded_rows.specs.Entries.{value_in}
+use Rattle.law_stored_rows.proofs.Coding.{value_in-kind}
+use Rattle.law_stored_rows.specs.Entries.{value_in}
 use Rattle.row_changes.specs.KeyEntries.{value_stays, StayBetween, IsEntryIn}
 
 pub item_at : {X : Type 0} (all xs : List X) (i : ℕ) (item : X) → xs ≡ all → i < length xs → item ≡ get_or xs i item → slice_get all i ≡ Some item

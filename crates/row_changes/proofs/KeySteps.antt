@@ -10,20 +10,20 @@ use Rattle.inno_types.specs.declared.value.Schema.{Schema}
 use Rattle.inno_db.specs.Database.{key_of}
 use Rattle.store_api.specs.declared.answers.Version.{Version as Coded}
 use Rattle.entries.specs.Pairs.{Pair}
-use Rattle.chain.specs.declared.kept.Kept.{Kept}
+use Rattle.row_versions.specs.declared.kept.Kept.{Kept}
 use Rattle.row_codec.specs.Rows.{version_code}
 use Rattle.row_versions.specs.declared.place.Place.{Place}
 use Rattle.row_versions.specs.declared.version.Version.{Version}
 use Rattle.row_versions.specs.Chains.{Chains, versions_at, is_same_place, newest}
-use Rattle.law_coded_rows.specs.Edits.{key_index, Puts}
-use Rattle.law_coded_rows.specs.Entries.{value_in, entry_of, TellAlike}
-use Rattle.law_coded_rows.specs.Records.{IsCodeOf, shown}
-use Rattle.law_coded_rows.specs.Steps.{PutsEntry}
-use Rattle.law_coded_rows.specs.Tables.{Said, AreCodedAs, AreCoded, SaysNow}
-use Rattle.law_coded_rows.proofs.Values.{same_place, same_value}
-use Rattle.law_coded_rows.proofs.Keys.{now_says, others_say, lag_says, said_alike, change_over}
-use Rattle.law_coded_rows.proofs.Entries.{value_again, without_row}
-use Rattle.law_coded_rows.proofs.Steps.{old_marked, new_put, first_put}
+use Rattle.law_stored_rows.specs.Edits.{key_index, Puts}
+use Rattle.law_stored_rows.specs.Entries.{value_in, entry_of, TellAlike}
+use Rattle.law_stored_rows.specs.Records.{IsCodeOf, shown}
+use Rattle.law_stored_rows.specs.Steps.{PutsEntry}
+use Rattle.law_stored_rows.specs.Tables.{Said, AreCodedAs, AreCoded, SaysNow}
+use Rattle.law_stored_rows.proofs.Values.{same_place, same_value}
+use Rattle.law_stored_rows.proofs.Keys.{now_says, others_say, lag_says, said_alike, change_over}
+use Rattle.law_stored_rows.proofs.Entries.{value_again, without_row}
+use Rattle.law_stored_rows.proofs.Steps.{old_marked, new_put, first_put}
 use Rattle.row_changes.specs.Edits.{IsRowFor}
 use Rattle.row_changes.specs.KeyEntries.{value_stays, IsEntryIn}
 use Rattle.row_changes.specs.Keys.{SaySoFar}

@@ -2,9 +2,9 @@
 use Rattle.std.proofs.Common.{◌≡◌, ◌≢◌, ◌⊎◌, inl, inr, ◌∙◌, sym, ap, subst, refl, ℕ, ◌+◌, ◌-◌, ◌*◌, ◌<◌, ◌≤◌, false, List, [], ◌∷◌, length, Option, None, Some, slice_get, get_or, arith}
 use Rattle.std.proofs.lemmas.Option.{slice_get_cases, slice_get_within, get_or_from_slice_get}
 use Rattle.inno_types.specs.declared.value.Column.{Column}
-use Rattle.law_fitting_rows.specs.Records.{IsEntryOf}
-use Rattle.law_fitting_rows.proofs.Coding.{short_entries, value_in-kind}
-use Rattle.law_coded_rows.proofs.Values.{one_key, key_there}
+use Rattle.law_stored_rows.specs.FittingRecords.{IsEntryOf}
+use Rattle.law_stored_rows.proofs.Coding.{short_entries, value_in-kind}
+use Rattle.law_stored_rows.proofs.Values.{one_key, key_there}
 use Rattle.row_codec.specs.Rows.{version_code}
 use Rattle.world.specs.State.{IsIndex}
 use Rattle.std.specs.Prelude.{IfSome, IfOk, Result, Ok, Err}
@@ -17,12 +17,12 @@ use Rattle.store_api.specs.declared.moves.Move.{Move}
 use Rattle.store_api.specs.declared.moves.Move.TheVariants as moves
 use Rattle.entries.specs.Pairs.{Pair}
 use Rattle.entries.specs.Index.{Index}
-use Rattle.law_fitting_rows.specs.Storable.{IsStorable}
+use Rattle.law_stored_rows.specs.Storable.{IsStorable}
 use Rattle.row_versions.specs.declared.place.Place.{Place}
 use Rattle.row_versions.specs.declared.version.Version.{Version}
 use Rattle.row_versions.specs.Chains.{Chains}
-use Rattle.law_coded_rows.specs.Edits.{clustered_index, key_index}
-use Rattle.law_coded_rows.specs.Records.{shown}
+use Rattle.law_stored_rows.specs.Edits.{clustered_index, key_index}
+use Rattle.law_stored_rows.specs.Records.{shown}
 use Rattle.world.specs.State.{WorldState}
 use Rattle.row_changes.specs.declared.entry_put.EntryPut.{EntryPut}
 use Rattle.row_changes.specs.declared.entry_put.PutPhase.{PutPhase}
@@ -32,7 +32,7 @@ use Rattle.row_changes.specs.declared.key_entries.KeyEntries.{KeyEntries}
 use Rattle.row_changes.specs.declared.reached.Reached.TheVariants.{Done, Hindered}
 use Rattle.row_changes.specs.Pairs.{RowsStay, PutsPair, Hinders}
 use Rattle.row_changes.specs.Entries.{unmarked, marked, put_steps, GoesOnPutting, HindersEntry, PutsEntry}
-use Rattle.law_coded_rows.proofs.Pairs.{no_key}
+use Rattle.law_stored_rows.proofs.Pairs.{no_key}
 use Rattle.row_changes.specs.Edits.{IsRowFor, IsKeyAt}
 use Rattle.row_changes.specs.Records.{IsTable}
 use Rattle.world.specs.Told.{pairs_of, IsTold}

@@ -7,15 +7,15 @@ use Rattle.inno_types.specs.declared.value.Schema.{Schema}
 use Rattle.inno_db.specs.Database.{key_of}
 use Rattle.store_api.specs.declared.answers.Version.{Version as Coded}
 use Rattle.entries.specs.Pairs.{Pair, value_of}
-use Rattle.chain.specs.declared.kept.Kept.{Kept}
+use Rattle.row_versions.specs.declared.kept.Kept.{Kept}
 use Rattle.row_codec.specs.Rows.{version_code}
 use Rattle.row_versions.specs.declared.version.Version.{Version}
 use Rattle.row_versions.specs.Chains.{Chains, Pushes}
-use Rattle.law_coded_rows.specs.Edits.{clustered_index, Puts}
-use Rattle.law_coded_rows.specs.Records.{IsCodeOf, shown, row_shown}
-use Rattle.law_coded_rows.specs.Tables.{AreCodedAs, AreCoded, what_is_there, place_in}
-use Rattle.law_coded_rows.proofs.Values.{one_key, key_there}
-use Rattle.law_coded_rows.proofs.Steps.{new_record, replaced_record}
+use Rattle.law_stored_rows.specs.Edits.{clustered_index, Puts}
+use Rattle.law_stored_rows.specs.Records.{IsCodeOf, shown, row_shown}
+use Rattle.law_stored_rows.specs.Tables.{AreCodedAs, AreCoded, what_is_there, place_in}
+use Rattle.law_stored_rows.proofs.Values.{one_key, key_there}
+use Rattle.law_stored_rows.proofs.Steps.{new_record, replaced_record}
 use Rattle.row_changes.specs.declared.row_edit.RowEdit.{RowEdit}
 use Rattle.row_changes.specs.declared.row_edit.RowEdit.TheVariants.{Put, Remove}
 use Rattle.row_changes.specs.Edits.{IsRowFor, IsKeyAt, FitsEdit, IsPut, version_by}

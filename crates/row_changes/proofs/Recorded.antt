@@ -15,8 +15,8 @@ use Rattle.store_api.specs.declared.moves.Move.TheVariants as moves
 use Rattle.entries.specs.Index.{Index, Goes, AreKept}
 use Rattle.entries.specs.Calls.{is_done}
 use Rattle.row_codec.specs.Rows.{version_code}
-use Rattle.law_fitting_rows.proofs.Coding.{short_key, short_value}
-use Rattle.law_coded_rows.specs.Edits.{clustered_index, with_value}
+use Rattle.law_stored_rows.proofs.Coding.{short_key, short_value}
+use Rattle.law_stored_rows.specs.Edits.{clustered_index, with_value}
 use Rattle.world.specs.State.{WorldState, Session, Work, IsIndex, HasWork}
 use Rattle.world.specs.Stores.{StoreGoes}
 use Rattle.txn_table.specs.Txns.{Txns, is_there, id_at}
@@ -33,11 +33,11 @@ use Rattle.row_changes.specs.declared.row_edit.RowEdit.{RowEdit}
 use Rattle.row_changes.specs.declared.row_edit.RowEdit.TheVariants.{Put, Remove}
 use Rattle.row_changes.specs.Edits.{change_of, rows_put, FitsEdit, IsPut, version_by}
 use Rattle.row_codec.specs.Rows.{IsRowOf, IsKeyOf, IsRecordOf}
-use Rattle.law_fitting_rows.specs.Storable.{IsStorable}
+use Rattle.law_stored_rows.specs.Storable.{IsStorable}
 use Rattle.std.proofs.Common.{[], ◌^◌}
 use Rattle.key_codec.proofs.Lengths.{length-key_code}
 use Rattle.inno_types.specs.declared.value.Column.{Column}
-use Rattle.law_coded_rows.specs.Records.{row_shown}
+use Rattle.law_stored_rows.specs.Records.{row_shown}
 use Rattle.entries.specs.Pairs.{value_of}
 use Rattle.row_changes.specs.Pairs.{Hinders}
 use Rattle.row_changes.proofs.Sessions.{one_session, set_here, set_other}

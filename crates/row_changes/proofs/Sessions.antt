@@ -3,7 +3,7 @@ use Rattle.std.proofs.Common.{◌≡◌, ◌≢◌, ℕ, zero, suc, List, [], �
 use Rattle.std.specs.Prelude.{slice_get, slice_set}
 use Rattle.std.proofs.lemmas.List.{length-set}
 use Rattle.entries.specs.Index.{AreKept}
-use Rattle.chain.specs.Versions.{Versions, Stays}
+use Rattle.row_versions.specs.Versions.{Versions, Stays}
 use Rattle.world.specs.State.{WorldState, Session, IsSession, with_session}
 use Rattle.world.proofs.Stores.{store_stays}
 use Rattle.row_changes.specs.Asides.{IsReadied, StepsAside}

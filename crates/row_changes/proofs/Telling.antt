@@ -6,10 +6,10 @@ use Rattle.std.proofs.lemmas.Bool.Decides.{eqb_tells}
 use Rattle.inno_types.specs.declared.value.Schema.{Schema}
 use Rattle.entries.specs.Pairs.{Pair}
 use Rattle.entries.specs.Index.{Goes, AreKept}
-use Rattle.chain.specs.declared.kept.Kept.{Kept}
+use Rattle.row_versions.specs.declared.kept.Kept.{Kept}
 use Rattle.row_versions.specs.Chains.{Chains}
-use Rattle.law_coded_rows.specs.Edits.{with_value, Puts}
-use Rattle.law_coded_rows.specs.Tables.{Said, AreCodedAs}
+use Rattle.law_stored_rows.specs.Edits.{with_value, Puts}
+use Rattle.law_stored_rows.specs.Tables.{Said, AreCodedAs}
 use Rattle.world.specs.State.{WorldState}
 use Rattle.row_changes.specs.Pairs.{RowsStay, PutsPair}
 use Rattle.world.specs.Told.{pairs_in, pairs_of, IsTold}

@@ -9,13 +9,13 @@ use Rattle.store_api.specs.declared.answers.Version.{Version as Coded}
 use Rattle.store_api.specs.declared.answers.Undo.{Undo}
 use Rattle.store_api.specs.declared.moves.Move.{Move}
 use Rattle.entries.specs.Pairs.{value_of}
-use Rattle.chain.specs.Versions.{Versions, Stays}
+use Rattle.row_versions.specs.Versions.{Versions, Stays}
 use Rattle.row_versions.specs.Chains.{Chains, versions_at, newest, Pushes}
-use Rattle.law_coded_rows.specs.Edits.{clustered_index}
-use Rattle.law_coded_rows.specs.Records.{IsCodeOf, row_shown, KeepsMore}
-use Rattle.law_coded_rows.specs.Tables.{AreCodedAs, what_is_there}
-use Rattle.law_coded_rows.proofs.Tables.{lag_stays, pushed_here, pushed_elsewhere, coded_still}
-use Rattle.law_coded_rows.proofs.FromTables.{decoded, absent}
+use Rattle.law_stored_rows.specs.Edits.{clustered_index}
+use Rattle.law_stored_rows.specs.Records.{IsCodeOf, row_shown, KeepsMore}
+use Rattle.law_stored_rows.specs.Tables.{AreCodedAs, what_is_there}
+use Rattle.law_stored_rows.proofs.Tables.{lag_stays, pushed_here, pushed_elsewhere, coded_still}
+use Rattle.law_stored_rows.proofs.FromTables.{decoded, absent}
 use Rattle.world.specs.State.{WorldState, Session, Work}
 use Rattle.world.specs.Indexes.{KeepsVersion}
 use Rattle.row_changes.specs.declared.record_change.RecordChange.{RecordChange}

@@ -9,7 +9,7 @@ use Rattle.entries.specs.Index.{Index, Told, AreKept, HasGone}
 use Rattle.entries.specs.Calls.{Delays, Fetches, NextKeys, Inserts, Replaces, Removes}
 use Rattle.world.specs.State.{WorldState}
 use Rattle.world.specs.Indexes.{InIndex, Calls, Changes}
-use Rattle.law_coded_rows.specs.Edits.{with_value}
+use Rattle.law_stored_rows.specs.Edits.{with_value}
 use Rattle.row_changes.specs.Entries.{IsThere, HindersEntry}
 use Rattle.row_changes.specs.Pairs.{RowsStay, PutsPair, Hinders}
 

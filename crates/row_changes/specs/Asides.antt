@@ -1,7 +1,7 @@
 -- What a session's step leaves of its own room for entries and undo records, and of all else.
 use Rattle.std.specs.Prelude.{◌≡◌, ◌≢◌, ℕ, length, slice_get}
 use Rattle.entries.specs.Index.{AreKept}
-use Rattle.chain.specs.Versions.{Stays}
+use Rattle.row_versions.specs.Versions.{Stays}
 use Rattle.world.specs.State.{WorldState, Session, IsSession}
 use Rattle.world.specs.Stores.{StoreGoes}
 

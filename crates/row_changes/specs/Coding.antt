@@ -5,7 +5,7 @@ use Rattle.store_api.specs.declared.answers.Version.{Version}
 use Rattle.store_api.specs.declared.moves.Move.{Move}
 use Rattle.store_api.specs.declared.moves.Move.TheVariants.{Bad, NoMemory}
 use Rattle.row_codec.specs.Rows.{IsRecordOf}
-use Rattle.law_coded_rows.specs.Records.{IsCodeOf}
+use Rattle.law_stored_rows.specs.Records.{IsCodeOf}
 
 -- the version is that of the bytes, or none is, or memory ran out
 abbrev pub Decodes : Schema → List ℕ → List ℕ → Result Version Move → Type 0

@@ -12,8 +12,8 @@ use Rattle.store_api.specs.declared.moves.Move.{Move}
 use Rattle.store_api.specs.declared.moves.Move.TheVariants.{End}
 use Rattle.key_codec.specs.Keys.{HasKey, Has64Bits, key_code}
 use Rattle.row_codec.specs.Rows.{IsKeyOf}
-use Rattle.law_fitting_rows.specs.Fitting.{FitsTable}
-use Rattle.law_coded_rows.specs.Records.{IsCodeOf}
+use Rattle.law_stored_rows.specs.Fitting.{FitsTable}
+use Rattle.law_stored_rows.specs.Records.{IsCodeOf}
 use Rattle.row_changes.specs.declared.row_edit.RowEdit.{RowEdit}
 use Rattle.row_changes.specs.declared.row_edit.RowEdit.TheVariants.{Put, Remove}
 

@@ -5,7 +5,7 @@ use Rattle.inno_types.specs.declared.value.Column.{Column}
 use Rattle.inno_types.specs.declared.value.Key.{Key}
 use Rattle.inno_types.specs.declared.value.Schema.{Schema}
 use Rattle.key_codec.specs.Keys.{entry_code}
-use Rattle.law_coded_rows.specs.Entries.{value_in, is_same_value}
+use Rattle.law_stored_rows.specs.Entries.{value_in, is_same_value}
 use Rattle.row_changes.specs.declared.key_entries.KeyEntries.{KeyEntries}
 
 -- whether the key on this column has the same to say before and after

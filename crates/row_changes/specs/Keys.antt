@@ -4,12 +4,12 @@ use Rattle.inno_types.specs.declared.value.Value.{Value}
 use Rattle.inno_types.specs.declared.value.Schema.{Schema}
 use Rattle.store_api.specs.declared.moves.Move.{Move}
 use Rattle.entries.specs.Index.{AreKept}
-use Rattle.chain.specs.Versions.{Stays}
+use Rattle.row_versions.specs.Versions.{Stays}
 use Rattle.row_versions.specs.declared.place.Place.{Place}
 use Rattle.row_versions.specs.declared.version.Version.{Version}
 use Rattle.row_versions.specs.Chains.{Chains, versions_at, newest}
-use Rattle.law_coded_rows.specs.Edits.{clustered_index, key_index}
-use Rattle.law_coded_rows.specs.Tables.{Said, LagAt}
+use Rattle.law_stored_rows.specs.Edits.{clustered_index, key_index}
+use Rattle.law_stored_rows.specs.Tables.{Said, LagAt}
 use Rattle.world.specs.State.{WorldState}
 use Rattle.world.specs.Stores.{StoreGoes}
 use Rattle.row_changes.specs.declared.entry_put.EntryPut.{EntryPut}

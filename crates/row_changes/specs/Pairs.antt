@@ -4,8 +4,8 @@ use Rattle.store_api.specs.declared.moves.Move.{Move}
 use Rattle.store_api.specs.declared.moves.Move.TheVariants.{At, End, Done, Latch, Full, TooDeep, NoMemory}
 use Rattle.entries.specs.Index.{Index, Goes, AreKept}
 use Rattle.entries.specs.Calls.{Delays, LacksPages, IsKeptOff}
-use Rattle.chain.specs.Versions.{Stays}
-use Rattle.law_coded_rows.specs.Edits.{with_value}
+use Rattle.row_versions.specs.Versions.{Stays}
+use Rattle.law_stored_rows.specs.Edits.{with_value}
 use Rattle.world.specs.State.{WorldState}
 use Rattle.world.specs.Stores.{StoreGoes}
 

@@ -12,9 +12,9 @@ use Rattle.entries.specs.Pairs.{value_of}
 use Rattle.entries.specs.Index.{Index, Told, Goes, AreKept}
 use Rattle.row_codec.specs.Rows.{IsRecordOf, version_code}
 use Rattle.txn_table.specs.Txns.{Txns, is_there, id_at, with_id}
-use Rattle.law_fitting_rows.specs.Storable.{IsStorable}
-use Rattle.law_coded_rows.specs.Edits.{clustered_index, with_value}
-use Rattle.law_coded_rows.specs.Records.{IsCodeOf, row_shown}
+use Rattle.law_stored_rows.specs.Storable.{IsStorable}
+use Rattle.law_stored_rows.specs.Edits.{clustered_index, with_value}
+use Rattle.law_stored_rows.specs.Records.{IsCodeOf, row_shown}
 use Rattle.world.specs.State.{WorldState, Session, Work, Logged, HasWork}
 use Rattle.world.specs.Stores.{StoreGoes}
 use Rattle.world.specs.Indexes.{KeepsIf}

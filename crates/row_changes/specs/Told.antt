@@ -1,6 +1,6 @@
 -- When a world's indexes and versions are certain rows.
 use Rattle.row_versions.specs.Chains.{Chains}
-use Rattle.law_coded_rows.specs.Tables.{Said, AreCodedAs, AreCoded}
+use Rattle.law_stored_rows.specs.Tables.{Said, AreCodedAs, AreCoded}
 use Rattle.world.specs.State.{WorldState}
 use Rattle.world.specs.Told.{IsTold, pairs_of}
 

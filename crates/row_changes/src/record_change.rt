@@ -3,8 +3,8 @@
 //! after.
 
 ghost use Rattle.std.specs.Prelude.{◌≡◌, ℕ, List, IfOk};
-ghost use Rattle.law_coded_rows.specs.Edits.{clustered_index};
-ghost use Rattle.law_coded_rows.specs.Records.{row_shown};
+ghost use Rattle.law_stored_rows.specs.Edits.{clustered_index};
+ghost use Rattle.law_stored_rows.specs.Records.{row_shown};
 ghost use Rattle.row_changes.specs.Edits.{version_by};
 ghost use Rattle.row_changes.specs.Records.{IsChangingRecord, ChangesRecord, when_missed, when_found, row_found, undo_of_former};
 ghost use Rattle.row_changes.specs.Awaited.{AwaitsAt};

@@ -7,11 +7,11 @@ use Rattle.store_api.specs.declared.answers.Version.{Version as Coded}
 use Rattle.row_codec.specs.Rows.{IsRecordOf, IsVersion}
 use Rattle.entries.specs.Pairs.{Pair}
 use Rattle.inno_types.specs.Order.{IsBelow}
-use Rattle.chain.specs.declared.kept.Kept.{Kept}
-use Rattle.chain.specs.Versions.{IsPointer}
+use Rattle.row_versions.specs.declared.kept.Kept.{Kept}
+use Rattle.row_versions.specs.Versions.{IsPointer}
 use Rattle.row_versions.specs.declared.version.Version.{Version}
 use Rattle.row_versions.specs.Chains.{older}
-use Rattle.law_coded_rows.specs.Records.{shown, IsCodeOf, LeadTo, IsRecordWith}
+use Rattle.law_stored_rows.specs.Records.{shown, IsCodeOf, LeadTo, IsRecordWith}
 use Rattle.world.specs.State.{WorldState, index_of}
 use Rattle.world.specs.Undoing.{IsUnchanged}
 use Rattle.row_search.specs.declared.scan.Scan.{Scan}
@@ -25,8 +25,8 @@ use Rattle.row_search.specs.Visits.{phase_after}
 use Rattle.inno_db.specs.Database.{key_of}
 use Rattle.key_codec.specs.Keys.{entry_code}
 use Rattle.sql_plan.specs.Visits.{primary_key, index_key}
-use Rattle.law_coded_rows.specs.Entries.{value_in}
-use Rattle.law_coded_rows.specs.Tables.{HasItsColumns}
+use Rattle.law_stored_rows.specs.Entries.{value_in}
+use Rattle.law_stored_rows.specs.Tables.{HasItsColumns}
 use Rattle.store_api.specs.declared.moves.Move.TheVariants.{NoMemory}
 use Rattle.row_search.specs.declared.found.FoundRow.{FoundRow}
 use Rattle.row_search.specs.Owners.{TellsSame, IsOwner}

@@ -10,8 +10,8 @@ use Rattle.inno_db.specs.Database.{key_of}
 use Rattle.key_codec.specs.Keys.{HasKey, key_code}
 use Rattle.entries.specs.Pairs.{Pair, key_cmp, IsFirstOf, NonePasses}
 use Rattle.entries.proofs.Order.{key_cmp_total, key_itself}
-use Rattle.law_coded_rows.specs.Entries.{is_same_value}
-use Rattle.law_coded_rows.proofs.Values.{value_itself, one_key}
+use Rattle.law_stored_rows.specs.Entries.{is_same_value}
+use Rattle.law_stored_rows.proofs.Values.{value_itself, one_key}
 use Rattle.inno_types.specs.Ranges.{is_from, is_up_to, is_within}
 use Rattle.sql_plan.specs.Visits.{kind_at, index_key}
 use Rattle.row_search.specs.declared.found.FoundRow.{FoundRow}

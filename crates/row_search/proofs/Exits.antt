@@ -10,14 +10,14 @@ use Rattle.entries.specs.Calls.{HasKey as IsAtKey, Seeks, Follows, next_of}
 use Rattle.store_api.specs.declared.moves.Move.{Move}
 use Rattle.store_api.specs.declared.moves.Move.TheVariants.{At, End}
 use Rattle.entries.proofs.Found.{first_is}
-use Rattle.chain.specs.declared.kept.Kept.{Kept}
-use Rattle.chain.specs.Versions.{Versions, Stays}
-use Rattle.chain.specs.Calls.{ShowsVersion}
-use Rattle.chain.specs.declared.answers.ChainBad.{ChainBad}
-use Rattle.chain.specs.declared.answers.ChainBad.TheVariants.{Visit, NoMemory as NoMemoryThere}
+use Rattle.row_versions.specs.declared.kept.Kept.{Kept}
+use Rattle.row_versions.specs.Versions.{Versions, Stays}
+use Rattle.row_versions.specs.Calls.{ShowsVersion}
+use Rattle.row_versions.specs.declared.answers.ChainBad.{ChainBad}
+use Rattle.row_versions.specs.declared.answers.ChainBad.TheVariants.{Visit, NoMemory as NoMemoryThere}
 use Rattle.store_api.specs.declared.visits.Visit.TheVariants.{Failed, Again, Bad}
 use Rattle.row_versions.specs.declared.version.Version.{Version}
-use Rattle.law_coded_rows.specs.Records.{LeadTo, IsRecordWith}
+use Rattle.law_stored_rows.specs.Records.{LeadTo, IsRecordWith}
 use Rattle.world.specs.State.{WorldState, index_of}
 use Rattle.world.specs.Indexes.{Calls}
 use Rattle.world.specs.Undoing.{IsUnchanged}

@@ -9,11 +9,11 @@ use Rattle.inno_types.specs.Order.{IsBelow}
 use Rattle.entries.specs.Calls.{HasKey as IsAtKey, Fetches}
 use Rattle.store_api.specs.declared.moves.Move.{Move}
 use Rattle.store_api.specs.declared.moves.Move.TheVariants.{End, Done}
-use Rattle.chain.specs.declared.kept.Kept.{Kept}
+use Rattle.row_versions.specs.declared.kept.Kept.{Kept}
 use Rattle.row_versions.specs.declared.version.Version.{Version}
 use Rattle.row_versions.specs.Chains.{first_seen}
-use Rattle.law_coded_rows.specs.Records.{IsRecordWith, IsClustered}
-use Rattle.law_coded_rows.proofs.RowRecords.{no_record}
+use Rattle.law_stored_rows.specs.Records.{IsRecordWith, IsClustered}
+use Rattle.law_stored_rows.proofs.RowRecords.{no_record}
 use Rattle.sql_plan.specs.Visits.{kind_at, index_key}
 use Rattle.world.specs.State.{WorldState, index_of}
 use Rattle.world.specs.Indexes.{Calls}

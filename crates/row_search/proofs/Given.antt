@@ -8,10 +8,10 @@ use Rattle.inno_types.specs.declared.value.Schema.{Schema}
 use Rattle.entries.specs.Pairs.{Pair, AreRising, value_of}
 use Rattle.inno_types.specs.Order.{IsBelow}
 use Rattle.entries.specs.Calls.{HasKey as IsAtKey}
-use Rattle.chain.specs.declared.kept.Kept.{Kept}
+use Rattle.row_versions.specs.declared.kept.Kept.{Kept}
 use Rattle.row_versions.specs.declared.version.Version.{Version}
 use Rattle.row_versions.specs.Chains.{first_seen}
-use Rattle.law_coded_rows.specs.Records.{IsRecordWith}
+use Rattle.law_stored_rows.specs.Records.{IsRecordWith}
 use Rattle.inno_types.specs.Ranges.{is_from, is_up_to}
 use Rattle.world.specs.State.{WorldState, index_of}
 use Rattle.row_search.specs.declared.side.Side.{Side}

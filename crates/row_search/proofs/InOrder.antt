@@ -15,8 +15,8 @@ use Rattle.inno_db.specs.Database.{key_of}
 use Rattle.key_codec.specs.Keys.{HasKey}
 use Rattle.entries.specs.Pairs.{key_cmp}
 use Rattle.entries.proofs.Order.{key_cmp_total, same_key}
-use Rattle.law_coded_rows.specs.Entries.{is_same_value}
-use Rattle.law_coded_rows.proofs.Values.{value_itself, one_key}
+use Rattle.law_stored_rows.specs.Entries.{is_same_value}
+use Rattle.law_stored_rows.proofs.Values.{value_itself, one_key}
 use Rattle.sql_plan.specs.Visits.{kind_at, primary_key}
 use Rattle.row_search.specs.declared.found.FoundRow.{FoundRow}
 use Rattle.row_search.specs.FoundRows.{IsSeenRow, times_found, once_if, RiseByKey, AreFound}

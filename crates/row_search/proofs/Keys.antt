@@ -14,13 +14,13 @@ use Rattle.key_codec.specs.Keys.{HasKey, IsOfKindOrNull, key_code, key_width, en
 use Rattle.row_codec.specs.Rows.{FitsColumn, IsRowOf}
 use Rattle.key_codec.proofs.Lengths.{length-key_code}
 use Rattle.entries.specs.Pairs.{Pair}
-use Rattle.chain.specs.declared.kept.Kept.{Kept}
+use Rattle.row_versions.specs.declared.kept.Kept.{Kept}
 use Rattle.row_versions.specs.declared.version.Version.{Version}
 use Rattle.row_versions.specs.Chains.{first_seen}
-use Rattle.law_coded_rows.specs.Entries.{value_in}
-use Rattle.law_coded_rows.specs.Records.{IsClustered, IsRowAt, IsSomeKey}
-use Rattle.law_coded_rows.proofs.Values.{one_key}
-use Rattle.law_coded_rows.proofs.Found.{rows_at_home}
+use Rattle.law_stored_rows.specs.Entries.{value_in}
+use Rattle.law_stored_rows.specs.Records.{IsClustered, IsRowAt, IsSomeKey}
+use Rattle.law_stored_rows.proofs.Values.{one_key}
+use Rattle.law_stored_rows.proofs.Found.{rows_at_home}
 use Rattle.sql_plan.specs.Visits.{kind_if, kind_at, primary_key, entry_if, index_key}
 use Rattle.row_search.specs.Ranges.{primary_part}
 

@@ -15,9 +15,9 @@ use Rattle.inno_db.specs.Conditions.{matches, truth_of, is_true}
 use Rattle.inno_db.specs.declared.truth.Truth.{Truth}
 use Rattle.inno_db.specs.declared.truth.Truth.TheVariants.{True, False, Unknown}
 use Rattle.entries.specs.Pairs.{key_cmp}
-use Rattle.law_coded_rows.specs.Entries.{is_same_value}
-use Rattle.law_coded_rows.proofs.Values.{value_total, same_value}
-use Rattle.law_coded_rows.proofs.FirstPlaces.{keys_order}
+use Rattle.law_stored_rows.specs.Entries.{is_same_value}
+use Rattle.law_stored_rows.proofs.Values.{value_total, same_value}
+use Rattle.law_stored_rows.proofs.FirstPlaces.{keys_order}
 use Rattle.sql_plan.specs.declared.choice.Plan.{Plan}
 use Rattle.inno_types.specs.Ranges.{is_within}
 use Rattle.sql_plan.specs.Visits.{kind_at, primary_key, index_key}

@@ -10,13 +10,13 @@ use Rattle.inno_types.specs.declared.value.Key.{Key}
 use Rattle.inno_types.specs.declared.value.Schema.{Schema}
 use Rattle.key_codec.specs.Keys.{HasKey, HasEntry, Has64Bits, key_code, entry_code}
 use Rattle.entries.specs.Pairs.{Pair, value_of}
-use Rattle.chain.specs.declared.kept.Kept.{Kept}
+use Rattle.row_versions.specs.declared.kept.Kept.{Kept}
 use Rattle.row_versions.specs.declared.version.Version.{Version}
 use Rattle.row_versions.specs.Chains.{first_seen, newest}
-use Rattle.law_coded_rows.specs.Entries.{value_in, has_value, HasEntries}
-use Rattle.law_coded_rows.specs.Records.{IsRecordWith, IsClustered, KeepsMore}
-use Rattle.law_coded_rows.proofs.Values.{value_itself}
-use Rattle.law_coded_rows.proofs.RowRecords.{leads_still, no_record}
+use Rattle.law_stored_rows.specs.Entries.{value_in, has_value, HasEntries}
+use Rattle.law_stored_rows.specs.Records.{IsRecordWith, IsClustered, KeepsMore}
+use Rattle.law_stored_rows.proofs.Values.{value_itself}
+use Rattle.law_stored_rows.proofs.RowRecords.{leads_still, no_record}
 use Rattle.sql_plan.specs.Visits.{kind_at, index_key}
 use Rattle.world.specs.State.{WorldState}
 use Rattle.row_search.specs.declared.sight.Sight.{Sight}

@@ -7,8 +7,8 @@ use Rattle.inno_types.specs.declared.value.Value.{Value}
 use Rattle.inno_types.specs.declared.value.Schema.{Schema}
 use Rattle.inno_db.specs.Database.{key_of}
 use Rattle.entries.specs.Pairs.{key_cmp}
-use Rattle.law_coded_rows.specs.Entries.{is_same_value}
-use Rattle.law_coded_rows.proofs.Values.{same_value, value_itself}
+use Rattle.law_stored_rows.specs.Entries.{is_same_value}
+use Rattle.law_stored_rows.proofs.Values.{same_value, value_itself}
 use Rattle.row_search.specs.declared.found.FoundRow.{FoundRow}
 use Rattle.row_search.specs.FoundRows.{IsSeenRow, times_found, once_if, RiseByKey, AreFound}
 use Rattle.row_search.proofs.Lists.{all_push, all_so, all_both}

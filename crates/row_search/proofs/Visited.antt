@@ -7,10 +7,10 @@ use Rattle.store_api.specs.declared.answers.Version.{Version as Coded}
 use Rattle.entries.specs.Pairs.{Pair}
 use Rattle.inno_types.specs.Order.{IsBelow}
 use Rattle.entries.specs.Calls.{HasKey as IsAtKey}
-use Rattle.chain.specs.declared.kept.Kept.{Kept}
+use Rattle.row_versions.specs.declared.kept.Kept.{Kept}
 use Rattle.row_versions.specs.declared.version.Version.{Version}
 use Rattle.row_versions.specs.Chains.{older}
-use Rattle.law_coded_rows.specs.Records.{LeadTo}
+use Rattle.law_stored_rows.specs.Records.{LeadTo}
 use Rattle.inno_types.specs.Ranges.{is_within}
 use Rattle.sql_plan.specs.Visits.{index_key}
 use Rattle.world.specs.State.{WorldState, index_of}

@@ -9,13 +9,13 @@ use Rattle.inno_db.specs.Database.{key_of}
 use Rattle.store_api.specs.declared.answers.Version.{Version as Coded}
 use Rattle.key_codec.specs.Keys.{HasKey, key_code}
 use Rattle.entries.specs.Pairs.{Pair, value_of}
-use Rattle.chain.specs.declared.kept.Kept.{Kept}
-use Rattle.chain.specs.Versions.{Versions, leads}
+use Rattle.row_versions.specs.declared.kept.Kept.{Kept}
+use Rattle.row_versions.specs.Versions.{Versions, leads}
 use Rattle.row_versions.specs.declared.version.Version.{Version}
 use Rattle.row_versions.specs.Chains.{first_seen, older}
-use Rattle.law_coded_rows.specs.Records.{shown, row_shown, IsCodeOf, LeadTo, IsRecordWith, IsClustered}
-use Rattle.law_coded_rows.proofs.Values.{key_there, one_key}
-use Rattle.law_coded_rows.proofs.RowRecords.{record_read, pointer_followed, pointer_leads, leads_nowhere}
+use Rattle.law_stored_rows.specs.Records.{shown, row_shown, IsCodeOf, LeadTo, IsRecordWith, IsClustered}
+use Rattle.law_stored_rows.proofs.Values.{key_there, one_key}
+use Rattle.law_stored_rows.proofs.RowRecords.{record_read, pointer_followed, pointer_leads, leads_nowhere}
 use Rattle.sql_plan.specs.Visits.{kind_at, primary_key}
 use Rattle.row_search.specs.declared.scan.Scan.{Scan}
 use Rattle.row_search.specs.Sights.{sees_by}

@@ -6,7 +6,7 @@ use Rattle.store_api.specs.declared.moves.Move.TheVariants.{At, End, Done, Step,
 use Rattle.entries.specs.Pairs.{Pair}
 use Rattle.entries.specs.Index.{Index, AreKept, IsAsBefore, IsGiven}
 use Rattle.entries.specs.Calls.{Delays, Seeks, Follows, Fetches}
-use Rattle.chain.specs.Versions.{Versions, Stays}
+use Rattle.row_versions.specs.Versions.{Versions, Stays}
 use Rattle.world.specs.State.{WorldState}
 use Rattle.world.specs.Indexes.{Calls}
 use Rattle.world.specs.Undoing.{IsUnchanged}

@@ -9,7 +9,7 @@ use Rattle.inno_db.specs.Database.{key_of}
 use Rattle.inno_db.specs.Conditions.{matches}
 use Rattle.entries.specs.Pairs.{key_cmp}
 use Rattle.sql_plan.specs.Visits.{primary_key}
-use Rattle.law_coded_rows.specs.Entries.{is_same_value}
+use Rattle.law_stored_rows.specs.Entries.{is_same_value}
 use Rattle.row_search.specs.declared.found.FoundRow.{FoundRow}
 
 -- The row is what the reader sees at its own primary value, and stands behind that value's key.

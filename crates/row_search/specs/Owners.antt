@@ -6,7 +6,7 @@ use Rattle.inno_types.specs.declared.value.Key.{Key}
 use Rattle.inno_types.specs.declared.value.Kind.{Kind}
 use Rattle.inno_types.specs.declared.value.Schema.{Schema}
 use Rattle.key_codec.specs.Keys.{IsOfKindOrNull, entry_code}
-use Rattle.law_coded_rows.specs.Entries.{value_in}
+use Rattle.law_stored_rows.specs.Entries.{value_in}
 
 -- the answer says whether these are the same bytes
 abbrev pub TellsSame : List ℕ → List ℕ → Bool → Type 0

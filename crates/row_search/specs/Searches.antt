@@ -8,10 +8,10 @@ use Rattle.inno_db.specs.Database.{key_of}
 use Rattle.key_codec.specs.Keys.{HasKey, key_code}
 use Rattle.entries.specs.Pairs.{Pair, key_cmp}
 use Rattle.entries.specs.Calls.{HasKey as IsAtKey}
-use Rattle.chain.specs.declared.kept.Kept.{Kept}
+use Rattle.row_versions.specs.declared.kept.Kept.{Kept}
 use Rattle.row_versions.specs.declared.version.Version.{Version}
 use Rattle.row_versions.specs.Chains.{first_seen}
-use Rattle.law_coded_rows.specs.Records.{LeadTo, IsRecordWith}
+use Rattle.law_stored_rows.specs.Records.{LeadTo, IsRecordWith}
 use Rattle.inno_types.specs.Ranges.{is_within}
 use Rattle.sql_plan.specs.Visits.{kind_at, primary_key}
 use Rattle.world.specs.State.{WorldState, index_of}

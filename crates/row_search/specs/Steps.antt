@@ -8,8 +8,8 @@ use Rattle.store_api.specs.declared.moves.Move.TheVariants.{Failed, Again, Bad, 
 use Rattle.entries.specs.Index.{Index, AreKept}
 use Rattle.inno_types.specs.Order.{IsBelow}
 use Rattle.entries.specs.Calls.{Delays, Leaves}
-use Rattle.chain.specs.Versions.{Versions, Stays}
-use Rattle.chain.specs.Calls.{IsUnseen}
+use Rattle.row_versions.specs.Versions.{Versions, Stays}
+use Rattle.row_versions.specs.Calls.{IsUnseen}
 use Rattle.row_versions.specs.declared.version.Version.{Version}
 use Rattle.world.specs.State.{WorldState, index_of}
 use Rattle.world.specs.Stores.{StoreGoes}

@@ -4,8 +4,8 @@ use Rattle.inno_types.specs.declared.value.Value.{Value}
 use Rattle.inno_types.specs.declared.value.Schema.{Schema}
 use Rattle.entries.specs.Pairs.{Pair, AreRising, value_of}
 use Rattle.row_versions.specs.declared.version.Version.{Version}
-use Rattle.law_coded_rows.specs.Records.{IsClustered}
-use Rattle.law_coded_rows.specs.Tables.{HasItsColumns}
+use Rattle.law_stored_rows.specs.Records.{IsClustered}
+use Rattle.law_stored_rows.specs.Tables.{HasItsColumns}
 use Rattle.sql_plan.specs.Visits.{index_key}
 use Rattle.world.specs.State.{WorldState, index_of}
 use Rattle.row_search.specs.declared.scan.Scan.{Scan}

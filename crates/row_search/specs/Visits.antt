@@ -4,8 +4,8 @@ use Rattle.store_api.specs.declared.answers.Version.{Version}
 use Rattle.store_api.specs.declared.moves.Move.{Move}
 use Rattle.store_api.specs.declared.moves.Move.TheVariants as move
 use Rattle.store_api.specs.declared.visits.Visit.TheVariants.{Failed, Again, Bad}
-use Rattle.chain.specs.declared.answers.ChainBad.{ChainBad}
-use Rattle.chain.specs.declared.answers.ChainBad.TheVariants.{Visit, NoMemory}
+use Rattle.row_versions.specs.declared.answers.ChainBad.{ChainBad}
+use Rattle.row_versions.specs.declared.answers.ChainBad.TheVariants.{Visit, NoMemory}
 use Rattle.row_search.specs.declared.side.Side.{Side}
 use Rattle.row_search.specs.declared.side.Side.TheVariants.{Before, Within, Behind}
 use Rattle.row_search.specs.declared.scan.Scan.{Scan}

@@ -1,2 +1,4 @@
 pub mod Chains
 pub mod Laws
+pub mod Versions
+pub mod Calls

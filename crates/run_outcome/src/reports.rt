@@ -12,7 +12,7 @@ ghost use Rattle.run_outcome.specs.Reports.{IsReported, totals_text};
 use crate::outcome::{Fault, print_bytes};
 use crate::words::Asked;
 use inno_model::History;
-use load_report::report;
+use replay::report;
 use script::transcript;
 use std::alloc::Global;
 use store_api::{NoMemory, Sink};

@@ -7,12 +7,12 @@ use Rattle.std.proofs.lemmas.List.Elements.{All-push, All-nil}
 use Rattle.std.proofs.lemmas.List.Sums.{prefix_len-le-length}
 use Rattle.inno_types.specs.declared.reply.Item.{Item}
 use Rattle.inno_types.specs.declared.reply.Item.TheVariants as items
-use Rattle.script_parts.specs.declared.part.Part.{Part}
-use Rattle.script_parts.specs.declared.part.Part.TheVariants.{Directive as DirectiveHere, Blank, Semicolon, Token, Unended}
-use Rattle.script_parts.specs.declared.directive.Directive.{Directive}
-use Rattle.script_parts.specs.declared.directive.Directive.TheVariants.{Session, Signal, Await, Tick}
-use Rattle.script_parts.specs.Parts.{part_at}
-use Rattle.script_parts.specs.Directives.{directive_at}
+use Rattle.script.specs.declared.part.Part.{Part}
+use Rattle.script.specs.declared.part.Part.TheVariants.{Directive as DirectiveHere, Blank, Semicolon, Token, Unended}
+use Rattle.script.specs.declared.directive.Directive.{Directive}
+use Rattle.script.specs.declared.directive.Directive.TheVariants.{Session, Signal, Await, Tick}
+use Rattle.script.specs.Parts.{part_at}
+use Rattle.script.specs.Directives.{directive_at}
 use Rattle.script.specs.declared.script.Script.{Script}
 use Rattle.script.specs.declared.script.ScriptItem.{ScriptItem}
 use Rattle.script.specs.declared.script.Directives.{Directives}

@@ -3,8 +3,8 @@
 
 ghost use Rattle.std.specs.Prelude.{◌≡◌, ◌<◌, ◌≤◌, ◌+◌, ◌++◌, ◌∷◌, [], ℕ, List, Result, length, IfOk, OnOk, IfErr, codes};
 ghost use Rattle.inno_types.specs.declared.reply.Item.TheVariants as items;
-ghost use Rattle.script_parts.specs.Directives as directives;
-ghost use Rattle.script_parts.specs.declared.directive.Directive.TheVariants as directive;
+ghost use Rattle.script.specs.Directives as directives;
+ghost use Rattle.script.specs.declared.directive.Directive.TheVariants as directive;
 ghost use Rattle.script.specs.declared.script.Script.{Script as ScriptValue};
 ghost use Rattle.script.specs.declared.script.ScriptBad.{ScriptBad as ScriptBadValue};
 ghost use Rattle.script.specs.declared.script.Directives.{Directives as DirectivesValue};
@@ -12,8 +12,8 @@ ghost use Rattle.script.specs.Reading as spelled;
 ghost use Rattle.script.specs.Script.{Means, Spells, IsPlayable, IsRefused};
 
 use crate::script::{Directives, Script, ScriptBad, ScriptItem, Tick};
+use crate::{Directive, Part, directive_at, line_at, part_at};
 use inno_types::{Bytes, Item, Listed};
-use script_parts::{Directive, Part, directive_at, line_at, part_at};
 use std::alloc::{AllocError, Global};
 
 const MOST_SESSIONS: usize = 64;

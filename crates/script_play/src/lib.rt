@@ -2,8 +2,13 @@
 //! the sessions are is a trait; the words of scripts and of what they have started are in specs/Sessions.antt.
 #![tactic(auto)]
 
+mod beginning;
+mod on_threads;
+mod parts;
 mod playing;
+mod session;
 mod sessions;
 
+pub use on_threads::play_on_threads;
 pub use playing::play;
 pub use sessions::Sessions;

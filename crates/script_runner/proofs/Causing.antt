@@ -12,7 +12,7 @@ use Rattle.inno_model.specs.declared.event.Event.{Event}
 use Rattle.inno_model.specs.Recorded.{Recorded}
 use Rattle.inno_model.specs.Text.{text, sections}
 use Rattle.sql_history.specs.Counts.{has_stopped}
-use Rattle.law_page_errors.specs.Space.{ends_for_pages}
+use Rattle.law_histories.specs.Space.{ends_for_pages}
 use Rattle.file_zero.specs.Making.{IsNotMade}
 use Rattle.file_zero.specs.Refused.{IsRefused, HasTooMany}
 use Rattle.script.specs.Script.{Spells, IsScript}

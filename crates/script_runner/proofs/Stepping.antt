@@ -13,8 +13,8 @@ use Rattle.inno_model.specs.declared.event.Event.TheVariants as events
 use Rattle.inno_model.specs.Past.{is_of}
 use Rattle.inno_model.specs.Text.{items}
 use Rattle.sql_history.specs.Counts.{has_stopped}
-use Rattle.turn_board.specs.declared.Phase.{Phase}
-use Rattle.turn_board.specs.declared.Phase.TheVariants as phases
+use Rattle.inno_model.specs.declared.board.Phase.{Phase}
+use Rattle.inno_model.specs.declared.board.Phase.TheVariants as phases
 use Rattle.session_engine.specs.Calls.{KeepsItems, HasGiven}
 use Rattle.stopped_sessions.specs.Seats.{halted, ended, phase_at}
 use Rattle.stopped_sessions.specs.Calls.{is_at_work, has_left}

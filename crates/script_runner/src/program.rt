@@ -13,7 +13,7 @@ ghost use Rattle.sql_history.specs.Serial.{IsSetUp};
 ghost use Rattle.session_engine.specs.Places.{HasExactPlaces};
 ghost use Rattle.sql_history.specs.Counts as counts;
 ghost use Rattle.inno_model.specs.Text.{text};
-ghost use Rattle.law_page_errors.specs.Space.{ends_for_pages};
+ghost use Rattle.law_histories.specs.Space.{ends_for_pages};
 ghost use Rattle.inno_db.specs.Database.{Database};
 ghost use Rattle.law_crashes.specs.Files.{Files, LeavesFiles, IsAtRest};
 ghost use Rattle.file_zero.specs.Making.{AreEmpty, AreNew, AreBeingMade, IsPageAlone};

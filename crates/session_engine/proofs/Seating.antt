@@ -37,7 +37,7 @@ use Rattle.statement.proofs.Acked.{goes_on_acked, acked_nears}
 use Rattle.session_engine.specs.Seats.{State, seat_at, is_working, IsSpelled, IsUnread, MayGoOut, IsGoingOut, HasAsked, IsSeatOf, SeatAgrees, AreSeats, owes, phase_of}
 use Rattle.session_engine.specs.Calls.{AreFirst, SameLists, Joins, Starts, SameState, OthersStay, KeepsItems, TellsOne, GoesOn, StepsOn, Settled, Refuses, GoesOut, HasGiven, EndsSignal, Signals, StepsBy, Acknowledges, WaitsInVain, GivesUpInVain, WaitsOn}
 use Rattle.statement.specs.Going.{statement_to_go}
-use Rattle.turn_board.specs.declared.Phase.TheVariants as phases
+use Rattle.inno_model.specs.declared.board.Phase.TheVariants as phases
 use Rattle.session_engine.specs.Going.{Nears, NearsEnding, NearsLacking}
 use Rattle.session_engine.specs.Places.{IsExact, HasExactPlaces}
 use Rattle.session_engine.specs.Signals.{AreSpent, HasOnlyAsked}

@@ -13,7 +13,7 @@ use Rattle.inno_model.specs.Past.{is_of, begins_txn, started, under_way, IsClose
 use Rattle.sql_history.specs.Counts.{signals}
 use Rattle.store_api.specs.declared.answers.Progress.{Progress}
 use Rattle.store_api.specs.declared.answers.Progress.TheVariants as progress
-use Rattle.turn_board.specs.declared.Phase.TheVariants.{Busy}
+use Rattle.inno_model.specs.declared.board.Phase.TheVariants.{Busy}
 use Rattle.shared_lists.specs.Tasks as tasks
 use Rattle.shared_lists.specs.State.{State as Lists, Adds, task_of}
 use Rattle.sql_lists.specs.declared.advance.Advance.{Advance}

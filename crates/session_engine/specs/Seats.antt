@@ -17,8 +17,8 @@ use Rattle.sql_lists.specs.Steps.{HasRowsAlone}
 use Rattle.transaction_statements.specs.Running.{TakesBackTo}
 use Rattle.statement.specs.declared.under_way.Statement.TheVariants.{Asked}
 use Rattle.statement.specs.Running.{HasOnlyStarted, IsRunning, owes_ack, wants_room as statement_wants_room}
-use Rattle.turn_board.specs.declared.Phase.{Phase}
-use Rattle.turn_board.specs.declared.Phase.TheVariants as phases
+use Rattle.inno_model.specs.declared.board.Phase.{Phase}
+use Rattle.inno_model.specs.declared.board.Phase.TheVariants as phases
 use Rattle.session_engine.specs.declared.seats.Seat.{Seat}
 use Rattle.session_engine.specs.declared.seats.Seat.TheVariants.{Idle, Busy, Refused, Signalling, Leaving, Left}
 use Rattle.session_engine.specs.declared.seats.SignalItem.{SignalItem}

@@ -6,7 +6,7 @@ ghost use Rattle.std.specs.List.{list_any};
 ghost use Rattle.inno_db.specs.Database.{Database};
 ghost use Rattle.shared_lists.specs.Tasks.{Idle as TaskIdle};
 ghost use Rattle.shared_lists.specs.State.{task_of};
-ghost use Rattle.law_page_errors.specs.Space.{ends_for_pages};
+ghost use Rattle.law_histories.specs.Space.{ends_for_pages};
 ghost use Rattle.law_past_agreement.specs.Order.{IsOrdered};
 ghost use Rattle.shared_lists.specs.Fitting.{FitsThen};
 ghost use Rattle.sql_lists.specs.Kept.{AreStanding};
@@ -15,14 +15,13 @@ ghost use Rattle.session_engine.specs.Calls.{AreFirst};
 use crate::seats::{Seat, Seats};
 use crate::signalling::signal;
 use crate::steps::{go_out, read_item, refuse, settled};
-use inno_model::History;
+use inno_model::{History, Phase};
 use inno_types::{Bytes, Item};
 use shared_lists::SharedLists;
 use sql_lists::SqlLists;
 use std::alloc::Global;
 use std::marker::Model;
 use store_api::{NoMemory, Progress};
-use turn_board::Phase;
 
 /// Sessions, whatever keeps the lists that they share.
 #[derive(Drop)]

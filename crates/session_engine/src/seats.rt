@@ -3,11 +3,11 @@
 ghost use Rattle.std.specs.Prelude.{◌≡◌, ◌<◌, [], ◌∷◌, ◌++◌, length, OnOk, OnErr, slice_set};
 ghost use Rattle.session_engine.specs.Seats.{seat_at, is_working, owes, phase_of, wants_room, has_left};
 
+use inno_model::Phase;
 use inno_types::Bytes;
 use statement::Statement;
 use std::alloc::{AllocError, Global};
 use std::marker::Model;
-use turn_board::Phase;
 
 /// Where a session stands.
 #[derive(Drop)]

@@ -13,8 +13,8 @@ use Rattle.inno_model.specs.declared.event.Event.TheVariants.{Ended}
 use Rattle.inno_model.specs.Past.{started, under_way}
 use Rattle.store_api.specs.declared.answers.Progress.{Progress}
 use Rattle.store_api.specs.declared.answers.Progress.TheVariants as progress
-use Rattle.turn_board.specs.declared.Phase.{Phase}
-use Rattle.turn_board.specs.declared.Phase.TheVariants.{Idle, Busy, Leaving, Left}
+use Rattle.inno_model.specs.declared.board.Phase.{Phase}
+use Rattle.inno_model.specs.declared.board.Phase.TheVariants.{Idle, Busy, Leaving, Left}
 use Rattle.stopped_sessions.specs.Seats.{phase_at, halted, ended, phase_after}
 use Rattle.stopped_sessions.specs.Calls.{is_at_work}
 use Rattle.durable_engine.specs.State.{State}

@@ -25,7 +25,7 @@ use Rattle.write_statement.specs.contracts.machine.WriteStatement as writing
 use Rattle.statement.specs.contracts.under_way.Statement as statement
 use Rattle.sql_lists.proofs.lists.SqlLists.TheSendSync as sql-sent
 use Rattle.session_engine.specs.contracts.machine.SessionEngine as sessions
-use Rattle.logged_sessions.specs.contracts.logged.LoggedSessions as logged
+use Rattle.durable_engine.specs.contracts.logged.LoggedSessions as logged
 use Rattle.durable_engine.specs.contracts.engine.DurableEngine as engine
 use Rattle.shared_engine.proofs.patience.Patience.TheSendSync as patience-sent
 use Rattle.shared_engine.specs.contracts.engine.SharedEngine as shared

@@ -4,9 +4,9 @@ use Rattle.std.specs.Prelude.{slice_index_or}
 use Rattle.inno_types.specs.declared.reply.Item.{Item}
 use Rattle.inno_model.specs.declared.event.Event.{Event}
 use Rattle.inno_model.specs.Past.{under_way}
-use Rattle.turn_board.specs.declared.Phase.{Phase}
-use Rattle.turn_board.specs.declared.Phase.TheVariants.{Idle, Busy, Leaving, Left}
-use Rattle.turn_board.specs.Boards.{phase_of}
+use Rattle.inno_model.specs.declared.board.Phase.{Phase}
+use Rattle.inno_model.specs.declared.board.Phase.TheVariants.{Idle, Busy, Leaving, Left}
+use Rattle.inno_model.specs.Boards.{phase_of}
 use Rattle.stopped_sessions.specs.declared.seats.Seat.{Seat}
 use Rattle.stopped_sessions.specs.Seats.{phase_at}
 use Rattle.stopped_sessions.specs.Calls.{is_at_work, has_left}

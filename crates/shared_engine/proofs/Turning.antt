@@ -16,10 +16,10 @@ use Rattle.sql_history.specs.Counts.{has_stopped}
 use Rattle.sql_history.specs.Legal.{IsLegal}
 use Rattle.store_api.specs.declared.answers.Progress.{Progress}
 use Rattle.store_api.specs.declared.answers.Progress.TheVariants as progress
-use Rattle.turn_board.specs.declared.Phase.{Phase}
-use Rattle.turn_board.specs.declared.Phase.TheVariants.{Idle, Busy, Leaving, Left}
-use Rattle.turn_board.specs.Boards.{calls_of, phase_of}
-use Rattle.turn_board.proofs.Places.{calls_of-append}
+use Rattle.inno_model.specs.declared.board.Phase.{Phase}
+use Rattle.inno_model.specs.declared.board.Phase.TheVariants.{Idle, Busy, Leaving, Left}
+use Rattle.inno_model.specs.Boards.{calls_of, phase_of}
+use Rattle.inno_model.proofs.Places.{calls_of-append}
 use Rattle.turn_engine.specs.Calls.{Makes, Joins, EndsBy, StepsBy, IsUnderWay, item_number, reply_of}
 use Rattle.session_engine.specs.Calls.{KeepsItems, HasGiven}
 use Rattle.stopped_sessions.specs.Seats.{phase_at, halted, ended, phase_after}

@@ -10,10 +10,10 @@ ghost use Rattle.stopped_sessions.specs.Calls.{has_left};
 
 use crate::patience::Patience;
 use durable_engine::{DurableEngine, Root};
+use inno_model::Recorded;
 use shared_lists::SharedLists;
 use std::marker::Model;
 use store_api::Disk;
-use turn_board::Recorded;
 
 /// An engine that sessions on threads may share. Contracts see it as the engine inside.
 #[derive(Drop)]

@@ -6,8 +6,8 @@ use Rattle.inno_db.specs.declared.change.Change.{Change}
 use Rattle.inno_model.specs.declared.event.Event.{Event}
 use Rattle.inno_model.specs.declared.event.Event.TheVariants.{Opened, Changed}
 use Rattle.law_past_agreement.specs.Order.{created}
-use Rattle.law_fitting_rows.specs.Fitting.{FitsTables, AreFitting}
-use Rattle.law_fitting_rows.specs.Numbers.{ChangeHas64Bits, RowsHave64Bits}
+use Rattle.law_stored_rows.specs.Fitting.{FitsTables, AreFitting}
+use Rattle.law_stored_rows.specs.Numbers.{ChangeHas64Bits, RowsHave64Bits}
 
 -- the database's tables can be stored, and each of its rows can be coded
 pub record CanBeCoded (db : Database) : Type 0 where

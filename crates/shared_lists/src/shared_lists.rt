@@ -8,7 +8,7 @@ ghost use Rattle.inno_model.specs.declared.event.Event.TheVariants.{Begin, Start
 ghost use Rattle.inno_model.specs.Past.{under_way, level, own, started, begins, view_of, txn, IsOpen};
 ghost use Rattle.sql_history.specs.Counts.{rows_of_reply};
 ghost use Rattle.sql_history.specs.Settings.{at_first, at_begin, at_end, saved, set_by};
-ghost use Rattle.law_fitting_rows.specs.Storable.{IsStorable};
+ghost use Rattle.law_stored_rows.specs.Storable.{IsStorable};
 ghost use Rattle.law_past_agreement.specs.Order.{created, IsOfRow, MayCome, IsOrdered};
 ghost use Rattle.shared_lists.specs.Fitting.{FitsWell, FitsThen};
 ghost use Rattle.shared_lists.specs.Tasks.{Idle, Searching, is_changing, asked, steps_left, MayTakeBack};
@@ -19,7 +19,7 @@ use crate::answers::{Changed, Reading, Searched, Undone};
 use inno_db::Change;
 use inno_model::History;
 use inno_types::{Bytes, Item, Level, Listed, Reply, Rows, Schema, Stmt};
-use session_settings::SessionSettings;
+use sql_history::SessionSettings;
 use sql_plan::Plan;
 use store_api::NoMemory;
 

@@ -1,7 +1,7 @@
 -- A page is looked for and then marked.
 use Rattle.std.proofs.Common.{◌≡◌, ℕ, ◌≤◌, List, [], ◌∷◌, length, Option, Some, None, sym, ap, ◌∙◌, subst, arith}
 use Rattle.std.specs.Prelude.{IsTrue}
-use Rattle.page_format.specs.Words.{u32_at}
+use Rattle.stored_pages.specs.Words.{u32_at}
 use Rattle.store_api.specs.declared.visits.SpaceBad.{SpaceBad}
 use Rattle.store_api.specs.declared.visits.SpaceBad.TheVariants.{Full, Visit, NoMemory}
 use Rattle.mtr.specs.Seen.{MtrState, capacity_of, IsWithin, with_bytes}

@@ -1,6 +1,6 @@
 -- What taking a page and giving one back make of the pages, and why neither is done.
 use Rattle.std.specs.Prelude.{◌≡◌, ◌≢◌, ℕ, ◌<◌, ◌≤◌, List, [], ◌∷◌, length, IsTrue}
-use Rattle.page_format.specs.Words.{u32_at}
+use Rattle.stored_pages.specs.Words.{u32_at}
 use Rattle.store_api.specs.declared.visits.SpaceBad.{SpaceBad}
 use Rattle.store_api.specs.declared.visits.SpaceBad.TheVariants.{Full, Visit, NoMemory}
 use Rattle.mtr.specs.Seen.{MtrState, Visits, with_bytes}

@@ -10,8 +10,8 @@ use Rattle.sql_grammar.specs.declared.token.Token.{Token}
 use Rattle.sql_grammar.specs.declared.token.Token.TheVariants.{Key}
 use Rattle.sql_grammar.specs.Grammar.{Name, Lit, Oper, Atom}
 use Rattle.sql_grammar.specs.Grammar as grammar
-use Rattle.sql_literals.specs.Parts.{lit_at}
-use Rattle.sql_literals.proofs.Complete.{name_shorter, lit_complete, lit_shorter, tuple_complete, tuple_shorter}
+use Rattle.sql_conditions.specs.Parts.{lit_at}
+use Rattle.sql_conditions.proofs.Complete.{name_shorter, lit_complete, lit_shorter, tuple_complete, tuple_shorter}
 use Rattle.sql_conditions.specs.Atoms as read
 
 pub oper_complete : {xs ys : List Token} {o : Operand} → Oper xs o ys → read.oper_at xs ≡ Ok (o, ys)

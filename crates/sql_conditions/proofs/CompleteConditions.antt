@@ -6,7 +6,7 @@ use Rattle.sql_grammar.specs.declared.token.Token.{Token}
 use Rattle.sql_grammar.specs.declared.token.Token.TheVariants.{Key, Open, Close}
 use Rattle.sql_grammar.specs.Grammar.{Condition, Strength, Loose, Tight, Single, Atom}
 use Rattle.sql_grammar.specs.Grammar as grammar
-use Rattle.sql_literals.specs.Parts.{◌>>=◌}
+use Rattle.sql_conditions.specs.Parts.{◌>>=◌}
 use Rattle.sql_conditions.specs.Conditions as read
 use Rattle.sql_conditions.specs.Conditions.{Mark, Negation, Bracket, Conjunction, Disjunction, settle, steps, resume, operand_step, atom_step, after_condition, follow_of, close, BeginsNoAnd}
 use Rattle.sql_conditions.proofs.CompleteAtoms.{atom_complete, atom_shorter}

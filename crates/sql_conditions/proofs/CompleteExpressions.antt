@@ -6,10 +6,10 @@ use Rattle.sql_grammar.specs.declared.token.Token.{Token}
 use Rattle.sql_grammar.specs.declared.token.Token.TheVariants.{Number, Open, Close, Star, Plus, Minus}
 use Rattle.sql_grammar.specs.Grammar.{Expression, Strength, Loose, Tight, Single, Name, Lit, BeginsNoNumber}
 use Rattle.sql_grammar.specs.Grammar as grammar
-use Rattle.sql_literals.specs.Parts.{◌>>=◌, lit_at}
+use Rattle.sql_conditions.specs.Parts.{◌>>=◌, lit_at}
 use Rattle.sql_conditions.specs.Expressions as read
 use Rattle.sql_conditions.specs.Expressions.{Mark, Negation, Bracket, Product, Sum, Difference, settle, steps, resume, operand_step, value_step, value_at, after_expression, follow_of, opening_of, close, BeginsNoStar}
-use Rattle.sql_literals.proofs.Complete.{lit_shorter, name_shorter}
+use Rattle.sql_conditions.proofs.Complete.{lit_shorter, name_shorter}
 
 -- at most n steps from behind an operand
 abbrev behind : ℕ → List Mark → List Token → Result (List Token) (List Token)

@@ -6,3 +6,8 @@ mod Settled
 mod SettledExpressions
 pub mod SoundAtoms
 pub mod Waiting
+pub mod Complete
+pub mod Items
+mod Numbers
+pub mod Refused
+pub mod Sound

@@ -6,13 +6,13 @@ use Rattle.sql_grammar.specs.Grammar.{Atom, Condition, Single}
 use Rattle.sql_grammar.specs.Grammar as grammar
 use Rattle.sql_conditions.specs.declared.conditions.Frame.{Frame}
 use Rattle.sql_conditions.specs.declared.conditions.After.{After}
-use Rattle.sql_literals.specs.declared.refusal.Refusal.{Refusal}
-use Rattle.sql_literals.specs.declared.refusal.Refusal.TheVariants as refusal
-use Rattle.sql_literals.specs.Parts.{◌>>=◌, Fails, Gives}
+use Rattle.sql_conditions.specs.declared.refusal.Refusal.{Refusal}
+use Rattle.sql_conditions.specs.declared.refusal.Refusal.TheVariants as refusal
+use Rattle.sql_conditions.specs.Parts.{◌>>=◌, Fails, Gives}
 use Rattle.sql_conditions.specs.Atoms.{atom_at}
 use Rattle.sql_conditions.specs.Conditions as read
 use Rattle.sql_conditions.specs.Conditions.{HasOperand, Stands, StandsAfter, marks, mark_of, close, settle, carry, steps, resume, operand_step, atom_step, stage_of}
-use Rattle.sql_literals.proofs.Refused.{fails_bind, same_fails}
+use Rattle.sql_conditions.proofs.Refused.{fails_bind, same_fails}
 use Rattle.sql_conditions.proofs.SoundAtoms.{atom_sound}
 
 module _ (stack popped new : List Frame) (fr : Frame) (rest after : List Token) (total : Result read.Stage (List Token)) (popping : stack ≡ fr ∷ popped) (so_far : settle (marks stack) rest ≡ total) where

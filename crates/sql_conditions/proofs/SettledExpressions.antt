@@ -6,16 +6,16 @@ use Rattle.sql_grammar.specs.Grammar.{Expression, Single}
 use Rattle.sql_grammar.specs.Grammar as grammar
 use Rattle.sql_conditions.specs.declared.expressions.Frame.{Frame}
 use Rattle.sql_conditions.specs.declared.expressions.After.{After}
-use Rattle.sql_literals.specs.declared.refusal.Refusal.{Refusal}
-use Rattle.sql_literals.specs.Parts.{◌>>=◌, Fails, Gives}
+use Rattle.sql_conditions.specs.declared.refusal.Refusal.{Refusal}
+use Rattle.sql_conditions.specs.Parts.{◌>>=◌, Fails, Gives}
 use Rattle.sql_conditions.specs.Expressions as read
 use Rattle.sql_conditions.specs.Expressions.{HasOperand, Stands, StandsAfter, marks, mark_of, close, settle, carry, steps, resume, operand_step, value_step, value_at, stage_of}
 use Rattle.inno_types.specs.declared.stmt.Expr.TheVariants as expr
 use Rattle.sql_grammar.specs.declared.token.Token.TheVariants.{Bare, Quoted}
 use Rattle.sql_grammar.specs.Grammar.{Lit}
-use Rattle.sql_literals.specs.Parts.{lit_at}
-use Rattle.sql_literals.proofs.Sound.{bind, lit_sound}
-use Rattle.sql_literals.proofs.Refused.{fails_bind, same_fails}
+use Rattle.sql_conditions.specs.Parts.{lit_at}
+use Rattle.sql_conditions.proofs.Sound.{bind, lit_sound}
+use Rattle.sql_conditions.proofs.Refused.{fails_bind, same_fails}
 
 module _ (stack popped new : List Frame) (fr : Frame) (rest after : List Token) (total : Result read.Stage (List Token)) (popping : stack ≡ fr ∷ popped) (so_far : settle (marks stack) rest ≡ total) where
   pub settle_fails : (e : Refusal) → Fails e (close (mark_of fr) (marks popped) rest) → Fails e total

@@ -10,8 +10,8 @@ use Rattle.sql_grammar.specs.declared.token.Token.{Token}
 use Rattle.sql_grammar.specs.declared.token.Token.TheVariants.{Key, Bare, Quoted, Compare}
 use Rattle.sql_grammar.specs.Grammar.{Name, Lit, Tuple, Oper, Atom}
 use Rattle.sql_grammar.specs.Grammar as grammar
-use Rattle.sql_literals.specs.Parts.{◌>>=◌, lit_at, tuple_at}
-use Rattle.sql_literals.proofs.Sound.{bind, weaker, lit_sound, tuple_sound}
+use Rattle.sql_conditions.specs.Parts.{◌>>=◌, lit_at, tuple_at}
+use Rattle.sql_conditions.proofs.Sound.{bind, weaker, lit_sound, tuple_sound}
 use Rattle.sql_conditions.specs.Atoms as read
 
 oper_sound : (xs : List Token) → IfOk (read.oper_at xs) (λ r. Oper xs r.0 r.1)

@@ -7,7 +7,7 @@ use Rattle.inno_types.specs.declared.stmt.Filter.TheVariants as filter
 use Rattle.sql_grammar.specs.declared.token.Word.TheVariants as word
 use Rattle.sql_grammar.specs.declared.token.Token.{Token}
 use Rattle.sql_grammar.specs.declared.token.Token.TheVariants.{Key, Bare, Quoted, Compare}
-use Rattle.sql_literals.specs.Parts.{Read, ◌>>=◌, lit_at, tuple_at}
+use Rattle.sql_conditions.specs.Parts.{Read, ◌>>=◌, lit_at, tuple_at}
 
 unfoldable pub oper_at : List Token → Read Operand
 oper_at (Bare meaning name ∷ rest) = Ok (operand.Column name, rest)

@@ -13,7 +13,7 @@ use Rattle.sql_conditions.specs.declared.conditions.After.{After}
 use Rattle.sql_conditions.specs.declared.conditions.After.TheVariants as after
 use Rattle.sql_conditions.specs.declared.conditions.Next.{Next}
 use Rattle.sql_conditions.specs.declared.conditions.Next.TheVariants as next
-use Rattle.sql_literals.specs.Parts.{◌>>=◌}
+use Rattle.sql_conditions.specs.Parts.{◌>>=◌}
 use Rattle.sql_conditions.specs.Atoms.{atom_at}
 
 -- ---- what waits for an operand

@@ -15,7 +15,7 @@ use Rattle.sql_conditions.specs.declared.expressions.Opening.{Opening as Opens}
 use Rattle.sql_conditions.specs.declared.expressions.Opening.TheVariants as opens
 use Rattle.sql_conditions.specs.declared.expressions.Next.{Next}
 use Rattle.sql_conditions.specs.declared.expressions.Next.TheVariants as next
-use Rattle.sql_literals.specs.Parts.{Read, ◌>>=◌, lit_at}
+use Rattle.sql_conditions.specs.Parts.{Read, ◌>>=◌, lit_at}
 
 -- a literal or a column
 unfoldable pub value_at : List Token → Read Expr

@@ -1,3 +1,4 @@
 pub mod Atoms
 pub mod Conditions
 pub mod Expressions
+pub mod Parts

@@ -1,12 +1,12 @@
 //! One comparison or test of a condition. Conditions are joined from these.
 
 ghost use Rattle.std.specs.Prelude.{◌≡◌};
-ghost use Rattle.sql_literals.specs.Parts.{Gives};
+ghost use Rattle.sql_conditions.specs.Parts.{Gives};
 ghost use Rattle.sql_conditions.specs.Atoms as read;
 
+use crate::{Refusal, literal, tuple, unexpected};
 use inno_types::{Bytes, Filter, Operand};
 use sql_grammar::{Token, Word};
-use sql_literals::{Refusal, literal, tuple, unexpected};
 use std::alloc::Global;
 
 #[tactic(auto, unfolding(crate::specs::Atoms::atom_at))]

@@ -4,15 +4,15 @@
 ghost use Rattle.std.specs.Prelude.{◌≡◌, [], ◌∷◌, List, IfOk};
 ghost use Rattle.sql_grammar.specs.declared.token.Token.{Token};
 ghost use Rattle.sql_grammar.specs.Grammar.{Condition, Loose};
-ghost use Rattle.sql_literals.specs.Parts.{Gives};
+ghost use Rattle.sql_conditions.specs.Parts.{Gives};
 ghost use Rattle.sql_conditions.specs.Conditions as read;
 ghost use Rattle.sql_conditions.specs.declared.conditions.Frame.TheVariants.{Open, Or};
 
 use crate::atoms::atom;
 use crate::stack::Stack;
+use crate::{Refusal, unexpected};
 use inno_types::Filter;
 use sql_grammar::{Token, Word};
-use sql_literals::{Refusal, unexpected};
 use std::alloc::Global;
 
 /// What waits for an operand: a NOT, an open bracket, or what stands left of an AND or an OR.

@@ -4,14 +4,14 @@
 ghost use Rattle.std.specs.Prelude.{◌≡◌, [], ◌∷◌, List, IfOk};
 ghost use Rattle.sql_grammar.specs.declared.token.Token.{Token};
 ghost use Rattle.sql_grammar.specs.Grammar.{Expression, Loose};
-ghost use Rattle.sql_literals.specs.Parts.{Gives};
+ghost use Rattle.sql_conditions.specs.Parts.{Gives};
 ghost use Rattle.sql_conditions.specs.Expressions as read;
 ghost use Rattle.sql_conditions.specs.declared.expressions.Frame.TheVariants as frames;
 
 use crate::stack::Stack;
+use crate::{Refusal, literal, unexpected};
 use inno_types::Expr;
 use sql_grammar::Token;
-use sql_literals::{Refusal, literal, unexpected};
 use std::alloc::Global;
 
 /// What waits for an operand: a minus, an open bracket, or what stands left of an operator.

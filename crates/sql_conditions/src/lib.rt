@@ -5,7 +5,13 @@
 mod atoms;
 mod conditions;
 mod expressions;
+mod lists;
+mod literals;
+mod refusal;
 mod stack;
 
 pub use conditions::condition;
 pub use expressions::expression;
+pub use lists::{after_close, after_comma, end, names, tuple, tuples};
+pub use literals::{literal, name, number};
+pub use refusal::{Refusal, unexpected};

@@ -9,3 +9,4 @@ pub mod Counts
 pub mod Legal
 pub mod Serial
 pub mod Readings
+pub mod Named

@@ -6,7 +6,9 @@
 
 mod counts;
 mod databases;
+mod own_settings;
 mod readings;
+mod save_list;
 mod savepoints;
 mod settings;
 
@@ -15,6 +17,7 @@ pub use databases::{
     a_commit_adds_its_changes, a_commit_leaves_others_snapshots, a_later_view_sees_the_commit,
     all_changes_put_back_leave_the_database, without_own_changes_a_snapshot_is_committed,
 };
+pub use own_settings::SessionSettings;
 pub use readings::{
     a_consistent_read_answers_by_its_view, after_a_stop_items_answer_stopped,
     nothing_commits_after_a_stop, the_front_of_a_legal_history_is_legal,

@@ -24,14 +24,14 @@ use Rattle.inno_db.specs.declared.truth.Truth.TheVariants.{True, False, Unknown}
 use Rattle.inno_db.specs.Names.{column_place, value_at, column_value, column_at}
 use Rattle.inno_db.specs.Conditions.{compared, literal_value, truth_of, and_of, is_in}
 use Rattle.inno_db.specs.Typing.{type_of, type_if, column_type, is_same_type, is_of_type, literal_fits, all_fit, sides_fit, filter_fits}
-use Rattle.search_range.specs.declared.interval.Limit.TheVariants.{With}
-use Rattle.search_range.specs.declared.interval.Interval.{Interval}
+use Rattle.sql_plan.specs.declared.interval.Limit.TheVariants.{With}
+use Rattle.sql_plan.specs.declared.interval.Interval.{Interval}
 use Rattle.sql_plan.specs.declared.part.Bounding.{Bounding}
-use Rattle.search_range.specs.Intervals.{compared_with, turned, values_among, values_between, greatest, from_to}
+use Rattle.sql_plan.specs.Intervals.{compared_with, turned, values_among, values_between, greatest, from_to}
 use Rattle.sql_plan.specs.Parts.{at_place, on_column, range_of_comparison, range_of_part}
-use Rattle.search_range.proofs.Order.{less_precedes, greater_precedes}
-use Rattle.search_range.proofs.Admitted.{Admits, and_both, both_and, IsMet, is_met, met_turned, compared_admits, between_admits, typed_literal, has_type}
-use Rattle.search_range.proofs.Extremes.{reached, among_present}
+use Rattle.sql_plan.proofs.Order.{less_precedes, greater_precedes}
+use Rattle.sql_plan.proofs.Admitted.{Admits, and_both, both_and, IsMet, is_met, met_turned, compared_admits, between_admits, typed_literal, has_type}
+use Rattle.sql_plan.proofs.Extremes.{reached, among_present}
 
 -- the part's column is there, and the part admits what the row has in it
 pub record Allows (columns : List Column) (row : List Value) (part : Bounding Value) : Type 0 where

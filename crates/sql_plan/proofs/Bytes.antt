@@ -18,7 +18,7 @@ use Rattle.key_codec.specs.Keys.{HasKey, Has64Bits, key_code, key_width, padded}
 use Rattle.key_codec.proofs.ValueOrder.{key_code-order}
 use Rattle.key_codec.proofs.Lengths.{length-key_code}
 use Rattle.sql_plan.specs.Bounds.{value_bytes}
-use Rattle.search_range.proofs.Admitted.{has_type}
+use Rattle.sql_plan.proofs.Admitted.{has_type}
 
 above_zero : (z : ℕ) → nat_cmp 0 (suc z) ≡ Less
 above_zero z = grind (arith, nat_tests)

@@ -11,13 +11,13 @@ use Rattle.inno_types.specs.declared.stmt.Filter.TheVariants.{Compare, Between, 
 use Rattle.inno_db.specs.declared.truth.Truth.TheVariants.{True}
 use Rattle.inno_db.specs.Conditions.{is_null, truth_of}
 use Rattle.inno_db.specs.Typing.{type_of, filter_fits}
-use Rattle.search_range.specs.declared.interval.Interval.{Interval}
+use Rattle.sql_plan.specs.declared.interval.Interval.{Interval}
 use Rattle.sql_plan.specs.declared.part.Bounding.{Bounding}
-use Rattle.search_range.specs.Intervals.{whole, meet}
+use Rattle.sql_plan.specs.Intervals.{whole, meet}
 use Rattle.sql_plan.specs.Parts.{range_of_part, ranges_of, parts_of}
 use Rattle.sql_plan.specs.Plans.{places_of, meet_on, allowed}
 use Rattle.sql_plan.proofs.Waiting.{filter_map_append}
-use Rattle.search_range.proofs.Admitted.{Admits, and_both, meet_admits, whole_admits}
+use Rattle.sql_plan.proofs.Admitted.{Admits, and_both, meet_admits, whole_admits}
 use Rattle.sql_plan.proofs.Allowed.{Allows, part_allows, both_true}
 
 abbrev pub AllAllow : List Column → List Value → List (Bounding Value) → Type 0

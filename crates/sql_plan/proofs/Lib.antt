@@ -4,3 +4,9 @@ pub mod Gathered
 pub mod Sound
 pub mod Waiting
 pub mod Within
+pub mod Admitted
+pub mod Exact
+pub mod Extremes
+pub mod Order
+pub mod Inserting
+pub mod GivenKeys

@@ -17,7 +17,7 @@ use Rattle.inno_db.specs.Conditions.{is_null, truth_of}
 use Rattle.inno_db.specs.Declarations.{is_short, is_indexable}
 use Rattle.inno_db.specs.Typing.{type_of, filter_fits}
 use Rattle.key_codec.specs.Keys.{HasKey, key_code, entry_code}
-use Rattle.search_range.specs.declared.interval.Interval.{Interval}
+use Rattle.sql_plan.specs.declared.interval.Interval.{Interval}
 use Rattle.sql_plan.specs.declared.part.Bounding.{Bounding}
 use Rattle.sql_plan.specs.declared.choice.Plan.{Plan}
 use Rattle.sql_plan.specs.Parts.{ranges_of}
@@ -26,7 +26,7 @@ use Rattle.sql_plan.specs.Plans.{places_of, key_on, after_clustered, index_on, f
 use Rattle.inno_types.specs.Ranges.{is_within}
 use Rattle.sql_plan.specs.Visits.{kind_if, primary_key, entry_if, index_key, value_if, leading_value, are_indexable, IsRowOf}
 use Rattle.sql_plan.specs.Covers.{CoversMatches, PassesNulls}
-use Rattle.search_range.proofs.Admitted.{Admits, and_both}
+use Rattle.sql_plan.proofs.Admitted.{Admits, and_both}
 use Rattle.sql_plan.proofs.Gathered.{AllAllow, all_allow, IsPresent, bounded_present, found_present, admitted}
 use Rattle.sql_plan.proofs.Within.{IsKeyOf, present_key, clustered_key, secondary_key, within, null_outside}
 

@@ -18,13 +18,13 @@ use Rattle.inno_db.specs.Typing.{type_of}
 use Rattle.key_codec.specs.Keys.{HasKey, HasEntry, IsOfKind, Has64Bits, key_code, entry_front, entry_code}
 use Rattle.key_codec.proofs.Lengths.{length-key_code}
 use Rattle.inno_types.proofs.ByteOrder.{itself}
-use Rattle.search_range.specs.declared.interval.Limit.{Limit}
-use Rattle.search_range.specs.declared.interval.Limit.TheVariants.{Open, With, Without}
-use Rattle.search_range.specs.declared.interval.Interval.{Interval}
-use Rattle.search_range.specs.Intervals.{is_empty}
+use Rattle.sql_plan.specs.declared.interval.Limit.{Limit}
+use Rattle.sql_plan.specs.declared.interval.Limit.TheVariants.{Open, With, Without}
+use Rattle.sql_plan.specs.declared.interval.Interval.{Interval}
+use Rattle.sql_plan.specs.Intervals.{is_empty}
 use Rattle.sql_plan.specs.Bounds.{HasSize, HaveSize, value_bytes, bound_bytes, null_bytes, low_bound, high_bound, range_of}
 use Rattle.inno_types.specs.Ranges.{beside, is_from, is_up_to, is_within}
-use Rattle.search_range.proofs.Admitted.{Admits, and_both, both_and, has_type, low_admits, high_admits, admits_some}
+use Rattle.sql_plan.proofs.Admitted.{Admits, and_both, both_and, has_type, low_admits, high_admits, admits_some}
 use Rattle.sql_plan.proofs.Bytes.{placed}
 
 -- a key of the index of this number, whose value v has in a column of this kind

@@ -9,10 +9,10 @@ use Rattle.inno_types.specs.declared.stmt.Bound.TheVariants as bound
 use Rattle.inno_types.specs.declared.stmt.Range.{Range}
 use Rattle.inno_db.specs.Storing.{is_too_long}
 use Rattle.key_codec.specs.Keys.{Has64Bits, key_code, entry_front}
-use Rattle.search_range.specs.declared.interval.Limit.{Limit}
-use Rattle.search_range.specs.declared.interval.Limit.TheVariants.{Open, With, Without}
-use Rattle.search_range.specs.declared.interval.Interval.{Interval}
-use Rattle.search_range.specs.Intervals.{is_empty}
+use Rattle.sql_plan.specs.declared.interval.Limit.{Limit}
+use Rattle.sql_plan.specs.declared.interval.Limit.TheVariants.{Open, With, Without}
+use Rattle.sql_plan.specs.declared.interval.Interval.{Interval}
+use Rattle.sql_plan.specs.Intervals.{is_empty}
 
 -- a value's key; a text longer than its column has none, and its first bytes with a length above all of the column's
 -- texts lie where it would stand among them

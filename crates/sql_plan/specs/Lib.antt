@@ -5,3 +5,7 @@ pub mod Plans
 pub mod Rows
 pub mod SeenParts
 pub mod Visits
+pub mod Intervals
+pub mod SeenIntervals
+pub mod Keys
+pub mod Planning

@@ -10,10 +10,10 @@ use Rattle.inno_types.specs.declared.stmt.Filter.{Filter}
 use Rattle.inno_types.specs.declared.stmt.Filter.TheVariants.{Compare, Between, In, IsNull, Not', And', Or'}
 use Rattle.inno_db.specs.Names.{column_place}
 use Rattle.inno_db.specs.Conditions.{literal_value}
-use Rattle.search_range.specs.declared.interval.Limit.TheVariants.{With}
-use Rattle.search_range.specs.declared.interval.Interval.{Interval}
+use Rattle.sql_plan.specs.declared.interval.Limit.TheVariants.{With}
+use Rattle.sql_plan.specs.declared.interval.Interval.{Interval}
 use Rattle.sql_plan.specs.declared.part.Bounding.{Bounding}
-use Rattle.search_range.specs.Intervals.{compared_with, turned, unless_null, values_between, values_among}
+use Rattle.sql_plan.specs.Intervals.{compared_with, turned, unless_null, values_between, values_among}
 
 abbrev pub at_place : Option ℕ → Interval Value → Option (Bounding Value)
 at_place None values = None

@@ -7,10 +7,10 @@ use Rattle.inno_types.specs.declared.value.Key.{Key}
 use Rattle.inno_types.specs.declared.value.Schema.{Schema}
 use Rattle.inno_types.specs.declared.stmt.Filter.{Filter}
 use Rattle.inno_types.specs.declared.stmt.Bound.TheVariants as bound
-use Rattle.search_range.specs.declared.interval.Interval.{Interval}
+use Rattle.sql_plan.specs.declared.interval.Interval.{Interval}
 use Rattle.sql_plan.specs.declared.part.Bounding.{Bounding}
 use Rattle.sql_plan.specs.declared.choice.Plan.{Plan}
-use Rattle.search_range.specs.Intervals.{whole, meet, is_single}
+use Rattle.sql_plan.specs.Intervals.{whole, meet, is_single}
 use Rattle.sql_plan.specs.Parts.{ranges_of}
 use Rattle.sql_plan.specs.Bounds.{range_of}
 

@@ -5,12 +5,12 @@ ghost use Rattle.inno_types.specs.declared.value.Value.{Value};
 ghost use Rattle.key_codec.specs.Keys.{Has64Bits};
 ghost use Rattle.inno_db.specs.Seen.{seen};
 ghost use Rattle.sql_plan.specs.Bounds.{value_bytes, front_of, bound_bytes, null_bytes, low_bound, high_bound, range_of, HasSize, HaveSize};
-ghost use Rattle.search_range.specs.SeenIntervals.{seen_limit, seen_interval};
+ghost use Rattle.sql_plan.specs.SeenIntervals.{seen_limit, seen_interval};
 
+use crate::{Limit, Values, has_no_value};
 use inno_db::{Datum, to_value};
 use inno_types::{Bound, Bytes, Kind, Range, Value};
 use key_codec::{put_entry, put_key};
-use search_range::{Limit, Values, has_no_value};
 use std::alloc::Global;
 use store_api::NoMemory;
 

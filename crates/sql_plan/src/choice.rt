@@ -4,20 +4,20 @@ ghost use Rattle.std.specs.Prelude.{◌≡◌, ◌<◌, ◌≤◌, ◌==◌, ℕ
 ghost use Rattle.std.specs.List.{list_any};
 ghost use Rattle.std.specs.Option.{is_some};
 ghost use Rattle.inno_db.specs.declared.limits.TheConstants.{MOST_KEYS};
-ghost use Rattle.search_range.specs.Intervals.{whole, meet};
+ghost use Rattle.sql_plan.specs.Intervals.{whole, meet};
 ghost use Rattle.sql_plan.specs.Parts.{ranges_of};
 ghost use Rattle.sql_plan.specs.Bounds.{HaveSize};
 ghost use Rattle.sql_plan.specs.Plans.{places_of, key_on, index_on, first_keyed, chosen_column, meet_on, whole_index, plan_in, plan_on, plan_by, plan_of, searched, searched_in};
 ghost use Rattle.sql_plan.specs.Visits.{are_indexable};
 ghost use Rattle.sql_plan.specs.Covers.{CoversMatches, PassesNulls};
 ghost use Rattle.inno_db.specs.Typing.{filter_fits};
-ghost use Rattle.search_range.specs.SeenIntervals.{seen_interval};
+ghost use Rattle.sql_plan.specs.SeenIntervals.{seen_interval};
 ghost use Rattle.sql_plan.specs.SeenParts.{seen_part};
 
 use crate::bound::range_in;
 use crate::part::{Part, parts_of};
+use crate::{Interval, Limit, Values, has_one_value, intersect};
 use inno_types::{Bound, Column, Filter, Keys, Range, Schema};
-use search_range::{Interval, Limit, Values, has_one_value, intersect};
 use std::alloc::Global;
 use store_api::NoMemory;
 

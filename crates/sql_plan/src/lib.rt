@@ -4,9 +4,21 @@
 
 mod bound;
 mod choice;
+mod interval;
+mod interval_laws;
+mod keys;
+mod other_keys;
 mod part;
+mod planning;
 mod row;
 
 pub use choice::{Plan, choose};
+pub use interval::{
+    Interval, Limit, Values, has_no_value, has_one_value, intersect, turn, values_compared,
+    values_from_list, values_from_to,
+};
+pub use interval_laws::{comparisons_are_exact, empty_holds_nothing, meet_is_exact};
+pub use other_keys::other_keys_make_no_difference;
 pub use part::Bounding;
+pub use planning::plan_for;
 pub use row::{AssignBad, assign, holds};

@@ -4,14 +4,14 @@
 ghost use Rattle.std.specs.Prelude.{◌≡◌, IfOk, Some, map};
 ghost use Rattle.std.specs.Option.{option_map};
 ghost use Rattle.inno_db.specs.Conditions.{literal_value};
-ghost use Rattle.search_range.specs.Intervals.{compared_with};
+ghost use Rattle.sql_plan.specs.Intervals.{compared_with};
 ghost use Rattle.sql_plan.specs.Parts.{on_column, range_of_comparison, range_of_part, ranges_of, sides_of};
-ghost use Rattle.search_range.specs.SeenIntervals.{seen_interval};
+ghost use Rattle.sql_plan.specs.SeenIntervals.{seen_interval};
 ghost use Rattle.sql_plan.specs.SeenParts.{seen_part, part_if};
 
+use crate::{Interval, Values, turn, values_compared, values_from_list, values_from_to};
 use inno_db::Datum;
 use inno_types::{Bytes, Columns, Comparison, Filter, Literal, Operand};
-use search_range::{Interval, Values, turn, values_compared, values_from_list, values_from_to};
 use sql_values::{of_literal, place_of_column};
 use std::alloc::{AllocError, Global};
 

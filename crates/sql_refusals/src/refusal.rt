@@ -13,8 +13,7 @@ use inno_types::{
     Bytes, Column, Columns, Definitions, Filter, Listed, Names, Schema, Selected, Sets, SqlError,
     Stmt, Tuples,
 };
-use sql_declarations::declare;
-use sql_values::{is_same_column, place_of_name, place_of_table};
+use sql_values::{declare, is_same_column, place_of_name, place_of_table};
 use std::alloc::{AllocError, Global};
 
 /// The schema of the table of this name.

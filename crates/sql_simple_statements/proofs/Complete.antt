@@ -14,8 +14,8 @@ use Rattle.sql_grammar.specs.declared.token.Token.{Token}
 use Rattle.sql_grammar.specs.declared.token.Token.TheVariants.{Key, Bare, Compare, Open, Close, Comma}
 use Rattle.sql_grammar.specs.Grammar.{Name, Commas, Tuple, ColumnKind, Nullable, Primary, KeyWord, Bracketed, Define, IfNotExists, Engine, Into, ColumnList, ValuesWord, Work, SavepointWord, Switch, Scope, LevelName}
 use Rattle.sql_grammar.specs.Grammar as grammar
-use Rattle.sql_literals.specs.Parts.{name_at, commas_at, read_it}
-use Rattle.sql_literals.proofs.Complete.{name_complete, name_shorter, commas_complete, names_complete, tuples_complete}
+use Rattle.sql_conditions.specs.Parts.{name_at, commas_at, read_it}
+use Rattle.sql_conditions.proofs.Complete.{name_complete, name_shorter, commas_complete, names_complete, tuples_complete}
 use Rattle.sql_simple_statements.specs.Statements as read
 
 -- ---- CREATE TABLE

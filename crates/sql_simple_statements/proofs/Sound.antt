@@ -17,9 +17,9 @@ use Rattle.sql_grammar.specs.declared.token.Token.{Token}
 use Rattle.sql_grammar.specs.declared.token.Token.TheVariants.{Key, Bare, Number, Compare, Open, Close}
 use Rattle.sql_grammar.specs.Grammar.{Name, Lit, Commas, Tuple, ColumnKind, Nullable, Primary, KeyWord, Bracketed, Define, IfNotExists, Engine, Into, ColumnList, ValuesWord, Work, SavepointWord, Switch, Scope, LevelName, Statement, size_of}
 use Rattle.sql_grammar.specs.Grammar as grammar
-use Rattle.sql_literals.specs.Parts.{◌>>=◌, name_at, tuple_at, after_close, commas_at, end_of, ends_as}
+use Rattle.sql_conditions.specs.Parts.{◌>>=◌, name_at, tuple_at, after_close, commas_at, end_of, ends_as}
 use Rattle.sql_simple_statements.specs.Statements as read
-use Rattle.sql_literals.proofs.Sound.{bind, weaker, name_sound, tuple_sound, items_sound, close_sound, end_sound, ends_sound}
+use Rattle.sql_conditions.proofs.Sound.{bind, weaker, name_sound, tuple_sound, items_sound, close_sound, end_sound, ends_sound}
 
 -- ---- CREATE TABLE
 

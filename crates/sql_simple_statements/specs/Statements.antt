@@ -16,7 +16,7 @@ use Rattle.sql_grammar.specs.declared.token.Word.TheVariants as word
 use Rattle.sql_grammar.specs.declared.token.Token.{Token}
 use Rattle.sql_grammar.specs.declared.token.Token.TheVariants.{Key, Bare, Number, Compare, Open}
 use Rattle.sql_grammar.specs.Grammar.{size_of}
-use Rattle.sql_literals.specs.Parts.{Read, ◌>>=◌, name_at, tuple_at, commas_at, after_close, end_of, ends_as}
+use Rattle.sql_conditions.specs.Parts.{Read, ◌>>=◌, name_at, tuple_at, commas_at, after_close, end_of, ends_as}
 
 -- ---- CREATE TABLE
 

@@ -2,12 +2,12 @@
 //! How many values a row has is not looked at.
 
 ghost use Rattle.std.specs.Prelude.{◌≡◌};
-ghost use Rattle.sql_literals.specs.Parts.{Gives};
+ghost use Rattle.sql_conditions.specs.Parts.{Gives};
 ghost use Rattle.sql_simple_statements.specs.Statements as read;
 
 use inno_types::{Names, Stmt};
+use sql_conditions::{Refusal, after_close, end, name, names, tuples, unexpected};
 use sql_grammar::{Token, Word};
-use sql_literals::{Refusal, after_close, end, name, names, tuples, unexpected};
 use std::alloc::Global;
 
 /// What stands behind INSERT.

@@ -2,12 +2,12 @@
 //! Nothing is set here; who runs the statement does that.
 
 ghost use Rattle.std.specs.Prelude.{◌≡◌};
-ghost use Rattle.sql_literals.specs.Parts.{Gives};
+ghost use Rattle.sql_conditions.specs.Parts.{Gives};
 ghost use Rattle.sql_simple_statements.specs.Statements as read;
 
 use inno_types::{Comparison, Level, LevelScope, Stmt};
+use sql_conditions::{Refusal, end, unexpected};
 use sql_grammar::{Token, Word};
-use sql_literals::{Refusal, end, unexpected};
 
 /// What stands behind SET.
 #[tactic(auto, unfolding(crate::specs::Statements::set_of))]

@@ -3,12 +3,12 @@
 
 ghost use Rattle.std.specs.Prelude.{◌≡◌};
 ghost use Rattle.sql_grammar.specs.Grammar as grammar;
-ghost use Rattle.sql_literals.specs.Parts.{Gives, commas_at};
+ghost use Rattle.sql_conditions.specs.Parts.{Gives, commas_at};
 ghost use Rattle.sql_simple_statements.specs.Statements as read;
 
 use inno_types::{Bytes, Comparison, DeclaredKind, Definition, Definitions, Stmt};
+use sql_conditions::{Refusal, after_close, after_comma, end, name, number, unexpected};
 use sql_grammar::{Token, Word};
-use sql_literals::{Refusal, after_close, after_comma, end, name, number, unexpected};
 use std::alloc::Global;
 
 /// What stands behind CREATE.

@@ -2,12 +2,12 @@
 //! Nothing is begun or ended here; who runs the statement does that.
 
 ghost use Rattle.std.specs.Prelude.{◌≡◌};
-ghost use Rattle.sql_literals.specs.Parts.{Gives};
+ghost use Rattle.sql_conditions.specs.Parts.{Gives};
 ghost use Rattle.sql_simple_statements.specs.Statements as read;
 
 use inno_types::{Bytes, Stmt};
+use sql_conditions::{Refusal, end, name, unexpected};
 use sql_grammar::{Token, Word};
-use sql_literals::{Refusal, end, name, unexpected};
 
 /// What stands behind BEGIN.
 #[tactic(auto, unfolding(crate::specs::Statements::begin_of))]

@@ -11,8 +11,8 @@ use Rattle.sql_grammar.specs.declared.token.Token.{Token}
 use Rattle.sql_grammar.specs.declared.token.Token.TheVariants.{Key, Comma}
 use Rattle.sql_grammar.specs.Grammar.{Name, Commas, Choice, Locking, Where, Assignment, Statement}
 use Rattle.sql_grammar.specs.Grammar as grammar
-use Rattle.sql_literals.specs.Parts.{◌>>=◌, name_at, commas_at}
-use Rattle.sql_literals.proofs.Complete.{name_complete, name_shorter, BeginsNoComma, commas_complete, names_complete}
+use Rattle.sql_conditions.specs.Parts.{◌>>=◌, name_at, commas_at}
+use Rattle.sql_conditions.proofs.Complete.{name_complete, name_shorter, BeginsNoComma, commas_complete, names_complete}
 use Rattle.sql_conditions.proofs.CompleteConditions.{condition_complete}
 use Rattle.sql_conditions.proofs.CompleteConditions as conditions
 use Rattle.sql_conditions.proofs.CompleteExpressions.{expression_complete, expression_shorter}

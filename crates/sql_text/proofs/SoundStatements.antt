@@ -14,9 +14,9 @@ use Rattle.sql_grammar.specs.declared.token.Token.{Token}
 use Rattle.sql_grammar.specs.declared.token.Token.TheVariants.{Key, Bare, Compare, Comma, Star}
 use Rattle.sql_grammar.specs.Grammar.{Name, Lit, Commas, Tuple, Condition, Loose, Where, Expression, Assignment, Choice, Locking, Statement}
 use Rattle.sql_grammar.specs.Grammar as grammar
-use Rattle.sql_literals.specs.Parts.{◌>>=◌, name_at, after_comma, commas_at, end_of}
+use Rattle.sql_conditions.specs.Parts.{◌>>=◌, name_at, after_comma, commas_at, end_of}
 use Rattle.sql_text.specs.Whole as read
-use Rattle.sql_literals.proofs.Sound.{bind, weaker, name_sound, items_sound, end_sound, ends_sound}
+use Rattle.sql_conditions.proofs.Sound.{bind, weaker, name_sound, items_sound, end_sound, ends_sound}
 
 -- what holds of what is read, where it is read
 pub at_ok : {A : Type 0} (P : A → Type 0) (r : Result A (List Token)) (a : A) → IfOk r P → r ≡ Ok a → P a

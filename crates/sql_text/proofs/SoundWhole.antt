@@ -6,11 +6,11 @@ use Rattle.sql_grammar.specs.declared.token.Word.TheVariants as word
 use Rattle.sql_grammar.specs.declared.token.Token.{Token}
 use Rattle.sql_grammar.specs.declared.token.Token.TheVariants.{Key, Bare}
 use Rattle.sql_grammar.specs.Grammar.{Statement}
-use Rattle.sql_literals.specs.declared.refusal.Refusal.{Refusal}
-use Rattle.sql_literals.specs.Parts.{Gives, read_it}
+use Rattle.sql_conditions.specs.declared.refusal.Refusal.{Refusal}
+use Rattle.sql_conditions.specs.Parts.{Gives, read_it}
 use Rattle.sql_text.specs.Whole as whole
 use Rattle.sql_text.specs.Whole.{first_of, behind_key, behind_word, statement_of}
-use Rattle.sql_literals.proofs.Refused.{fails_bind}
+use Rattle.sql_conditions.proofs.Refused.{fails_bind}
 use Rattle.sql_simple_statements.proofs.Sound.{begin_sound, start_sound, commit_sound, rollback_sound, savepoint_statement_sound}
 
 pub gives_unit : {A : Type 0} (result : Result A Refusal) (r : Result A (List Token)) → Gives (λ s. s) result r → Gives (λ _. tt) result (read_it r)

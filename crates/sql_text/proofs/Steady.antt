@@ -2,7 +2,7 @@
 use Rattle.std.proofs.Common.{◌≡◌, ℕ, List, [], ◌∷◌, ◌++◌, Result, Ok, Err, refl, sym, ◌∙◌, subst, append_assoc}
 use Rattle.sql_grammar.specs.declared.token.Token.{Token}
 use Rattle.sql_grammar.specs.Tokens.{AreTokens}
-use Rattle.sql_literals.specs.Parts.{◌>>=◌}
+use Rattle.sql_conditions.specs.Parts.{◌>>=◌}
 
 -- bytes that spell the tokens, whatever follows
 abbrev pub Said : List Token → Type 0

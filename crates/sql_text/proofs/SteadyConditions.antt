@@ -13,12 +13,12 @@ use Rattle.sql_grammar.specs.Grammar.{plain_number, Lit, Atom}
 use Rattle.sql_grammar.specs.Grammar as grammar
 use Rattle.sql_grammar.specs.Tokens.{after_blank, token_at, sign_at, word_token}
 use Rattle.sql_grammar.specs.Tokens as spelled
-use Rattle.sql_literals.specs.Parts.{◌>>=◌, lit_at, after_close, tuple_at}
+use Rattle.sql_conditions.specs.Parts.{◌>>=◌, lit_at, after_close, tuple_at}
 use Rattle.sql_conditions.specs.Atoms as read
 use Rattle.sql_conditions.specs.Conditions.{Mark, Negation, Bracket, Conjunction, Disjunction, Stage, Whole, More, follow_of, settle, close, operand_step}
 use Rattle.sql_conditions.specs.Conditions.{atom_step, resume, steps, after_condition}
-use Rattle.sql_literals.proofs.Sound.{bind, weaker, lit_sound}
-use Rattle.sql_literals.proofs.Complete.{lit_shorter, tuple_complete}
+use Rattle.sql_conditions.proofs.Sound.{bind, weaker, lit_sound}
+use Rattle.sql_conditions.proofs.Complete.{lit_shorter, tuple_complete}
 use Rattle.sql_conditions.proofs.SoundAtoms.{atom_sound}
 use Rattle.sql_conditions.proofs.CompleteAtoms.{atom_shorter}
 use Rattle.sql_text.proofs.Steady.{Said, Stays, Starts, took, took_all, faulty, cut_off, wanted, unsaid, same_stays, reads, then, made_of, said_both}

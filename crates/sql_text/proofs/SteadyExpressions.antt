@@ -5,11 +5,11 @@ use Rattle.inno_types.specs.declared.stmt.Expr.TheVariants as expr
 use Rattle.sql_grammar.specs.declared.token.Token.{Token}
 use Rattle.sql_grammar.specs.declared.token.Token.TheVariants.{Bare, Quoted, Number, Open, Close, Star, Plus, Minus}
 use Rattle.sql_grammar.specs.Grammar.{Lit}
-use Rattle.sql_literals.specs.Parts.{◌>>=◌, lit_at}
+use Rattle.sql_conditions.specs.Parts.{◌>>=◌, lit_at}
 use Rattle.sql_conditions.specs.Expressions.{value_at, Mark, Negation, Bracket, Product, Sum, Difference, Stage, Whole, More, opening_of, follow_of, settle}
 use Rattle.sql_conditions.specs.Expressions.{close, operand_step, value_step, resume, steps, after_expression}
-use Rattle.sql_literals.proofs.Sound.{bind, lit_sound}
-use Rattle.sql_literals.proofs.Complete.{lit_shorter}
+use Rattle.sql_conditions.proofs.Sound.{bind, lit_sound}
+use Rattle.sql_conditions.proofs.Complete.{lit_shorter}
 use Rattle.sql_text.proofs.Steady.{Said, Stays, Starts, took, took_all, faulty, cut_off, wanted, unsaid, same_stays, reads, then, made_of, said_nothing}
 use Rattle.sql_text.proofs.SteadyLists.{X, Any, Apart, at_end, at_close, at_from, at_values, at_name, pair, alone, said_x, said_close, said_before, lit_stays}
 use Rattle.sql_text.proofs.SteadyConditions.{of_sound, regroup}

@@ -8,7 +8,7 @@ use Rattle.sql_grammar.specs.declared.token.Token.TheVariants.{Key, Bare, Quoted
 use Rattle.sql_grammar.specs.Grammar.{plain_number, negative_number}
 use Rattle.sql_grammar.specs.Tokens.{after_blank, token_at, sign_at, word_token, AreTokens}
 use Rattle.sql_grammar.specs.Tokens as spelled
-use Rattle.sql_literals.specs.Parts.{Read, ◌>>=◌, name_at, lit_at, after_comma, next_item, items_at, commas_at}
+use Rattle.sql_conditions.specs.Parts.{Read, ◌>>=◌, name_at, lit_at, after_comma, next_item, items_at, commas_at}
 use Rattle.sql_text.proofs.Steady.{Said, Stays, Starts, took, faulty, cut_off, unsaid, same_stays, reads, then, made_of, said_both}
 
 abbrev pub X : Token

@@ -12,10 +12,10 @@ use Rattle.sql_grammar.specs.declared.token.Word.TheVariants as word
 use Rattle.sql_grammar.specs.declared.token.Token.{Token}
 use Rattle.sql_grammar.specs.declared.token.Token.TheVariants.{Key, Bare, Number, Compare, Open, Close}
 use Rattle.sql_grammar.specs.Grammar.{plain_number, Name, Tuple}
-use Rattle.sql_literals.specs.Parts.{◌>>=◌, name_at, lit_at, tuple_at, items_at, commas_at, after_close, ends_as}
+use Rattle.sql_conditions.specs.Parts.{◌>>=◌, name_at, lit_at, tuple_at, items_at, commas_at, after_close, ends_as}
 use Rattle.sql_simple_statements.specs.Statements as read
-use Rattle.sql_literals.proofs.Sound.{name_sound, tuple_sound}
-use Rattle.sql_literals.proofs.Complete.{name_shorter, tuple_shorter}
+use Rattle.sql_conditions.proofs.Sound.{name_sound, tuple_sound}
+use Rattle.sql_conditions.proofs.Complete.{name_shorter, tuple_shorter}
 use Rattle.sql_text.proofs.Steady.{Said, Stays, Settles, took, took_all, faulty, cut_off, whole, wrong, short, wanted, last_wanted, last_unsaid, reads, then}
 use Rattle.sql_text.proofs.Steady.{then_last, last_made_of}
 use Rattle.sql_text.proofs.SteadyLists.{X, Zero, Any, Apart, at_end, at_close, at_from, at_values, at_name, pair, alone, said_x, said_zero, said_open}

@@ -11,13 +11,13 @@ use Rattle.sql_grammar.specs.declared.token.Token.{Token}
 use Rattle.sql_grammar.specs.declared.token.Token.TheVariants.{Key, Bare, Compare, Star}
 use Rattle.sql_grammar.specs.Grammar.{Name, Expression, Assignment, Commas, Condition, Loose, Where, Statement}
 use Rattle.sql_grammar.specs.Grammar as grammar
-use Rattle.sql_literals.specs.Parts.{Read, ◌>>=◌, name_at, items_at, commas_at, end_of, read_it}
+use Rattle.sql_conditions.specs.Parts.{Read, ◌>>=◌, name_at, items_at, commas_at, end_of, read_it}
 use Rattle.sql_simple_statements.specs.Statements as simple
 use Rattle.sql_conditions.specs.Expressions.{after_expression}
 use Rattle.sql_conditions.specs.Expressions as expressions
 use Rattle.sql_text.specs.Whole as read
-use Rattle.sql_literals.proofs.Sound.{bind, name_sound}
-use Rattle.sql_literals.proofs.Complete.{name_shorter, names_complete}
+use Rattle.sql_conditions.proofs.Sound.{bind, name_sound}
+use Rattle.sql_conditions.proofs.Complete.{name_shorter, names_complete}
 use Rattle.sql_conditions.proofs.CompleteExpressions.{expression_shorter}
 use Rattle.sql_text.proofs.Steady.{Said, Stays, Settles, took, took_all, faulty, cut_off, whole, wrong, short, last_wanted, last_unsaid, reads, then, then_last}
 use Rattle.sql_text.proofs.Steady.{made_of, last_made_of}

@@ -15,10 +15,10 @@ use Rattle.sql_grammar.specs.Words.{spelling}
 use Rattle.sql_grammar.specs.Grammar.{size_of, Name}
 use Rattle.sql_grammar.specs.Tokens.{after_blank, token_at, sign_at, word_token}
 use Rattle.sql_grammar.specs.Tokens as spelled
-use Rattle.sql_literals.specs.Parts.{Read, ◌>>=◌, name_at, items_at, commas_at, after_close, end_of, ends_as}
+use Rattle.sql_conditions.specs.Parts.{Read, ◌>>=◌, name_at, items_at, commas_at, after_close, end_of, ends_as}
 use Rattle.sql_simple_statements.specs.Statements as read
-use Rattle.sql_literals.proofs.Sound.{bind, weaker, name_sound}
-use Rattle.sql_literals.proofs.Complete.{name_shorter}
+use Rattle.sql_conditions.proofs.Sound.{bind, weaker, name_sound}
+use Rattle.sql_conditions.proofs.Complete.{name_shorter}
 use Rattle.sql_text.proofs.Steady.{Said, Stays, Settles, StartsLast, took, took_all, faulty, cut_off, whole, wrong, short, unsaid, last_wanted, last_unsaid}
 use Rattle.sql_text.proofs.Steady.{reads, then, then_last, made_of, last_made_of}
 use Rattle.sql_text.proofs.SteadyLists.{X, Zero, Any, Apart, at_end, at_close, at_from, at_values, at_name, pair, alone, said_x, said_zero, said_open}

@@ -10,8 +10,8 @@ use Rattle.sql_grammar.specs.declared.token.Token.{Token}
 use Rattle.sql_grammar.specs.declared.token.Token.TheVariants.{Key, Bare, Quoted, Number, Open, Close, Star, Plus, Minus}
 use Rattle.sql_grammar.specs.Grammar.{Lit, Atom, Condition, Expression, Loose, Single}
 use Rattle.sql_grammar.specs.Grammar as grammar
-use Rattle.sql_literals.specs.Parts.{lit_at}
-use Rattle.sql_literals.proofs.Sound.{bind, lit_sound}
+use Rattle.sql_conditions.specs.Parts.{lit_at}
+use Rattle.sql_conditions.proofs.Sound.{bind, lit_sound}
 use Rattle.sql_conditions.specs.declared.conditions.Frame.{Frame as Kept}
 use Rattle.sql_conditions.specs.declared.conditions.Frame.TheVariants as kept
 use Rattle.sql_conditions.specs.declared.expressions.Frame.{Frame}

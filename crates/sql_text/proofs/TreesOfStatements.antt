@@ -10,11 +10,11 @@ use Rattle.sql_grammar.specs.declared.token.Token.{Token}
 use Rattle.sql_grammar.specs.declared.token.Token.TheVariants.{Key, Bare}
 use Rattle.sql_grammar.specs.Grammar.{Name, Choice, Commas, Condition, Loose, Where, Locking, Assignment, Statement}
 use Rattle.sql_grammar.specs.Grammar as grammar
-use Rattle.sql_literals.specs.Parts.{◌>>=◌, commas_at, end_of, read_it}
+use Rattle.sql_conditions.specs.Parts.{◌>>=◌, commas_at, end_of, read_it}
 use Rattle.sql_simple_statements.specs.Statements as simple
 use Rattle.sql_conditions.specs.Conditions.{after_condition}
 use Rattle.sql_text.specs.Whole as read
-use Rattle.sql_literals.proofs.Sound.{bind, weaker, items_sound, end_sound}
+use Rattle.sql_conditions.proofs.Sound.{bind, weaker, items_sound, end_sound}
 use Rattle.sql_simple_statements.proofs.Sound.{create_statement_sound, insert_sound, set_sound, begin_sound, start_sound, commit_sound, rollback_sound}
 use Rattle.sql_simple_statements.proofs.Sound.{savepoint_statement_sound}
 use Rattle.sql_text.proofs.SoundStatements.{choice_sound, locking_sound, from_table_sound, set_table_sound}

@@ -13,7 +13,7 @@ use Rattle.sql_grammar.specs.declared.token.Token.{Token}
 use Rattle.sql_grammar.specs.declared.token.Token.TheVariants.{Key, Bare, Compare, Star}
 use Rattle.sql_text.specs.declared.statement.First.{First}
 use Rattle.sql_text.specs.declared.statement.First.TheVariants as first
-use Rattle.sql_literals.specs.Parts.{Read, ◌>>=◌, name_at, commas_at, end_of, ends_as, read_it}
+use Rattle.sql_conditions.specs.Parts.{Read, ◌>>=◌, name_at, commas_at, end_of, ends_as, read_it}
 use Rattle.sql_simple_statements.specs.Statements.{create_statement_of, insert_of, after_work, begin_of, start_of, commit_of, rollback_of, savepoint_statement_of, set_of}
 use Rattle.sql_conditions.specs.Conditions.{after_condition}
 use Rattle.sql_conditions.specs.Expressions.{after_expression}

@@ -9,8 +9,8 @@ ghost use Rattle.sql_text.specs.declared.parser.NotParsed.TheVariants.{NoMemory}
 
 use crate::statement::statement;
 use inno_types::Stmt;
+use sql_conditions::Refusal;
 use sql_grammar::Token;
-use sql_literals::Refusal;
 use sql_tokens::lex;
 use std::alloc::{AllocError, Global};
 use thiserror::Error;

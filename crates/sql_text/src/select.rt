@@ -7,14 +7,13 @@ ghost use Rattle.sql_grammar.specs.declared.token.Token.{Token};
 ghost use Rattle.sql_grammar.specs.declared.token.Token.TheVariants.{Key};
 ghost use Rattle.sql_grammar.specs.declared.token.Word.TheVariants as words;
 ghost use Rattle.sql_grammar.specs.Grammar.{Where, Locking, Assignment, Commas, Statement};
-ghost use Rattle.sql_literals.specs.Parts.{Gives, commas_at};
+ghost use Rattle.sql_conditions.specs.Parts.{Gives, commas_at};
 ghost use Rattle.sql_text.specs.Whole as read;
 
 use crate::selected::{choice, locking};
 use inno_types::{Bytes, Comparison, Filter, Mode, Set, Sets, Stmt};
-use sql_conditions::{condition, expression};
+use sql_conditions::{Refusal, after_comma, condition, end, expression, name, unexpected};
 use sql_grammar::{Token, Word};
-use sql_literals::{Refusal, after_comma, end, name, unexpected};
 use std::alloc::Global;
 
 /// What stands behind SELECT.

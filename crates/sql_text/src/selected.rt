@@ -2,12 +2,12 @@
 //! `select` joins them to a statement.
 
 ghost use Rattle.std.specs.Prelude.{◌≡◌};
-ghost use Rattle.sql_literals.specs.Parts.{Gives};
+ghost use Rattle.sql_conditions.specs.Parts.{Gives};
 ghost use Rattle.sql_text.specs.Whole as read;
 
 use inno_types::{Mode, Selected};
+use sql_conditions::{Refusal, end, names, unexpected};
 use sql_grammar::{Token, Word};
-use sql_literals::{Refusal, end, names, unexpected};
 use std::alloc::Global;
 
 /// What a SELECT gives of each row.

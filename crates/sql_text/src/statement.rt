@@ -5,14 +5,14 @@ ghost use Rattle.std.specs.Prelude.{◌≡◌, ◌∷◌, IfOk};
 ghost use Rattle.sql_grammar.specs.declared.token.Token.TheVariants.{Key};
 ghost use Rattle.sql_grammar.specs.declared.token.Word.TheVariants as words;
 ghost use Rattle.sql_grammar.specs.Grammar.{Statement};
-ghost use Rattle.sql_literals.specs.Parts.{Gives, read_it};
+ghost use Rattle.sql_conditions.specs.Parts.{Gives, read_it};
 ghost use Rattle.sql_simple_statements.specs.Statements as simple;
 ghost use Rattle.sql_text.specs.Whole as read;
 
 use crate::select::{delete, select, update};
 use inno_types::Stmt;
+use sql_conditions::{Refusal, unexpected};
 use sql_grammar::{Token, Word};
-use sql_literals::{Refusal, unexpected};
 use sql_simple_statements::{begin, commit, create_table, insert, rollback, savepoint, set, start};
 use std::alloc::Global;
 

@@ -3,12 +3,14 @@
 #![tactic(auto)]
 
 mod condition;
+mod declaration;
 mod expression;
 mod names;
 mod operand;
 mod storing;
 
 pub use condition::{compare, evaluate, is_match};
+pub use declaration::declare;
 pub use expression::{compute, given};
 pub use names::{is_same_column, is_same_table, place_of_column, place_of_name, place_of_table};
 pub use operand::{in_column, of_literal, of_operand};

@@ -11,9 +11,9 @@ use Rattle.sql_history.specs.Readings.{is_plain_select}
 use Rattle.transaction_statements.specs.declared.committer.Committer.{Committer}
 use Rattle.transaction_statements.specs.declared.committer.Committer.TheVariants as committers
 use Rattle.transaction_statements.specs.Committing.{stmt_of}
-use Rattle.law_one_tree.specs.Trees.{StmtTree, tree_of}
-use Rattle.law_one_tree.specs.Trees as tree
-use Rattle.law_one_tree.proofs.Statements.{one_tree}
+use Rattle.law_histories.specs.Trees.{StmtTree, tree_of}
+use Rattle.law_histories.specs.Trees as tree
+use Rattle.law_histories.proofs.Statements.{one_tree}
 
 -- a statement of this tree makes a table
 abbrev TreeCreates : StmtTree → Type 0

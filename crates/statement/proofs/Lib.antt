@@ -4,3 +4,6 @@ pub mod Rooms
 mod Creating
 pub mod Telling
 mod Quiet
+mod Same
+mod Unchanged
+pub mod Broken

@@ -2,6 +2,8 @@
 //! The engine seats it, drives it a step at a time, and knows no machine by name.
 #![tactic(auto)]
 
+mod broken_off;
 mod under_way;
 
+pub use broken_off::an_item_may_break_off_at_each_step;
 pub use under_way::Statement;

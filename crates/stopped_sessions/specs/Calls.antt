@@ -5,8 +5,8 @@ use Rattle.inno_model.specs.declared.event.Event.TheVariants.{Started}
 use Rattle.inno_model.specs.Past.{started}
 use Rattle.store_api.specs.declared.answers.Progress.{Progress}
 use Rattle.store_api.specs.declared.answers.Progress.TheVariants as progress
-use Rattle.turn_board.specs.declared.Phase.{Phase}
-use Rattle.turn_board.specs.declared.Phase.TheVariants.{Idle, Busy, Leaving, Left}
+use Rattle.inno_model.specs.declared.board.Phase.{Phase}
+use Rattle.inno_model.specs.declared.board.Phase.TheVariants.{Idle, Busy, Leaving, Left}
 use Rattle.stopped_sessions.specs.declared.seats.Seat.{Seat}
 use Rattle.stopped_sessions.specs.Seats.{State, phase_at, halted, ended, phase_after}
 

@@ -13,8 +13,8 @@ use Rattle.inno_model.specs.Recorded.{Recorded}
 use Rattle.sql_grammar.specs.Grammar.{Spells}
 use Rattle.sql_history.specs.Counts.{has_stopped}
 use Rattle.sql_history.specs.Legal.{IsLegal, MadeSome, is_leaving, owes_commit}
-use Rattle.turn_board.specs.declared.Phase.{Phase}
-use Rattle.turn_board.specs.declared.Phase.TheVariants.{Idle, Busy, Leaving, Left}
+use Rattle.inno_model.specs.declared.board.Phase.{Phase}
+use Rattle.inno_model.specs.declared.board.Phase.TheVariants.{Idle, Busy, Leaving, Left}
 use Rattle.stopped_sessions.specs.declared.seats.Seat.{Seat}
 use Rattle.stopped_sessions.specs.contracts.seats.Seat as of_seat
 

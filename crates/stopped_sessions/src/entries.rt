@@ -5,9 +5,8 @@ ghost use Rattle.sql_history.specs.Counts.{has_stopped};
 ghost use Rattle.stopped_sessions.specs.Seats.{halted, ended, phase_after};
 
 use crate::seats::Seat;
-use inno_model::{Event, History};
+use inno_model::{Event, History, Phase};
 use inno_types::{Cause, Reply};
-use turn_board::Phase;
 
 /// Enters why the engine stopped, unless that is entered already.
 pub(crate) fn enter_stop(history: &mut History, entered: bool, cause: Cause)

@@ -1,6 +1,6 @@
 //! Where each session stands, and how many items it has started.
 
-use turn_board::Phase;
+use inno_model::Phase;
 
 /// How far a session is, and the number of its last item: 0 before it has started one.
 #[derive(Clone, Copy, Debug, PartialEq, Eq)]

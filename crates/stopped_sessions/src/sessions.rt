@@ -5,17 +5,16 @@ ghost use Rattle.inno_model.specs.Past.{under_way};
 ghost use Rattle.sql_grammar.specs.Grammar.{Spells};
 ghost use Rattle.sql_history.specs.Counts.{has_stopped};
 ghost use Rattle.sql_history.specs.Legal.{IsLegal, owes_commit};
-ghost use Rattle.turn_board.specs.declared.Phase.TheVariants.{Idle};
+ghost use Rattle.inno_model.specs.declared.board.Phase.TheVariants.{Idle};
 ghost use Rattle.stopped_sessions.specs.Seats.{phase_at, AreSeats, stopped_by};
 ghost use Rattle.stopped_sessions.specs.Calls.{IsAtWork, is_at_work, has_left, Joins, Starts, StepsBy, Leaves, SameState};
 
 use crate::entries::{end_turn, enter_stop};
 use crate::seats::Seat;
-use inno_model::{Event, History};
+use inno_model::{Event, History, Phase};
 use inno_types::{Bytes, Cause, Item};
 use std::marker::Model;
 use store_api::{NoMemory, Progress};
-use turn_board::Phase;
 
 /// The sessions of an engine that has stopped, with its history.
 #[derive(Drop)]

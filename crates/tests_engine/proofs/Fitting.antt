@@ -10,10 +10,10 @@ use Rattle.inno_db.specs.Database.{Database}
 use Rattle.inno_db.specs.declared.change.Change.TheVariants.{Put}
 use Rattle.inno_db.specs.Declarations.{schema_declared}
 use Rattle.key_codec.specs.Keys.{Has64Bits}
-use Rattle.law_fitting_rows.specs.Storable.{IsStorable}
-use Rattle.law_fitting_rows.specs.Fitting.{FitsTable, FitsTables}
-use Rattle.law_fitting_rows.proofs.Declared.{declared-IsStorable}
-use Rattle.law_fitting_rows.proofs.Values.{FitsTable-from_row}
+use Rattle.law_stored_rows.specs.Storable.{IsStorable}
+use Rattle.law_stored_rows.specs.Fitting.{FitsTable, FitsTables}
+use Rattle.law_stored_rows.proofs.Declared.{declared-IsStorable}
+use Rattle.law_stored_rows.proofs.FittingValues.{FitsTable-from_row}
 use Rattle.shared_lists.specs.Fitting.{FitsWell}
 use Rattle.tests_engine.specs.Tables.{t, u, definitions, table_named, HasBoth}
 

@@ -8,10 +8,10 @@ use btree::Tree;
 use entries::{Entries, ListIndex};
 use inno_types::Bytes;
 use mtr::ListedPages;
-use page_format::read_u32;
 use std::alloc::{AllocError, Global};
 use std::test::Fail;
 use store_api::{Move, NoMemory};
+use stored_pages::read_u32;
 use tree_use::TreeUse;
 
 /// Records of 200 bytes, of which a leaf has room for 19, and of 64 on the levels above.

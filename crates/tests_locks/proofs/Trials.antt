@@ -7,10 +7,10 @@ use Rattle.atomic_table.specs.Table.{Me}
 use Rattle.inno_types.specs.declared.reply.Item.TheVariants.{Sql}
 use Rattle.inno_types.specs.declared.reply.Reply.TheVariants.{Done}
 use Rattle.inno_model.specs.declared.event.Event.TheVariants.{Started, Ended}
-use Rattle.turn_board.specs.declared.Board.{Board}
-use Rattle.turn_board.specs.Boards.{calls_of, Keeps, Grows}
-use Rattle.turn_board.proofs.Keeping.{grows_self}
-use Rattle.turn_board.proofs.Places.{kept_calls}
+use Rattle.inno_model.specs.declared.board.Board.{Board}
+use Rattle.inno_model.specs.Boards.{calls_of, Keeps, Grows}
+use Rattle.inno_model.proofs.Keeping.{grows_self}
+use Rattle.inno_model.proofs.Places.{kept_calls}
 use Rattle.turn_rule.specs.declared.rule.Claim.{Claim}
 use Rattle.turn_rule.specs.declared.rule.View.{View}
 use Rattle.turn_rule.specs.Turnstile.{Among}

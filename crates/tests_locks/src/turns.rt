@@ -4,10 +4,10 @@ ghost use Rattle.std.specs.Prelude.{◌≡◌, ◌+◌, ◌<◌, [], ◌∷◌, 
 ghost use Rattle.inno_types.specs.declared.reply.Item.TheVariants.{Sql};
 ghost use Rattle.inno_types.specs.declared.reply.Reply.TheVariants.{Done};
 ghost use Rattle.inno_model.specs.declared.event.Event.TheVariants.{Started, Ended};
-ghost use Rattle.turn_board.specs.Boards.{calls_of};
+ghost use Rattle.inno_model.specs.Boards.{calls_of};
 ghost use Rattle.turn_rule.specs.Steps.{HasTurn, IsAtRest};
 
-use inno_model::{Event, History};
+use inno_model::{Event, History, Recorded};
 use inno_types::{Bytes, Item, Listed, Reply};
 use std::alloc::{AllocError, Global};
 use std::marker::Model;
@@ -15,7 +15,6 @@ use std::process::Abort;
 use std::sync::Wait;
 use std::test::Fail;
 use std::thread::join;
-use turn_board::Recorded;
 use turn_rule::{Gate, Pass};
 
 /// A fake engine: a history to which sessions add whole calls, so that each is idle whenever it is looked at.
@@ -27,8 +26,8 @@ struct Scribe {
 
 impl Model for Scribe {
     ghost use Rattle.std.specs.Prelude.{[]};
-    ghost use Rattle.turn_board.specs.declared.Board.{Board};
-    ghost use Rattle.turn_board.specs.contracts.Board as of_board;
+    ghost use Rattle.inno_model.specs.declared.board.Board.{Board};
+    ghost use Rattle.inno_model.specs.contracts.Board as of_board;
 
     ghost Value = { Board };
 

@@ -1,7 +1,7 @@
 //! The settings of a session, as its statements set them. Memory is ample here.
 
 use inno_types::{Bytes, Level, LevelScope, Stmt};
-use session_settings::SessionSettings;
+use sql_history::SessionSettings;
 use std::alloc::{AllocError, Global};
 use std::test::Fail;
 use store_api::NoMemory;

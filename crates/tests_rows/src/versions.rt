@@ -1,10 +1,10 @@
 //! Versions that are pushed and read again. Memory is ample here.
 
 ghost use Rattle.std.specs.Prelude.{◌≡◌, length, IfOk};
-ghost use Rattle.chain.specs.Versions.{IsPointer};
+ghost use Rattle.row_versions.specs.Versions.{IsPointer};
 
-use chain::{Chain, ListChain};
 use inno_types::{Bytes, Row};
+use row_versions::{Chain, ListChain};
 use std::alloc::{AllocError, Global};
 use std::test::Fail;
 use store_api::Version;

@@ -8,10 +8,11 @@ use crate::loose_pages::LoosePages;
 use btree::Tree;
 use btree_insert::{Outcome, insert};
 use mtr::Mtr;
-use page_format::{PageBad, read_u32};
+use page_format::PageBad;
 use std::alloc::{AllocError, Global};
 use std::test::Fail;
 use store_api::{NoMemory, SpaceBad, Visit};
+use stored_pages::read_u32;
 use sum64::fnv;
 use tree_check::{NodeBad, PageFault, RowFault, SpaceFault, check_space, check_tree, rule_broken};
 

@@ -4,7 +4,8 @@ use Rattle.std.proofs.Common.{List, [], ◌∷◌, ◌++◌, length, drop, map, 
 use Rattle.std.specs.Prelude.{Option, None, Some, IsTrue}
 use Rattle.std.specs.List.{AllByRecursion}
 use Rattle.std.proofs.lemmas.List.{length-take-le, length-drop}
-use Rattle.page_format.specs.Words.{u32_at, kind_of, level_of, count_of, record_len_of, low_of, high_of, records_of}
+use Rattle.page_format.specs.Words.{kind_of, level_of, count_of, record_len_of, low_of, high_of, records_of}
+use Rattle.stored_pages.specs.Words.{u32_at}
 use Rattle.page_format.specs.Shape.{is_tree, IsPage}
 use Rattle.page_format.proofs.Pieces.{wide-pieces}
 use Rattle.law_flat_tree.specs.Levels.{Fence, Node, IsRow, AreLevels, heads, children, head_or, named}

@@ -3,7 +3,8 @@ use Rattle.std.proofs.Common.{◌≡◌, ◌≢◌, ℕ, suc, ◌+◌, ◌-◌, 
 use Rattle.std.proofs.Common.{List, [], ◌∷◌, ◌++◌, length, drop, refl, sym, ◌∙◌, ap, subst, length-append, arith}
 use Rattle.std.specs.List.{AllByRecursion}
 use Rattle.std.proofs.lemmas.Bool.{ne_eqb}
-use Rattle.page_format.specs.Words.{u32_at, level_of, count_of, record_len_of, low_of, records_of}
+use Rattle.page_format.specs.Words.{level_of, count_of, record_len_of, low_of, records_of}
+use Rattle.stored_pages.specs.Words.{u32_at}
 use Rattle.page_format.proofs.Pieces.{length-pieces}
 use Rattle.law_flat_tree.specs.Levels.{Fence, IsRow, AreLevels, heads, children}
 use Rattle.law_flat_tree.specs.Levels.Fence.{First, Key, Last}

@@ -3,7 +3,8 @@ use Rattle.std.specs.Prelude.{◌≡◌, ◌≢◌, ℕ, suc, ◌<◌, ◌≤◌
 use Rattle.std.specs.List.{AllByRecursion}
 use Rattle.page_format.specs.Shape.{IsPage}
 use Rattle.page_format.specs.Refused.{IsRefused}
-use Rattle.page_format.specs.Words.{u32_at, level_of, low_of, high_of, right_of, count_of, records_of}
+use Rattle.page_format.specs.Words.{level_of, low_of, high_of, right_of, count_of, records_of}
+use Rattle.stored_pages.specs.Words.{u32_at}
 use Rattle.law_flat_tree.specs.Levels.{Fence, Node, IsRow, heads, children, head_or}
 use Rattle.law_flat_tree.specs.Levels.Fence.{First, Key, Last}
 use Rattle.law_flat_tree.specs.Pages.{low_fence, child_of, node_of}

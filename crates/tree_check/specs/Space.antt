@@ -1,6 +1,6 @@
 -- The first pages of a file, on which every tree's pages depend.
 use Rattle.std.specs.Prelude.{◌≡◌, ℕ, ◌≤◌, List, length}
-use Rattle.page_format.specs.Words.{u32_at}
+use Rattle.stored_pages.specs.Words.{u32_at}
 use Rattle.space_map.specs.Map.{mark_of}
 use Rattle.space_map.specs.Taking.{HasPageCount}
 use Rattle.tree_check.specs.declared.space.SpaceFault.{SpaceFault}

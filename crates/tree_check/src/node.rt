@@ -9,7 +9,7 @@ ghost use Rattle.tree_check.specs.Nodes.{StandsOn, HasLengths, DoKeysRise, IsNod
 
 use crate::fences::low_fence_of;
 use btree::{Tree, key_at};
-use page_format::{read_u16, read_u32};
+use stored_pages::{read_u16, read_u32};
 
 /// How many bytes the number of a child has.
 const CHILD: usize = 4;

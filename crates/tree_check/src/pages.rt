@@ -1,7 +1,7 @@
 //! A page of a file, read where a tree leads to it: whether it may stand there.
 
 ghost use Rattle.std.specs.Prelude.{◌≡◌, ◌<◌, ◌≤◌, length, MatchBool, OnOk, IfErr};
-ghost use Rattle.page_format.specs.Words.{u32_at};
+ghost use Rattle.stored_pages.specs.Words.{u32_at};
 ghost use Rattle.space_map.specs.Map.{mark_of};
 ghost use Rattle.tree_check.specs.Rows.{page_in, IsNodeAt, IsFaulty};
 ghost use Rattle.tree_check.specs.Space.{HasFirstPages};

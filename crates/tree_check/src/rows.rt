@@ -14,7 +14,7 @@ ghost use Rattle.tree_check.specs.Rows.{IsCheckedRow, IsRowFrom, HasRowBelow, Is
 use crate::fences::{do_meet, high_fence_of, low_fence_of};
 use crate::pages::{PageFault, read_node};
 use btree::{Tree, child_at, is_laid_out, key_at};
-use page_format::{read_u16, read_u32};
+use stored_pages::{read_u16, read_u32};
 
 const LEVEL: usize = 21;
 

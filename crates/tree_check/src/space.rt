@@ -1,13 +1,13 @@
 //! The first pages of a file, which every tree's pages depend on: page 0 counts the pages, and the map says which are in use.
 
 ghost use Rattle.std.specs.Prelude.{◌≡◌, ℕ, ◌<◌, ◌≤◌, length, MatchBool, OnOk, OnErr, IfErr};
-ghost use Rattle.page_format.specs.Words.{u32_at};
+ghost use Rattle.stored_pages.specs.Words.{u32_at};
 ghost use Rattle.space_map.specs.Map.{mark_of};
 ghost use Rattle.tree_check.specs.Rows.{page_in};
 ghost use Rattle.tree_check.specs.Space.{HasFirstPages, IsSpaceFault};
 
-use page_format::read_u32;
 use store_api::MOST_PAGES;
+use stored_pages::read_u32;
 
 /// The first page that may be a tree's.
 pub const FIRST_TREE_PAGE: u32 = 21;

@@ -11,7 +11,7 @@ use crate::pages::{PageFault, read_node};
 use crate::rows::{RowFault, check_level};
 use crate::space::page_count;
 use btree::{Tree, child_at};
-use page_format::read_u32;
+use stored_pages::read_u32;
 
 const LEVEL: usize = 21;
 

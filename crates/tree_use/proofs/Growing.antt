@@ -6,7 +6,7 @@ use Rattle.store_api.specs.declared.visits.Visit.{Visit}
 use Rattle.store_api.specs.declared.visits.Visit.TheVariants.{Failed, Again, Bad}
 use Rattle.store_api.specs.declared.visits.SpaceBad.{SpaceBad}
 use Rattle.store_api.specs.declared.visits.SpaceBad.TheVariants as space
-use Rattle.page_format.specs.Words.{u32_at}
+use Rattle.stored_pages.specs.Words.{u32_at}
 use Rattle.mtr.specs.Seen.{MtrState, is_in}
 use Rattle.mtr.specs.Calls.{Goes}
 use Rattle.law_flat_tree.specs.Levels.{Node}

@@ -5,7 +5,7 @@ use Rattle.mtr.specs.Seen.{MtrState, IsShown}
 use Rattle.mtr.specs.Calls.{GivesUp}
 use Rattle.tree_use.proofs.Resting.{AreResident, told_on}
 use Rattle.std.specs.Int.{bit_at}
-use Rattle.page_format.specs.Words.{u32_at}
+use Rattle.stored_pages.specs.Words.{u32_at}
 use Rattle.mtr.proofs.Behind.{u32-behind, byte-behind}
 use Rattle.law_flat_tree.specs.Levels.{levels_under}
 use Rattle.law_flat_tree.specs.Trees.{IsTree, nodes, all_pairs}

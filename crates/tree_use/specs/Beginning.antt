@@ -1,6 +1,7 @@
 -- A tree that was just made: its root is an empty leaf.
 use Rattle.std.specs.Prelude.{◌≡◌, ℕ, ◌+◌, ◌<◌, ◌≤◌, List, drop, slice_index}
-use Rattle.page_format.specs.Words.{u32_at, kind_of, level_of, count_of, index_of, record_len_of, right_of}
+use Rattle.page_format.specs.Words.{kind_of, level_of, count_of, index_of, record_len_of, right_of}
+use Rattle.stored_pages.specs.Words.{u32_at}
 use Rattle.page_format.specs.Shape.{AreZeros}
 use Rattle.space_map.specs.Map.{bit_in}
 use Rattle.btree.specs.declared.tree.Tree.{Tree}

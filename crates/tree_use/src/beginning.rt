@@ -13,8 +13,8 @@ ghost use Rattle.tree_use.specs.Beginning.{IsEmptyLeaf, AreReserved, IsCountedRo
 use crate::reading::sure;
 use btree::Tree;
 use mtr::{Mtr, Resident};
-use page_format::{read_u16, read_u32};
 use store_api::Visit;
+use stored_pages::{read_u16, read_u32};
 
 /// Where page 0 has the number of pages.
 const PAGE_COUNT: usize = 44;

@@ -4,10 +4,10 @@ use Rattle.std.specs.Prelude.{slice_index_or, remove, Any, All}
 use Rattle.std.specs.List.{AllByRecursion}
 use Rattle.std.proofs.lemmas.List.{append-nil}
 use Rattle.std.proofs.lemmas.List.Elements.{All-from_recursion}
-use Rattle.turn_board.specs.declared.Board.{Board}
-use Rattle.turn_board.specs.declared.Phase.TheVariants.{Idle}
-use Rattle.turn_board.specs.Boards.{calls_of, phase_of}
-use Rattle.turn_board.proofs.Places.{kept_calls}
+use Rattle.inno_model.specs.declared.board.Board.{Board}
+use Rattle.inno_model.specs.declared.board.Phase.TheVariants.{Idle}
+use Rattle.inno_model.specs.Boards.{calls_of, phase_of}
+use Rattle.inno_model.proofs.Places.{kept_calls}
 use Rattle.turn_rule.specs.declared.rule.Claim.{Claim}
 use Rattle.turn_rule.specs.declared.rule.View.{View}
 use Rattle.turn_rule.specs.Turnstile.{Among}

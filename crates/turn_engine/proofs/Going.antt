@@ -11,11 +11,11 @@ use Rattle.inno_model.specs.declared.event.Event.TheVariants.{Started, Ended}
 use Rattle.inno_model.specs.Past.{started}
 use Rattle.inno_model.specs.Recorded.{Extends}
 use Rattle.atomic_table.specs.Table.{Me}
-use Rattle.turn_board.specs.declared.Board.{Board}
-use Rattle.turn_board.specs.declared.Phase.{Phase}
-use Rattle.turn_board.specs.declared.Phase.TheVariants.{Idle, Busy, Leaving, Left}
-use Rattle.turn_board.specs.Boards.{is_call, calls_of, phase_of, Keeps, Grows}
-use Rattle.turn_board.proofs.Places.{kept_calls}
+use Rattle.inno_model.specs.declared.board.Board.{Board}
+use Rattle.inno_model.specs.declared.board.Phase.{Phase}
+use Rattle.inno_model.specs.declared.board.Phase.TheVariants.{Idle, Busy, Leaving, Left}
+use Rattle.inno_model.specs.Boards.{is_call, calls_of, phase_of, Keeps, Grows}
+use Rattle.inno_model.proofs.Places.{kept_calls}
 use Rattle.turn_rule.specs.declared.rule.View.{View}
 use Rattle.turn_rule.specs.Steps.{HasTurn, published, idle}
 use Rattle.turn_engine.specs.Calls.{Makes, EndsBy, StepsBy, IsUnderWay, item_number}

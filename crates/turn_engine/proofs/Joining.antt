@@ -5,10 +5,10 @@ use Rattle.std.specs.Prelude.{Result, Ok, Err, OnOk, OnErr}
 use Rattle.std.proofs.lemmas.List.{append-nil}
 use Rattle.atomic_table.specs.Seated.{TableId}
 use Rattle.atomic_table.specs.Table.{Me}
-use Rattle.turn_board.specs.declared.Board.{Board}
-use Rattle.turn_board.specs.declared.Phase.{Phase}
-use Rattle.turn_board.specs.Boards.{calls_of, phase_of, Keeps}
-use Rattle.turn_board.proofs.Places.{kept_calls, places_none}
+use Rattle.inno_model.specs.declared.board.Board.{Board}
+use Rattle.inno_model.specs.declared.board.Phase.{Phase}
+use Rattle.inno_model.specs.Boards.{calls_of, phase_of, Keeps}
+use Rattle.inno_model.proofs.Places.{kept_calls, places_none}
 use Rattle.turn_rule.specs.declared.rule.View.{View}
 use Rattle.turn_rule.specs.Turnstile.{first_view}
 use Rattle.turn_rule.specs.Steps.{HasTurn, HasPublished, entered, published, idle, counted, newcomer}

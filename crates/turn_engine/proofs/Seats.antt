@@ -4,8 +4,8 @@ use Rattle.inno_types.specs.declared.reply.Item.{Item}
 use Rattle.inno_types.specs.declared.reply.Reply.TheVariants.{NoMemory}
 use Rattle.inno_model.specs.Recorded.{Extends}
 use Rattle.atomic_table.specs.Seated.{TableId}
-use Rattle.turn_board.specs.declared.Phase.TheVariants.{Idle}
-use Rattle.turn_board.specs.Boards.{calls_of}
+use Rattle.inno_model.specs.declared.board.Phase.TheVariants.{Idle}
+use Rattle.inno_model.specs.Boards.{calls_of}
 use Rattle.turn_rule.specs.declared.rule.View.{View}
 use Rattle.turn_engine.specs.Turns.{Went}
 use Rattle.turn_engine.specs.Sessions.{Sitting, sitting, Executed}

@@ -7,10 +7,10 @@ use Rattle.inno_model.specs.declared.event.Event.TheVariants.{Ended}
 use Rattle.inno_model.specs.Past.{started}
 use Rattle.store_api.specs.declared.answers.Progress.{Progress}
 use Rattle.store_api.specs.declared.answers.Progress.TheVariants.{Done, Stopped}
-use Rattle.turn_board.specs.declared.Phase.{Phase}
-use Rattle.turn_board.specs.declared.Phase.TheVariants.{Idle, Busy, Leaving, Left}
-use Rattle.turn_board.specs.declared.Board.{Board}
-use Rattle.turn_board.specs.Boards.{calls_of, phase_of, Grows}
+use Rattle.inno_model.specs.declared.board.Phase.{Phase}
+use Rattle.inno_model.specs.declared.board.Phase.TheVariants.{Idle, Busy, Leaving, Left}
+use Rattle.inno_model.specs.declared.board.Board.{Board}
+use Rattle.inno_model.specs.Boards.{calls_of, phase_of, Grows}
 
 -- From a to b the session has made these calls, the newest first, and then it is this far. What is others' stays.
 pub record Makes (s : ℕ) (a b : Board) (calls : List Event) (phase : Phase) : Type 0 where

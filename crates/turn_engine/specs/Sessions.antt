@@ -8,10 +8,10 @@ use Rattle.inno_model.specs.declared.event.Event.{Event}
 use Rattle.inno_model.specs.declared.event.Event.TheVariants.{Started, Ended}
 use Rattle.inno_model.specs.Recorded.{Extends}
 use Rattle.atomic_table.specs.Seated.{TableId, table_id_coded}
-use Rattle.turn_board.specs.declared.Board.{Board}
-use Rattle.turn_board.specs.declared.Phase.{Phase}
-use Rattle.turn_board.specs.contracts.Board as of_board
-use Rattle.turn_board.specs.Boards.{calls_of, places_of, phase_of}
+use Rattle.inno_model.specs.declared.board.Board.{Board}
+use Rattle.inno_model.specs.declared.board.Phase.{Phase}
+use Rattle.inno_model.specs.contracts.Board as of_board
+use Rattle.inno_model.specs.Boards.{calls_of, places_of, phase_of}
 use Rattle.turn_rule.specs.declared.rule.Claim.{Claim}
 use Rattle.turn_rule.specs.declared.rule.View.{View}
 use Rattle.turn_rule.specs.Turnstile.{claim}

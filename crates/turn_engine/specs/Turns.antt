@@ -8,10 +8,10 @@ use Rattle.inno_model.specs.Recorded.{Extends}
 use Rattle.atomic_table.specs.Table.{Me}
 use Rattle.store_api.specs.declared.answers.Progress.{Progress}
 use Rattle.store_api.specs.declared.answers.Progress.TheVariants.{Waiting, NotYet, NoMemory}
-use Rattle.turn_board.specs.declared.Phase.{Phase}
-use Rattle.turn_board.specs.declared.Phase.TheVariants.{Idle, Busy, Left}
-use Rattle.turn_board.specs.declared.Board.{Board}
-use Rattle.turn_board.specs.Boards.{calls_of, places_of, phase_of}
+use Rattle.inno_model.specs.declared.board.Phase.{Phase}
+use Rattle.inno_model.specs.declared.board.Phase.TheVariants.{Idle, Busy, Left}
+use Rattle.inno_model.specs.declared.board.Board.{Board}
+use Rattle.inno_model.specs.Boards.{calls_of, places_of, phase_of}
 use Rattle.turn_rule.specs.declared.rule.View.{View}
 use Rattle.turn_rule.specs.Steps.{IsAtRest}
 use Rattle.turn_engine.specs.declared.turn.Stepped.{Stepped}

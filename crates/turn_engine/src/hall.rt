@@ -3,8 +3,8 @@
 
 ghost use Rattle.std.specs.Prelude.{◌≡◌, ℕ, ◌<◌, ◌≤◌, [], ◌∷◌, false, length, All, Any, IfOk, IfErr, OnOk, OnErr};
 ghost use Rattle.std.specs.List.{AllByRecursion};
-ghost use Rattle.turn_board.specs.Boards.{calls_of, phase_of};
-ghost use Rattle.turn_board.specs.declared.Phase.TheVariants.{Idle};
+ghost use Rattle.inno_model.specs.Boards.{calls_of, phase_of};
+ghost use Rattle.inno_model.specs.declared.board.Phase.TheVariants.{Idle};
 ghost use Rattle.turn_rule.specs.Steps.{IsAtRest};
 ghost use Rattle.turn_engine.specs.Sessions.{own, setup, IsUncalled, HasCalls, gathered};
 

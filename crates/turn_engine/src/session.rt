@@ -4,8 +4,8 @@
 ghost use Rattle.std.specs.Prelude.{◌≡◌, ℕ, ◌+◌, ◌<◌, [], ◌∷◌, ◌++◌, true, false, length, IfOk, IfSome, IfNone, MatchResult};
 ghost use Rattle.inno_model.specs.declared.event.Event.TheVariants.{Started, Ended};
 ghost use Rattle.inno_model.specs.Recorded.{Extends};
-ghost use Rattle.turn_board.specs.declared.Phase.TheVariants.{Idle, Busy, Leaving, Left};
-ghost use Rattle.turn_board.specs.Boards.{phase_of, calls_of};
+ghost use Rattle.inno_model.specs.declared.board.Phase.TheVariants.{Idle, Busy, Leaving, Left};
+ghost use Rattle.inno_model.specs.Boards.{phase_of, calls_of};
 ghost use Rattle.inno_model.specs.Past.{started};
 ghost use Rattle.turn_engine.specs.Calls.{item_number};
 ghost use Rattle.turn_engine.specs.Turns.{Rests, Went};
@@ -34,7 +34,7 @@ pub struct Session {
 }
 
 impl Model for Session {
-    ghost use Rattle.turn_board.specs.declared.Phase.TheVariants.{Idle};
+    ghost use Rattle.inno_model.specs.declared.board.Phase.TheVariants.{Idle};
     ghost use Rattle.turn_engine.specs.Sessions.{Sitting, sitting_code, sitting, IsSeated};
 
     ghost Value = { Sitting };
@@ -292,7 +292,7 @@ pub struct Receipt {
 }
 
 impl Model for Receipt {
-    ghost use Rattle.turn_board.specs.declared.Phase.TheVariants.{Left};
+    ghost use Rattle.inno_model.specs.declared.board.Phase.TheVariants.{Left};
     ghost use Rattle.turn_engine.specs.Sessions.{Sitting, sitting_code, sitting, IsSeated};
 
     ghost Value = { Sitting };

@@ -3,8 +3,8 @@
 
 ghost use Rattle.std.specs.Prelude.{◌≡◌, ℕ, ◌+◌, ◌<◌, [], ◌∷◌, length, IfOk, OnOk, OnErr};
 ghost use Rattle.inno_model.specs.declared.event.Event.TheVariants.{Started};
-ghost use Rattle.turn_board.specs.declared.Phase.TheVariants.{Idle, Busy, Leaving};
-ghost use Rattle.turn_board.specs.Boards.{phase_of};
+ghost use Rattle.inno_model.specs.declared.board.Phase.TheVariants.{Idle, Busy, Leaving};
+ghost use Rattle.inno_model.specs.Boards.{phase_of};
 ghost use Rattle.turn_rule.specs.Steps.{HasTurn};
 ghost use Rattle.turn_engine.specs.Calls.{IsUnderWay, StepsBy, item_number, reply_of};
 ghost use Rattle.turn_engine.specs.Turns.{Rests, Went, StepWent, HasJoined, HasToWait, reply_in};

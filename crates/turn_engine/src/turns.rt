@@ -4,13 +4,13 @@
 ghost use Rattle.std.specs.Prelude.{◌≡◌, ℕ, ◌<◌, [], ◌∷◌, length, IfOk, OnOk, OnErr};
 ghost use Rattle.inno_types.specs.declared.reply.Item.{Item as SpecItem};
 ghost use Rattle.inno_model.specs.declared.event.Event.TheVariants.{Started};
-ghost use Rattle.turn_board.specs.declared.Phase.TheVariants.{Idle, Busy, Leaving, Left};
-ghost use Rattle.turn_board.specs.Boards.{phase_of};
+ghost use Rattle.inno_model.specs.declared.board.Phase.TheVariants.{Idle, Busy, Leaving, Left};
+ghost use Rattle.inno_model.specs.Boards.{phase_of};
 ghost use Rattle.turn_engine.specs.Calls.{Makes, Joins, StepsBy, IsUnderWay, has_left, item_number, reply_of};
 
+use inno_model::Recorded;
 use inno_types::{Bytes, Item};
 use store_api::{NoMemory, Progress};
-use turn_board::Recorded;
 
 /// An engine whose calls many threads make in turns.
 pub trait Turns: Recorded {

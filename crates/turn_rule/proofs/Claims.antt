@@ -5,10 +5,10 @@ use mathlib.Core.Option.{some, some-injective, some-ne-none}
 use native.Mathlib.Decide.{ℕ_discrete}
 use lib.ListN.{get_elem?}
 use Rattle.atomic_table.proofs.Lists.{at_set, set_here, set_else}
-use Rattle.turn_board.specs.declared.Board.{Board}
-use Rattle.turn_board.specs.Boards.{Keeps, Grows}
-use Rattle.turn_board.proofs.Keeping.{keeps_trans}
-use Rattle.turn_board.proofs.Places.{kept_places}
+use Rattle.inno_model.specs.declared.board.Board.{Board}
+use Rattle.inno_model.specs.Boards.{Keeps, Grows}
+use Rattle.inno_model.proofs.Keeping.{keeps_trans}
+use Rattle.inno_model.proofs.Places.{kept_places}
 use Rattle.turn_rule.specs.declared.rule.Claim.{Claim}
 use Rattle.turn_rule.specs.declared.rule.View.{View}
 use Rattle.turn_rule.specs.Turnstile.{IsKept, AllKept, Among, AreApart, HasSession, AreSeated}

@@ -10,10 +10,10 @@ use lib.ListN.{get_elem?}
 use prog.Atomic.{either}
 use Rattle.atomic_table.specs.Table.{State, Me, Act, step, keeps, takes, gives, Valid, homes_after, carried_after, Allows, Splits, Joins, opening, Seen, Final}
 use Rattle.atomic_table.proofs.Lists.{at_set, set_here, set_else, set_again, at_longer as longer_at, at_last}
-use Rattle.turn_board.specs.declared.Board.{Board}
-use Rattle.turn_board.specs.Boards.{calls_of, places_of, Keeps, Grows}
-use Rattle.turn_board.proofs.Keeping.{keeps_self}
-use Rattle.turn_board.proofs.Places.{kept_calls, places_none}
+use Rattle.inno_model.specs.declared.board.Board.{Board}
+use Rattle.inno_model.specs.Boards.{calls_of, places_of, Keeps, Grows}
+use Rattle.inno_model.proofs.Keeping.{keeps_self}
+use Rattle.inno_model.proofs.Places.{kept_calls, places_none}
 use Rattle.turn_rule.specs.declared.rule.Claim.{Claim}
 use Rattle.turn_rule.specs.declared.rule.View.{View}
 use Rattle.turn_rule.specs.Turnstile.{claim, IsKept, Among, HasSession, IsSeat, IsHome, IsTurnKept, first_view}

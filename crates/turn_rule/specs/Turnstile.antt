@@ -3,8 +3,8 @@ use Rattle.std.specs.Prelude.{◌≡◌, ◌≢◌, ℕ, ◌+◌, ◌<◌, ◌�
 use mathlib.Core.Option.{Option as Maybe, some, none}
 use lib.ListN.{get_elem?}
 use Rattle.atomic_table.specs.Table.{State}
-use Rattle.turn_board.specs.declared.Board.{Board}
-use Rattle.turn_board.specs.Boards.{calls_of, places_of, Keeps}
+use Rattle.inno_model.specs.declared.board.Board.{Board}
+use Rattle.inno_model.specs.Boards.{calls_of, places_of, Keeps}
 use Rattle.turn_rule.specs.declared.rule.Claim.{Claim}
 use Rattle.turn_rule.specs.declared.rule.View.{View}
 

@@ -3,17 +3,17 @@
 //! enter, take, the engine's own call, put, publish (which names the engine that lies in the slot), split, depart.
 
 ghost use Rattle.std.specs.Prelude.{◌≡◌, ℕ, ◌+◌, ◌==◌, [], ◌∷◌, true, false, length, Some, None, IfOk, IfErr, MatchBool};
-ghost use Rattle.turn_board.specs.Boards.{calls_of};
+ghost use Rattle.inno_model.specs.Boards.{calls_of};
 ghost use Rattle.turn_rule.specs.Turnstile.{first_view};
 ghost use Rattle.turn_rule.specs.Steps.{IsAtRest, Entered, MayPublish, HasPublished, MayDepart, MaySplit, IsLast, Closes, idle, counted, newcomer, with_sessions};
 
 use crate::rule::{Depart, Enter, NewSeat, Publish, TakesIn, Turnstile, View};
 use atomic_table::{Refused, Seat, Table};
+use inno_model::Recorded;
 use std::alloc::Global;
 use std::marker::Model;
 use std::snapshot::Snapshot;
 use std::sync::Wait;
-use turn_board::Recorded;
 
 /// A seat of a gate, which one thread at a time has.
 pub type Pass<E> = Seat<Option<E>, View>;

@@ -1,9 +1,9 @@
 //! What each seat of the turnstile knows, and what each kind of step tells it. Ghost state alone: nothing here runs.
 
 use atomic_table::{Join, Play, Split, TableRule};
+use inno_model::{Board, Recorded};
 use std::collections::LinkedList;
 use std::snapshot::Snapshot;
-use turn_board::{Board, Recorded};
 
 /// A session of a seat, what the seat has seen, and the places of the session's own entries. No value of it is made.
 pub struct Claim {

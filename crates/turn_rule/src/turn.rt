@@ -4,7 +4,7 @@ ghost use Rattle.std.specs.Prelude.{◌≡◌, ◌≢◌, [], MatchResult};
 ghost use Rattle.turn_rule.specs.Steps.{IsAtRest, HasTurn, MayHandBack, idle, published};
 
 use crate::gate::{Gate, Pass};
-use turn_board::Recorded;
+use inno_model::Recorded;
 
 impl<E: Recorded> Gate<E> {
     /// Enters, and takes the engine out of the slot. An `Err` has missed, and says what word 0 was: the number of

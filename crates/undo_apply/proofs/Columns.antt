@@ -11,12 +11,12 @@ use Rattle.store_api.specs.declared.answers.Undo.{Undo}
 use Rattle.store_api.specs.declared.answers.Version.{Version as Coded}
 use Rattle.key_codec.specs.Keys.{entry_code}
 use Rattle.key_codec.proofs.Lengths.{length-key_code, length-entry_code}
-use Rattle.law_fitting_rows.specs.Storable.{IsStorable, IsKeyOn}
+use Rattle.law_stored_rows.specs.Storable.{IsStorable, IsKeyOn}
 use Rattle.row_versions.specs.declared.place.Place.{Place}
 use Rattle.secondary.specs.Entries.{HasSecondary, place_if, place_of, kind_if, kind_at, entry_of}
-use Rattle.law_coded_rows.specs.Entries.{value_in}
-use Rattle.law_coded_rows.specs.Records.{IsCodeOf}
-use Rattle.law_coded_rows.proofs.Values.{entry_there, key_there}
+use Rattle.law_stored_rows.specs.Entries.{value_in}
+use Rattle.law_stored_rows.specs.Records.{IsCodeOf}
+use Rattle.law_stored_rows.proofs.Values.{entry_there, key_there}
 use Rattle.world.specs.State.{WorldState, IsIndex}
 use Rattle.undo_apply.specs.Moves.{HasKeyAt}
 use Rattle.undo_apply.specs.Standing.{TellsOf, column_of}

@@ -8,19 +8,19 @@ use Rattle.store_api.specs.declared.answers.Undo.{Undo}
 use Rattle.store_api.specs.declared.answers.Version.{Version as Coded}
 use Rattle.row_codec.proofs.Once.{same_version}
 use Rattle.entries.specs.Pairs.{value_of}
-use Rattle.chain.specs.declared.kept.Kept.{Kept}
+use Rattle.row_versions.specs.declared.kept.Kept.{Kept}
 use Rattle.row_versions.specs.declared.place.Place.{Place}
 use Rattle.row_versions.specs.declared.version.Version.{Version}
 use Rattle.row_versions.specs.Chains.{Chains, older, Pops}
-use Rattle.law_coded_rows.specs.Edits.{clustered_index, Puts}
-use Rattle.law_coded_rows.specs.Entries.{entry_of as entry_said}
-use Rattle.law_coded_rows.specs.Records.{shown, IsCodeOf, LeadTo}
-use Rattle.law_coded_rows.specs.Steps.{PutsRecord}
-use Rattle.law_coded_rows.proofs.Pairs.{value_now}
-use Rattle.law_coded_rows.proofs.RowRecords.{pointer_followed, one_lead}
-use Rattle.law_coded_rows.proofs.Keys.{change_over}
-use Rattle.law_coded_rows.proofs.Steps.{record_taken_back, record_removed}
-use Rattle.law_coded_rows.proofs.Tables.{popped_here}
+use Rattle.law_stored_rows.specs.Edits.{clustered_index, Puts}
+use Rattle.law_stored_rows.specs.Entries.{entry_of as entry_said}
+use Rattle.law_stored_rows.specs.Records.{shown, IsCodeOf, LeadTo}
+use Rattle.law_stored_rows.specs.Steps.{PutsRecord}
+use Rattle.law_stored_rows.proofs.Pairs.{value_now}
+use Rattle.law_stored_rows.proofs.RowRecords.{pointer_followed, one_lead}
+use Rattle.law_stored_rows.proofs.Keys.{change_over}
+use Rattle.law_stored_rows.proofs.Steps.{record_taken_back, record_removed}
+use Rattle.law_stored_rows.proofs.Tables.{popped_here}
 use Rattle.undo_apply.specs.Told.{Rows}
 use Rattle.undo_apply.specs.Standing.{TellsOf, IsNewest, said_but, AreCodedBut, LeadsBack, was_before, versions_before, IsLagging, IsUnderWay, IsTakenBack}
 use Rattle.undo_apply.proofs.Telling.{pairs_after}

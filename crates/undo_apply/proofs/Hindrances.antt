@@ -5,11 +5,11 @@ use Rattle.store_api.specs.declared.moves.Move.{Move}
 use Rattle.store_api.specs.declared.moves.Move.TheVariants.{At, End, Done, Step, Latch, Again, Full, TooDeep, Failed, Bad, NoMemory}
 use Rattle.entries.specs.Index.{Index, Paged, InPages}
 use Rattle.entries.specs.Calls.{Delays, IsKeptOff}
-use Rattle.chain.specs.Calls as chain
-use Rattle.chain.specs.Versions as versions
+use Rattle.row_versions.specs.Calls as chain
+use Rattle.row_versions.specs.Versions as versions
 use Rattle.row_versions.specs.declared.place.Place.{Place}
 use Rattle.row_versions.specs.Chains.{Chains}
-use Rattle.law_coded_rows.specs.Edits.{clustered_index, key_index}
+use Rattle.law_stored_rows.specs.Edits.{clustered_index, key_index}
 use Rattle.world.specs.State.{WorldState}
 use Rattle.world.specs.Memory.{IsInMemory}
 use Rattle.row_changes.specs.Awaited.{AwaitsAt, AwaitsIn, IsAwaitedAlone}

@@ -16,9 +16,9 @@ use Rattle.row_versions.specs.declared.place.Place.{Place}
 use Rattle.row_versions.specs.declared.version.Version.{Version}
 use Rattle.row_versions.specs.Chains.{Chains}
 use Rattle.secondary.specs.Entries.{entry_of}
-use Rattle.law_coded_rows.specs.Edits.{key_index, with_value}
-use Rattle.law_coded_rows.specs.Entries.{value_in}
-use Rattle.law_coded_rows.specs.Records.{shown, IsCodeOf}
+use Rattle.law_stored_rows.specs.Edits.{key_index, with_value}
+use Rattle.law_stored_rows.specs.Entries.{value_in}
+use Rattle.law_stored_rows.specs.Records.{shown, IsCodeOf}
 use Rattle.world.specs.State.{WorldState}
 use Rattle.world.specs.Indexes.{Calls, Changes, ReplacesWith}
 use Rattle.row_changes.specs.Pairs.{RowsStay, PutsPair}

@@ -9,13 +9,13 @@ use Rattle.store_api.specs.declared.answers.Version.{Version as Coded}
 use Rattle.store_api.specs.declared.moves.Move.{Move}
 use Rattle.store_api.specs.declared.moves.Move.TheVariants.{Done, Step}
 use Rattle.row_codec.specs.Rows.{IsRecordOf, IsVersion, head_code, others_code}
-use Rattle.chain.specs.declared.kept.Kept.{Kept}
-use Rattle.chain.specs.Versions.{IsPointer}
+use Rattle.row_versions.specs.declared.kept.Kept.{Kept}
+use Rattle.row_versions.specs.Versions.{IsPointer}
 use Rattle.row_versions.specs.declared.place.Place.{Place}
 use Rattle.row_versions.specs.declared.version.Version.{Version}
 use Rattle.row_versions.specs.Chains.{Chains}
 use Rattle.secondary.specs.Entries.{entry_of}
-use Rattle.law_coded_rows.specs.Records.{IsCodeOf, LeadTo}
+use Rattle.law_stored_rows.specs.Records.{IsCodeOf, LeadTo}
 use Rattle.world.specs.State.{WorldState}
 use Rattle.world.specs.Undoing.{IsUnchanged}
 use Rattle.row_changes.specs.Pairs.{RowsStay}

@@ -11,13 +11,13 @@ use Rattle.store_api.specs.declared.moves.Move.TheVariants.{At, End, Done, Step,
 use Rattle.entries.specs.Pairs.{value_of}
 use Rattle.entries.specs.Calls.{is_done, Fetches, NextKeys, Removes}
 use Rattle.row_codec.proofs.Stored.{length-version_code}
-use Rattle.chain.specs.declared.kept.Kept.{Kept}
+use Rattle.row_versions.specs.declared.kept.Kept.{Kept}
 use Rattle.row_versions.specs.declared.place.Place.{Place}
 use Rattle.row_versions.specs.declared.version.Version.{Version}
 use Rattle.row_versions.specs.Chains.{Chains}
-use Rattle.law_coded_rows.specs.Edits.{clustered_index}
-use Rattle.law_coded_rows.specs.Records.{shown, IsCodeOf, LeadTo}
-use Rattle.law_coded_rows.proofs.RowRecords.{pointer_followed}
+use Rattle.law_stored_rows.specs.Edits.{clustered_index}
+use Rattle.law_stored_rows.specs.Records.{shown, IsCodeOf, LeadTo}
+use Rattle.law_stored_rows.proofs.RowRecords.{pointer_followed}
 use Rattle.world.specs.State.{WorldState}
 use Rattle.world.specs.Indexes.{Calls, Changes, ReplacesWith}
 use Rattle.row_changes.specs.Pairs.{RowsStay, PutsPair}

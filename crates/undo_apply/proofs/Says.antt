@@ -6,15 +6,15 @@ use Rattle.inno_types.specs.declared.value.Value.{Value}
 use Rattle.inno_types.specs.declared.value.Key.{Key}
 use Rattle.inno_types.specs.declared.value.Schema.{Schema}
 use Rattle.entries.specs.Pairs.{Pair}
-use Rattle.chain.specs.declared.kept.Kept.{Kept}
+use Rattle.row_versions.specs.declared.kept.Kept.{Kept}
 use Rattle.row_versions.specs.declared.place.Place.{Place}
 use Rattle.row_versions.specs.declared.version.Version.{Version}
 use Rattle.row_versions.specs.Chains.{Chains, is_same_place, Pops}
-use Rattle.law_coded_rows.specs.Entries.{entry_of, TellAlike}
-use Rattle.law_coded_rows.specs.Tables.{in_table, AreCodedAs, LagAt, SaysNow}
-use Rattle.law_coded_rows.proofs.Values.{place_itself, same_place}
-use Rattle.law_coded_rows.proofs.Tables.{at, popped_elsewhere}
-use Rattle.law_coded_rows.proofs.Keys.{said_alike}
+use Rattle.law_stored_rows.specs.Entries.{entry_of, TellAlike}
+use Rattle.law_stored_rows.specs.Tables.{in_table, AreCodedAs, LagAt, SaysNow}
+use Rattle.law_stored_rows.proofs.Values.{place_itself, same_place}
+use Rattle.law_stored_rows.proofs.Tables.{at, popped_elsewhere}
+use Rattle.law_stored_rows.proofs.Keys.{said_alike}
 use Rattle.undo_apply.specs.Standing.{said_but, AreCodedBut, IsLagging, SayBefore}
 
 -- one key says something else now

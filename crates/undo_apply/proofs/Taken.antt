@@ -14,14 +14,14 @@ use Rattle.row_versions.specs.declared.place.Place.{Place}
 use Rattle.row_versions.specs.declared.version.Version.{Version}
 use Rattle.row_versions.specs.Chains.{Chains, newest}
 use Rattle.secondary.specs.Entries.{entry_of}
-use Rattle.law_coded_rows.specs.Edits.{clustered_index, key_index, Puts}
-use Rattle.law_coded_rows.specs.Entries.{value_in, has_value, entry_of as entry_said, TellAlike, TellAlikeBut}
-use Rattle.law_coded_rows.specs.Records.{shown, row_shown, IsCodeOf}
-use Rattle.law_coded_rows.specs.Tables.{SaysNow}
-use Rattle.law_coded_rows.proofs.Values.{value_itself}
-use Rattle.law_coded_rows.proofs.Pairs.{no_key}
-use Rattle.law_coded_rows.proofs.Entries.{marked, taken, is_taken, unmarked, is_unmarked, without_row, value_again}
-use Rattle.law_coded_rows.proofs.Keys.{entry_changed}
+use Rattle.law_stored_rows.specs.Edits.{clustered_index, key_index, Puts}
+use Rattle.law_stored_rows.specs.Entries.{value_in, has_value, entry_of as entry_said, TellAlike, TellAlikeBut}
+use Rattle.law_stored_rows.specs.Records.{shown, row_shown, IsCodeOf}
+use Rattle.law_stored_rows.specs.Tables.{SaysNow}
+use Rattle.law_stored_rows.proofs.Values.{value_itself}
+use Rattle.law_stored_rows.proofs.Pairs.{no_key}
+use Rattle.law_stored_rows.proofs.Entries.{marked, taken, is_taken, unmarked, is_unmarked, without_row, value_again}
+use Rattle.law_stored_rows.proofs.Keys.{entry_changed}
 use Rattle.undo_apply.specs.Told.{Rows}
 use Rattle.undo_apply.specs.Standing.{TellsOf, IsNewest, said_but, AreCodedBut, IsCleared, IsLagging, SayBefore, IsUnderWay, versions_before, column_of, some_has}
 use Rattle.undo_apply.proofs.Telling.{pairs_after}

@@ -4,7 +4,7 @@ use Rattle.std.specs.Prelude.{IsSome, ◌==◌}
 use Rattle.std.proofs.lemmas.Bool.{cases_eq, cond-true, cond-false, eq-eqb, ne_eqb}
 use Rattle.entries.specs.Pairs.{Pair}
 use Rattle.entries.specs.Index.{Goes}
-use Rattle.law_coded_rows.specs.Edits.{with_value, Puts}
+use Rattle.law_stored_rows.specs.Edits.{with_value, Puts}
 use Rattle.world.specs.State.{WorldState}
 use Rattle.row_changes.specs.Pairs.{RowsStay, PutsPair}
 use Rattle.world.specs.Told.{pairs_in, pairs_of, IsTold, LeavesRows}

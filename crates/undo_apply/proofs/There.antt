@@ -16,11 +16,11 @@ use Rattle.row_versions.specs.declared.place.Place.{Place}
 use Rattle.row_versions.specs.declared.version.Version.{Version}
 use Rattle.row_versions.specs.Chains.{Chains, newest, is_same_place}
 use Rattle.secondary.specs.Entries.{entry_of}
-use Rattle.law_coded_rows.specs.Edits.{key_index}
-use Rattle.law_coded_rows.specs.Entries.{value_in, has_value, entry_of as entry_said}
-use Rattle.law_coded_rows.specs.Records.{IsCodeOf}
-use Rattle.law_coded_rows.specs.Tables.{in_table}
-use Rattle.law_coded_rows.proofs.Values.{place_itself, value_itself, entry_there}
+use Rattle.law_stored_rows.specs.Edits.{key_index}
+use Rattle.law_stored_rows.specs.Entries.{value_in, has_value, entry_of as entry_said}
+use Rattle.law_stored_rows.specs.Records.{IsCodeOf}
+use Rattle.law_stored_rows.specs.Tables.{in_table}
+use Rattle.law_stored_rows.proofs.Values.{place_itself, value_itself, entry_there}
 use Rattle.undo_apply.specs.Told.{Rows}
 use Rattle.undo_apply.specs.Standing.{TellsOf, said_but, AreCodedBut, IsCleared, IsLagging, column_of}
 use Rattle.undo_apply.proofs.Columns.{key_at, column_is, entry_is}

@@ -7,12 +7,12 @@ use Rattle.store_api.specs.declared.moves.Move.{Move}
 use Rattle.store_api.specs.declared.moves.Move.TheVariants.{Done, Step, Latch, Again, Failed, Bad}
 use Rattle.store_api.specs.declared.visits.Visit.TheVariants as visit
 use Rattle.entries.specs.Pairs.{value_of}
-use Rattle.chain.specs.Calls.{IsUnseen}
+use Rattle.row_versions.specs.Calls.{IsUnseen}
 use Rattle.row_versions.specs.declared.place.Place.{Place}
 use Rattle.row_versions.specs.declared.version.Version.{Version}
 use Rattle.row_versions.specs.Chains.{Chains, Pops}
-use Rattle.law_coded_rows.specs.Edits.{clustered_index, key_index}
-use Rattle.law_coded_rows.specs.Records.{shown, LeadTo}
+use Rattle.law_stored_rows.specs.Edits.{clustered_index, key_index}
+use Rattle.law_stored_rows.specs.Records.{shown, LeadTo}
 use Rattle.world.specs.State.{WorldState}
 use Rattle.row_changes.specs.Pairs.{RowsStay, PutsPair, Hinders}
 use Rattle.undo_apply.specs.declared.work_room.WorkRoom.{WorkRoom}

@@ -6,17 +6,17 @@ use Rattle.inno_types.specs.declared.value.Schema.{Schema}
 use Rattle.store_api.specs.declared.answers.Undo.{Undo}
 use Rattle.store_api.specs.declared.answers.Version.{Version as Coded}
 use Rattle.key_codec.specs.Keys.{HasKey, key_code}
-use Rattle.law_fitting_rows.specs.Storable.{IsStorable}
+use Rattle.law_stored_rows.specs.Storable.{IsStorable}
 use Rattle.entries.specs.Pairs.{Pair, value_of}
-use Rattle.chain.specs.declared.kept.Kept.{Kept}
+use Rattle.row_versions.specs.declared.kept.Kept.{Kept}
 use Rattle.row_versions.specs.declared.place.Place.{Place}
 use Rattle.row_versions.specs.declared.version.Version.{Version}
 use Rattle.row_versions.specs.Chains.{Chains, versions_at, is_same_place, older}
 use Rattle.secondary.specs.Entries.{place_if}
-use Rattle.law_coded_rows.specs.Edits.{clustered_index}
-use Rattle.law_coded_rows.specs.Entries.{value_in, has_value}
-use Rattle.law_coded_rows.specs.Records.{shown, IsCodeOf, LeadTo}
-use Rattle.law_coded_rows.specs.Tables.{in_table, Said, AreCodedAs, AreCoded}
+use Rattle.law_stored_rows.specs.Edits.{clustered_index}
+use Rattle.law_stored_rows.specs.Entries.{value_in, has_value}
+use Rattle.law_stored_rows.specs.Records.{shown, IsCodeOf, LeadTo}
+use Rattle.law_stored_rows.specs.Tables.{in_table, Said, AreCodedAs, AreCoded}
 use Rattle.world.specs.Indexes.{IsUndo}
 use Rattle.undo_apply.specs.Told.{Rows}
 

@@ -5,7 +5,7 @@ ghost use Rattle.std.specs.Prelude.{◌≡◌, ℕ, ◌*◌, ◌+◌, ◌<◌, �
 ghost use Rattle.inno_types.specs.declared.value.Schema.{Schema as ASchema};
 ghost use Rattle.store_api.specs.declared.answers.Version.{Version};
 ghost use Rattle.row_codec.specs.Rows.{IsRecordOf, IsVersion};
-ghost use Rattle.law_coded_rows.specs.Edits.{clustered_index, key_index};
+ghost use Rattle.law_stored_rows.specs.Edits.{clustered_index, key_index};
 ghost use Rattle.row_changes.specs.Awaited.{AwaitsAt};
 ghost use Rattle.row_versions.specs.declared.place.Place.{Place};
 ghost use Rattle.row_versions.specs.Chains.{Chains};

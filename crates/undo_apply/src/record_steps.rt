@@ -1,7 +1,7 @@
 //! The steps that deal with the record: it is found first, and put back last.
 
 ghost use Rattle.std.specs.Prelude.{◌≡◌, ◌*◌, ◌↔◌, IsTrue, Some};
-ghost use Rattle.law_coded_rows.specs.Edits.{clustered_index};
+ghost use Rattle.law_stored_rows.specs.Edits.{clustered_index};
 ghost use Rattle.row_changes.specs.Awaited.{AwaitsAt};
 ghost use Rattle.row_versions.specs.declared.place.Place.{Place};
 ghost use Rattle.row_versions.specs.Chains.{Chains};

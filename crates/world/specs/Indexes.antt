@@ -8,7 +8,7 @@ use Rattle.store_api.specs.declared.moves.Move.TheVariants.{NoMemory}
 use Rattle.entries.specs.Pairs.{AreSound}
 use Rattle.entries.specs.Index.{Index, Told, IsAsBefore, GoesOn}
 use Rattle.entries.specs.Calls.{is_done, Inserts, Replaces}
-use Rattle.chain.specs.Versions.{Versions, Stays}
+use Rattle.row_versions.specs.Versions.{Versions, Stays}
 use Rattle.row_codec.specs.Rows.{IsRecordOf, IsVersion}
 use Rattle.world.specs.State.{WorldState, Session, Work, HasWork, with_work}
 use Rattle.world.specs.Stores.{StoreGoes}

@@ -6,7 +6,7 @@ use Rattle.inno_model.specs.declared.event.Event.{Event}
 use Rattle.store_api.specs.declared.answers.Standing.{Standing}
 use Rattle.store_api.specs.declared.answers.Undo.{Undo}
 use Rattle.entries.specs.Index.{Index, Paged}
-use Rattle.chain.specs.Versions.{Versions}
+use Rattle.row_versions.specs.Versions.{Versions}
 use Rattle.sql_history.specs.Settings.{Setting, next_level}
 use Rattle.txn_table.specs.Txns.{Txns}
 

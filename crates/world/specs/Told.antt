@@ -2,7 +2,7 @@
 use Rattle.std.specs.Prelude.{◌≡◌, ℕ, IsTrue, IsSome, List, [], Option, None, Some}
 use Rattle.entries.specs.Index.{AreKept}
 use Rattle.entries.specs.Pairs.{Pair}
-use Rattle.chain.specs.Versions.{Stays}
+use Rattle.row_versions.specs.Versions.{Stays}
 use Rattle.world.specs.State.{WorldState}
 
 abbrev pub pairs_in : Option (List Pair) → List Pair

@@ -6,7 +6,7 @@ use Rattle.store_api.specs.declared.moves.Move.{Move}
 use Rattle.store_api.specs.declared.moves.Move.TheVariants.{Done, Step, Latch, Again, Full, Failed, Bad, NoMemory}
 use Rattle.entries.specs.Index.{Paged, IsAsBefore, InPages}
 use Rattle.inno_types.specs.Order.{IsBelow}
-use Rattle.chain.specs.Versions.{Stays}
+use Rattle.row_versions.specs.Versions.{Stays}
 use Rattle.world.specs.declared.undo_room.UndoRoom.{UndoRoom}
 use Rattle.world.specs.State.{WorldState, Session, Work, Logged, IsSession, HasWork, with_session, with_work}
 use Rattle.world.specs.Stores.{StoreGoes}

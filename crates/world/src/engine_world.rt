@@ -10,7 +10,7 @@ ghost use Rattle.world.specs.Memory.{IsInMemory};
 use crate::World;
 use inno_model::History;
 use inno_types::{Bytes, Item, Listed, Reply, Schema, Stmt};
-use session_settings::SessionSettings;
+use sql_history::SessionSettings;
 use store_api::NoMemory;
 
 /// A world that an engine keeps.

@@ -3,8 +3,8 @@
 ghost use Rattle.std.specs.Prelude.{◌≡◌, ◌≢◌, ℕ, ◌+◌, ◌-◌, ◌≤◌, ◌<◌, ◌^◌, [], false, true, length, slice_get, option_copied, OnOk, OnErr, IfOk, IfSome, IfNone, IsOk, IsSome, Some, None, vec_capacity};
 ghost use Rattle.inno_db.specs.declared.change.Change.TheVariants.{Put, Remove};
 ghost use Rattle.entries.specs.Calls.{is_done, Seeks, Follows, Fetches, NextKeys, Removes, Tidies, Leaves};
-ghost use Rattle.chain.specs.Versions.{IsPointer};
-ghost use Rattle.chain.specs.Calls.{ShowsVersion, ShowsBytes, has_read};
+ghost use Rattle.row_versions.specs.Versions.{IsPointer};
+ghost use Rattle.row_versions.specs.Calls.{ShowsVersion, ShowsBytes, has_read};
 ghost use Rattle.txn_table.specs.Txns.{ids_of, id_at, is_there};
 ghost use Rattle.sql_history.specs.Settings.{made_at};
 ghost use Rattle.world.specs.State.{WorldState, Session, Work, IsIndex, IsSession, HasWork, standing_of};
@@ -14,8 +14,8 @@ ghost use Rattle.world.specs.Sessions.{IsShown, begun, identified, with_save, ba
 ghost use Rattle.world.specs.Endings.{Commits, RollsBack, FreesLog};
 
 use crate::undo_room::UndoRoom;
-use chain::ChainBad;
 use inno_types::{Bytes, Ids, Level, Row, Schema, Value};
+use row_versions::ChainBad;
 use store_api::{Move, NoMemory, Standing, Undo, Version, Visit};
 
 /// All that the sessions of one engine share. An actor is a session by its number.

@@ -20,10 +20,10 @@ use Rattle.desks.specs.declared.desk.Doing.{Doing}
 use Rattle.desks.specs.declared.desk.Doing.TheVariants.{Nothing}
 use Rattle.desks.specs.Desks.{doing_at, with_doing}
 use Rattle.desks.specs.Holding.{IsHeld}
-use Rattle.law_held_searches.specs.Moving.{MovesPlaces}
-use Rattle.law_held_changes.specs.Leaving.{LeavesIndexes, LeavesTable}
-use Rattle.law_held_changes.specs.Making.{doing_after, given_up}
-use Rattle.law_held_changes.proofs.Desks.{doing_elsewhere}
+use Rattle.law_held_steps.specs.Moving.{MovesPlaces}
+use Rattle.law_held_steps.specs.Leaving.{LeavesIndexes, LeavesTable}
+use Rattle.law_held_steps.specs.Making.{doing_after, given_up}
+use Rattle.law_held_steps.proofs.Desks.{doing_elsewhere}
 use Rattle.world_lists.specs.Between.{IsKept, AwaitsWriter, IsAwaitedFor, AwaitsOnly, AwaitsNobody, can_await, table_at}
 use Rattle.world_lists.specs.Parts.{StepsChange, LeavesIfOver}
 

@@ -22,9 +22,9 @@ use Rattle.desks.specs.declared.desk.Doing.TheVariants.{Changing}
 use Rattle.desks.specs.Desks.{with_doing}
 use Rattle.desks.specs.Shown.{lists_of}
 use Rattle.desks.specs.Holding.{IsHeld}
-use Rattle.law_held_changes.specs.Beginning.{IsEditable, IsKeyOfEdit, begun}
-use Rattle.law_held_changes.proofs.Begun.{can_be_keyed, begins}
-use Rattle.law_held_changes.proofs.Showing.{begun_turns, begun_task}
+use Rattle.law_held_steps.specs.Beginning.{IsEditable, IsKeyOfEdit, begun}
+use Rattle.law_held_steps.proofs.Begun.{can_be_keyed, begins}
+use Rattle.law_held_steps.proofs.Showing.{begun_turns, begun_task}
 use Rattle.world_lists.proofs.ChangeTasks.{nothing_if}
 
 -- what a session needs that begins a change

@@ -8,7 +8,7 @@ use Rattle.row_changes.specs.declared.row_change.RowChange.{RowChange}
 use Rattle.row_changes.specs.declared.row_change.RowChange.TheVariants.{Record, Keys}
 use Rattle.row_changes.specs.declared.reached.Reached.{Reached}
 use Rattle.row_changes.specs.declared.reached.Reached.TheVariants as reached
-use Rattle.law_changing_rows.proofs.Leaving.{left_told}
+use Rattle.law_logged_changes.proofs.ReadersLeft.{left_told}
 use Rattle.undo_apply.specs.declared.work_room.WorkRoom.{WorkRoom}
 use Rattle.shared_lists.specs.declared.answers.Changed.{Changed}
 use Rattle.shared_lists.specs.State.{State, Lists, Turns, task_of}
@@ -22,16 +22,16 @@ use Rattle.desks.specs.declared.desk.Doing.TheVariants.{Nothing, Changing}
 use Rattle.desks.specs.Desks.{doing_at, with_doing}
 use Rattle.desks.specs.Shown.{lists_of}
 use Rattle.desks.specs.Holding.{IsHeld}
-use Rattle.law_held_changes.specs.Leaving.{is_searching}
-use Rattle.law_held_changes.specs.Making.{doing_after, Comes, LeavesLists, MakesChange}
-use Rattle.law_held_changes.proofs.Desks.{doing_here, given_again, changes_at_a_desk}
-use Rattle.law_held_changes.proofs.Left.{held_left}
-use Rattle.law_held_changes.proofs.Made.{change_made}
-use Rattle.law_held_changes.proofs.Showing.{went_shown, entered_shown, done_shown, given_up_shown, rows_shown, left_shown}
+use Rattle.law_held_steps.specs.Leaving.{is_searching}
+use Rattle.law_held_steps.specs.Making.{doing_after, Comes, LeavesLists, MakesChange}
+use Rattle.law_held_steps.proofs.Desks.{doing_here, given_again, changes_at_a_desk}
+use Rattle.law_held_steps.proofs.Left.{held_left}
+use Rattle.law_held_steps.proofs.Made.{change_made}
+use Rattle.law_held_steps.proofs.Showing.{went_shown, entered_shown, done_shown, given_up_shown, rows_shown, left_shown}
 use Rattle.world_lists.specs.Parts.{StepsChange, answer_for}
 use Rattle.world.specs.Undoing.{read_into}
 use Rattle.row_changes.specs.Rows.{table_of}
-use Rattle.law_held_undoing.proofs.Beside.{rows_of_writer}
+use Rattle.law_held_steps.proofs.Beside.{rows_of_writer}
 use Rattle.world_lists.specs.Between.{AwaitsWriter, table_at}
 use Rattle.world_lists.proofs.Awaiting.{change_awaits, only_mine}
 

@@ -24,7 +24,7 @@ use Rattle.desks.specs.declared.desk.Doing.TheVariants.{Nothing, Changing}
 use Rattle.desks.specs.Desks.{doing_at}
 use Rattle.desks.specs.Shown.{lists_of, shown}
 use Rattle.desks.proofs.Showing.{task_is}
-use Rattle.law_held_changes.specs.Making.{doing_after}
+use Rattle.law_held_steps.specs.Making.{doing_after}
 use Rattle.world_lists.specs.Parts.{is_told, answer_for}
 
 -- the table is there, and has few keys

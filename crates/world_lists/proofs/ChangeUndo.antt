@@ -24,20 +24,20 @@ use Rattle.desks.specs.Desks.{doing_at, with_doing}
 use Rattle.desks.specs.Shown.{lists_of}
 use Rattle.desks.specs.Undoing.{undo_left_in, left_at, keys_if, most_versions}
 use Rattle.desks.specs.Holding.{IsHeld}
-use Rattle.law_held_undoing.specs.Undoing.{IsReady, HasPutBack}
-use Rattle.law_held_undoing.specs.Seen.{lists_held, TakesBackIn}
-use Rattle.law_held_undoing.proofs.Putting.{going, rest_beside, goes_or_is_done}
-use Rattle.law_held_undoing.proofs.Reading.{held_begun, may_write}
-use Rattle.law_held_undoing.proofs.Showing.{ready_if, shows_begun, shows_undone}
-use Rattle.law_held_undoing.proofs.TakenBack.{own_number, has_logged, may_add, held_then}
+use Rattle.law_held_steps.specs.Undoing.{IsReady, HasPutBack}
+use Rattle.law_held_steps.specs.SeenUndoing.{lists_held, TakesBackIn}
+use Rattle.law_held_steps.proofs.Putting.{going, rest_beside, goes_or_is_done}
+use Rattle.law_held_steps.proofs.Reading.{held_begun, may_write}
+use Rattle.law_held_steps.proofs.UndoShowing.{ready_if, shows_begun, shows_undone}
+use Rattle.law_held_steps.proofs.TakenBack.{own_number, has_logged, may_add, held_then}
 use Rattle.inno_types.specs.declared.value.Schema.{Schema}
 use Rattle.entries.specs.Index.{Index}
-use Rattle.chain.specs.declared.kept.Kept.{Kept}
+use Rattle.row_versions.specs.declared.kept.Kept.{Kept}
 use Rattle.undo_apply.specs.declared.work_room.Stage.{Stage}
 use Rattle.row_changes.specs.Awaited.{AwaitsIn, IsOfTable}
-use Rattle.law_held_changes.specs.Leaving.{LeavesIndexes, is_searching}
-use Rattle.law_held_changes.proofs.Left.{held_left}
-use Rattle.law_held_changes.proofs.Showing.{left_shown}
+use Rattle.law_held_steps.specs.Leaving.{LeavesIndexes, is_searching}
+use Rattle.law_held_steps.proofs.Left.{held_left}
+use Rattle.law_held_steps.proofs.Showing.{left_shown}
 use Rattle.world_lists.specs.Between.{AwaitsOnly, AwaitsWriter, can_await, table_at}
 use Rattle.world_lists.specs.Parts.{DropsNewest, AwaitsAfter}
 use Rattle.world_lists.proofs.Awaiting.{only_then, awaits_none, nobody_then, awaits_of_nobody, writer_of_only}

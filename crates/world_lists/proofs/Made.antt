@@ -24,7 +24,7 @@ use Rattle.law_world_agreement.specs.Steps.{viewed}
 use Rattle.undo_apply.specs.declared.work_room.WorkRoom.{WorkRoom}
 use Rattle.world.specs.EngineCalls.{item_started, item_ended, acknowledged, signalled, with_setting}
 use Rattle.row_changes.specs.Records.{IsListed}
-use Rattle.law_changing_rows.proofs.Listed.{listed_of}
+use Rattle.law_logged_changes.proofs.Listed.{listed_of}
 use Rattle.shared_lists.specs.Tasks.{Idle}
 use Rattle.shared_lists.specs.State.{Lists, task_of, Adds, Closes, Stays, writer_without}
 use Rattle.desks.specs.declared.desk.Desk.{Desk}
@@ -32,12 +32,12 @@ use Rattle.desks.specs.declared.desk.Doing.TheVariants.{Nothing}
 use Rattle.desks.specs.Desks.{fresh_desk, desk_at, doing_at, with_start}
 use Rattle.desks.specs.Holding.{IsHeld}
 use Rattle.desks.specs.Shown.{seen_of, shown}
-use Rattle.law_held_entries.specs.Seen.{settings_of}
+use Rattle.law_held_steps.specs.SeenEntries.{settings_of}
 use Rattle.desks.proofs.Showing.{task_is}
-use Rattle.law_held_entries.proofs.Seen.{left_same, rests_of, now_of, settings_by}
-use Rattle.law_held_entries.proofs.Items.{started_held, ended_held, acked_held, signal_held, unentered_held}
-use Rattle.law_held_entries.proofs.Transactions.{txn_here, txn_elsewhere, viewed_held, saved_held, committed_held, rolled_back_held}
-use Rattle.law_held_entries.proofs.Sessions.{start_here}
+use Rattle.law_held_steps.proofs.SeenEntries.{left_same, rests_of, now_of, settings_by}
+use Rattle.law_held_steps.proofs.Items.{started_held, ended_held, acked_held, signal_held, unentered_held}
+use Rattle.law_held_steps.proofs.Transactions.{txn_here, txn_elsewhere, viewed_held, saved_held, committed_held, rolled_back_held}
+use Rattle.law_held_steps.proofs.EntrySessions.{start_here}
 use Rattle.world_lists.proofs.Answering.{desk_read, few_more}
 use Rattle.desks.specs.Undoing.{undo_left_in}
 use Rattle.world_lists.proofs.Standings.{there, open_has, txn_is}

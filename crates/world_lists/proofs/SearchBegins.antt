@@ -29,10 +29,10 @@ use Rattle.desks.specs.Desks.{doing_at, with_doing}
 use Rattle.desks.specs.Holding.{IsHeld, IsOwnView, SightHolds}
 use Rattle.desks.specs.Shown.{reading_of, seen_of}
 use Rattle.desks.specs.Undoing.{undo_left_in}
-use Rattle.law_held_searches.specs.Begun.{HasView, IsBegun}
-use Rattle.law_held_searches.proofs.Begins.{has_view, begun}
+use Rattle.law_held_steps.specs.Begun.{HasView, IsBegun}
+use Rattle.law_held_steps.proofs.Begins.{has_view, begun}
 use Rattle.desks.proofs.Showing.{task_is, idle_shown}
-use Rattle.law_held_searches.proofs.Callers.{turns_to_search}
+use Rattle.law_held_steps.proofs.Callers.{turns_to_search}
 
 -- ---- who reads
 

@@ -19,11 +19,11 @@ use Rattle.desks.specs.declared.desk.TableSearch.{TableSearch}
 use Rattle.desks.specs.Desks.{doing_at, is_quiet}
 use Rattle.desks.specs.Holding.{IsHeld}
 use Rattle.desks.specs.Undoing.{undo_left_in}
-use Rattle.law_held_searches.specs.Moving.{MovesPlaces}
-use Rattle.law_held_searches.specs.Newest.{plan_read, TellsTable, AreRead}
+use Rattle.law_held_steps.specs.Moving.{MovesPlaces}
+use Rattle.law_held_steps.specs.Newest.{plan_read, TellsTable, AreRead}
 use Rattle.desks.specs.Shown.{seen_of}
-use Rattle.law_held_searches.proofs.AtOnce.{tells_held, are_newest}
-use Rattle.law_held_searches.proofs.Callers.{seen_stay}
+use Rattle.law_held_steps.proofs.AtOnce.{tells_held, are_newest}
+use Rattle.law_held_steps.proofs.Callers.{seen_stay}
 
 nothing_changes : (s : ℕ) (state : State) → Stays s state state
 nothing_changes s state = record { names_are = refl; past_is = refl; writer_is = refl; task_is = refl; others = λ t differs. refl }

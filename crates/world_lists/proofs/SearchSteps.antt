@@ -31,12 +31,12 @@ use Rattle.desks.specs.Holding.{IsHeld}
 use Rattle.desks.specs.Shown.{reading_of, seen_of}
 use Rattle.desks.specs.Undoing.{undo_left_in}
 use Rattle.desks.specs.Searching.{places_in, places_of}
-use Rattle.law_held_searches.specs.Moving.{MovesPlaces}
-use Rattle.law_held_searches.specs.TakenUp.{ComesAnew, IsTakenUp, MayStep, IsSearchOf, plan_of}
-use Rattle.law_held_searches.proofs.AtDesks.{doing_twice, doing_here}
+use Rattle.law_held_steps.specs.Moving.{MovesPlaces}
+use Rattle.law_held_steps.specs.TakenUp.{ComesAnew, IsTakenUp, MayStep, IsSearchOf, plan_of}
+use Rattle.law_held_steps.proofs.AtDesks.{doing_twice, doing_here}
 use Rattle.desks.proofs.Showing.{task_is, places_are}
-use Rattle.law_held_searches.proofs.Callers.{turns_now, search_shown, has_desk, searches_on}
-use Rattle.law_held_searches.proofs.Stepping.{steps, went, nears, ended, waited, given_up}
+use Rattle.law_held_steps.proofs.Callers.{turns_now, search_shown, has_desk, searches_on}
+use Rattle.law_held_steps.proofs.Stepping.{steps, went, nears, ended, waited, given_up}
 
 -- what stands at desks after the session's task was taken and another given
 pub desks_given : (s : ℕ) (doing : Doing) (desks between after : List Desk) → between ≡ with_doing s Nothing desks → after ≡ with_doing s doing between

@@ -8,7 +8,7 @@ use Rattle.inno_db.specs.declared.change.Change.TheVariants.{Create}
 use Rattle.inno_model.specs.declared.event.Event.{Event}
 use Rattle.inno_model.specs.declared.event.Event.TheVariants.{Changed}
 use Rattle.inno_model.specs.Past.{own}
-use Rattle.law_fitting_rows.specs.Storable.{IsStorable}
+use Rattle.law_stored_rows.specs.Storable.{IsStorable}
 use Rattle.sql_history.specs.Settings.{at_first}
 use Rattle.txn_table.specs.Txns.{Txns, is_there, id_at}
 use Rattle.world.specs.State.{WorldState, Session, Work, IsSession, HasWork, standing_of, id_of}
@@ -31,10 +31,10 @@ use Rattle.desks.specs.Desks.{doing_at, is_quiet_doing}
 use Rattle.desks.specs.Shown.{shown, seen_of}
 use Rattle.desks.specs.Undoing.{undo_left_in}
 use Rattle.desks.specs.Holding.{IsHeld}
-use Rattle.law_held_entries.specs.Seen.{settings_of}
+use Rattle.law_held_steps.specs.SeenEntries.{settings_of}
 use Rattle.desks.proofs.Showing.{task_is}
-use Rattle.law_held_entries.proofs.Seen.{settings_same, setting_at, settings_set}
-use Rattle.law_held_entries.proofs.Tables.{LeavesRooms, created_held}
+use Rattle.law_held_steps.proofs.SeenEntries.{settings_same, setting_at, settings_set}
+use Rattle.law_held_steps.proofs.Tables.{LeavesRooms, created_held}
 use Rattle.world_lists.proofs.Answering.{few_more}
 
 -- ---- the session's transaction in the new world
@@ -138,7 +138,7 @@ module _ (s : ℕ) (schema : Schema) (old mid : WorldState) (makes : MakesTable 
     -- what sessions have set is as it was
     pub settings_are : settings_of new.sessions ≡ settings_of old.sessions
     settings_are =
-        Rattle.law_held_entries.proofs.Seen.settings_by old.sessions new.sessions s makes.session session_now (λ x. x) same_count makes.has_work.session_is
+        Rattle.law_held_steps.proofs.SeenEntries.settings_by old.sessions new.sessions s makes.session session_now (λ x. x) same_count makes.has_work.session_is
         gives.now refl same_else
         ∙ set-get_or (settings_of old.sessions) s at_first
 

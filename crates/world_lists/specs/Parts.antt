@@ -12,13 +12,13 @@ use Rattle.row_changes.specs.Rows.{IsChangingRow, ChangesRow, table_of}
 use Rattle.shared_lists.specs.declared.answers.Changed.{Changed}
 use Rattle.shared_lists.specs.declared.answers.Changed.TheVariants.{Went, Entered, Done, NoMemory}
 use Rattle.desks.specs.declared.desk.Doing.{Doing}
-use Rattle.law_held_changes.specs.Making.{doing_after}
+use Rattle.law_held_steps.specs.Making.{doing_after}
 use Rattle.shared_lists.specs.declared.answers.Undone.{Undone}
 use Rattle.shared_lists.specs.declared.answers.Undone.TheVariants as undone
 use Rattle.row_changes.specs.Awaited.{AwaitsIn}
 use Rattle.desks.specs.declared.desk.Desk.{Desk}
 use Rattle.world_lists.specs.Between.{AwaitsOnly, AwaitsNobody}
-use Rattle.law_held_changes.specs.Leaving.{LeavesIndexes, LeavesTable}
+use Rattle.law_held_steps.specs.Leaving.{LeavesIndexes, LeavesTable}
 
 -- whether the history tells the change
 abbrev pub is_told : RowChange → Bool

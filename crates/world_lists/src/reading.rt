@@ -5,10 +5,10 @@ ghost use Rattle.row_versions.specs.Chains.{Chains};
 ghost use Rattle.world.specs.State.{Session, IsSession};
 ghost use Rattle.desks.specs.Desks.{is_quiet};
 ghost use Rattle.desks.specs.Holding.{IsOwnView};
-ghost use Rattle.law_held_searches.specs.Begun.{HasView};
-ghost use Rattle.law_held_searches.specs.Moving.{MovesPlaces};
-ghost use Rattle.law_held_searches.specs.Newest.{TellsTable, AreRead};
-ghost use Rattle.law_held_searches.specs.TakenUp.{MayStep, ComesAnew};
+ghost use Rattle.law_held_steps.specs.Begun.{HasView};
+ghost use Rattle.law_held_steps.specs.Moving.{MovesPlaces};
+ghost use Rattle.law_held_steps.specs.Newest.{TellsTable, AreRead};
+ghost use Rattle.law_held_steps.specs.TakenUp.{MayStep, ComesAnew};
 
 use desks::{Desk, Doing};
 use inno_types::{Ids, Rows, Schema};

@@ -10,8 +10,8 @@ use inno_model::History;
 use inno_types::{Bytes, Ids, Item, Level, Listed, Reply, Rows, Schema, Stmt};
 use row_changes::RowChange;
 use row_search::{Reached, RowSearch, Sight};
-use session_settings::SessionSettings;
 use shared_lists::{Changed, Reading, Searched, SharedLists, Undone};
+use sql_history::SessionSettings;
 use sql_plan::Plan;
 use store_api::{MOST_SESSIONS, Move, NoMemory};
 use world::EngineWorld;
@@ -286,7 +286,7 @@ impl<W: EngineWorld> WorldLists<W> {
     ghost use Rattle.law_past_agreement.specs.Order.{MayCome};
     ghost use Rattle.shared_lists.specs.Tasks.{Undoing, MayTakeBack};
     ghost use Rattle.shared_lists.specs.State.{task_of};
-    ghost use Rattle.law_held_undoing.specs.Seen.{TakesBackIn};
+    ghost use Rattle.law_held_steps.specs.SeenUndoing.{TakesBackIn};
 
     /// Reads the undo record of the session's newest change.
     fn read_record(&mut self, session: u32) -> Undone
@@ -332,7 +332,7 @@ ghost use Rattle.std.specs.Prelude.{◌≡◌, ◌≢◌, ◌-◌, ◌<◌, ◌^
 ghost use Rattle.txn_table.specs.Txns.{is_there, id_at};
 ghost use Rattle.world.specs.Sessions.{identified};
 ghost use Rattle.shared_lists.specs.State.{writer_without};
-ghost use Rattle.law_held_searches.specs.Newest.{plan_read};
+ghost use Rattle.law_held_steps.specs.Newest.{plan_read};
 
 /// Gives the transaction its id, where it has none.
 fn give_first_id<W: EngineWorld>(world: &mut W, txn: u64, id: u64)

@@ -11,9 +11,9 @@ ghost use Rattle.row_changes.specs.Rows.{IsChangingRow, table_of};
 ghost use Rattle.inno_model.specs.Past.{own};
 ghost use Rattle.desks.specs.Desks.{doing_at};
 ghost use Rattle.desks.specs.Holding.{IsHeld};
-ghost use Rattle.law_held_changes.specs.Leaving.{LeavesIndexes, LeavesTable};
-ghost use Rattle.law_held_changes.specs.Making.{given_up};
-ghost use Rattle.law_held_undoing.specs.Seen.{lists_held, TakesBackIn};
+ghost use Rattle.law_held_steps.specs.Leaving.{LeavesIndexes, LeavesTable};
+ghost use Rattle.law_held_steps.specs.Making.{given_up};
+ghost use Rattle.law_held_steps.specs.SeenUndoing.{lists_held, TakesBackIn};
 ghost use Rattle.world_lists.specs.Parts.{StepsChange, DropsNewest, AwaitsAfter, is_told, answer_for};
 ghost use Rattle.world_lists.specs.Between.{AwaitsOnly};
 

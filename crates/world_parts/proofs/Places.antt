@@ -7,8 +7,8 @@ use Rattle.std.proofs.Math.ListN.{get_or}
 use Rattle.std.proofs.lemmas.Option.{get_or_from_slice_get}
 use Rattle.std.proofs.lemmas.List.{set-get_or}
 use Rattle.std.proofs.Math.Path.{fun_ext}
-use Rattle.chain.specs.declared.kept.Kept.{Kept}
-use Rattle.chain.specs.Versions.{IsShort}
+use Rattle.row_versions.specs.declared.kept.Kept.{Kept}
+use Rattle.row_versions.specs.Versions.{IsShort}
 use Rattle.world_parts.specs.Slots.{filled, kept_behind, AreShort}
 
 pub get_set_here : {X : Type 0} (xs : List X) (i : ℕ) (x : X) → i < length xs → slice_get (slice_set xs i x) i ≡ Some x

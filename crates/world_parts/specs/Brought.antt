@@ -2,7 +2,7 @@
 use Rattle.std.specs.Prelude.{◌≡◌, ◌==◌, Bool, true, false, List, Option, None, Some}
 use Rattle.inno_types.specs.declared.value.Schema.{Schema}
 use Rattle.store_api.specs.declared.answers.Undo.{Undo}
-use Rattle.chain.specs.declared.kept.Kept.{Kept}
+use Rattle.row_versions.specs.declared.kept.Kept.{Kept}
 use Rattle.world.specs.Indexes.{IsVersionKept}
 use Rattle.world_parts.specs.declared.brought.Brought.{Brought}
 

@@ -1,7 +1,7 @@
 -- What contracts see of older versions: a slot for each roll pointer that was promised, some of them filled.
 use Rattle.std.specs.Prelude.{◌≡◌, ℕ, zero, suc, ◌-◌, true, List, slice_get, slice_set, Option, None, Some}
-use Rattle.chain.specs.declared.kept.Kept.{Kept}
-use Rattle.chain.specs.Versions.{Versions, IsShort}
+use Rattle.row_versions.specs.declared.kept.Kept.{Kept}
+use Rattle.row_versions.specs.Versions.{Versions, IsShort}
 
 abbrev pub filled : Option (Option Kept) → Option Kept
 filled None = None

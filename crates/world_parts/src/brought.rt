@@ -5,9 +5,9 @@ ghost use Rattle.store_api.specs.declared.answers.Version.{Version};
 ghost use Rattle.world.specs.Indexes.{IsVersionKept, IsUndo, KeepsAsSaid};
 ghost use Rattle.world_parts.specs.Brought.{IsKeptOf, KeepsOnly, IsBrought};
 
-use chain::Kept;
 use inno_types::Schema;
 use row_codec::{RowBad, decode};
+use row_versions::Kept;
 use std::alloc::Global;
 use store_api::{NoMemory, Undo};
 

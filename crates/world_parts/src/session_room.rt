@@ -12,7 +12,7 @@ ghost use Rattle.world_parts.specs.Owed.{bit, owed_of};
 
 use crate::open_work::{LoggedUndo, OpenWork, SeenIds};
 use inno_types::{Bytes, Level, Stmt};
-use session_settings::SessionSettings;
+use sql_history::SessionSettings;
 use std::alloc::Global;
 use std::marker::Model;
 use store_api::{NoMemory, Standing, Undo};

@@ -2,11 +2,11 @@
 //! taken when its pointer is promised, and filled when the version is kept.
 
 ghost use Rattle.std.specs.Prelude.{◌≡◌, ◌≤◌, ◌<◌, ◌+◌, ◌-◌, [], ◌∷◌, ◌++◌, length, slice_set, None, Some, IfOk, IfSome, OnOk, OnErr, option_copied, vec_capacity, false};
-ghost use Rattle.chain.specs.Versions.{IsShort, IsPointer};
-ghost use Rattle.chain.specs.Calls.{ShowsVersion, ShowsBytes, has_read};
+ghost use Rattle.row_versions.specs.Versions.{IsShort, IsPointer};
+ghost use Rattle.row_versions.specs.Calls.{ShowsVersion, ShowsBytes, has_read};
 ghost use Rattle.world_parts.specs.Slots.{kept_behind, slotted};
 
-use chain::{ChainBad, Kept};
+use row_versions::{ChainBad, Kept};
 use std::alloc::{AllocError, Global};
 use std::marker::Model;
 use store_api::{NoMemory, Version, Visit};
@@ -18,7 +18,7 @@ pub struct Slots {
 
 impl Model for Slots {
     ghost use Rattle.std.specs.Prelude.{List, Option};
-    ghost use Rattle.chain.specs.declared.kept.Kept.{Kept};
+    ghost use Rattle.row_versions.specs.declared.kept.Kept.{Kept};
     ghost use Rattle.world_parts.specs.Slots.{AreShort};
 
     ghost Value = { List (Option Kept) };

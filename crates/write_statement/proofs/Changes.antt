@@ -24,7 +24,7 @@ use Rattle.sql_history.specs.LooseReading.{newest}
 use Rattle.sql_history.specs.Counts.{rows_of_entry, rows_kept, most_rows}
 use Rattle.sql_history.specs.Legal.{IsWriting, ChangesBy, MayChange}
 use Rattle.law_past_agreement.specs.Order.{created, IsTabled, IsOfRow, IsOrdered}
-use Rattle.law_fitting_rows.proofs.Spelled.{spelled-Has64Bits}
+use Rattle.law_stored_rows.proofs.Spelled.{spelled-Has64Bits}
 use Rattle.law_found_rows.proofs.FittingDatabases.{latest_coded, statement_fits}
 use Rattle.shared_lists.specs.Fitting.{FitsWell, FitsThen}
 use Rattle.sql_lists.specs.Kept.{IsInOrder}

@@ -44,8 +44,8 @@ use Rattle.sql_plan.specs.Visits.{index_key, IsRowOf}
 use Rattle.sql_lists.specs.Kept.{AreStanding, AreInOrder, IsInOrder, made}
 use Rattle.write_statement.specs.declared.machine.Search.{Search}
 use Rattle.write_statement.specs.declared.settling.Settled.{Settled}
-use Rattle.write_plan.specs.Planning.{Covers, HoldsKeys, HoldsMatches}
-use Rattle.write_plan.proofs.Inserting.{other_keys}
+use Rattle.sql_plan.specs.Planning.{Covers, HoldsKeys, HoldsMatches}
+use Rattle.sql_plan.proofs.Inserting.{other_keys}
 use Rattle.write_statement.specs.Running.{IsEarly, HasRight, IsFound, AreEnough, IsChanging}
 use Rattle.write_statement.specs.Settling.{IsSettledBy}
 

@@ -11,14 +11,14 @@ use Rattle.inno_types.specs.declared.stmt.Filter.{Filter}
 use Rattle.inno_types.specs.declared.stmt.Literal.{Literal}
 use Rattle.inno_types.specs.declared.stmt.Stmt.{Stmt}
 use Rattle.inno_types.specs.declared.stmt.Stmt.TheVariants as stmt
-use Rattle.search_range.specs.declared.interval.Interval.{Interval}
+use Rattle.sql_plan.specs.declared.interval.Interval.{Interval}
 use Rattle.sql_plan.specs.declared.choice.Plan.{Plan}
 use Rattle.sql_plan.specs.declared.part.Bounding.{Bounding}
 use Rattle.sql_plan.specs.Parts.{ranges_of}
 use Rattle.sql_plan.specs.Plans.{places_of, key_on, after_clustered, index_on, chosen_column, allowed, plan_if, plan_by, plan_of, whole_index}
 use Rattle.sql_plan.specs.Visits.{are_indexable}
-use Rattle.write_plan.specs.Keys.{is_plain_key, has_given_key}
-use Rattle.write_plan.specs.Planning.{plan_for, plan_by_tuples, plan_by_keys, HoldsMatches, IsPlanFor}
+use Rattle.sql_plan.specs.Keys.{is_plain_key, has_given_key}
+use Rattle.sql_plan.specs.Planning.{plan_for, plan_by_tuples, plan_by_keys, HoldsMatches, IsPlanFor}
 
 key_within : (keys : List Key) (place k : ℕ) → key_on keys place ≡ Some k → k < length keys
 key_within keys place k is = (position-Some (λ (key : Key). key.column == place) keys k (record { name = []; column = 0 }) is).0

@@ -28,7 +28,7 @@ use Rattle.write_statement.specs.declared.machine.Search.{Search}
 use Rattle.write_statement.specs.declared.machine.Work.{Work}
 use Rattle.write_statement.specs.declared.machine.WriteStatement.{WriteStatement}
 use Rattle.write_statement.specs.declared.machine.WriteStatement.TheVariants as machine
-use Rattle.write_plan.specs.Planning.{IsPlanFor}
+use Rattle.sql_plan.specs.Planning.{IsPlanFor}
 use Rattle.write_statement.specs.Running.{IsEarly, HasRight, IsReading, IsSearching, IsFound, IsChanging, IsBackingOut, MayGoBack, IsRunning, given_up}
 use Rattle.write_statement.proofs.Moving.{steps_as}
 use Rattle.write_statement.proofs.GivingUp.{early_no_memory, changing_no_memory, broken_off, overfull}

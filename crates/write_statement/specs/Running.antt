@@ -29,7 +29,7 @@ use Rattle.shared_lists.specs.State.{State, task_of}
 use Rattle.shared_lists.specs.Steps.{AreRowsSeen}
 use Rattle.sql_plan.specs.declared.choice.Plan.{Plan}
 use Rattle.sql_lists.specs.Steps.{HasRowsAlone, IsTaken}
-use Rattle.write_plan.specs.Planning.{HoldsMatches}
+use Rattle.sql_plan.specs.Planning.{HoldsMatches}
 use Rattle.write_statement.specs.declared.machine.Search.{Search}
 use Rattle.write_statement.specs.declared.machine.Work.{Work}
 use Rattle.write_statement.specs.declared.machine.WriteStatement.{WriteStatement}

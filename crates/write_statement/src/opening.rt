@@ -6,13 +6,13 @@ ghost use Rattle.inno_db.specs.declared.limits.TheConstants.{MOST_TABLES};
 ghost use Rattle.inno_types.specs.declared.value.Schema.{Schema};
 ghost use Rattle.inno_model.specs.Past.{own, IsOpen, IsClosed};
 ghost use Rattle.law_past_agreement.specs.Order.{created};
-ghost use Rattle.law_fitting_rows.specs.Storable.{AreStorable};
+ghost use Rattle.law_stored_rows.specs.Storable.{AreStorable};
 ghost use Rattle.shared_lists.specs.Tasks.{Idle};
 ghost use Rattle.shared_lists.specs.State.{task_of};
 ghost use Rattle.sql_lists.specs.Steps.{Steps};
 ghost use Rattle.sql_lists.specs.Going.{Nears};
 ghost use Rattle.write_statement.specs.Going.{to_go};
-ghost use Rattle.write_plan.specs.Planning.{IsPlanFor};
+ghost use Rattle.sql_plan.specs.Planning.{IsPlanFor};
 ghost use Rattle.write_statement.specs.Running.{IsEarly, HasRight, IsRunning};
 ghost use Rattle.write_statement.specs.Settling.{IsTableNamed};
 
@@ -21,11 +21,10 @@ use crate::machine::{Search, WriteStatement};
 use inno_types::{Bytes, Listed, Rows, Schema, Stmt};
 use shared_lists::{Reading, SharedLists};
 use sql_lists::{Advance, SqlLists};
-use sql_plan::Plan;
+use sql_plan::{Plan, plan_for};
 use sql_values::place_of_table;
 use std::alloc::Global;
 use store_api::NoMemory;
-use write_plan::plan_for;
 
 pub fn step_fresh<L: SharedLists>(
     stmt: Stmt,

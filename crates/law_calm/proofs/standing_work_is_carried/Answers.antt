@@ -1,5 +1,5 @@
 use Rattle.sql_grammar.specs.Grammar.{Spells}
-use Rattle.law_work.proofs.Spelled.{spells_one}
+use Rattle.law_histories.proofs.Spelled.{spells_one}
 use Rattle.law_calm.proofs.Kept.{all_kept}
 use Rattle.law_calm.proofs.standing_work_is_carried.Goals as goal
 

@@ -1,5 +1,5 @@
 use Rattle.sql_grammar.specs.Grammar.{Spells}
-use Rattle.law_work.proofs.Spelled.{spells_one}
+use Rattle.law_histories.proofs.Spelled.{spells_one}
 use Rattle.law_calm.proofs.Alone.{calm_alone}
 use Rattle.law_phantoms.proofs.Phantoms.{phantoms_calm}
 use Rattle.law_phantoms.proofs.phantom_free_histories_answer_as_alone.Goals as goal

@@ -1,5 +1,5 @@
 use Rattle.sql_grammar.specs.Grammar.{Spells}
-use Rattle.law_work.proofs.Spelled.{spells_one}
+use Rattle.law_histories.proofs.Spelled.{spells_one}
 use Rattle.law_calm.proofs.Kept.{all_calm}
 use Rattle.law_calm.proofs.Alone.{calm_alone}
 use Rattle.law_serial.proofs.Turns.{one_serial}

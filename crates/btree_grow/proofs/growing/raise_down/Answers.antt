@@ -1,5 +1,5 @@
 use Rattle.std.proofs.Common.{◌+◌, subst, sym, arith}
-use Rattle.page_format.specs.Words.{u32_at}
+use Rattle.stored_pages.specs.Words.{u32_at}
 use Rattle.btree_grow.specs.Grown.{MakesRoom}
 use Rattle.btree_grow.proofs.Free.{none_free}
 use Rattle.btree_grow.proofs.RaiseTree.{root_level}

@@ -1,5 +1,5 @@
 use Rattle.std.proofs.Common.{◌≡◌, suc, ◌+◌, ◌-◌, ◌*◌, sym, subst, arith}
-use Rattle.page_format.specs.Words.{u32_at}
+use Rattle.stored_pages.specs.Words.{u32_at}
 use Rattle.store_api.specs.declared.visits.Visit.{Visit}
 use Rattle.btree_grow.specs.Going.{IsStop}
 use Rattle.btree_grow.specs.Grown.{StandsAbove, HasGrown}

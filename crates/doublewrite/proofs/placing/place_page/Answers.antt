@@ -1,6 +1,6 @@
 use Rattle.std.proofs.Common.{◌≡◌, ℕ, ◌*◌, true, ◌∙◌, ap, arith}
 use Rattle.std.specs.Prelude.{is_ok}
-use Rattle.page_format.specs.Words.{number_of}
+use Rattle.stored_pages.specs.Words.{number_of}
 use Rattle.doublewrite.specs.Batches.{page_at, number_at}
 use Rattle.doublewrite.proofs.Calls.{meant, after_place, after_placed, during_place, after_sync, during_sync, placed_next, placed_last}
 use Rattle.doublewrite.proofs.placing.place_page.Goals as goal

@@ -2,8 +2,8 @@ use Rattle.std.proofs.Common.{◌≡◌, ℕ, ◌*◌, Bool, true, ap, subst}
 use Rattle.std.specs.Prelude.{is_ok, MatchBool}
 use Rattle.store_api.specs.Areas.{piece}
 use Rattle.store_api.specs.Past.{Now}
-use Rattle.doublewrite.specs.Reading.{IsGoodPage, place_of}
-use Rattle.doublewrite.proofs.Bytes.{inside}
+use Rattle.stored_pages.specs.Reading.{IsGoodPage, place_of}
+use Rattle.stored_pages.proofs.Newest.{inside}
 use Rattle.doublewrite.proofs.Calls.{meant}
 use Rattle.doublewrite.proofs.Repairs.{during_look, after_in_place, after_restore, during_restore}
 use Rattle.doublewrite.proofs.restoring.restore.Goals as goal

@@ -1,5 +1,5 @@
 use Rattle.std.proofs.Common.{ℕ, ◌<◌, ◌≤◌}
-use Rattle.page_format.specs.Words.{lsn_of}
+use Rattle.stored_pages.specs.Words.{lsn_of}
 use Rattle.doublewrite.specs.Batches.{page_at}
 use Rattle.flusher.proofs.gathering.newest_lsn.Given as goal
 

@@ -1,7 +1,7 @@
 use Rattle.std.proofs.Common.{◌≡◌, ℕ, List, ◌++◌, drop, ◌∙◌, ap}
 use Rattle.std.specs.Int.{w64, to_be_bytes}
 use Rattle.sum64.specs.Fnv.{fnv_of}
-use Rattle.page_format.proofs.Sealed.{sealed}
+use Rattle.stored_pages.proofs.Sealed.{sealed}
 use Rattle.flusher.proofs.gathering.with_sum.Goals as goal
 
 pub returns-clause-sum : goal.returns-clause-sum

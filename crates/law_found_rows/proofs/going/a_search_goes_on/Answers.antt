@@ -1,4 +1,4 @@
-use Rattle.law_coded_rows.specs.Tables.{in_table}
+use Rattle.law_stored_rows.specs.Tables.{in_table}
 use Rattle.law_found_rows.proofs.Finding.{goes_on, waits_on}
 use Rattle.law_found_rows.proofs.going.a_search_goes_on.Goals as goal
 

@@ -1,5 +1,5 @@
 use Rattle.std.proofs.Common.{ap, ◌∙◌, arith}
-use Rattle.page_format.specs.Words.{number_of, lsn_of}
+use Rattle.stored_pages.specs.Words.{number_of, lsn_of}
 use Rattle.mini_txn.proofs.Bodies.{number-stamped, lsn-stamped}
 use Rattle.mini_txn.proofs.placing.place.Goals as goal
 

@@ -1,5 +1,5 @@
 use Rattle.std.proofs.Common.{◌≡◌, ◌≤◌, ℕ, List, false, refl, sym, subst, ◌∙◌, length}
-use Rattle.page_format.specs.Words.{u32_at}
+use Rattle.stored_pages.specs.Words.{u32_at}
 use Rattle.buffer_pool.specs.Frames.{is_standing}
 use Rattle.mini_txn.proofs.Meeting.{none_stands, blank_counts}
 use Rattle.mini_txn.proofs.work.pool_counts_few.Goals as goal

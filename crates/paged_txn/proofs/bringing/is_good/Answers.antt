@@ -1,7 +1,7 @@
 use Rattle.std.proofs.Common.{nat_eq, ◌&&◌, ap, ◌∙◌}
 use Rattle.std.specs.Prelude.{drop}
 use Rattle.sum64.specs.Fnv.{fnv_of}
-use Rattle.page_format.specs.Words.{u64_at}
+use Rattle.stored_pages.specs.Words.{u64_at}
 use Rattle.paged_txn.specs.View.{is_good}
 use Rattle.paged_txn.proofs.bringing.is_good.Goals as goal
 

@@ -1,7 +1,7 @@
 use Rattle.std.proofs.Common.{◌≡◌, true, length, sym, ap, subst, ◌∙◌, arith}
 use Rattle.std.specs.Prelude.{nat_le}
 use Rattle.std.proofs.lemmas.Bool.{leb-true}
-use Rattle.page_format.specs.Words.{u32_at}
+use Rattle.stored_pages.specs.Words.{u32_at}
 use Rattle.buffer_pool.specs.Frames.{bytes_of}
 use Rattle.paged_txn.specs.View.{IsPaged, Begins}
 use Rattle.paged_txn.specs.Bringing.{IsRefused}

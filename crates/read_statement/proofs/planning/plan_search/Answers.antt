@@ -1,5 +1,5 @@
 use Rattle.std.proofs.Common.{◌≡◌, subst, sym}
-use Rattle.law_fitting_rows.specs.Storable.{AreStorable}
+use Rattle.law_stored_rows.specs.Storable.{AreStorable}
 use Rattle.law_past_agreement.specs.Order.{created}
 use Rattle.law_found_rows.proofs.FittingChanges.{tables_storable}
 use Rattle.read_statement.proofs.planning.plan_search.Goals as goal

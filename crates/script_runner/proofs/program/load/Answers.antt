@@ -1,6 +1,6 @@
 use Rattle.std.proofs.Common.{sym, ap, subst, ◌∙◌, Option}
 use Rattle.inno_model.specs.Text.{items}
-use Rattle.law_page_errors.proofs.Ended.{none_for_pages}
+use Rattle.law_histories.proofs.Ended.{none_for_pages}
 use Rattle.script.specs.declared.script.Script.{Script}
 use Rattle.script.specs.declared.script.ScriptBad.{ScriptBad}
 use Rattle.script_play.specs.Sessions.{AreNamed, FollowsScript, HasPlayed, HasAnswered}

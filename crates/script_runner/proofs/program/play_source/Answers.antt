@@ -1,6 +1,6 @@
 use Rattle.std.proofs.Common.{sym, ap, subst, ◌∙◌}
 use Rattle.inno_model.specs.Text.{items}
-use Rattle.law_page_errors.proofs.Ended.{none_for_pages}
+use Rattle.law_histories.proofs.Ended.{none_for_pages}
 use Rattle.script_runner.proofs.Following.{nothing_follows, spelled_follows, spelled_plays}
 use Rattle.script_runner.proofs.Causing.{not_usage, input_not_usage, judged, judged_refused, no_limit}
 use Rattle.sql_history.specs.Serial.{IsSetUp}

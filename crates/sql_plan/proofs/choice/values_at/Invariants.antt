@@ -1,7 +1,7 @@
 use Rattle.std.proofs.Common.{◌≡◌, map, drop}
-use Rattle.search_range.specs.Intervals.{whole}
+use Rattle.sql_plan.specs.Intervals.{whole}
 use Rattle.sql_plan.specs.Plans.{meet_on}
-use Rattle.search_range.specs.SeenIntervals.{seen_interval}
+use Rattle.sql_plan.specs.SeenIntervals.{seen_interval}
 use Rattle.sql_plan.specs.SeenParts.{seen_part}
 use Rattle.sql_plan.proofs.choice.values_at.Given as goal
 

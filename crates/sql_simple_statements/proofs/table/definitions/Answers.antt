@@ -1,8 +1,8 @@
 use Rattle.std.proofs.Common.{refl, length, sym}
 use Rattle.std.proofs.lemmas.Result.{err_from_is_err_and}
-use Rattle.sql_literals.specs.Parts.{commas_at}
+use Rattle.sql_conditions.specs.Parts.{commas_at}
 use Rattle.sql_simple_statements.specs.Statements.{define_at}
-use Rattle.sql_literals.proofs.Items.{goes_on, stops, fails, runs_out}
+use Rattle.sql_conditions.proofs.Items.{goes_on, stops, fails, runs_out}
 use Rattle.sql_simple_statements.proofs.table.definitions.Goals as goal
 
 pub returns-in_err-definition : goal.returns-in_err-definition

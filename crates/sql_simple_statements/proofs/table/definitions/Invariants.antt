@@ -1,7 +1,7 @@
 use Rattle.std.proofs.Common.{◌≡◌, ◌-◌}
-use Rattle.sql_literals.specs.Parts.{items_at}
+use Rattle.sql_conditions.specs.Parts.{items_at}
 use Rattle.sql_simple_statements.specs.Statements.{define_at}
-use Rattle.sql_literals.proofs.Items.{with_items}
+use Rattle.sql_conditions.proofs.Items.{with_items}
 use Rattle.sql_simple_statements.proofs.table.definitions.Given as goal
 
 abbrev pub invariant-loop : goal.invariant-loop

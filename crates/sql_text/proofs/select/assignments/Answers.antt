@@ -2,9 +2,9 @@ use Rattle.std.proofs.Common.{◌≡◌, ◌∷◌, [], ◌++◌, refl, length, 
 use Rattle.std.proofs.lemmas.Result.{err_from_is_err_and}
 use Rattle.std.proofs.lemmas.List.{map_push}
 use Rattle.inno_types.specs.declared.stmt.Set.{Set}
-use Rattle.sql_literals.specs.Parts.{commas_at}
+use Rattle.sql_conditions.specs.Parts.{commas_at}
 use Rattle.sql_text.specs.Whole.{assignment_at, columns_of}
-use Rattle.sql_literals.proofs.Items.{starts, goes_on, stops, fails, runs_out}
+use Rattle.sql_conditions.proofs.Items.{starts, goes_on, stops, fails, runs_out}
 use Rattle.sql_text.proofs.SoundStatements.{begins_on, ends_with, none_begun}
 use Rattle.sql_text.proofs.select.assignments.Goals as goal
 

@@ -1,7 +1,7 @@
 use Rattle.std.proofs.Common.{◌≡◌, ◌-◌}
-use Rattle.sql_literals.specs.Parts.{items_at}
+use Rattle.sql_conditions.specs.Parts.{items_at}
 use Rattle.sql_text.specs.Whole.{assignment_at, columns_of}
-use Rattle.sql_literals.proofs.Items.{with_items}
+use Rattle.sql_conditions.proofs.Items.{with_items}
 use Rattle.sql_text.proofs.SoundStatements.{Begun}
 use Rattle.sql_text.proofs.select.assignments.Given as goal
 

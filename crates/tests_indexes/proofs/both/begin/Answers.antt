@@ -1,5 +1,5 @@
 use Rattle.std.proofs.Common.{◌≡◌, ◌≤◌, ◌<◌, ℕ, List, [], length, get_or, vec_len, sym, ap, ◌∙◌, subst, arith}
-use Rattle.page_format.specs.Words.{u32_at}
+use Rattle.stored_pages.specs.Words.{u32_at}
 use Rattle.mtr.specs.Resting.{IsResting}
 use Rattle.tests_indexes.proofs.both.begin.Goals as goal
 

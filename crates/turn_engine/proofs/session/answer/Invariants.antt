@@ -1,5 +1,5 @@
 use Rattle.std.proofs.Common.{◌≡◌, []}
-use Rattle.turn_board.specs.declared.Phase.TheVariants.{Busy}
+use Rattle.inno_model.specs.declared.board.Phase.TheVariants.{Busy}
 use Rattle.turn_engine.specs.Turns.{Rests, Went}
 use Rattle.turn_engine.proofs.session.answer.Given as goal
 

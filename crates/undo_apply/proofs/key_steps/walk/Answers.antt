@@ -1,7 +1,7 @@
 use Rattle.std.proofs.Common.{Bool, subst, Ok}
 use Rattle.store_api.specs.declared.moves.Move.TheVariants.{Step, Again, Failed, Bad}
 use Rattle.store_api.specs.declared.visits.Visit.{Visit}
-use Rattle.chain.specs.Calls.{ShowsBytes, IsUnseen}
+use Rattle.row_versions.specs.Calls.{ShowsBytes, IsUnseen}
 use Rattle.undo_apply.specs.declared.work_room.Stage.TheVariants.{Walk, Await}
 use Rattle.undo_apply.specs.Moves.{at_stage}
 use Rattle.undo_apply.proofs.Telling.{schemas_stay}

@@ -1,9 +1,9 @@
 use Rattle.row_search.specs.declared.sight.Sight.TheVariants.{Newest}
 use Rattle.world.specs.State.{WorldState}
-use Rattle.law_held_searches.specs.Newest.{IsReadingNewest}
-use Rattle.law_held_searches.proofs.Begins.{new_search}
-use Rattle.law_held_searches.proofs.Places.{moves_then}
-use Rattle.law_held_searches.proofs.AtOnce.{reading_begins, reading_steps, reading_goes_on, reading_nears, reading_waits, reading_ends}
+use Rattle.law_held_steps.specs.Newest.{IsReadingNewest}
+use Rattle.law_held_steps.proofs.Begins.{new_search}
+use Rattle.law_held_steps.proofs.Places.{moves_then}
+use Rattle.law_held_steps.proofs.AtOnce.{reading_begins, reading_steps, reading_goes_on, reading_nears, reading_waits, reading_ends}
 use Rattle.world_lists.proofs.reading.newest_rows.Goals as goal
 
 pub reading-init : goal.reading-init

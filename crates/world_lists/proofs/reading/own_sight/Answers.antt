@@ -4,8 +4,8 @@ use Rattle.read_view.specs.Sight.{Sight as ReadSight}
 use Rattle.world.specs.State.{WorldState}
 use Rattle.world.specs.Sessions.{IsShown}
 use Rattle.desks.specs.Holding.{IsOwnView}
-use Rattle.law_held_searches.specs.Begun.{HasView}
-use Rattle.law_held_searches.proofs.Begins.{own_view}
+use Rattle.law_held_steps.specs.Begun.{HasView}
+use Rattle.law_held_steps.proofs.Begins.{own_view}
 use Rattle.world_lists.proofs.reading.own_sight.Goals as goal
 
 pub returns-in-Some : goal.returns-in-Some

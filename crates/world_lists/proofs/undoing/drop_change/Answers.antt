@@ -2,7 +2,7 @@ use Rattle.std.proofs.Common.{sym, subst}
 use Rattle.store_api.specs.declared.moves.Move.TheVariants.{NoMemory}
 use Rattle.row_changes.specs.declared.reached.Reached.TheVariants.{Hindered}
 use Rattle.row_changes.proofs.Awaited.{awaits_none_in}
-use Rattle.law_held_changes.specs.Leaving.{LeavesTable}
+use Rattle.law_held_steps.specs.Leaving.{LeavesTable}
 use Rattle.world_lists.proofs.ChangeSteps.{HasTable, table_dropped, dropped, nothing_after, answer_hindered}
 use Rattle.world_lists.proofs.undoing.drop_change.Goals as goal
 

@@ -1,6 +1,6 @@
 use Rattle.std.proofs.Common.{◌≡◌, ◌+◌, ◌≤◌, length, sym, ap, subst, arith}
 use Rattle.inno_types.specs.declared.value.Schema.{Schema}
-use Rattle.law_held_changes.proofs.Left.{one_more_below, all_gone}
+use Rattle.law_held_steps.proofs.Left.{one_more_below, all_gone}
 use Rattle.world_lists.proofs.ChangeBegin.{one_there, item_of}
 use Rattle.world_lists.proofs.undoing.leave_table.Goals as goal
 

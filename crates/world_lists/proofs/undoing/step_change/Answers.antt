@@ -1,8 +1,8 @@
 use Rattle.std.proofs.Common.{refl, sym, subst}
 use Rattle.row_changes.specs.declared.reached.Reached.TheVariants.{Went, Done, Hindered}
 use Rattle.row_changes.specs.Rows.{ChangesRow}
-use Rattle.law_held_changes.specs.Leaving.{LeavesTable}
-use Rattle.law_held_changes.proofs.Left.{none_left}
+use Rattle.law_held_steps.specs.Leaving.{LeavesTable}
+use Rattle.law_held_steps.proofs.Left.{none_left}
 use Rattle.world_lists.proofs.ChangeSteps.{HasTable, table_left, table_over, answer_over, answer_hindered}
 use Rattle.world_lists.proofs.undoing.step_change.Goals as goal
 

@@ -4,10 +4,10 @@ use Rattle.store_api.specs.declared.moves.Move.TheVariants.{Done, Step}
 use Rattle.shared_lists.specs.declared.answers.Undone.TheVariants.{Undone}
 use Rattle.desks.specs.declared.desk.Doing.TheVariants.{Nothing}
 use Rattle.desks.specs.Desks.{doing_at}
-use Rattle.law_held_changes.proofs.Desks.{doing_here}
-use Rattle.law_held_undoing.specs.Seen.{lists_held}
-use Rattle.law_held_undoing.proofs.Putting.{asks_for, held_on}
-use Rattle.law_held_undoing.proofs.Showing.{shows_went}
+use Rattle.law_held_steps.proofs.Desks.{doing_here}
+use Rattle.law_held_steps.specs.SeenUndoing.{lists_held}
+use Rattle.law_held_steps.proofs.Putting.{asks_for, held_on}
+use Rattle.law_held_steps.proofs.UndoShowing.{shows_went}
 use Rattle.world_lists.proofs.Awaiting.{only_then, only_left}
 use Rattle.world_lists.proofs.ChangeUndo.{is_logged, is_session, has_changes, has_still, step_is_not_done, end_held, end_shown, left_held, left_seen, drops_same, only_dropped, has_table, same_schemas, is_made}
 use Rattle.world_lists.proofs.undoing.take_newest_back.Goals as goal

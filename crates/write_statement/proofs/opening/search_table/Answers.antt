@@ -1,6 +1,6 @@
 use Rattle.std.proofs.Common.{subst, sym, ap, ◌∙◌}
 use Rattle.law_past_agreement.specs.Order.{created}
-use Rattle.law_fitting_rows.specs.Storable.{AreStorable}
+use Rattle.law_stored_rows.specs.Storable.{AreStorable}
 use Rattle.law_found_rows.proofs.FittingChanges.{tables_storable}
 use Rattle.shared_lists.specs.State.{State}
 use Rattle.write_statement.proofs.Turning.{turns_none, turns_stayed, early_given_up, begins_search}

@@ -2,7 +2,7 @@ use Rattle.std.proofs.Common.{◌≡◌, ◌<◌, ◌∷◌, true, false, length
 use Rattle.inno_model.specs.declared.event.Event.TheVariants as events
 use Rattle.inno_model.specs.declared.event.Event.{Event}
 use Rattle.inno_model.specs.Past.{is_of}
-use Rattle.drafts.specs.View.{draft_of}
+use Rattle.commit_log.specs.DraftsView.{draft_of}
 use Rattle.commit_log.specs.View.{CommitView, IsJoined, IsLogging, IsEntryOf, is_commit}
 use Rattle.commit_log.proofs.Logging.{committed, entered}
 use Rattle.commit_log.proofs.commit_log.CommitLog.enter.Goals as goal

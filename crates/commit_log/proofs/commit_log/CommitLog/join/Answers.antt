@@ -1,5 +1,5 @@
 use Rattle.std.proofs.Common.{◌∷◌, [], ◌++◌, ◌∙◌, refl, sym, ap, subst}
-use Rattle.drafts.specs.View.{DraftView}
+use Rattle.commit_log.specs.DraftsView.{DraftView}
 use Rattle.commit_log.specs.View.{CommitView, IsLogging}
 use Rattle.commit_log.proofs.Logging.{kept_joined, long_joined, drafts_joined, due_joined, stays_logging}
 use Rattle.commit_log.proofs.commit_log.CommitLog.join.Goals as goal

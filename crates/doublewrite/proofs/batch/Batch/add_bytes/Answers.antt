@@ -1,6 +1,6 @@
 use Rattle.std.proofs.Common.{◌≡◌, ◌≢◌, ℕ, ◌+◌, ◌<◌, List, ◌++◌, sym, ◌∙◌, ap, subst, arith}
 use Rattle.store_api.specs.Areas.{piece}
-use Rattle.page_format.specs.Words.{number_of}
+use Rattle.stored_pages.specs.Words.{number_of}
 use Rattle.doublewrite.specs.Batches.{BatchView, IsBatch, number_at, page_at}
 use Rattle.doublewrite.proofs.Batched.{added, page_before, page_last}
 use Rattle.doublewrite.proofs.batch.Batch.add_bytes.Goals as goal

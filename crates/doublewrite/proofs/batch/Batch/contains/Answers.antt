@@ -1,5 +1,5 @@
 use Rattle.std.proofs.Common.{sym, ◌∙◌, ap, arith}
-use Rattle.page_format.specs.Words.{number_of}
+use Rattle.stored_pages.specs.Words.{number_of}
 use Rattle.doublewrite.proofs.batch.Batch.contains.Goals as goal
 
 pub returns-then-number_in-number : goal.returns-then-number_in-number

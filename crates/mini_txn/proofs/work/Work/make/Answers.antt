@@ -1,6 +1,6 @@
 use Rattle.std.proofs.Common.{◌≡◌, ◌<◌, true, ◌⊎◌, inl, inr, List, sym, subst, ◌∙◌}
 use Rattle.std.specs.Prelude.{is_some, IsTrue}
-use Rattle.page_format.specs.Words.{u32_at}
+use Rattle.stored_pages.specs.Words.{u32_at}
 use Rattle.log_format.specs.declared.group.Record.{Record}
 use Rattle.buffer_pool.specs.Frames.{is_pooled, next_idle}
 use Rattle.mtr.specs.Seen.{is_in}

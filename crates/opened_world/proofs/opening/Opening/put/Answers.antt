@@ -1,7 +1,7 @@
 use Rattle.std.proofs.Common.{◌≡◌, ◌∙◌, ap, arith, slice_get}
 use Rattle.std.proofs.lemmas.Option.{slice_get_within}
 use Rattle.std.specs.declared.result.Result.TheVariants.{Err}
-use Rattle.law_fitting_rows.specs.Fitting.{FitsTable}
+use Rattle.law_stored_rows.specs.Fitting.{FitsTable}
 use Rattle.list_world.specs.Parts.{world_of}
 use Rattle.list_world.specs.Memory.{in_memory}
 use Rattle.opened_world.specs.declared.opening.PutBad.TheVariants.{RowThere}

@@ -1,7 +1,8 @@
 use Rattle.std.proofs.Common.{◌≡◌, ◌++◌, drop}
 use Rattle.std.specs.Int.{w64, to_be_bytes}
 use Rattle.sum64.specs.Fnv.{fnv_of}
-use Rattle.page_format.proofs.Sealed.{sealed, readable}
+use Rattle.page_format.proofs.Sealed.{readable}
+use Rattle.stored_pages.proofs.Sealed.{sealed}
 use Rattle.page_format.proofs.page.Page.seal.Goals as goal
 
 pub returns : goal.returns

@@ -1,5 +1,5 @@
 use Rattle.std.proofs.Common.{◌≡◌, Option, None, List, ℕ, sym, ap, ◌∙◌}
-use Rattle.page_format.specs.Words.{lsn_of}
+use Rattle.stored_pages.specs.Words.{lsn_of}
 use Rattle.law_logged_pages.specs.Stages.{or_zeros}
 use Rattle.std.specs.Prelude.{slice_index_or}
 use Rattle.page_recovery.proofs.Instead.{lsn-blank}

@@ -1,7 +1,7 @@
 use Rattle.std.proofs.Common.{sym, subst, Option, Some, None, Ok}
 use Rattle.store_api.specs.declared.answers.Version.{Version as Coded}
 use Rattle.store_api.specs.declared.moves.Move.{Move}
-use Rattle.chain.specs.Calls.{ShowsVersion}
+use Rattle.row_versions.specs.Calls.{ShowsVersion}
 use Rattle.row_search.specs.Visits.{move_for}
 use Rattle.row_search.specs.declared.search.Reached.{Reached}
 use Rattle.row_search.specs.declared.search.Reached.TheVariants.{Went, Hindered}

@@ -1,7 +1,7 @@
 use Rattle.std.proofs.Common.{subst}
 use Rattle.sql_grammar.specs.Grammar.{Spells}
 use Rattle.sql_history.specs.Legal.{IsLegal}
-use Rattle.law_page_errors.proofs.Ended.{none_for_pages}
+use Rattle.law_histories.proofs.Ended.{none_for_pages}
 use Rattle.session_engine.proofs.machine.SessionEngine.history.Goals as goal
 
 pub returns-clause-for_pages : goal.returns-clause-for_pages

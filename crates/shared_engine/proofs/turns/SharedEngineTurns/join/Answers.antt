@@ -1,6 +1,6 @@
 use Rattle.std.proofs.Common.{[], subst}
 use Rattle.std.specs.Prelude.{OnOk, OnErr}
-use Rattle.turn_board.specs.Boards.{phase_of}
+use Rattle.inno_model.specs.Boards.{phase_of}
 use Rattle.turn_engine.specs.Calls.{Makes, Joins}
 use Rattle.shared_engine.specs.Shown.{board_of}
 use Rattle.shared_engine.proofs.Turning.{join_ok, join_err}

@@ -1,6 +1,6 @@
 use Rattle.std.proofs.Common.{◌≡◌, [], subst, sym}
-use Rattle.turn_board.specs.declared.Phase.TheVariants.{Idle, Leaving}
-use Rattle.turn_board.specs.Boards.{phase_of}
+use Rattle.inno_model.specs.declared.board.Phase.TheVariants.{Idle, Leaving}
+use Rattle.inno_model.specs.Boards.{phase_of}
 use Rattle.turn_engine.specs.Calls.{Makes}
 use Rattle.shared_engine.specs.Shown.{board_of}
 use Rattle.shared_engine.proofs.Shown.{idle_inside}

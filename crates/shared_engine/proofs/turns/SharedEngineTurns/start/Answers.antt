@@ -1,8 +1,8 @@
 use Rattle.std.proofs.Common.{◌≡◌, [], ◌∷◌, subst, sym}
 use Rattle.std.specs.Prelude.{OnOk, OnErr}
 use Rattle.inno_model.specs.declared.event.Event.TheVariants.{Started}
-use Rattle.turn_board.specs.declared.Phase.TheVariants.{Idle, Busy}
-use Rattle.turn_board.specs.Boards.{phase_of}
+use Rattle.inno_model.specs.declared.board.Phase.TheVariants.{Idle, Busy}
+use Rattle.inno_model.specs.Boards.{phase_of}
 use Rattle.turn_engine.specs.Calls.{Makes, item_number}
 use Rattle.shared_engine.specs.Shown.{board_of}
 use Rattle.shared_engine.proofs.Shown.{idle_inside}

@@ -1,5 +1,5 @@
 use Rattle.std.proofs.Common.{◌<◌, length, subst, sym}
-use Rattle.turn_board.specs.Boards.{phase_of}
+use Rattle.inno_model.specs.Boards.{phase_of}
 use Rattle.turn_engine.specs.Calls.{StepsBy, IsUnderWay, reply_of}
 use Rattle.shared_engine.specs.Shown.{board_of}
 use Rattle.shared_engine.proofs.Shown.{working_inside}

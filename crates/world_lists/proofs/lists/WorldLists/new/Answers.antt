@@ -1,9 +1,9 @@
 use Rattle.std.proofs.Common.{List, None, refl, sym, ap, subst}
 use Rattle.desks.specs.declared.desk.Desk.{Desk}
 use Rattle.desks.specs.Holding.{IsHeld}
-use Rattle.law_held_entries.proofs.Joining.{first_held}
+use Rattle.law_held_steps.proofs.Joining.{first_held}
 use Rattle.world_lists.proofs.Awaiting.{awaits_of_nobody}
-use Rattle.law_held_entries.specs.Seen.{settings_of}
+use Rattle.law_held_steps.specs.SeenEntries.{settings_of}
 use Rattle.world_lists.proofs.lists.WorldLists.new.Goals as goal
 
 pub invariant_of-result : goal.invariant_of-result

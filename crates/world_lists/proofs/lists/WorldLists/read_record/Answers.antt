@@ -1,7 +1,7 @@
 use Rattle.std.proofs.Common.{sym, ap, subst, ◌∙◌}
 use Rattle.shared_lists.specs.State.{Lists, task_of}
 use Rattle.shared_lists.specs.declared.answers.Undone.TheVariants.{Went}
-use Rattle.law_held_undoing.specs.Seen.{lists_held, TakesBackIn}
+use Rattle.law_held_steps.specs.SeenUndoing.{lists_held, TakesBackIn}
 use Rattle.world_lists.proofs.ChangeUndo.{MayUndo, keep_of, read_held, read_awaits, read_shown}
 use Rattle.world_lists.proofs.lists.WorldLists.read_record.Goals as goal
 

@@ -1,9 +1,9 @@
 use Rattle.std.proofs.Common.{length, ◌-◌, ap, subst, ◌∙◌}
 use Rattle.inno_model.specs.Past.{own}
-use Rattle.law_held_undoing.specs.Seen.{lists_held, TakesBackIn}
+use Rattle.law_held_steps.specs.SeenUndoing.{lists_held, TakesBackIn}
 use Rattle.shared_lists.specs.State.{Lists, task_of}
 use Rattle.desks.specs.Undoing.{undo_left_in}
-use Rattle.law_held_undoing.proofs.Putting.{mine}
+use Rattle.law_held_steps.proofs.Putting.{mine}
 use Rattle.world_lists.specs.Between.{table_at}
 use Rattle.world_lists.proofs.Awaiting.{only_mine}
 use Rattle.world_lists.proofs.ChangeTasks.{undoing_now}

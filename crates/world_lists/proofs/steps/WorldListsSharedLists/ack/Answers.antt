@@ -4,7 +4,7 @@ use Rattle.inno_model.specs.declared.event.Event.TheVariants.{Acked}
 use Rattle.world.specs.State.{WorldState, Session, IsSession}
 use Rattle.world.specs.Told.{IsTold}
 use Rattle.world.specs.EngineCalls.{acknowledged}
-use Rattle.law_held_entries.proofs.Seen.{settings_same}
+use Rattle.law_held_steps.proofs.SeenEntries.{settings_same}
 use Rattle.world_lists.proofs.Made.{its_session, adds, unset, same_rows, acked_made, may_ack}
 use Rattle.world_lists.proofs.Awaiting.{kept_on, no_more_in}
 use Rattle.world_lists.proofs.steps.WorldListsSharedLists.ack.Goals as goal

@@ -12,9 +12,9 @@ use Rattle.law_world_agreement.specs.Steps.{opened, session_begun}
 use Rattle.law_world_agreement.proofs.Opening.{set_here, set_other}
 use Rattle.shared_lists.specs.State.{Lists}
 use Rattle.desks.specs.Holding.{IsHeld}
-use Rattle.law_held_entries.proofs.Seen.{settings_same, settings_by}
-use Rattle.law_held_entries.proofs.Items.{unentered_held}
-use Rattle.law_held_entries.proofs.Transactions.{opened_held}
+use Rattle.law_held_steps.proofs.SeenEntries.{settings_same, settings_by}
+use Rattle.law_held_steps.proofs.Items.{unentered_held}
+use Rattle.law_held_steps.proofs.Transactions.{opened_held}
 use Rattle.world_lists.proofs.Standings.{closed_none}
 use Rattle.world_lists.proofs.Answering.{few_more}
 use Rattle.world_lists.proofs.Made.{on_err, of_ok, past_here, its_session, at_rest, adds, stays, stays_same, unset, reset, same_rows, few_begun}

@@ -3,8 +3,8 @@ use Rattle.std.proofs.lemmas.Option.{slice_get_within}
 use Rattle.inno_types.specs.declared.value.Schema.{Schema}
 use Rattle.world.specs.State.{WorldState}
 use Rattle.desks.specs.declared.desk.TableSearch.{TableSearch}
-use Rattle.law_held_searches.specs.Begun.{IsBegun}
-use Rattle.law_held_searches.proofs.Begins.{new_search}
+use Rattle.law_held_steps.specs.Begun.{IsBegun}
+use Rattle.law_held_steps.proofs.Begins.{new_search}
 use Rattle.world_lists.proofs.SearchBegins.{ReadsBy, reads_by_view, reads_newest, copied, joined_within, table_there, idle_now, writer_now, view_there, begun_held, begun_seen}
 use Rattle.world_lists.proofs.steps.WorldListsSharedLists.begin_search.Goals.{in-View+in_ok-sight-in-View, in-Newest}
 use Rattle.world_lists.proofs.Awaiting.{kept_beside, same_no_more}

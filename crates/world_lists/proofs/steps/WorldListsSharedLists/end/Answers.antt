@@ -7,7 +7,7 @@ use Rattle.world.specs.State.{WorldState, Session, IsSession}
 use Rattle.world.specs.Told.{IsTold}
 use Rattle.world.specs.EngineCalls.{item_ended}
 use Rattle.shared_lists.specs.State.{Lists}
-use Rattle.law_held_entries.proofs.Seen.{settings_same}
+use Rattle.law_held_steps.proofs.SeenEntries.{settings_same}
 use Rattle.world_lists.proofs.Made.{its_session, adds, unset, ended_made, desk_started, may_reply}
 use Rattle.world_lists.proofs.Awaiting.{kept_on, no_more_in}
 use Rattle.world_lists.proofs.steps.WorldListsSharedLists.end.Goals as goal

@@ -5,7 +5,7 @@ use Rattle.world.specs.EngineCalls.{joined}
 use Rattle.desks.specs.declared.desk.Desk.{Desk}
 use Rattle.desks.specs.Desks.{fresh_desk, doing_at}
 use Rattle.desks.specs.Holding.{IsHeld}
-use Rattle.law_held_entries.proofs.Joining.{joined_held, one_more}
+use Rattle.law_held_steps.proofs.Joining.{joined_held, one_more}
 use Rattle.world_lists.proofs.Made.{pushed, tasks_same}
 use Rattle.world_lists.proofs.Awaiting.{kept_by, no_more_in}
 use Rattle.world_lists.proofs.steps.WorldListsSharedLists.join.Goals as goal

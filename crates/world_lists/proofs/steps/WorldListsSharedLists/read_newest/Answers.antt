@@ -7,8 +7,8 @@ use Rattle.world.specs.State.{WorldState}
 use Rattle.row_search.specs.declared.found.FoundRow.{FoundRow}
 use Rattle.shared_lists.specs.Steps.{AreNewestRows}
 use Rattle.desks.specs.Desks.{is_quiet}
-use Rattle.law_held_searches.specs.Newest.{plan_read}
-use Rattle.law_held_searches.proofs.Staying.{held_idle}
+use Rattle.law_held_steps.specs.Newest.{plan_read}
+use Rattle.law_held_steps.proofs.Staying.{held_idle}
 use Rattle.world_lists.proofs.SearchBegins.{copied, writer_within, table_there, idle_now}
 use Rattle.world_lists.proofs.SearchNewest.{answered, nothing_seen, tells_now, read_now}
 use Rattle.world_lists.proofs.Awaiting.{kept_on, moves_no_more}

@@ -8,7 +8,7 @@ use Rattle.world.specs.Endings.{rolled_back, IsRolledBack}
 use Rattle.shared_lists.specs.State.{Closes}
 use Rattle.desks.specs.Shown.{seen_of}
 use Rattle.desks.specs.Holding.{IsHeld}
-use Rattle.law_held_entries.proofs.Seen.{settings_now}
+use Rattle.law_held_steps.proofs.SeenEntries.{settings_now}
 use Rattle.world_lists.proofs.Made.{its_work, at_rest, closes, reset, same_rows, rolled_back_made, may_end}
 use Rattle.world_lists.proofs.Awaiting.{kept_closed, no_more_in}
 use Rattle.world_lists.proofs.steps.WorldListsSharedLists.roll_back.Goals as goal

@@ -1,12 +1,12 @@
 use Rattle.std.proofs.Common.{◌≡◌, refl, sym, ap}
 use Rattle.desks.specs.declared.desk.Doing.TheVariants.{Searching}
 use Rattle.desks.specs.Desks.{doing_at}
-use Rattle.law_held_searches.specs.Moving.{MovesPlaces}
-use Rattle.law_held_searches.specs.TakenUp.{IsTakenUp}
+use Rattle.law_held_steps.specs.Moving.{MovesPlaces}
+use Rattle.law_held_steps.specs.TakenUp.{IsTakenUp}
 use Rattle.world_lists.proofs.SearchSteps.{desks_given, taken_by, may_step_now, went_held, went_seen, went_nears, ended_held, ended_seen, hindered_moves, given_up_held, given_up_seen}
 use Rattle.world_lists.proofs.Awaiting.{kept_beside, moves_no_more}
 use Rattle.world_lists.specs.Between.{can_await}
-use Rattle.law_held_searches.proofs.Places.{moves_in_one, leaving_moves, moves_then}
+use Rattle.law_held_steps.proofs.Places.{moves_in_one, leaving_moves, moves_then}
 use Rattle.desks.specs.declared.desk.Doing.TheVariants.{Nothing}
 use Rattle.world_lists.proofs.steps.WorldListsSharedLists.search.Goals as goal
 

@@ -4,7 +4,7 @@ use Rattle.sql_history.specs.Settings.{Setting, set_by}
 use Rattle.world.specs.State.{WorldState, Session, IsSession}
 use Rattle.world.specs.Told.{IsTold}
 use Rattle.world.specs.EngineCalls.{with_setting}
-use Rattle.law_held_entries.proofs.Seen.{settings_now}
+use Rattle.law_held_steps.proofs.SeenEntries.{settings_now}
 use Rattle.world_lists.proofs.Made.{its_session, stays, reset, same_rows, set_made}
 use Rattle.world_lists.proofs.Awaiting.{kept_on, no_more_in}
 use Rattle.world_lists.proofs.steps.WorldListsSharedLists.set.Goals as goal

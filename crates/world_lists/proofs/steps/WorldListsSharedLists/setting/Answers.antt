@@ -3,7 +3,7 @@ use Rattle.std.specs.Prelude.{slice_index_or}
 use Rattle.world.specs.State.{WorldState, Session, IsSession}
 use Rattle.shared_lists.specs.State.{Lists}
 use Rattle.world_lists.proofs.Standings.{there}
-use Rattle.law_held_entries.proofs.Seen.{setting_at}
+use Rattle.law_held_steps.proofs.SeenEntries.{setting_at}
 use Rattle.world_lists.proofs.steps.WorldListsSharedLists.setting.Goals as goal
 
 pub returns : goal.returns

@@ -8,7 +8,7 @@ use Rattle.world.specs.EngineCalls.{item_started}
 use Rattle.desks.specs.declared.desk.Desk.{Desk}
 use Rattle.desks.specs.Desks.{doing_at}
 use Rattle.desks.specs.Holding.{IsHeld}
-use Rattle.law_held_entries.proofs.Seen.{settings_same}
+use Rattle.law_held_steps.proofs.SeenEntries.{settings_same}
 use Rattle.world_lists.proofs.Made.{on_err, its_session, adds, stays_same, unset, same_rows, started_made, desk_started, desks_started, doing_started}
 use Rattle.world_lists.proofs.Awaiting.{kept_by, no_more_in}
 use Rattle.world_lists.proofs.steps.WorldListsSharedLists.start.Goals as goal

@@ -5,7 +5,7 @@ use Rattle.world.specs.State.{WorldState, Session, Work, HasWork}
 use Rattle.world.specs.Told.{IsTold}
 use Rattle.world.specs.Sessions.{view_added}
 use Rattle.law_world_agreement.specs.Steps.{viewed}
-use Rattle.law_held_entries.proofs.Seen.{settings_same}
+use Rattle.law_held_steps.proofs.SeenEntries.{settings_same}
 use Rattle.world_lists.proofs.Made.{on_err, its_work, adds, stays_same, unset, same_rows, viewed_made}
 use Rattle.world_lists.proofs.Awaiting.{kept_on, no_more_in}
 use Rattle.world_lists.proofs.steps.WorldListsSharedLists.take_view.Goals as goal

@@ -1,5 +1,0 @@
-use Rattle.commit_records.proofs.Short.{change_back}
-use Rattle.commit_records.proofs.laws.a_record_tells_its_change.Goals as goal
-
-pub returns : goal.returns
-returns c = change_back

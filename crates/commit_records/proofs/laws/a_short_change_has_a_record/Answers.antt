@@ -1,5 +1,0 @@
-use Rattle.commit_records.proofs.Short.{has_record}
-use Rattle.commit_records.proofs.laws.a_short_change_has_a_record.Goals as goal
-
-pub returns : goal.returns
-returns c = has_record

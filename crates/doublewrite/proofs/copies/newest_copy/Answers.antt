@@ -1,5 +1,0 @@
-use Rattle.doublewrite.proofs.Bytes.{inside}
-use Rattle.doublewrite.proofs.copies.newest_copy.Goals as goal
-
-pub copy_at-requires : goal.copy_at-requires
-copy_at-requires c = inside c.newest_slot.result c.args.double.now c.newest_slot.ensures.newest.copy.good.size

@@ -1,3 +1,0 @@
-pub mod Logging
-pub mod Spelled
-pub mod View

@@ -1,5 +1,0 @@
-mod Below
-mod Each
-mod Fitting
-mod Grown
-mod Last

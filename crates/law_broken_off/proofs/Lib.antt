@@ -1,3 +1,0 @@
-mod Same
-mod Unchanged
-pub mod Broken

@@ -1,5 +1,0 @@
-pub mod Listed
-pub mod Staying
-pub mod Entering
-pub mod Leaving
-pub mod Readable

@@ -1,9 +1,0 @@
-use Rattle.law_coded_rows.proofs.Tables.{coded_still}
-use Rattle.law_coded_rows.proofs.RowRecords.{push_keeps}
-use Rattle.law_coded_rows.proofs.records.more_may_be_kept.Goals as goal
-
-pub returns-clause-pushed : goal.returns-clause-pushed
-returns-clause-pushed c = push_keeps
-
-pub returns-clause-stays : goal.returns-clause-stays
-returns-clause-stays c = coded_still

@@ -1,9 +1,0 @@
-pub mod Desks
-pub mod Fits
-pub mod Sessions
-pub mod Left
-pub mod Begun
-pub mod Pasts
-pub mod Keeping
-pub mod Made
-pub mod Showing

@@ -1,6 +1,0 @@
-use Rattle.law_held_entries.proofs.Entering.{entered}
-use Rattle.law_held_entries.proofs.laws.an_entry_leaves_what_is_held.Goals as goal
-
-pub returns : goal.returns
-returns c =
-    λ t writer later cuts undo room old new desks now held rests is. entered t writer later cuts undo room old new desks now held rests is

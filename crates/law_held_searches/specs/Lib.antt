@@ -1,4 +1,0 @@
-pub mod Moving
-pub mod Begun
-pub mod TakenUp
-pub mod Newest

@@ -1,0 +1,116 @@
+-- Steps that move a session's places leave all rows, and may follow one another.
+use Rattle.std.proofs.Common.{◌≡◌, ⊎_elim, ℕ, Bool, true, false, List, Option, Some, None, refl, sym, ap, subst, ◌∙◌}
+use Rattle.std.specs.Prelude.{◌==◌, if◌then◌else◌}
+use Rattle.std.proofs.lemmas.Bool.{cases_eq}
+use Rattle.entries.specs.Pairs.{Pair}
+use Rattle.entries.specs.Index.{AreKept}
+use Rattle.entries.specs.Calls.{Leaves, released}
+use Rattle.row_versions.specs.Versions.{Versions, Stays}
+use Rattle.world.specs.State.{WorldState}
+use Rattle.world.proofs.Stores.{store_stays, store_goes_on}
+use Rattle.world.specs.Told.{IsTold, LeavesRows}
+use Rattle.world.specs.Indexes.{Calls}
+use Rattle.world.specs.Undoing.{IsUnchanged}
+use Rattle.row_search.specs.Steps.{OnlyMoves}
+use Rattle.law_logged_changes.proofs.ReadersLeft.{left_told}
+use Rattle.law_held_steps.specs.Moving.{MovesPlaces}
+
+-- ---- pairs and versions
+
+kept_same : (old new : Option (List Pair)) → new ≡ old → AreKept old new
+kept_same old None same = record {}
+kept_same None (Some new) same = absurd (cc)
+kept_same (Some old) (Some new) same = cc
+
+kept_then : (old between new : Option (List Pair)) → AreKept old between → AreKept between new → AreKept old new
+kept_then old between None first second = record {}
+kept_then old None (Some new) first second = absurd second
+kept_then None (Some between) (Some new) first second = absurd first
+kept_then (Some old) (Some between) (Some new) first second = second ∙ first
+
+stays_same : (versions : Versions) → Stays versions versions
+stays_same versions = record { told = λ told. told; kept = λ told. refl }
+
+stays_then : (old between new : Versions) → Stays old between → Stays between new → Stays old new
+stays_then old between new first second =
+    record { told = λ told. first.told (second.told told); kept = λ told. second.kept told ∙ first.kept (second.told told) }
+
+-- who is awaited still, once this actor isn't
+left_over : (s : ℕ) (awaited : Option ℕ) (by : ℕ) → released s awaited ≡ Some by → awaited ≡ Some by
+left_over s None by is = absurd (cc)
+left_over s (Some holder) by is = kept (holder == s) is
+  where
+    kept : (mine : Bool) → (if mine then None else Some holder) ≡ Some by → Some holder ≡ Some by
+    kept true none = absurd (cc)
+    kept false same = same
+
+-- ---- which steps are such
+
+pub none_moves : (s : ℕ) (state : WorldState) → MovesPlaces s state state
+none_moves s state = record { pairs = λ index. kept_same _ _ refl; places = λ other index differs. refl; fewer = λ index by is. is; versions = stays_same state.versions; rest = refl; later = store_stays state.paged }
+
+pub moves_then : (s : ℕ) (old between new : WorldState) → MovesPlaces s old between → MovesPlaces s between new → MovesPlaces s old new
+moves_then s old between new first second = record {
+  pairs = λ index. kept_then (old.indexes index).pairs (between.indexes index).pairs (new.indexes index).pairs (first.pairs index) (second.pairs index);
+  places = λ other index differs. second.places other index differs ∙ first.places other index differs;
+  fewer = λ index by is. first.fewer index by (second.fewer index by is);
+  versions = stays_then old.versions between.versions new.versions first.versions second.versions;
+  rest = second.rest ∙ ap (λ (state : WorldState). record state { indexes = new.indexes; versions = new.versions; paged = new.paged }) first.rest;
+  later = store_goes_on old.paged between.paged new.paged first.later second.later;
+}
+
+pub moves_in_one : (s index : ℕ) (old new : WorldState) → OnlyMoves s index old new → MovesPlaces s old new
+moves_in_one s index old new moves = record {
+  pairs = moves.pairs;
+  places = λ other at differs.
+      ⊎_elim
+      (λ here. subst (λ (i : ℕ). (new.indexes i).place other ≡ (old.indexes i).place other) (sym here) (moves.others other differs))
+      (λ elsewhere. ap (λ place. place other) (moves.places at elsewhere))
+      (cases_eq at index);
+  fewer = λ at by is. sym (moves.awaited at) ∙ is;
+  versions = moves.versions;
+  rest = moves.rest;
+  later = moves.later;
+}
+
+pub moves_nothing : (s : ℕ) (old new : WorldState) → IsUnchanged old new → MovesPlaces s old new
+moves_nothing s old new same = record {
+  pairs = λ index. (same.indexes index).pairs;
+  places = λ other index differs. ap (λ place. place other) (same.indexes index).place;
+  fewer = λ index by is. sym (same.indexes index).awaited ∙ is;
+  versions = same.versions;
+  rest = same.rest;
+  later = same.later;
+}
+
+pub leaving_moves : (s index : ℕ) (old new : WorldState) → Calls index (Leaves s) old new → MovesPlaces s old new
+leaving_moves s index old new calls = record {
+  pairs = λ at.
+      ⊎_elim
+      (λ here. subst (λ (i : ℕ). AreKept (old.indexes i).pairs (new.indexes i).pairs) (sym here)
+      (kept_same (old.indexes index).pairs (new.indexes index).pairs calls.index_is.here.pairs))
+      (λ elsewhere. (calls.index_is.elsewhere at elsewhere).pairs)
+      (cases_eq at index);
+  places = λ other at differs.
+      ⊎_elim
+      (λ here. subst (λ (i : ℕ). (new.indexes i).place other ≡ (old.indexes i).place other) (sym here) (calls.index_is.here.others other differs))
+      (λ elsewhere. ap (λ place. place other) (calls.index_is.elsewhere at elsewhere).place)
+      (cases_eq at index);
+  fewer = λ at by is.
+      ⊎_elim
+      (λ here. subst (λ (i : ℕ). (old.indexes i).awaited ≡ Some by) (sym here)
+      (left_over s (old.indexes index).awaited by (sym calls.index_is.here.awaited ∙ subst (λ (i : ℕ). (new.indexes i).awaited ≡ Some by) here is)))
+      (λ elsewhere. sym (calls.index_is.elsewhere at elsewhere).awaited ∙ is)
+      (cases_eq at index);
+  versions = calls.beside.versions;
+  rest = calls.beside.rest;
+  later = calls.beside.later;
+}
+
+-- ---- what they leave
+
+pub moves_leave : (s : ℕ) (old new : WorldState) → MovesPlaces s old new → LeavesRows old new
+moves_leave s old new moves = record { schemas = ap (λ (state : WorldState). state.schemas) moves.rest; pairs = moves.pairs; versions = moves.versions }
+
+pub moves_told : (s : ℕ) (old new : WorldState) → MovesPlaces s old new → IsTold new → IsTold old
+moves_told s old new moves = left_told old new (moves_leave s old new moves)

@@ -1,0 +1,186 @@
+-- What callers see of desks: the tasks of sessions.
+use Rattle.std.proofs.Common.{◌≡◌, ◌≢◌, ℕ, zero, suc, ◌+◌, ◌*◌, ◌<◌, ◌≤◌, ◌^◌, true, false, List, [], ◌∷◌, length, Option, Some, None, refl, sym, ap, subst, ◌∙◌, arith}
+use Rattle.std.specs.Prelude.{slice_get, slice_index_or}
+use Rattle.std.proofs.lemmas.Bool.{true≢false}
+use Rattle.inno_types.specs.declared.value.Schema.{Schema}
+use Rattle.inno_model.specs.declared.event.Event.{Event}
+use Rattle.inno_model.specs.declared.event.Event.TheVariants.{Changed}
+use Rattle.law_stored_rows.specs.Storable.{IsStorable}
+use Rattle.world.specs.State.{WorldState}
+use Rattle.world.specs.Told.{IsTold}
+use Rattle.world.specs.declared.undo_room.UndoRoom.{UndoRoom}
+use Rattle.row_changes.specs.declared.row_edit.RowEdit.{RowEdit}
+use Rattle.row_changes.specs.declared.row_change.RowChange.{RowChange}
+use Rattle.row_changes.specs.declared.row_change.RowChange.TheVariants.{Record, Keys}
+use Rattle.row_changes.specs.Edits.{change_of}
+use Rattle.row_changes.specs.Rows.{row_steps, table_of}
+use Rattle.undo_apply.specs.declared.work_room.WorkRoom.{WorkRoom}
+use Rattle.shared_lists.specs.declared.answers.Changed.TheVariants as answers
+use Rattle.shared_lists.specs.Tasks.{Task, Idle, is_changing, asked, steps_left, left_by}
+use Rattle.shared_lists.specs.State.{Lists, task_of, IsNow, Turns}
+use Rattle.shared_lists.specs.Steps.{Changes, rows_of_change, rows_entered}
+use Rattle.desks.specs.declared.desk.Desk.{Desk}
+use Rattle.desks.specs.declared.desk.Doing.{Doing}
+use Rattle.desks.specs.declared.desk.Doing.TheVariants.{Nothing, Searching, Changing, Lagging, Undoing}
+use Rattle.desks.specs.Desks.{doing_at, with_doing, is_quiet_doing}
+use Rattle.desks.specs.Shown.{shown, change_in, tasks_of, lists_of}
+use Rattle.desks.specs.declared.desk.TableSearch.{TableSearch}
+use Rattle.desks.specs.Undoing.{keys_if}
+use Rattle.desks.proofs.Showing.{lists_stay}
+use Rattle.desks.specs.Holding.{IsHeld}
+use Rattle.law_held_steps.specs.Beginning.{begun}
+use Rattle.law_held_steps.specs.Making.{given_up, LeavesLists, AddsNothing, IsNearer, IsEntered}
+use Rattle.law_held_steps.specs.Leaving.{LeavesIndexes, is_searching}
+use Rattle.law_held_steps.proofs.Desks.{doing_here, doing_elsewhere, changes_at_a_desk}
+use Rattle.law_found_rows.proofs.FittingChanges.{tables_storable}
+
+some_same : (a b : ℕ) → Some a ≡ Some b → a ≡ b
+some_same a b same = cc
+
+-- ---- the task of a session is what its desk shows
+
+pub task_at : (schemas : List Schema) (left : ℕ) (desks : List Desk) (u : ℕ)
+    → slice_index_or (tasks_of schemas left desks) u Idle ≡ shown schemas left (doing_at u desks)
+task_at schemas left [] u = refl
+task_at schemas left (desk ∷ desks) zero = refl
+task_at schemas left (desk ∷ desks) (suc u) = task_at schemas left desks u
+
+-- of who takes nothing back, whatever is left of what somebody takes back
+quiet_shown : (schemas : List Schema) (left later : ℕ) (doing : Doing) → is_quiet_doing doing ≡ true → shown schemas left doing ≡ shown schemas later doing
+quiet_shown schemas left later Nothing quiet = refl
+quiet_shown schemas left later (Searching on) quiet = refl
+quiet_shown schemas left later (Changing change) quiet = absurd (cc)
+quiet_shown schemas left later Lagging quiet = absurd (cc)
+quiet_shown schemas left later Undoing quiet = absurd (cc)
+
+module _ (s : ℕ) (desks : List Desk) (cuts : ℕ) (undo : UndoRoom) (room : WorkRoom) (old new : WorldState) (left later : ℕ)
+    (held : IsHeld old (Some s) desks cuts undo room) (leaves : LeavesLists old new) where
+  others_shown : (doing : Doing) (u : ℕ) → u ≢ s
+      → task_of u (lists_of new (Some s) (with_doing s doing desks) later).state ≡ task_of u (lists_of old (Some s) desks left).state
+  others_shown doing u differs =
+      task_at new.schemas later (with_doing s doing desks) u
+      ∙ ap (shown new.schemas later) (doing_elsewhere s u doing desks differs)
+      ∙ ap (λ (schemas : List Schema). shown schemas later (doing_at u desks)) leaves.schemas
+      ∙ quiet_shown old.schemas later left (doing_at u desks) (held.quiet u (λ same. differs (sym (some_same s u same))))
+      ∙ sym (task_at old.schemas left desks u)
+
+  mine_shown : (doing : Doing) → s < length desks → task_of s (lists_of new (Some s) (with_doing s doing desks) later).state ≡ shown new.schemas later doing
+  mine_shown doing within = task_at new.schemas later (with_doing s doing desks) s ∙ ap (shown new.schemas later) (doing_here s doing desks within)
+
+  pub now_shown : (doing : Doing) (past : List Event) (task : Task) → s < length desks → new.past ≡ past → shown new.schemas later doing ≡ task
+      → IsNow past s task (Some s) (lists_of old (Some s) desks left).state (lists_of new (Some s) (with_doing s doing desks) later).state
+  now_shown doing past task within past_is task_is = record {
+    names_are = leaves.names;
+    past_is = past_is;
+    writer_is = refl;
+    task_is = mine_shown doing within ∙ task_is;
+    others = others_shown doing;
+  }
+
+  module _ (change : RowChange) (at : doing_at s desks ≡ Changing change) where
+    within : s < length desks
+    within = changes_at_a_desk s change desks at
+
+    was_shown : task_of s (lists_of old (Some s) desks left).state ≡ shown old.schemas left (Changing change)
+    was_shown = task_at old.schemas left desks s ∙ ap (shown old.schemas left) at
+
+    was_asked : asked (task_of s (lists_of old (Some s) desks left).state) ≡ change_in change
+    was_asked = ap asked was_shown
+
+    pub went_shown : (next : RowChange) → IsNearer old new change next
+        → Changes s (lists_of old (Some s) desks left).state (lists_of new (Some s) (with_doing s (Changing next) desks) later).state answers.Went
+    went_shown next nearer =
+        let now = mine_shown (Changing next) within in
+        record {
+          turns = now_shown (Changing next) old.past _ within nearer.adds.past (sym now);
+          still = ap is_changing now;
+          asked_is = ap asked now ∙ nearer.change_is ∙ sym was_asked;
+          nears = subst (λ (task : Task). steps_left task < steps_left (task_of s (lists_of old (Some s) desks left).state)) (sym now)
+              (subst (λ (task : Task). row_steps (keys_if (slice_get new.schemas (table_of next))) next < steps_left task) (sym was_shown) nearer.nears);
+        }
+
+    pub entered_shown : (next : RowChange) → IsEntered s old new change next
+        → Changes s (lists_of old (Some s) desks left).state (lists_of new (Some s) (with_doing s (Changing next) desks) later).state answers.Entered
+    entered_shown next entered =
+        let now = mine_shown (Changing next) within in
+        record {
+          change = entered.entry;
+          asked_was = was_asked ∙ entered.was;
+          now = now_shown (Changing next) (Changed s entered.entry ∷ old.past) _ within entered.past (sym now);
+          still = ap is_changing now;
+          asked_is = ap asked now ∙ entered.is;
+        }
+
+    pub done_shown : AddsNothing old new → change_in change ≡ None
+        → Changes s (lists_of old (Some s) desks left).state (lists_of new (Some s) (with_doing s Nothing desks) later).state answers.Done
+    done_shown adds told = (was_asked ∙ told, now_shown Nothing old.past Idle within adds.past refl)
+
+    left_of : (c : RowChange) → shown new.schemas later (given_up c) ≡ left_by (change_in c)
+    left_of (Record c key after) = refl
+    left_of (Keys c) = refl
+
+    pub given_up_shown : AddsNothing old new
+        → Changes s (lists_of old (Some s) desks left).state (lists_of new (Some s) (with_doing s (given_up change) desks) later).state answers.NoMemory
+    given_up_shown adds =
+        now_shown (given_up change) old.past (left_by (asked (task_of s (lists_of old (Some s) desks left).state))) within adds.past
+        (left_of change ∙ ap left_by (sym was_asked))
+
+-- the rows that the history holds more are those of the change that was asked for
+pub rows_shown : (s : ℕ) (desks : List Desk) (old new : WorldState) (change next : RowChange) (left : ℕ) → doing_at s desks ≡ Changing change
+    → IsEntered s old new change next → new.rows ≡ old.rows + rows_entered answers.Entered (task_of s (lists_of old (Some s) desks left).state)
+rows_shown s desks old new change next left at entered =
+    let asked_was : asked (task_of s (lists_of old (Some s) desks left).state) ≡ Some entered.entry =
+    ap asked (task_at old.schemas left desks s ∙ ap (shown old.schemas left) at) ∙ entered.was in
+    entered.rows ∙ ap (λ c. old.rows + rows_of_change c) (sym asked_was)
+
+-- ---- a change that begins
+
+few_keys : (found : Option Schema) → ((schema : Schema) → found ≡ Some schema → IsStorable schema) → keys_if found ≤ 4
+few_keys None storable = omega arith
+few_keys (Some schema) storable = let is = storable schema refl in let few = is.few in omega arith
+
+few_steps : (keys : ℕ) → keys ≤ 4 → 4 * keys + 5 < 2 ^ 70
+few_steps keys few = omega arith
+
+same_lists : (state : WorldState) → LeavesLists state state
+same_lists state = record { names = refl; schemas = refl; settings = refl }
+
+module _ (state : WorldState) (s : ℕ) (desks : List Desk) (cuts : ℕ) (undo : UndoRoom) (room : WorkRoom)
+    (held : IsHeld state (Some s) desks cuts undo room) (within : s < length desks) where
+  pub begun_turns : (left later table : ℕ) (edit : RowEdit) (key : List ℕ) (now : Lists)
+      → now ≡ lists_of state (Some s) (with_doing s (Changing (begun table edit key)) desks) later
+      → Turns s (task_of s now.state) (lists_of state (Some s) desks left).state now.state
+  begun_turns left later table edit key now is =
+      let doing = Changing (begun table edit key) in
+      subst (λ (lists : Lists). Turns s (task_of s lists.state) (lists_of state (Some s) desks left).state lists.state) (sym is)
+      (now_shown s desks cuts undo room state state left later held (same_lists state) doing state.past _ within refl
+      (sym (mine_shown s desks cuts undo room state state left later held (same_lists state) doing within)))
+
+  -- each table has few keys
+  keys_few : (table : ℕ) → keys_if (slice_get state.schemas table) ≤ 4
+  keys_few table =
+      few_keys (slice_get state.schemas table) (λ schema there. tables_storable state.past held.fits table schema
+      (ap (λ (tables : List Schema). slice_get tables table) (sym held.agrees.lists.tables) ∙ there))
+
+  pub begun_task : (later table : ℕ) (edit : RowEdit) (key : List ℕ) (now : Lists)
+      → now ≡ lists_of state (Some s) (with_doing s (Changing (begun table edit key)) desks) later
+      → (is_changing (task_of s now.state) ≡ true) × (asked (task_of s now.state) ≡ Some (change_of table edit)) × (steps_left (task_of s now.state) < 2 ^ 70)
+  begun_task later table edit key now is =
+      let task =
+      ap (λ (lists : Lists). task_of s lists.state) is ∙ mine_shown s desks cuts undo room state state later later held (same_lists state)
+      (Changing (begun table edit key)) within in (
+        ap is_changing task,
+        ap asked task,
+        subst (λ (t : Task). steps_left t < 2 ^ 70) (sym task)
+            (few_steps (keys_if (slice_get state.schemas table)) (keys_few table)),
+      )
+
+-- ---- an index that is left
+
+no_search : (doing : Doing) (on : TableSearch) → is_searching doing ≡ false → doing ≡ Searching on → ⊥
+no_search doing on none is = true≢false (sym (ap is_searching is) ∙ none)
+
+pub left_shown : (s : ℕ) (writer : Option ℕ) (desks : List Desk) (left : ℕ) (old new : WorldState) → LeavesIndexes s old new
+    → is_searching (doing_at s desks) ≡ false → IsTold new → lists_of new writer desks left ≡ lists_of old writer desks left
+left_shown s writer desks left old new leaves none told =
+    lists_stay s left old new writer desks leaves.rest leaves.pairs leaves.others leaves.versions told (λ on is. no_search (doing_at s desks) on none is)

@@ -1,0 +1,287 @@
+-- A search that is under way goes on, ends or is given up.
+use Rattle.std.proofs.Common.{◌≡◌, ◌≢◌, inl, inr, ℕ, ◌<◌, ◌≤◌, Bool, true, false, List, [], length, map, Option, Some, refl, sym, ap, subst, ◌∙◌, slice_get, arith}
+use Rattle.std.specs.Prelude.{◌==◌, ◌-◌, filter}
+use Rattle.std.proofs.lemmas.Bool.{cases_lt}
+use Rattle.std.proofs.lemmas.Bool.Decides.{nat_tests}
+use Rattle.inno_types.specs.declared.value.Schema.{Schema}
+use Rattle.inno_types.specs.Order.{IsBelow}
+use Rattle.inno_db.specs.Database.{rows_of}
+use Rattle.inno_model.specs.declared.event.Event.{Event}
+use Rattle.inno_model.specs.Past.{own, commits, changed}
+use Rattle.read_view.specs.Sight.{Sight as ReadSight}
+use Rattle.store_api.specs.declared.moves.Move.{Move}
+use Rattle.entries.specs.Calls.{Leaves}
+use Rattle.row_versions.specs.declared.place.Place.{Place}
+use Rattle.row_versions.specs.Chains.{Chains, versions_at}
+use Rattle.law_stored_rows.specs.Tables.{in_table}
+use Rattle.law_past_agreement.specs.Order.{created}
+use Rattle.law_past_agreement.specs.Rows.{seen}
+use Rattle.law_past_agreement.specs.Agreement.{WriterAgrees}
+use Rattle.law_past_agreement.specs.DatabaseTables.{with_all_tables}
+use Rattle.world.specs.State.{WorldState, index_of}
+use Rattle.world.specs.Told.{IsTold, pairs_of}
+use Rattle.world.specs.Indexes.{Calls}
+use Rattle.world.specs.Undoing.{read_into}
+use Rattle.world.specs.declared.undo_room.UndoRoom.{UndoRoom}
+use Rattle.law_world_agreement.specs.Agreement.{Agrees}
+use Rattle.law_logged_changes.proofs.ReadersLeft.{rows_left}
+use Rattle.undo_apply.specs.declared.work_room.WorkRoom.{WorkRoom}
+use Rattle.row_search.specs.declared.found.FoundRow.{FoundRow}
+use Rattle.row_search.specs.declared.scan.Scan.{Scan}
+use Rattle.row_search.specs.declared.search.RowSearch.{RowSearch}
+use Rattle.row_search.specs.declared.sight.Sight.{Sight}
+use Rattle.row_search.specs.declared.sight.Sight.TheVariants.{View, Newest}
+use Rattle.row_search.specs.FoundRows.{AreFound, RiseByKey}
+use Rattle.row_search.specs.Ranges.{lies_in}
+use Rattle.row_search.specs.Searches.{IsSearching, place_in}
+use Rattle.row_search.specs.Sights.{rows_seen}
+use Rattle.row_search.specs.Steps.{IsSameScan, GoesOn, Waits, Ends}
+use Rattle.row_search.specs.Tables.{most_versions, ShowsRows}
+use Rattle.law_found_rows.specs.Finding.{IsFinding, IsFindingAnew}
+use Rattle.law_found_rows.proofs.Finding.{may_come_anew, goes_on}
+use Rattle.law_found_rows.proofs.Showing.{holds_table}
+use Rattle.law_found_rows.proofs.Databases.{found_by_view, found_newest}
+use Rattle.shared_lists.specs.State.{counted}
+use Rattle.shared_lists.specs.Steps.{AreRowsSeen, AreFoundBy, rows_in_range}
+use Rattle.desks.specs.declared.desk.Desk.{Desk}
+use Rattle.desks.specs.declared.desk.Doing.TheVariants.{Nothing, Searching}
+use Rattle.desks.specs.declared.desk.TableSearch.{TableSearch}
+use Rattle.desks.specs.Desks.{doing_at, with_doing, is_quiet_doing}
+use Rattle.desks.specs.Holding.{SightHolds, FindsSince, IsSearchHeld, SearchHeld, IsHeld}
+use Rattle.desks.specs.Searching.{keys_left, places_in}
+use Rattle.desks.specs.Shown.{reading_of}
+use Rattle.law_held_steps.specs.Moving.{MovesPlaces}
+use Rattle.law_held_steps.specs.TakenUp.{IsTakenUp, MayStep, plan_of}
+use Rattle.law_held_steps.proofs.Places.{moves_then, moves_in_one, moves_nothing, leaving_moves, moves_leave, moves_told}
+use Rattle.law_held_steps.proofs.Staying.{held_stays}
+use Rattle.law_held_steps.proofs.Nearing.{IsLess, keys_before, visit_before, keys_anew, steps_nearer, still_nearer, anew_nearer}
+use Rattle.law_held_steps.proofs.Shows.{HasSome, some_rows_by, shows_held}
+
+-- ---- the search that is stepped
+
+pub same_number : (a b : ℕ) → a ≡ b → (a == b) ≡ true
+same_number a b same = grind (arith, nat_tests, same)
+
+comes_anew : (b : Bool) (s : ℕ) (state : WorldState) (chains : Chains) (on : TableSearch) → FindsSince b s state chains on
+    → IsFindingAnew s on.schema state chains on.search
+comes_anew true s state chains on finds = may_come_anew s on.schema state chains on.search finds
+comes_anew false s state chains on finds = finds
+
+-- as far as it came, with its scan
+abbrev IsTaken : ℕ → WorldState → Chains → TableSearch → RowSearch → Type 0
+IsTaken s state chains on search = IsFinding s on.schema state chains search × (search.scan ≡ on.search.scan)
+
+takes_up : (chains : Chains) (state : WorldState) (writer : Option ℕ) (cuts s : ℕ) (on : TableSearch) (search : RowSearch)
+    → IsSearchHeld chains state writer cuts s on → IsTakenUp cuts on search → IsTaken s state chains on search
+takes_up chains state writer cuts s on search held (inl same) =
+    let finds : IsFinding s on.schema state chains on.search =
+    subst (λ (b : Bool). FindsSince b s state chains on) (same_number on.cuts cuts same.0) held.finds in
+    (subst (IsFinding s on.schema state chains) (sym same.1) finds, ap (λ (r : RowSearch). r.scan) same.1)
+takes_up chains state writer cuts s on search held (inr (later, anew)) =
+    (comes_anew (on.cuts == cuts) s state chains on held.finds search anew.scan anew.finds anew.way anew.holds, anew.scan)
+
+-- each place has few versions
+pub few_held : (state : WorldState) (writer : Option ℕ) (desks : List Desk) (cuts : ℕ) (undo : UndoRoom) (room : WorkRoom)
+    (held : IsHeld state writer desks cuts undo room) (place : Place) → length (versions_at place held.chains) ≤ most_versions
+few_held state writer desks cuts undo room held place =
+    let short = held.short place in
+    let small = held.agrees.lists.small in
+    omega (arith, short, small)
+
+pub may_step : (s : ℕ) (schema : Schema) (state : WorldState) (chains : Chains) (search : RowSearch) → IsTold state → HasSome chains state
+    → ((place : Place) → length (versions_at place chains) ≤ most_versions) → IsSearching s schema state search → MayStep s schema state search
+may_step s schema state chains search told rows few is = record {
+  searching = is;
+  table = holds_table state chains rows.0 told rows.1 few search.scan.table schema is.there;
+  index = record { table = search.scan.table; which = search.scan.which; number = refl; schema = schema; there = is.there; key = is.key; few = is.few };
+}
+
+pub rows_on : (s : ℕ) (old new : WorldState) (chains : Chains) → MovesPlaces s old new → IsTold new → HasSome chains old → HasSome chains new
+rows_on s old new chains moves told rows = (rows.0, rows_left old new (moves_leave s old new moves) chains rows.0 told rows.1)
+
+-- the reader's transaction is another session's no more than it was
+sight_on : (s : ℕ) (old new : WorldState) (writer : Option ℕ) (sight : Sight) → MovesPlaces s old new → SightHolds old writer s sight
+    → SightHolds new writer s sight
+sight_on s old new writer (View view reader) moves is = record {
+  session = is.session;
+  work = is.work;
+  has_work = record { session_is = ap (λ (state : WorldState). slice_get state.sessions s) moves.rest ∙ is.has_work.session_is; work_is = is.has_work.work_is };
+  seen = is.seen;
+  view_is = is.view_is;
+  same = is.same;
+  reader_is = is.reader_is;
+}
+sight_on s old new writer Newest moves is = is
+
+-- ---- what was found
+
+pub some_schema : (a b : Schema) → Some a ≡ Some b → a ≡ b
+some_schema a b same = cc
+
+module _ (chains : Chains) (writer : Option ℕ) (state : WorldState) (agrees : Agrees chains writer state) (rows : HasSome chains state) (s : ℕ)
+    (on : TableSearch) (found : List FoundRow) (there : slice_get state.schemas on.search.scan.table ≡ Some on.schema) where
+  abbrev scan : Scan
+  scan = on.search.scan
+
+  abbrev FoundBy : Sight → Type 0
+  FoundBy sight = AreFound on.schema scan.which (rows_seen sight (in_table scan.table chains)) (lies_in on.schema scan) found
+
+  one_schema : (schema : Schema) → slice_get (created state.past) scan.table ≡ Some schema → on.schema ≡ schema
+  one_schema schema is = some_schema on.schema schema (sym there ∙ (ap (λ (tables : List Schema). slice_get tables scan.table) agrees.lists.tables ∙ is))
+
+  seen_then : (n : ℕ)
+      → map (λ (f : FoundRow). f.row) found ≡ filter (lies_in on.schema scan)
+      (rows_of scan.table (changed (with_all_tables state.past) (seen state.past s n))) → AreRowsSeen scan.table (plan_of on) state.past s n
+      (map (λ (f : FoundRow). f.row) found)
+  seen_then n are schema is =
+      are ∙ ap (λ (t : Schema). rows_in_range (plan_of on) t (rows_of scan.table (changed (with_all_tables state.past) (seen state.past s n))))
+      (one_schema schema is)
+
+  found_in : (sight : Sight) → SightHolds state writer s sight → FoundBy sight → RiseByKey found
+      → AreFoundBy (reading_of sight) scan.table (plan_of on) state.past s (map (λ (f : FoundRow). f.row) found)
+  found_in (View view reader) is are rise = λ n at.
+      seen_then n
+      (found_by_view chains writer state scan.table on.schema state.versions.kept_at (pairs_of state _) agrees
+      (rows.1.clustered.tables scan.table on.schema there) s n is.session is.work is.seen is.has_work is.view_is at
+      scan.which (lies_in on.schema scan) found
+      (subst (λ (v : ReadSight). FoundBy (View v is.work.id)) is.same (subst (λ (r : ℕ). FoundBy (View view r)) is.reader_is are)) rise)
+  found_in Newest is are rise =
+      seen_then (commits state.past)
+      (found_newest chains writer state scan.table on.schema state.versions.kept_at (pairs_of state _) agrees
+      (rows.1.clustered.tables scan.table on.schema there) s (alone writer is agrees.lists.writes) scan.which (lies_in on.schema scan) found are rise)
+    where
+      alone : (by : Option ℕ) → by ≡ Some s → WriterAgrees state.past by → (u : ℕ) → u ≢ s → own u state.past ≡ []
+      alone by mine writes = (subst (WriterAgrees state.past) mine writes).1
+
+  pub found_then : SightHolds state writer s scan.sight → FoundBy scan.sight → RiseByKey found
+      → AreFoundBy (reading_of scan.sight) scan.table (plan_of on) state.past s (map (λ (f : FoundRow). f.row) found)
+  found_then = found_in scan.sight
+
+-- ---- how often it may come to its pair anew
+
+less_or : (a b : ℕ) → a ≤ b → a ≢ b → a < b
+less_or a b le differs = elim (cases_lt a b) [ inl less ↦ less | inr least ↦ absurd (differs (omega (arith, le, least))) ]
+
+fewer : (long was since cuts : ℕ) → long ≡ was → since ≤ cuts → cuts ≤ was → since ≢ cuts → long - cuts < was - since
+fewer long was since cuts same le cut later = let less = less_or since cuts le later in omega (arith, same, cut, less)
+
+-- ---- in a held world
+
+module _ (s : ℕ) (old : WorldState) (writer : Option ℕ) (desks : List Desk) (cuts : ℕ) (undo : UndoRoom) (room : WorkRoom) (on : TableSearch)
+    (held : IsHeld old writer desks cuts undo room) (is : doing_at s desks ≡ Searching on) where
+  is_searching : is_quiet_doing (doing_at s desks) ≡ true
+  is_searching = ap is_quiet_doing is
+
+  search_held : IsSearchHeld held.chains old writer cuts s on
+  search_held = subst (SearchHeld held.chains old writer cuts s) is (held.searches s)
+
+  some_rows : IsTold old → HasSome held.chains old
+  some_rows told = some_rows_by held.chains old told writer desks (read_into undo) room held.rows
+
+  short : (place : Place) → length (versions_at place held.chains) ≤ most_versions
+  short = few_held old writer desks cuts undo room held
+
+  -- it is given up, or over
+  pub over : (new : WorldState) → MovesPlaces s old new → IsTold new → IsHeld new writer (with_doing s Nothing desks) cuts undo room
+  over new moves told = held_stays s old new moves writer desks cuts undo room held Nothing is_searching refl told (record {})
+
+  module _ (search : RowSearch) (taken : IsTakenUp cuts on search) where
+    taken_up : IsTaken s old held.chains on search
+    taken_up = takes_up held.chains old writer cuts s on search search_held taken
+
+    pub steps : IsTold old → MayStep s on.schema old search
+    steps told = may_step s on.schema old held.chains search told (some_rows told) short taken_up.0.searching
+
+    sight_taken : SightHolds old writer s search.scan.sight
+    sight_taken = subst (λ (scan : Scan). SightHolds old writer s scan.sight) (sym taken_up.1) search_held.sight
+
+    shows : IsTold old → ShowsRows on.schema search.scan old (in_table search.scan.table held.chains)
+    shows told =
+        shows_held held.chains old held.logs told s desks is_searching on.schema search.scan taken_up.0.searching.there taken_up.0.searching.key writer
+        (read_into undo) room held.agrees sight_taken held.rows
+
+    module _ (new : WorldState) (told : IsTold new) where
+      pub went : (next : RowSearch) → GoesOn s on.schema old new search next
+          → IsHeld new writer (with_doing s (Searching (record on { search = next; cuts = cuts })) desks) cuts undo room × MovesPlaces s old new ×
+          IsSameScan on.search.scan next.scan
+      went next goes =
+          let moves : MovesPlaces s old new = moves_in_one s _ old new goes.moves in
+          let on_now : IsFinding s on.schema new held.chains next × IsSameScan search.scan next.scan
+          = goes_on s on.schema old new held.chains search next taken_up.0 (shows (moves_told s old new moves told)) goes told in (
+            held_stays s old new moves writer desks cuts undo room held (Searching (record on { search = next; cuts = cuts })) is_searching refl told
+                (record {
+                  there = on_now.0.searching.there;
+                  which = on_now.0.searching.key;
+                  since = omega arith;
+                  finds =
+                      subst (λ (b : Bool). FindsSince b s new held.chains (record on { search = next; cuts = cuts })) (sym (same_number cuts cuts refl)) on_now.0;
+                  sight = subst (SightHolds new writer s) (sym on_now.1.sight) (sight_on s old new writer search.scan.sight moves sight_taken);
+                }),
+            moves,
+            subst (λ (scan : Scan). IsSameScan scan next.scan) taken_up.1 on_now.1,
+          )
+
+      -- less is left
+      pub nears : (next : RowSearch) → GoesOn s on.schema old new search next → IsBelow
+          (counted (places_in s new (record on { search = next; cuts = cuts }))) (counted (places_in s old on))
+      nears next goes =
+          let moves : MovesPlaces s old new = moves_in_one s _ old new goes.moves in
+          let was : IsTold old = moves_told s old new moves told in
+          let past : new.past ≡ old.past = ap (λ (state : WorldState). state.past) moves.rest in
+          let finds = taken_up.0 in
+          below next past taken
+          (steps_nearer s on.schema old new search next (in_table search.scan.table held.chains) (shows was) finds.searching finds.finds goes was told)
+        where
+          same_length : (a b : List Event) → a ≡ b → length a ≡ length b
+          same_length a b same = ap length same
+
+          below : (next : RowSearch) → new.past ≡ old.past → IsTakenUp cuts on search
+              → IsLess (keys_before s new next) (visit_before new next) (keys_before s old search) (visit_before old search)
+              → IsBelow (counted (places_in s new (record on { search = next; cuts = cuts }))) (counted (places_in s old on))
+          below next past (inl same) less =
+              still_nearer (keys_before s new next) (visit_before new next) (keys_before s old on.search) (visit_before old on.search) _ _
+              (subst (λ (r : RowSearch). IsLess (keys_before s new next) (visit_before new next) (keys_before s old r) (visit_before old r)) same.1 less)
+              (let long = same_length new.past old.past past in let cut = same.0 in omega (arith, long, cut))
+          below next past (inr (later, anew)) less =
+              let since = search_held.since in
+              let cut = held.cut in
+              let long = same_length new.past old.past past in
+              let scan_is = anew.scan in
+              let phase_is = anew.phase in
+              let keys : keys_before s old search ≡ keys_before s old on.search
+              = ap (λ (scan : Scan). keys_left (place_in s scan old) (pairs_of old (index_of scan.table scan.which)) search.phase) scan_is
+              ∙ (ap (keys_left (place_in s on.search.scan old) (pairs_of old (index_of on.search.scan.table on.search.scan.which))) phase_is
+              ∙ keys_anew (place_in s on.search.scan old) (pairs_of old (index_of on.search.scan.table on.search.scan.which)) on.search.phase) in
+              anew_nearer (keys_before s new next) (visit_before new next) (keys_before s old on.search) (visit_before old search)
+              (visit_before old on.search) _ _
+              (subst (λ (k : ℕ). IsLess (keys_before s new next) (visit_before new next) k (visit_before old search)) keys less)
+              (fewer (length new.past) (length old.past) on.cuts cuts long since cut later)
+
+      pub ended : (found : List FoundRow) → Ends s on.schema old new search found
+          → IsHeld new writer (with_doing s Nothing desks) cuts undo room × MovesPlaces s old new
+          × AreFoundBy (reading_of on.search.scan.sight) on.search.scan.table (plan_of on) old.past s (map (λ (f : FoundRow). f.row) found)
+      ended found ends =
+          let moves : MovesPlaces s old new = leaving_moves s _ old new ends.leaves in
+          let are
+          =
+          subst (λ (scan : Scan). AreFound on.schema scan.which (rows_seen scan.sight (in_table scan.table held.chains)) (lies_in on.schema scan) found ×
+          RiseByKey found) taken_up.1 (ends.found (in_table search.scan.table held.chains) taken_up.0.finds) in (
+            over new moves told,
+            moves,
+            found_then held.chains writer old held.agrees (some_rows (moves_told s old new moves told)) s on found search_held.there search_held.sight are.0
+                are.1,
+          )
+
+      pub waited : (same : RowSearch) (why : Move) → Waits s on.schema old new search same why → MayStep s on.schema new same × MovesPlaces s old new
+      waited same why waits =
+          let moves : MovesPlaces s old new = moves_nothing s old new waits.unchanged in (
+            may_step s on.schema new held.chains same told (rows_on s old new held.chains moves told (some_rows (moves_told s old new moves told))) short
+                waits.holds,
+            moves,
+          )
+
+  pub given_up : (index : ℕ) (new later : WorldState) → MovesPlaces s old new → Calls index (Leaves s) new later → IsTold later
+      → IsHeld later writer (with_doing s Nothing desks) cuts undo room × MovesPlaces s old later
+  given_up index new later first leaves told =
+      let moves : MovesPlaces s old later = moves_then s old new later first (leaving_moves s index new later leaves) in
+      (over later moves told, moves)

@@ -1,0 +1,6 @@
+use Rattle.law_held_steps.proofs.Entering.{entered}
+use Rattle.law_held_steps.proofs.entries.an_entry_leaves_what_is_held.Goals as goal
+
+pub returns : goal.returns
+returns c =
+    λ t writer later cuts undo room old new desks now held rests is. entered t writer later cuts undo room old new desks now held rests is

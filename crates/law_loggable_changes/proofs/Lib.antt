@@ -1,4 +1,0 @@
-pub mod Declared
-pub mod Fits
-pub mod Names
-mod Tokens

@@ -1,0 +1,240 @@
+-- The step of a change that adds its entry, and so each step.
+use Rattle.std.proofs.Common.{◌≡◌, ⊎_elim, ℕ, zero, suc, ◌^◌, ◌<◌, ◌==◌, Bool, true, false, cond, List, [], ◌∷◌, length, Option, Some, refl, sym, ap, subst, ◌∙◌, arith}
+use Rattle.std.specs.Prelude.{slice_get, unwrap_or, IsTrue, None}
+use Rattle.std.specs.Map.{lookup}
+use Rattle.std.proofs.lemmas.Bool.{cases_eq}
+use Rattle.std.proofs.lemmas.Option.{slice_get_within}
+use Rattle.inno_types.specs.declared.value.Value.{Value}
+use Rattle.inno_types.specs.declared.value.Schema.{Schema}
+use Rattle.inno_db.specs.Database.{key_of, key_in}
+use Rattle.store_api.specs.declared.answers.Undo.{Undo}
+use Rattle.row_versions.specs.Versions.{Versions}
+use Rattle.row_versions.specs.declared.place.Place.{Place}
+use Rattle.row_versions.specs.declared.version.Version.{Version}
+use Rattle.row_versions.specs.Chains.{Chains, is_same_place, versions_at, Pushes}
+use Rattle.law_past_agreement.specs.Rows.{place_in, row_of}
+use Rattle.law_past_agreement.specs.Order.{IsOfRow, IsTabled}
+use Rattle.law_stored_rows.specs.Edits.{clustered_index}
+use Rattle.law_stored_rows.specs.Records.{KeepsMore}
+use Rattle.law_stored_rows.proofs.Values.{same_place, place_itself}
+use Rattle.world.specs.State.{WorldState, Session, Work, HasWork}
+use Rattle.world.specs.Indexes.{KeepsVersion, KeepsIf}
+use Rattle.world.specs.Told.{IsTold}
+use Rattle.law_world_agreement.specs.Agreement.{Agrees}
+use Rattle.law_world_agreement.specs.Steps.{IsChangedBy}
+use Rattle.law_world_agreement.proofs.Changing.{changed_agrees}
+use Rattle.row_changes.specs.declared.row_edit.RowEdit.{RowEdit}
+use Rattle.row_changes.specs.declared.row_edit.RowEdit.TheVariants.{Put, Remove}
+use Rattle.row_changes.specs.declared.record_change.RecordChange.{RecordChange}
+use Rattle.row_changes.specs.declared.record_change.RecordReached.TheVariants as records
+use Rattle.row_changes.specs.declared.keys_change.KeysChange.{KeysChange}
+use Rattle.row_changes.specs.declared.row_change.RowChange.{RowChange}
+use Rattle.row_changes.specs.declared.row_change.RowChange.TheVariants.{Record, Keys}
+use Rattle.row_changes.specs.declared.reached.Reached.{Reached}
+use Rattle.row_changes.specs.declared.reached.Reached.TheVariants.{Went, Done, Hindered}
+use Rattle.row_changes.specs.Edits.{change_of, rows_put}
+use Rattle.row_changes.specs.Records.{IsChangingRecord, Records, ChangesRecord, id_for}
+use Rattle.row_changes.specs.Pairs.{RowsStay}
+use Rattle.row_changes.specs.Keys.{IsChangingKeys, StaysBesideKeys}
+use Rattle.row_changes.specs.Rows.{row_after, primary_of, place_of, PushesEdit, IsChangingRow, ChangesRow}
+use Rattle.row_changes.proofs.Ids.{one_work}
+use Rattle.row_changes.proofs.Sessions.{one_session}
+use Rattle.row_changes.proofs.Telling.{stays_told}
+use Rattle.law_logged_changes.specs.GoingOn.{StaysOpen, KeepsBeside, EntersAgreed, GoesOnAgreed}
+use Rattle.law_logged_changes.proofs.Staying.{aside_agreed, keys_agreed, keys_ended}
+
+-- ---- rows in which one place has a version more
+
+abbrev pub with_version : Place → Version → Chains → Chains
+with_version place version chains = (place, version ∷ versions_at place chains) ∷ chains
+
+at_itself : (place : Place) (version : Version) (chains : Chains) → versions_at place (with_version place version chains) ≡ version ∷ versions_at place chains
+at_itself place version chains =
+    ap (λ (b : Bool). unwrap_or (cond b (Some (version ∷ versions_at place chains)) (lookup (is_same_place place) chains)) []) (place_itself place)
+
+apart_back : (place other : Place) → is_same_place place other ≡ false → is_same_place other place ≡ false
+apart_back place other apart = go (is_same_place other place) refl
+  where
+    go : (b : Bool) → is_same_place other place ≡ b → is_same_place other place ≡ false
+    go false is = is
+    go true is =
+        let e = same_place other place is in let itself = subst (λ (p : Place). is_same_place place p ≡ true) (sym e) (place_itself place) in absurd (cc)
+
+pub pushed_version : (place : Place) (version : Version) (chains : Chains) → Pushes chains (with_version place version chains) place version
+pushed_version place version chains other = go (is_same_place place other) refl
+  where
+    go : (b : Bool) → is_same_place place other ≡ b
+        → versions_at other (with_version place version chains) ≡ cond b (version ∷ versions_at other chains) (versions_at other chains)
+    go true is =
+        subst (λ (p : Place). versions_at p (with_version place version chains) ≡ version ∷ versions_at p chains) (same_place place other is)
+        (at_itself place version chains)
+    go false is =
+        ap (λ (b : Bool). unwrap_or (cond b (Some (version ∷ versions_at place chains)) (lookup (is_same_place other) chains)) []) (apart_back place other is)
+
+-- ---- the entry is that of a change of this row
+
+key_there : (schemas : List Schema) (table : ℕ) (row : List Value) (schema : Schema) → slice_get schemas table ≡ Some schema
+    → key_in schemas table row ≡ key_of schema row
+key_there [] table row schema there = absurd (cc)
+key_there (first ∷ schemas) zero row schema there = let same : first ≡ schema = cc in ap (λ (s : Schema). key_of s row) same
+key_there (first ∷ schemas) (suc table) row schema there = key_there schemas table row schema there
+
+pub place_there : (schemas : List Schema) (table : ℕ) (edit : RowEdit) (schema : Schema) → slice_get schemas table ≡ Some schema
+    → place_in schemas (change_of table edit) ≡ Some (record { table = table; key = primary_of schema edit })
+place_there schemas table (Put row) schema there = ap (λ k. Some (record { table = table; key = k })) (key_there schemas table row schema there)
+place_there schemas table (Remove value) schema there = refl
+
+row_there : (table : ℕ) (edit : RowEdit) → row_of (change_of table edit) ≡ row_after edit
+row_there table (Put row) = refl
+row_there table (Remove value) = refl
+
+pub of_row : (table : ℕ) (edit : RowEdit) → IsOfRow (change_of table edit)
+of_row table (Put row) = record {}
+of_row table (Remove value) = record {}
+
+tabled : (tables table : ℕ) (edit : RowEdit) → table < tables → IsTabled tables (change_of table edit)
+tabled tables table (Put row) within = within
+tabled tables table (Remove value) within = within
+
+-- ---- the version is kept
+
+kept_apart : (schemas : List Schema) (pointer : ℕ) (undo : Undo) (old new : Versions) → KeepsVersion schemas pointer undo old new → IsTrue new.told
+    → KeepsMore old.kept_at new.kept_at
+kept_apart schemas pointer undo old new k told other found is =
+    ⊎_elim (λ e. let none : old.kept_at pointer ≡ None = k.fresh told in let some : old.kept_at pointer ≡ Some found = ap old.kept_at (sym e) ∙ is in absurd
+    (cc)) (λ differs. k.elsewhere other differs told ∙ is) (cases_eq other pointer)
+
+kept_if : (b : Bool) (schemas : List Schema) (pointer : ℕ) (undo : Undo) (old new : Versions) → KeepsIf b schemas pointer undo old new → IsTrue new.told
+    → KeepsMore old.kept_at new.kept_at
+kept_if true schemas pointer undo old new k told other found is = kept_apart schemas pointer undo old new k told other found is
+kept_if false schemas pointer undo old new k told other found is = ap (λ (f : ℕ → _). f other) (k.kept told) ∙ is
+
+-- ---- the record stands
+
+module _ (s : ℕ) (chains : Chains) (old new : WorldState) (change : RecordChange) (bytes : List ℕ) (undo : Undo)
+    (recorded : Records s (change_of change.table change.edit) (rows_put change.edit) change.table change.key bytes undo old new) (told : IsTold new) where
+  abbrev changed_by : IsChangedBy s (change_of change.table change.edit) old.schemas old new
+  changed_by =
+      record {
+        session = recorded.work.session;
+        work = recorded.work.work;
+        had = recorded.work.had;
+        session_now = recorded.work.session_now;
+        work_now = recorded.work.work_now;
+        has = recorded.work.has;
+        more =
+            record {
+              txn = recorded.work.changed.txn;
+              level = recorded.work.changed.level;
+              view = recorded.work.changed.view;
+              own =
+                  recorded.work.changed.own;
+              id_is = recorded.work.changed.id_is;
+            };
+        past = ap (λ (state : WorldState). state.past) recorded.rest;
+        names = ap (λ (state : WorldState). state.names) recorded.rest;
+        schemas = ap (λ (state : WorldState). state.schemas) recorded.rest;
+        txns = recorded.work.txns;
+        others = recorded.work.others;
+        count = recorded.work.count;
+      }
+
+  entered_open : (session : Session) (work : Work) → HasWork s session work old → StaysOpen s session work old new
+  entered_open session work has =
+      let one = one_session old s recorded.work.session session recorded.work.had.session_is has.session_is in
+      let same = one_work s recorded.work.session session recorded.work.work work old recorded.work.had has in
+      record {
+        session_now = recorded.work.session_now;
+        work_now = recorded.work.work_now;
+        has = recorded.work.has;
+        setting = recorded.work.setting ∙ ap (λ (x : Session). x.setting) one;
+        can_reply = recorded.work.can_reply ∙ ap (λ (x : Session). x.can_reply) one;
+        can_ack = recorded.work.can_ack ∙ ap (λ (x : Session). x.can_ack) one;
+        txn = recorded.work.changed.txn ∙ ap (λ (w : Work). w.txn) same;
+        level = recorded.work.changed.level ∙ ap (λ (w : Work). w.level) same;
+        view = recorded.work.changed.view ∙ ap (λ (w : Work). w.view) same;
+        can_end = recorded.work.changed.can_end ∙ ap (λ (w : Work). w.can_end) same;
+        same = λ past. absurd (omega (arith, ap length past, ap length changed_by.past));
+      }
+
+  entered_beside : KeepsBeside s old new
+  entered_beside =
+      record {
+        names = changed_by.names;
+        schemas = changed_by.schemas;
+        others = recorded.work.others;
+        count = recorded.work.count;
+        places = recorded.places;
+        kept = kept_if (undo.kind == 2) old.schemas recorded.work.session.next_pointer undo old.versions new.versions recorded.work.versions told.versions;
+        own = entered_open;
+      }
+
+  pub entered : (next : KeysChange) (p : IsChangingRecord s old change) → Agrees chains (Some s) old → length new.past < 2 ^ 63
+      → ((pushed : Chains) → PushesEdit s change old chains pushed → IsChangingKeys pushed new next) → EntersAgreed s chains old new change next
+  entered next p agrees few keys =
+      let place = place_of p.schema change in
+      let version : Version = record { writer = id_for p.work.id old.txns.next; row = row_after change.edit } in
+      let after = with_version place version chains in
+      let pushed : Pushes chains after place version = pushed_version place version chains in
+      let push : PushesEdit s change old chains after =
+      record { schema = p.schema; there = p.table.there; session = p.session; work = p.work; has_work = p.has_work; pushes = pushed } in
+      let same : p.work ≡ recorded.work.work = one_work s p.session recorded.work.session p.work recorded.work.work old p.has_work recorded.work.had in
+      let pushed' : Pushes chains after place (record
+      { writer = id_for recorded.work.work.id old.txns.next; row = row_of (change_of change.table change.edit) }) =
+      subst (λ (w : Work). Pushes chains after place (record { writer = id_for w.id old.txns.next; row = row_of (change_of change.table change.edit) })) same
+      (subst (λ (row : Option (List Value)). Pushes chains after place (record { writer = id_for p.work.id old.txns.next; row = row }))
+      (sym (row_there change.table change.edit)) pushed) in
+      record {
+        after = after;
+        pushes = push;
+        agrees =
+            changed_agrees chains after old new s (change_of change.table change.edit) place agrees (of_row change.table change.edit)
+            (place_there old.schemas change.table change.edit p.schema p.table.there)
+            (tabled (length old.schemas) change.table change.edit (slice_get_within old.schemas change.table p.schema p.table.there)) changed_by pushed'
+            (omega (arith, few, ap length changed_by.past));
+        changing = keys after push;
+        past = changed_by.past;
+        rows = ap (λ (state : WorldState). state.rows) recorded.rest;
+        beside = entered_beside;
+      }
+
+enters : (s : ℕ) (chains : Chains) (old new : WorldState) (change : RecordChange) (next : KeysChange) → IsChangingRecord s old change
+    → ChangesRecord s old new change (records.Recorded next.before) → IsTold new → Agrees chains (Some s) old → length new.past < 2 ^ 63
+    → ((pushed : Chains) → PushesEdit s change old chains pushed → IsChangingKeys pushed new next) → EntersAgreed s chains old new change next
+enters s chains old new change next p c told agrees few keys =
+    ⊎_elim
+    (λ first. entered s chains old new change _ _ first.0.records told next p agrees few keys)
+    (λ over. entered s chains old new change _ _ over.1.records told next p agrees few keys) c.2
+
+-- ---- each step
+
+-- where no pair changes, no record does
+stays_beside : (old new : WorldState) → RowsStay old new → StaysBesideKeys old new
+stays_beside old new stay =
+    record {
+      told = stays_told old new stay;
+      records = λ table. stay.pairs (clustered_index table);
+      places = stay.places;
+      versions = stay.versions;
+      rest = stay.rest;
+      later = stay.later;
+    }
+
+pub goes_on : (s : ℕ) (chains : Chains) (old new : WorldState) (change : RowChange) (reached : Reached RowChange) → Agrees chains (Some s) old
+    → IsChangingRow s chains old change → ChangesRow s chains old new change reached → IsTold new → length new.past < 2 ^ 63
+    → GoesOnAgreed s chains old new change reached
+goes_on s chains old new (Record change key after) (Went (Record next key' after')) agrees p c told few =
+    aside_agreed s old new c.0.0.aside chains (Record next key' after') agrees told c.0.1
+goes_on s chains old new (Record change key after) (Went (Keys next)) agrees p c told few = enters s chains old new change next p.0 c.0.0 told agrees few c.0.1
+goes_on s chains old new (Keys change) (Went (Record next key after)) agrees p c told few = absurd c.0
+goes_on s chains old new (Keys change) (Went (Keys next)) agrees p c told few = keys_agreed s chains old new c.0.stays agrees told (Keys next) c.0.holds
+goes_on s chains old new (Record change key after) Done agrees p c told few = absurd c
+goes_on s chains old new (Keys change) Done agrees p c told few = keys_ended s chains old new (stays_beside old new c.0) agrees told c.1
+goes_on s chains old new (Record change key after) (Hindered same why) agrees p c told few = (
+  c.0,
+  aside_agreed s old new c.2.0 chains same agrees told (subst (IsChangingRow s chains new) (sym c.0) c.1),
+)
+goes_on s chains old new (Keys change) (Hindered same why) agrees p c told few = (
+  c.0,
+  keys_agreed s chains old new (stays_beside old new c.2.0) agrees told same (subst (IsChangingRow s chains new) (sym c.0) c.1),
+)

@@ -1,0 +1,134 @@
+-- A step of another session that changes no row leaves a change as it was.
+use Rattle.std.proofs.Common.{◌≡◌, ℕ, true, false, List, Option, Some, None, sym, subst, ◌∙◌}
+use Rattle.std.specs.Prelude.{slice_get, IfSome, is_some}
+use Rattle.inno_types.specs.declared.value.Value.{Value}
+use Rattle.inno_types.specs.declared.value.Schema.{Schema}
+use Rattle.entries.specs.Pairs.{Pair, value_of}
+use Rattle.entries.specs.Index.{Index, AreKept}
+use Rattle.row_versions.specs.declared.place.Place.{Place}
+use Rattle.row_versions.specs.declared.version.Version.{Version}
+use Rattle.row_versions.specs.Chains.{Chains}
+use Rattle.law_stored_rows.specs.Edits.{clustered_index}
+use Rattle.law_stored_rows.specs.Tables.{Said, what_is_there}
+use Rattle.world.specs.State.{WorldState, Session, HasWork, IsIndex}
+use Rattle.world.specs.Told.{pairs_of, IsTold, LeavesRows}
+use Rattle.law_world_agreement.specs.Agreement.{Agrees}
+use Rattle.row_changes.specs.declared.row_edit.RowEdit.{RowEdit}
+use Rattle.row_changes.specs.declared.entry_put.EntryPut.{EntryPut}
+use Rattle.row_changes.specs.declared.entry_put.PutPhase.{PutPhase}
+use Rattle.row_changes.specs.declared.entry_put.PutPhase.TheVariants as puts
+use Rattle.row_changes.specs.declared.record_change.RecordChange.{RecordChange}
+use Rattle.row_changes.specs.declared.record_change.RecordStage.{RecordStage}
+use Rattle.row_changes.specs.declared.record_change.RecordStage.TheVariants.{Enter, Room, Find, Next, Insert, Replace}
+use Rattle.row_changes.specs.declared.keys_change.KeysChange.{KeysChange}
+use Rattle.row_changes.specs.declared.row_change.RowChange.{RowChange}
+use Rattle.row_changes.specs.declared.row_change.RowChange.TheVariants.{Record, Keys}
+use Rattle.row_changes.specs.Entries.{PutPhaseHolds}
+use Rattle.row_changes.specs.Records.{StageHolds, IsChangingRecord}
+use Rattle.row_changes.specs.Keys.{said_next, HasRowsSoFar, IsEntering, IsChangingKeys}
+use Rattle.row_changes.specs.Told.{AreRowsAs, HasRows}
+use Rattle.row_changes.specs.Rows.{IsChangingRow}
+use Rattle.row_changes.proofs.Telling.{told_before, went, coded_again}
+use Rattle.row_changes.proofs.Keying.{table_kept, changing_next}
+use Rattle.law_logged_changes.proofs.Listed.{listed_of}
+
+-- ---- what an index tells
+
+told_pairs : (P : List Pair → Type 0) (old new : Option (List Pair)) → AreKept old new → IfSome old P → IfSome new P
+told_pairs P old None kept is = record {}
+told_pairs P None (Some new) kept is = absurd kept
+told_pairs P (Some old) (Some new) kept is = subst P (sym kept) is
+
+stage_kept : (stage : RecordStage) (schema : Schema) (edit : RowEdit) (key : List ℕ) (session : Session) (old new : Index) → AreKept old.pairs new.pairs
+    → StageHolds stage schema edit key session old → StageHolds stage schema edit key session new
+stage_kept Enter schema edit key session old new kept is = is
+stage_kept Room schema edit key session old new kept is = is
+stage_kept Find schema edit key session old new kept is = is
+stage_kept Next schema edit key session old new kept is = (is.0, is.1, told_pairs (λ pairs. is_some (value_of key pairs) ≡ false) old.pairs new.pairs kept is.2)
+stage_kept Insert schema edit key session old new kept is =
+    (is.0, is.1, told_pairs (λ pairs. is_some (value_of key pairs) ≡ false) old.pairs new.pairs kept is.2)
+stage_kept (Replace before bytes) schema edit key session old new kept is = (
+  is.0,
+  is.1,
+  record { there = told_pairs (λ pairs. value_of key pairs ≡ Some bytes) old.pairs new.pairs kept is.2.there; code_is = is.2.code_is },
+)
+
+phase_kept : (phase : PutPhase) (entry : List ℕ) (old new : Index) → AreKept old.pairs new.pairs → PutPhaseHolds phase entry old → PutPhaseHolds phase entry new
+phase_kept puts.Look entry old new kept is = is
+phase_kept puts.Unmark entry old new kept is = told_pairs (λ pairs. is_some (value_of entry pairs) ≡ true) old.pairs new.pairs kept is
+phase_kept puts.Next entry old new kept is = told_pairs (λ pairs. is_some (value_of entry pairs) ≡ false) old.pairs new.pairs kept is
+phase_kept puts.Insert entry old new kept is = told_pairs (λ pairs. is_some (value_of entry pairs) ≡ false) old.pairs new.pairs kept is
+
+some_kept : (P Q : EntryPut → Type 0) (put : Option EntryPut) → ((x : EntryPut) → P x → Q x) → IfSome put P → IfSome put Q
+some_kept P Q None each is = record {}
+some_kept P Q (Some put) each is = each put is
+
+-- ---- rows
+
+module _ (old new : WorldState) (leaves : LeavesRows old new) where
+  pub left_told : IsTold new → IsTold old
+  left_told told =
+      record {
+        pairs = λ i. told_before (λ before after. after ≡ before) (old.indexes i).pairs (new.indexes i).pairs (leaves.pairs i) (told.pairs i);
+        versions = leaves.versions.told told.versions;
+      }
+
+  pub rows_left : (chains : Chains) (said : Said) → IsTold new → AreRowsAs chains said old → AreRowsAs chains said new
+  rows_left chains said told is =
+      coded_again old.schemas new.schemas (pairs_of old) (pairs_of new) old.versions.kept_at new.versions.kept_at chains said leaves.schemas
+      (λ d i. went (λ pairs. pairs) (old.indexes i).pairs (new.indexes i).pairs (leaves.pairs i) (told.pairs i) d) (leaves.versions.kept told.versions) is
+
+  pub has_rows_left : (chains : Chains) → HasRows chains old → HasRows chains new
+  has_rows_left chains rows told = rows_left chains (what_is_there chains) told (rows (left_told told))
+
+  so_far_left : (chains : Chains) (place : Place) (done : ℕ) (next older : List Version) → HasRowsSoFar chains place done next older old
+      → HasRowsSoFar chains place done next older new
+  so_far_left chains place done next older rows told = let was = rows (left_told told) in (was.0, rows_left chains was.0 told was.1, was.2)
+
+  -- ---- the change
+
+  record_left : (s : ℕ) (chains : Chains) (writer : Option ℕ) (change : RecordChange) → IsChangingRecord s old change
+      → slice_get new.sessions s ≡ slice_get old.sessions s → Agrees chains writer new → IsChangingRecord s new change
+  record_left s chains writer change p session agrees =
+      let has : HasWork s p.session p.work new = record { session_is = session ∙ p.has_work.session_is; work_is = p.has_work.work_is } in
+      record {
+        schema = p.schema;
+        table = table_kept change.table p.schema old new leaves.schemas p.table;
+        fits = p.fits;
+        session = p.session;
+        work = p.work;
+        has_work = has;
+        listed = listed_of chains writer new s p.session p.work agrees has;
+        small = p.small;
+        stage =
+            stage_kept change.stage p.schema change.edit change.key p.session (old.indexes (clustered_index change.table))
+            (new.indexes (clustered_index change.table)) (leaves.pairs (clustered_index change.table)) p.stage;
+      }
+
+  entering_left : (schema : Schema) (table which : ℕ) (row : Option (List Value)) (primary : List ℕ) (put : EntryPut)
+      → IsEntering schema table which row primary old put → IsEntering schema table which row primary new put
+  entering_left schema table which row primary put p =
+      record {
+        index_is = p.index_is;
+        entry_is = p.entry_is;
+        within = p.within;
+        putting = record {
+          index_is = subst (λ (schemas : List Schema). IsIndex schemas put.index) (sym leaves.schemas) p.putting.index_is;
+          short = p.putting.short;
+          phase = phase_kept put.phase put.entry (old.indexes put.index) (new.indexes put.index) (leaves.pairs put.index) p.putting.phase;
+        };
+      }
+
+  keys_left : (chains : Chains) (change : KeysChange) → IsChangingKeys chains old change → IsChangingKeys chains new change
+  keys_left chains change p =
+      changing_next chains old new change change.which change.put p leaves.schemas left_told p.within
+      (some_kept (IsEntering p.schema change.table change.which change.after change.key old)
+      (IsEntering p.schema change.table change.which change.after change.key new) change.put
+      (entering_left p.schema change.table change.which change.after change.key) p.put)
+      (so_far_left chains (record { table = change.table; key = p.value }) change.which (said_next change.put change.before p.older) p.older p.rows)
+
+  pub change_left : (s : ℕ) (chains : Chains) (writer : Option ℕ) (change : RowChange) → IsChangingRow s chains old change
+      → slice_get new.sessions s ≡ slice_get old.sessions s → Agrees chains writer new → IsChangingRow s chains new change
+  change_left s chains writer (Record change key after) p session agrees =
+      (record_left s chains writer change p.0 session agrees, has_rows_left chains p.1, p.2, p.3)
+  change_left s chains writer (Keys change) p session agrees = keys_left chains change p

@@ -1,0 +1,82 @@
+-- What a step of a change makes of a world that agrees with its past.
+use Rattle.std.specs.Prelude.{◌≡◌, ◌≢◌, ℕ, ◌+◌, ◌∷◌, length, slice_get, Some}
+use Rattle.inno_model.specs.declared.event.Event.TheVariants.{Changed}
+use Rattle.row_versions.specs.Chains.{Chains}
+use Rattle.law_stored_rows.specs.Records.{KeepsMore}
+use Rattle.world.specs.State.{WorldState, Session, Work, HasWork}
+use Rattle.law_world_agreement.specs.Agreement.{Agrees}
+use Rattle.row_changes.specs.declared.record_change.RecordChange.{RecordChange}
+use Rattle.row_changes.specs.declared.keys_change.KeysChange.{KeysChange}
+use Rattle.row_changes.specs.declared.row_change.RowChange.{RowChange}
+use Rattle.row_changes.specs.declared.row_change.RowChange.TheVariants.{Record, Keys}
+use Rattle.row_changes.specs.declared.reached.Reached.{Reached}
+use Rattle.row_changes.specs.declared.reached.Reached.TheVariants.{Went, Done, Hindered}
+use Rattle.row_changes.specs.Edits.{change_of, rows_put}
+use Rattle.row_changes.specs.Told.{HasRows}
+use Rattle.row_changes.specs.Rows.{PushesEdit, IsChangingRow}
+
+-- ---- what is kept beside
+
+-- The session has its transaction still. Where no entry has come, all of the transaction is as it was.
+pub record StaysOpen (s : ℕ) (session : Session) (work : Work) (old new : WorldState) : Type 0 where
+  pub session_now : Session
+  pub work_now : Work
+  pub has : HasWork s session_now work_now new
+  pub setting : session_now.setting ≡ session.setting
+  pub can_reply : session_now.can_reply ≡ session.can_reply
+  pub can_ack : session_now.can_ack ≡ session.can_ack
+  pub txn : work_now.txn ≡ work.txn
+  pub level : work_now.level ≡ work.level
+  pub view : work_now.view ≡ work.view
+  pub can_end : work_now.can_end ≡ work.can_end
+  pub same : new.past ≡ old.past → work_now ≡ work
+
+-- Names, tables, other sessions and the places of all actors are as they were, and what was kept behind roll pointers is
+-- kept.
+pub record KeepsBeside (s : ℕ) (old new : WorldState) : Type 0 where
+  pub names : new.names ≡ old.names
+  pub schemas : new.schemas ≡ old.schemas
+  pub others : (t : ℕ) → t ≢ s → slice_get new.sessions t ≡ slice_get old.sessions t
+  pub count : length new.sessions ≡ length old.sessions
+  pub places : (index : ℕ) → (new.indexes index).place ≡ (old.indexes index).place
+  pub kept : KeepsMore old.versions.kept_at new.versions.kept_at
+  pub own : (session : Session) (work : Work) → HasWork s session work old → StaysOpen s session work old new
+
+-- ---- how far a step came
+
+-- no entry has come, and this is left of the change
+pub record StaysAgreed (s : ℕ) (chains : Chains) (old new : WorldState) (next : RowChange) : Type 0 where
+  pub agrees : Agrees chains (Some s) new
+  pub changing : IsChangingRow s chains new next
+  pub past : new.past ≡ old.past
+  pub rows : new.rows ≡ old.rows
+  pub txns : new.txns ≡ old.txns
+  pub beside : KeepsBeside s old new
+
+-- the row has its new version, the history tells the change, and this is left of it
+pub record EntersAgreed (s : ℕ) (chains : Chains) (old new : WorldState) (change : RecordChange) (next : KeysChange) : Type 0 where
+  pub after : Chains
+  pub pushes : PushesEdit s change old chains after
+  pub agrees : Agrees after (Some s) new
+  pub changing : IsChangingRow s after new (Keys next)
+  pub past : new.past ≡ Changed s (change_of change.table change.edit) ∷ old.past
+  pub rows : new.rows ≡ old.rows + rows_put change.edit
+  pub beside : KeepsBeside s old new
+
+-- the change is over
+pub record EndsAgreed (s : ℕ) (chains : Chains) (old new : WorldState) : Type 0 where
+  pub agrees : Agrees chains (Some s) new
+  pub coded : HasRows chains new
+  pub past : new.past ≡ old.past
+  pub rows : new.rows ≡ old.rows
+  pub txns : new.txns ≡ old.txns
+  pub beside : KeepsBeside s old new
+
+-- What a step that came so far makes of a world whose rows were these.
+abbrev pub GoesOnAgreed : ℕ → Chains → WorldState → WorldState → RowChange → Reached RowChange → Type 0
+GoesOnAgreed s chains old new (Record change key after) (Went (Record next key' after')) = StaysAgreed s chains old new (Record next key' after')
+GoesOnAgreed s chains old new (Record change key after) (Went (Keys next)) = EntersAgreed s chains old new change next
+GoesOnAgreed s chains old new (Keys change) (Went (Record next key after)) = ⊥
+GoesOnAgreed s chains old new (Keys change) (Went (Keys next)) = StaysAgreed s chains old new (Keys next)
+GoesOnAgreed s chains old new change Done = EndsAgreed s chains old new
+GoesOnAgreed s chains old new change (Hindered same why) = (same ≡ change) × StaysAgreed s chains old new same

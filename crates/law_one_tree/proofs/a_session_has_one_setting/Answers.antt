@@ -1,5 +1,0 @@
-use Rattle.law_one_tree.proofs.Settings.{set_one}
-use Rattle.law_one_tree.proofs.a_session_has_one_setting.Goals as goal
-
-pub returns : goal.returns
-returns c = λ s a b past p q. set_one s past a b p q

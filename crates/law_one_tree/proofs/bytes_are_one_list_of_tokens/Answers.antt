@@ -1,5 +1,0 @@
-use Rattle.law_one_tree.proofs.Tokens.{tokens_one}
-use Rattle.law_one_tree.proofs.bytes_are_one_list_of_tokens.Goals as goal
-
-pub returns : goal.returns
-returns c = λ bytes a b p q. tokens_one p q

@@ -1,3 +1,0 @@
-pub mod Refused
-pub mod Answered
-pub mod Ended

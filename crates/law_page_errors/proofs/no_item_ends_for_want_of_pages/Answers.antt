@@ -1,5 +1,0 @@
-use Rattle.law_page_errors.proofs.Ended.{none_for_pages}
-use Rattle.law_page_errors.proofs.no_item_ends_for_want_of_pages.Goals as goal
-
-pub returns : goal.returns
-returns c = none_for_pages

@@ -1,0 +1,94 @@
+-- The record and the entries of a row that fits its table.
+use Rattle.std.proofs.Common.{◌≡◌, ℕ, ◌≤◌, List, length, get_or, Some, refl, sym, ap, ◌∙◌, subst, arith}
+use Rattle.std.specs.Prelude.{All, slice_get}
+use Rattle.inno_types.specs.declared.value.Kind.{Kind}
+use Rattle.inno_types.specs.declared.value.Kind.TheVariants.{BigInt, VarBinary}
+use Rattle.inno_types.specs.declared.value.Column.{Column}
+use Rattle.inno_types.specs.declared.value.Key.{Key}
+use Rattle.inno_types.specs.declared.value.Schema.{Schema}
+use Rattle.inno_types.specs.declared.value.Value.{Value}
+use Rattle.inno_types.specs.declared.value.Value.TheVariants.{Null}
+use Rattle.store_api.specs.declared.answers.Version.{Version}
+use Rattle.inno_db.specs.Database.{key_of}
+use Rattle.key_codec.specs.Keys.{IsOfKind, IsOfKindOrNull, key_code, key_width, entry_code}
+use Rattle.key_codec.proofs.Lengths.{length-key_code, length-entry_code}
+use Rattle.row_codec.specs.Rows.{IsRowOf, IsKeyOf, IsRecordOf, version_code}
+use Rattle.row_codec.proofs.Stored.{length-version_code}
+use Rattle.law_stored_rows.specs.Storable.{IsKeyOn, IsStorable}
+use Rattle.law_stored_rows.specs.Fitting.{IsKeyFor, FitsTable}
+use Rattle.law_stored_rows.specs.FittingRecords.{value_in, IsEntryOf}
+use Rattle.law_stored_rows.proofs.FittingValues.{value-fits, of_kind_or_null}
+
+same_column : (columns : List Column) (place : ℕ) (a b : Column) → slice_get columns place ≡ Some a → slice_get columns place ≡ Some b → a ≡ b
+same_column columns place a b is also = let both : Some a ≡ Some b = sym is ∙ also in cc
+
+-- ---- the clustered record
+
+key_of_row : (schema : Schema) (row : List Value) → FitsTable schema row → (key : List ℕ) × IsKeyOf schema row key
+key_of_row schema row fits =
+    let k = fits.key in
+    (key_code k.column.kind (key_of schema row), record { column = k.column; primary = k.primary; present = k.of_kind; spelled = refl })
+
+-- it has a key, and both can be read again
+pub HasRecord : (schema : Schema) (version : Version) → FitsTable schema version.row → (key : List ℕ) × IsRecordOf schema version key (version_code schema version)
+HasRecord schema version fits =
+    let key = key_of_row schema version.row fits in
+    (key.0, record { fits = fits.columns; key_is = key.1; value_is = refl })
+
+length-key : (schema : Schema) (row : List Value) (key : List ℕ) (column : Column) → slice_get schema.columns schema.primary ≡ Some column → IsKeyOf schema row key → length key ≡ key_width column.kind
+length-key schema row key column there is =
+    ap length is.spelled ∙ length-key_code is.column.kind (key_of schema row) is.present
+    ∙ ap (λ (c : Column). key_width c.kind) (same_column schema.columns schema.primary is.column column is.primary there)
+
+pub short_key : (schema : Schema) (row : List Value) (key : List ℕ) → IsStorable schema → IsKeyOf schema row key → length key ≤ 33
+short_key schema row key storable is = omega (arith, length-key schema row key storable.column storable.primary is, storable.short)
+
+pub short_value : (schema : Schema) (version : Version) (key value : List ℕ) → IsStorable schema → IsRecordOf schema version key value → length value ≤ 1024
+short_value schema version key value storable is = omega (arith, ap length is.value_is, length-version_code schema version is.fits, storable.record_short)
+
+-- ---- entries
+
+entry_on : (schema : Schema) (row : List Value) (primary : Kind) (key : Key) → FitsTable schema row → IsKeyOn schema.columns primary key → (bytes : List ℕ) × IsEntryOf schema key row bytes
+entry_on schema row primary key fits on =
+    let value = value_in key.column row in
+    let front = key_of_row schema row fits in (
+      entry_code on.column.kind value front.0,
+      record {
+        column = on.column;
+        there = on.there;
+        of_kind = of_kind_or_null on.column value (value-fits schema.columns row key.column on.column fits.columns on.there);
+        primary = front.0;
+        primary_is = front.1;
+        spelled = refl;
+      },
+    )
+
+-- the row has an entry in each secondary key
+pub HasEntries : (schema : Schema) (row : List Value) → IsStorable schema → FitsTable schema row → All (λ key. (bytes : List ℕ) × IsEntryOf schema key row bytes) schema.keys
+HasEntries schema row storable fits = λ k d below. entry_on schema row storable.column.kind (get_or schema.keys k d) fits (storable.keys k d below)
+
+short_entry_on : (schema : Schema) (key : Key) (row : List Value) (bytes : List ℕ) (storable : IsStorable schema) → IsKeyOn schema.columns storable.column.kind key → IsEntryOf schema key row bytes → length bytes ≤ 67
+short_entry_on schema key row bytes storable on is =
+    let width = ap length is.spelled ∙ length-entry_code is.column.kind (value_in key.column row) is.primary is.of_kind in
+    let same = ap (λ (c : Column). key_width c.kind) (same_column schema.columns key.column is.column on.column is.there on.there) in
+    let front = length-key schema row is.primary storable.column storable.primary is.primary_is in
+    omega (arith, width, same, front, on.short)
+
+-- and no entry is longer than an index takes
+pub short_entries : (schema : Schema) → IsStorable schema → All (λ key. (row : List Value) (bytes : List ℕ) → IsEntryOf schema key row bytes → length bytes ≤ 67) schema.keys
+short_entries schema storable = λ k d below row bytes is. short_entry_on schema (get_or schema.keys k d) row bytes storable (storable.keys k d below) is
+
+-- ---- what writers of keys and entries ask
+
+pub IsKeyFor-kind : (schema : Schema) (key : Value) (column : Column) → IsKeyFor schema key → slice_get schema.columns schema.primary ≡ Some column → IsOfKind column.kind key
+IsKeyFor-kind schema key column is there = subst (λ (c : Column). IsOfKind c.kind key) (same_column schema.columns schema.primary is.column column is.primary there) is.of_kind
+
+pub value_in-kind : (columns : List Column) (row : List Value) (place : ℕ) (column : Column) → IsRowOf columns row → slice_get columns place ≡ Some column → IsOfKindOrNull column.kind (value_in place row)
+value_in-kind columns row place column fits there = of_kind_or_null column (value_in place row) (value-fits columns row place column fits there)
+
+no_key : (kind : Kind) → IsOfKind kind Null → ⊥
+no_key BigInt is = is
+no_key (VarBinary size) is = is
+
+pub null_is_no_key : (schema : Schema) → IsKeyFor schema Null → ⊥
+null_is_no_key schema is = no_key is.column.kind is.of_kind

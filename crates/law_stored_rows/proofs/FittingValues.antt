@@ -1,0 +1,89 @@
+-- The values of a row that fits its columns, and its key.
+use Rattle.std.proofs.Common.{◌≡◌, ℕ, zero, suc, Bool, true, false, List, [], ◌∷◌, Some, sym, subst, ◌∙◌}
+use Rattle.std.specs.Prelude.{slice_get}
+use Rattle.inno_types.specs.declared.value.Value.{Value}
+use Rattle.inno_types.specs.declared.value.Value.TheVariants.{Null, Int, Text}
+use Rattle.inno_types.specs.declared.value.Kind.{Kind}
+use Rattle.inno_types.specs.declared.value.Kind.TheVariants.{BigInt, VarBinary}
+use Rattle.inno_types.specs.declared.value.Column.{Column}
+use Rattle.inno_types.specs.declared.value.Schema.{Schema}
+use Rattle.inno_db.specs.Database.{key_of}
+use Rattle.key_codec.specs.Keys.{IsOfKind, IsOfKindOrNull}
+use Rattle.row_codec.specs.Rows.{FitsColumn, IsRowOf}
+use Rattle.law_db.specs.Fitting.{IsTextOf, IsValueOf, IsRowOf as IsRowByType}
+use Rattle.law_stored_rows.specs.Storable.{IsStorable}
+use Rattle.law_stored_rows.specs.Fitting.{FitsTable}
+use Rattle.law_stored_rows.specs.FittingRecords.{value_in}
+
+-- ---- what a column takes, said in two ways
+
+number_kind : (kind : Kind) (n : _) → kind ≡ BigInt → IsOfKind kind (Int n)
+number_kind kind n is = subst (λ (k : Kind). IsOfKind k (Int n)) (sym is) tt
+
+big_int : (kind : Kind) (n : _) → IsOfKind kind (Int n) → kind ≡ BigInt
+big_int BigInt n is = cc
+big_int (VarBinary size) n is = absurd is
+
+text_kind : (kind : Kind) (text : List ℕ) → IsTextOf kind text → IsOfKind kind (Text text)
+text_kind BigInt text is = is
+text_kind (VarBinary size) text is = is
+
+kind_text : (kind : Kind) (text : List ℕ) → IsOfKind kind (Text text) → IsTextOf kind text
+kind_text BigInt text is = is
+kind_text (VarBinary size) text is = is
+
+value_fits : (column : Column) (value : Value) → IsValueOf column value → FitsColumn column value
+value_fits column Null is = is
+value_fits column (Int n) is = number_kind column.kind n is
+value_fits column (Text text) is = text_kind column.kind text is
+
+fits_value : (column : Column) (value : Value) → FitsColumn column value → IsValueOf column value
+fits_value column Null is = is
+fits_value column (Int n) is = big_int column.kind n is
+fits_value column (Text text) is = kind_text column.kind text is
+
+pub row_fits : (columns : List Column) (row : List Value) → IsRowByType columns row → IsRowOf columns row
+row_fits [] [] is = tt
+row_fits [] (value ∷ row) is = absurd is
+row_fits (column ∷ columns) [] is = absurd is
+row_fits (column ∷ columns) (value ∷ row) is = (value_fits column value is.0, row_fits columns row is.1)
+
+pub fits_row : (columns : List Column) (row : List Value) → IsRowOf columns row → IsRowByType columns row
+fits_row [] [] is = tt
+fits_row [] (value ∷ row) is = absurd is
+fits_row (column ∷ columns) [] is = absurd is
+fits_row (column ∷ columns) (value ∷ row) is = (fits_value column value is.0, fits_row columns row is.1)
+
+-- ---- one value of a row
+
+pub value-fits : (columns : List Column) (row : List Value) (place : ℕ) (column : Column) → IsRowOf columns row → slice_get columns place ≡ Some column → FitsColumn column (value_in place row)
+value-fits [] row place column fits there = cc
+value-fits (c ∷ columns) [] place column fits there = absurd fits
+value-fits (c ∷ columns) (value ∷ row) zero column fits there = let same : c ≡ column = cc in subst (λ (k : Column). FitsColumn k value) same fits.0
+value-fits (c ∷ columns) (value ∷ row) (suc place) column fits there = value-fits columns row place column fits.1 there
+
+pub of_kind_or_null : (column : Column) (value : Value) → FitsColumn column value → IsOfKindOrNull column.kind value
+of_kind_or_null column Null fits = tt
+of_kind_or_null column (Int n) fits = fits
+of_kind_or_null column (Text text) fits = fits
+
+null_is_barred : {A : Type 0} (not_null : Bool) → not_null ≡ true → not_null ≡ false → A
+null_is_barred not_null barred let_in = let both : true ≡ false = sym barred ∙ let_in in cc
+
+pub of_kind : (column : Column) (value : Value) → column.not_null ≡ true → FitsColumn column value → IsOfKind column.kind value
+of_kind column Null barred fits = null_is_barred column.not_null barred fits
+of_kind column (Int n) barred fits = fits
+of_kind column (Text text) barred fits = fits
+
+-- ---- its key
+
+-- a row of a table that can be stored has a key
+pub FitsTable-from_row : (schema : Schema) (row : List Value) → IsStorable schema → IsRowOf schema.columns row → FitsTable schema row
+FitsTable-from_row schema row storable fits = record {
+  columns = fits;
+  key = record {
+    column = storable.column;
+    primary = storable.primary;
+    of_kind = of_kind storable.column (key_of schema row) storable.not_null (value-fits schema.columns row schema.primary storable.column fits storable.primary);
+  };
+}

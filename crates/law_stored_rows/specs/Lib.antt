@@ -1,0 +1,11 @@
+pub mod Edits
+pub mod Entries
+pub mod Records
+pub mod Steps
+pub mod Tables
+pub mod Walks
+pub mod Example
+pub mod Fitting
+pub mod Numbers
+pub mod FittingRecords
+pub mod Storable

@@ -1,3 +1,0 @@
-mod GoingOn
-mod Zeroing
-mod ZeroRest

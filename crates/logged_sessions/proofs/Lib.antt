@@ -1,3 +1,0 @@
-mod Taking
-mod Adding
-mod Seating

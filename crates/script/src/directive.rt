@@ -1,0 +1,108 @@
+//! A directive, all of its line. Where it may stand, and what it does, is told by `script`.
+
+ghost use Rattle.std.specs.Prelude.{◌≡◌, ◌<◌, ◌≤◌, length, IfOk, IfSome};
+ghost use Rattle.std.specs.Option.{option_map};
+ghost use Rattle.script.specs.Directives as spelled;
+
+use crate::line::after_end;
+use crate::name::{digits_len, name_len};
+use inno_types::{Bytes, Listed};
+use std::alloc::{AllocError, Global};
+
+const MOST_NAME_BYTES: usize = 32;
+
+const MOST_DIGITS: usize = 5;
+
+/// Whose items follow, an item of its own, or how far the moment rises.
+#[derive(Drop)]
+pub enum Directive {
+    Session(Bytes),
+    Signal(Bytes),
+    Await(Bytes),
+    Tick(u32),
+}
+
+/// The directive whose line begins here, and what follows the line.
+pub fn directive_at(alloc: Global, bytes: &[u8]) -> Result<Option<(Directive, &[u8])>, AllocError>
+    ensures value { IfOk result (λ found. option_map (λ x. (x.0, x.1.now)) found ≡ spelled.directive_at bytes.now) }
+    ensures shorter { IfOk result (λ found. IfSome found (λ x. length x.1.now < length bytes.now)) }
+{
+    if bytes.starts_with("@session ".as_bytes()) {
+        return Ok(match name_at(alloc, &bytes[9..])? {
+            Some((name, rest)) => Some((Directive::Session(name), rest)),
+            None => None,
+        });
+    }
+    if bytes.starts_with("@tick ".as_bytes()) {
+        return Ok(match number_at(&bytes[6..]) {
+            Some((number, rest)) => Some((Directive::Tick(number), rest)),
+            None => None,
+        });
+    }
+    signal_at(alloc, bytes)
+}
+
+/// A directive about a signal.
+fn signal_at(alloc: Global, bytes: &[u8]) -> Result<Option<(Directive, &[u8])>, AllocError>
+    ensures value { IfOk result (λ found. option_map (λ x. (x.0, x.1.now)) found ≡ spelled.signal_at bytes.now) }
+    ensures shorter { IfOk result (λ found. IfSome found (λ x. length x.1.now < length bytes.now)) }
+{
+    if bytes.starts_with("@signal ".as_bytes()) {
+        return Ok(match name_at(alloc, &bytes[8..])? {
+            Some((name, rest)) => Some((Directive::Signal(name), rest)),
+            None => None,
+        });
+    }
+    if bytes.starts_with("@await ".as_bytes()) {
+        return Ok(match name_at(alloc, &bytes[7..])? {
+            Some((name, rest)) => Some((Directive::Await(name), rest)),
+            None => None,
+        });
+    }
+    Ok(None)
+}
+
+/// The name that the line ends in.
+fn name_at(alloc: Global, bytes: &[u8]) -> Result<Option<(Bytes, &[u8])>, AllocError>
+    ensures value { IfOk result (λ found. option_map (λ x. (x.0, x.1.now)) found ≡ spelled.name_at bytes.now) }
+    ensures shorter { IfOk result (λ found. IfSome found (λ x. length x.1.now ≤ length bytes.now)) }
+{
+    let len = name_len(bytes);
+    if len == 0 || len > MOST_NAME_BYTES {
+        return Ok(None);
+    }
+    match after_end(&bytes[len..]) {
+        Some(rest) => {
+            let name = Vec::from_slice(alloc, &bytes[..len])?;
+            Ok(Some((Listed::from_vec(name), rest)))
+        }
+        None => Ok(None),
+    }
+}
+
+/// The number that the line ends in.
+fn number_at(bytes: &[u8]) -> Option<(u32, &[u8])>
+    ensures value { option_map (λ x. (x.0, x.1.now)) result ≡ spelled.number_at bytes.now }
+    ensures shorter { IfSome result (λ x. length x.1.now ≤ length bytes.now) }
+{
+    let len = digits_len(bytes);
+    if len == 0 || len > MOST_DIGITS {
+        return None;
+    }
+    match after_end(&bytes[len..]) {
+        Some(rest) => Some((number_of(&bytes[..len]), rest)),
+        None => None,
+    }
+}
+
+/// The number that some digits spell.
+fn number_of(digits: &[u8]) -> u32
+    requires { length digits.now ≤ MOST_DIGITS }
+    ensures { result ≡ spelled.number_of digits.now }
+{
+    let mut number = 0;
+    for digit in digits {
+        number = number * 10 + u32::from(digit.saturating_sub(b'0'));
+    }
+    number
+}

@@ -1,4 +1,0 @@
-pub mod Lines
-pub mod Names
-pub mod Parts
-pub mod Directives

@@ -1,0 +1,65 @@
+use Rattle.std.proofs.Common.{◌++◌, ◌∷◌, List, ℕ, length, take, sym, ap, subst, ◌∙◌, arith}
+use Rattle.std.specs.Prelude.{All}
+use Rattle.std.proofs.Math.Seq.{take-length}
+use Rattle.script.specs.declared.script.ScriptItem.{ScriptItem}
+use Rattle.inno_model.specs.Boards.{calls_of}
+use Rattle.turn_engine.specs.Sessions.{setup}
+use Rattle.script_play.specs.Playing.{HasBegunIn, HasPlayedIn, IsWhole}
+use Rattle.script_play.proofs.Openings.{named_so_far}
+use Rattle.script_play.proofs.Concluding.{only}
+use Rattle.script_play.proofs.on_threads.play_in.Goals as goal
+
+pub make_calls-requires-clause-takes : goal.make_calls-requires-clause-takes
+make_calls-requires-clause-takes g c =
+    subst (λ (list : List ScriptItem). All (λ x. g.E.Turns.takes x.item) list) (sym c.as_slice.ensures) c.requires.takes
+
+pub conclude-requires-clause-begun : goal.conclude-requires-clause-begun
+conclude-requires-clause-begun g c =
+    only (HasPlayedIn c.args.hall c.args.script.now.items) (HasBegunIn c.args.hall c.args.script.now.items) c.play_all-receipts.result.items (λ r is. is.0)
+    c.play_all-receipts.ensures.played
+
+pub conclude-requires-clause-named : goal.conclude-requires-clause-named
+conclude-requires-clause-named g c =
+    named_so_far c.args.script.now c.split_all-joined.new.first.seen.names c.args.others.now (length c.split_all-joined.new.sessions.items) c.requires.names.0
+    (c.split_all-joined.ensures.names
+    ∙ ap (λ (list : List (List ℕ)). list ++ take (length c.split_all-joined.new.sessions.items) c.args.others.now)
+    (c.make_calls.ensures.names c.requires.first.1 ∙ c.requires.first.2))
+
+pub conclude-requires-clause-whole : goal.conclude-requires-clause-whole
+conclude-requires-clause-whole g c = λ all. record {
+  named = c.split_all-joined.ensures.names
+      ∙ (ap (λ (list : List (List ℕ)). list ++ take (length c.split_all-joined.new.sessions.items) c.args.others.now)
+      (c.make_calls.ensures.names c.requires.first.1 ∙ c.requires.first.2)
+      ∙ (ap (λ n. setup ∷ take n c.args.others.now) (c.split_all-joined.ensures.all c.if-joined.true)
+      ∙ (ap (λ (list : List (List ℕ)). setup ∷ list) (take-length c.args.others.now) ∙ sym c.requires.names.0)));
+  kept = sym c.is_lost.ensures ∙ c.if-not-is_lost.true;
+  whole = only (HasPlayedIn c.args.hall c.args.script.now.items) (IsWhole c.args.script.now.items) c.play_all-receipts.result.items (λ r is. is.1)
+      c.play_all-receipts.ensures.played;
+}
+
+pub conclude-requires-else-joined-clause-named : goal.conclude-requires-else-joined-clause-named
+conclude-requires-else-joined-clause-named g c =
+    named_so_far c.args.script.now c.split_all-joined.new.first.seen.names c.args.others.now (length c.split_all-joined.new.sessions.items) c.requires.names.0
+    (c.split_all-joined.ensures.names
+    ∙ ap (λ (list : List (List ℕ)). list ++ take (length c.split_all-joined.new.sessions.items) c.args.others.now)
+    (c.make_calls.ensures.names c.requires.first.1 ∙ c.requires.first.2))
+
+pub conclude-requires-clause-set_up : goal.conclude-requires-clause-set_up
+conclude-requires-clause-set_up g c = record {
+  before = c.make_calls.new.session.seen.past;
+  seen = c.split_all-joined.ensures.seen;
+  over = c.split_all-joined.ensures.same.2
+      ∙ ap (λ (x : ℕ). calls_of x c.make_calls.new.session.seen.past) (c.make_calls.ensures.same.1 ∙ (c.requires.first.1 ∙ sym c.split_all-joined.ensures.same.1));
+  alone = λ x above below. c.split_all-joined.ensures.uncalled x
+      (let one = ap length (c.make_calls.ensures.names c.requires.first.1 ∙ c.requires.first.2) in omega (arith, above, one)) below;
+}
+
+pub conclude-requires-else-joined-clause-set_up : goal.conclude-requires-else-joined-clause-set_up
+conclude-requires-else-joined-clause-set_up g c = record {
+  before = c.make_calls.new.session.seen.past;
+  seen = c.split_all-joined.ensures.seen;
+  over = c.split_all-joined.ensures.same.2
+      ∙ ap (λ (x : ℕ). calls_of x c.make_calls.new.session.seen.past) (c.make_calls.ensures.same.1 ∙ (c.requires.first.1 ∙ sym c.split_all-joined.ensures.same.1));
+  alone = λ x above below. c.split_all-joined.ensures.uncalled x
+      (let one = ap length (c.make_calls.ensures.names c.requires.first.1 ∙ c.requires.first.2) in omega (arith, above, one)) below;
+}

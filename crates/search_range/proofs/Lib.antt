@@ -1,4 +1,0 @@
-pub mod Admitted
-pub mod Exact
-pub mod Extremes
-pub mod Order

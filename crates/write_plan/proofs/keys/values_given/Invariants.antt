@@ -1,7 +1,0 @@
-use Rattle.std.proofs.Common.{◌≡◌, take}
-use Rattle.write_plan.specs.Keys.{values_given}
-use Rattle.write_plan.proofs.keys.values_given.Given as goal
-
--- what the tuples so far give
-abbrev pub invariant-loop-tuple : goal.invariant-loop-tuple
-invariant-loop-tuple l = l.given.items ≡ values_given l.at (take l.tuple-index l.tuples)

@@ -1,5 +1,0 @@
-use Rattle.write_plan.proofs.Inserting.{other_keys}
-use Rattle.write_plan.proofs.laws.other_keys_make_no_difference.Goals as goal
-
-pub returns : goal.returns
-returns c = λ passes table schema names rows tuples all holds. other_keys passes table schema names rows all tuples holds
