@@ -4,10 +4,10 @@
 
 mod counting;
 mod keys;
-mod lay;
+mod layout;
 mod opening;
 mod rows;
 mod tables;
 
-pub use lay::{LayBad, lay};
+pub use layout::{LayBad, lay};
 pub use opening::{OpenBad, Opening, PutBad};

@@ -1,7 +1,7 @@
 use Rattle.std.proofs.Common.{◌≡◌}
 use Rattle.std.specs.FinMap.{entries}
 use Rattle.opened_world.proofs.Below.{below}
-use Rattle.opened_world.proofs.lay.lay_rows.Given as goal
+use Rattle.opened_world.proofs.layout.lay_rows.Given as goal
 
 -- the rows of the tables before this one are there
 abbrev pub invariant-loop-table : goal.invariant-loop-table

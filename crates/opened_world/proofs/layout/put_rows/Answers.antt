@@ -1,6 +1,6 @@
 use Rattle.std.specs.FinMap.{entries}
 use Rattle.opened_world.proofs.Grown.{rising_here}
-use Rattle.opened_world.proofs.lay.put_rows.Goals as goal
+use Rattle.opened_world.proofs.layout.put_rows.Goals as goal
 
 pub put_row-requires-clause-rising : goal.put_row-requires-clause-rising
 put_row-requires-clause-rising c =

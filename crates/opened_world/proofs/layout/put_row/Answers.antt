@@ -4,7 +4,7 @@ use Rattle.key_codec.specs.Keys.{Has64Bits}
 use Rattle.row_codec.specs.Rows.{IsRowOf}
 use Rattle.inno_db.specs.Database.{Database}
 use Rattle.opened_world.proofs.Grown.{fits_well, no_row, row_behind}
-use Rattle.opened_world.proofs.lay.put_row.Goals as goal
+use Rattle.opened_world.proofs.layout.put_row.Goals as goal
 
 pub put-requires : goal.put-requires
 put-requires c =

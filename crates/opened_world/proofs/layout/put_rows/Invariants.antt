@@ -1,7 +1,7 @@
 use Rattle.std.proofs.Common.{◌≡◌, ◌++◌, take}
 use Rattle.std.specs.FinMap.{entries}
 use Rattle.inno_db.specs.Database.{placed}
-use Rattle.opened_world.proofs.lay.put_rows.Given as goal
+use Rattle.opened_world.proofs.layout.put_rows.Given as goal
 
 -- the rows so far stand behind those that were there
 abbrev pub invariant-loop-row : goal.invariant-loop-row

@@ -6,10 +6,10 @@ use Rattle.inno_db.specs.Database.{Database}
 use Rattle.inno_db.proofs.Tables.{entries-from_rising}
 use Rattle.law_stored_rows.proofs.Rows.{rows_of-FitsTable}
 use Rattle.law_stored_rows.specs.Fitting.{FitsTable}
-use Rattle.opened_world.specs.declared.lay.LayBad.TheVariants.{Unfit}
+use Rattle.opened_world.specs.declared.layout.LayBad.TheVariants.{Unfit}
 use Rattle.opened_world.proofs.Below.{below_none, table_more, more_rise, whole}
 use Rattle.opened_world.proofs.Grown.{table_there}
-use Rattle.opened_world.proofs.lay.lay_rows.Goals as goal
+use Rattle.opened_world.proofs.layout.lay_rows.Goals as goal
 
 pub loop-table-init : goal.loop-table-init
 loop-table-init c = record {
