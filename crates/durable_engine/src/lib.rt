@@ -1,6 +1,6 @@
 //! An engine whose commits outlive the run, whatever keeps the lists that its sessions share. While its disk serves it, its
-//! sessions run with their log; once the disk has failed it has stopped for good, and each item ends with the reply that says
-//! so.
+//! sessions run with their log (`LoggedSessions`: room before a change, each entry taken over); once the disk has failed it
+//! has stopped for good, and each item ends with the reply that says so.
 #![tactic(auto)]
 
 mod engine;

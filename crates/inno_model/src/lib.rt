@@ -1,5 +1,5 @@
-//! The model of the storage engine: which histories it may have, and what their texts are.
-//! Everything that is proved of the engine is stated by the definitions of specs/.
+//! The model of the storage engine: which histories it may have, and what their texts are; and the board, which says what
+//! threads that share an engine know of it. Everything that is proved of the engine is stated by the definitions of specs/.
 #![tactic(auto)]
 
 mod board;

@@ -1,6 +1,6 @@
-//! Laws on lists over a world (`IsHeld` of desks) while the session that may write changes a row: a change begins, a step of
-//! it is made (`MakesChange`, specs/Making.antt), and one that is given up leaves its indexes. Each function has an empty
-//! body: its contract is the law. The lists over a world stand on the lemmas behind them, in proofs/.
+//! Laws on lists over a world (`IsHeld` of desks): each kind of step keeps what is held between calls: an entry that changes
+//! no row, a search, a change of a row, and its taking back. Each function has an empty body: its contract is the law. The
+//! lists over a world stand on the lemmas behind them, in proofs/.
 #![tactic(auto)]
 
 mod beginning;

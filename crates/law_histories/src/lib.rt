@@ -1,5 +1,6 @@
-//! Laws of what an open transaction has done: its statements with their replies, its savepoints and its changes.
-//! Each function has an empty body: its contract is the law.
+//! Laws of histories: a text spells one statement; what an open transaction has done, its statements with their replies, its
+//! savepoints and its changes; and that no item ends for want of pages as long as no store keeps pages. Each function has an
+//! empty body: its contract is the law.
 #![tactic(auto)]
 
 mod one_tree;

@@ -1,6 +1,5 @@
-//! Laws: when the undo log of a transaction is that of its changes (`IsLogOf`, `LogsAgree`, specs/Logs.antt), and that each
-//! step of a change, and of its taking back, keeps it. Each function has an empty body: its contract is the law. Nothing
-//! calls them; what drives changes and rollbacks stands on the lemmas behind them, in proofs/.
+//! Laws of a row's change under way: how far its pairs lag behind the rows, what readers see meanwhile, and the undo logs
+//! that tell of it. Each function has an empty body: its contract is the law.
 #![tactic(auto)]
 
 mod changing;

@@ -1,6 +1,6 @@
-//! Laws: when coded records, their older versions by roll pointers and the entries of secondary keys are the rows of all
-//! tables (`AreCoded`, specs/Tables.antt), and what each change of one pair makes of them. Each function has an empty
-//! body: its contract is the law. Nothing calls them; proofs above cite the lemmas behind them, in proofs/.
+//! Laws of rows in memory: whatever statements make of a database that fits its tables can be coded; when coded records,
+//! kept versions and entries are the rows of all tables, and what each change of one pair makes of them. Each function has
+//! an empty body: its contract is the law.
 #![tactic(auto)]
 
 mod changes;

@@ -1,5 +1,5 @@
-//! Databases that are there before an engine runs: the rows are put into a world one by one, and then it is opened on them.
-//! Only what opens an engine calls this.
+//! Databases that are there before an engine runs: tables and rows that were read from files are tested (`lay`), put into a
+//! world one by one, and then it is opened on them (`Opening`). Only what opens an engine calls this.
 #![tactic(auto)]
 
 mod counting;

@@ -1,5 +1,5 @@
-//! The database after all commits of a history, made anew from its entries.
-//! It reads a history and makes changes of a database in memory; nothing here meets an engine.
+//! The database after all commits of a history, made anew from its entries, and the line that tells what a generated script
+//! has done (`report`). It reads a history and makes changes of a database in memory; nothing here meets an engine.
 #![tactic(auto)]
 
 mod changes;

@@ -1,5 +1,5 @@
-//! Places of rows, their versions, and what versions are to their readers (specs/Chains.antt): the words in which crates
-//! below statements speak of rows. How rows are kept is theirs to say.
+//! Versions of rows: what a version is and where its row stands, the calls of every chain of versions by roll pointers
+//! (`Chain`), and versions that are kept in a vector (`ListChain`). Readers and rollback walk chains here.
 #![tactic(auto)]
 
 mod answers;

@@ -1,5 +1,5 @@
-//! Scripts and the texts of histories: what a program of many sessions reads, and what it prints.
-//! All of it is over bytes in memory. Nothing here meets the engine or the outside.
+//! Scripts and the texts of histories: what stands at a place of a script, what a program of many sessions reads, and what
+//! it prints. All of it is over bytes in memory. Nothing here meets the engine or the outside.
 #![tactic(auto)]
 
 mod directive;

@@ -1,5 +1,5 @@
-//! Conditions behind a WHERE, and the right sides of assignments, at the front of a statement's tokens.
-//! Brackets may be nested to any depth: what waits for an operand stands on a stack in memory.
+//! Names, literals and lists of them, conditions behind a WHERE, and the right sides of assignments, at the front of a
+//! statement's tokens. Brackets may be nested to any depth: what waits for an operand stands on a stack in memory.
 #![tactic(auto)]
 
 mod atoms;

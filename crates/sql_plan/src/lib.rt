@@ -1,5 +1,7 @@
-//! Which keys a search visits: the index and the range that a condition bounds, and the values of a row under
-//! conditions and assignments. Statements ask here; nothing here reads an index or changes a row that stands.
+//! Which keys a search visits: the values that a condition allows a column (`Interval`), the index and the range that it
+//! bounds (`choose`), those that an INSERT, UPDATE or DELETE searches (`plan_for`), and the values of a row under conditions
+//! and assignments. Statements ask here; nothing here reads an index or changes a row that stands.
+//! MySQL 8.0 Reference Manual, "Range Optimization".
 #![tactic(auto)]
 
 mod bound;

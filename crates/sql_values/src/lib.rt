@@ -1,5 +1,5 @@
-//! Values of SQL: names looked up, conditions and expressions on a row, and the rows that INSERT and UPDATE make.
-//! Engines and the plain interpreter call it; nothing here changes a database.
+//! Values of SQL: names looked up, conditions and expressions on a row, the rows that INSERT and UPDATE make, and the schema
+//! that a CREATE TABLE declares. Engines and the plain interpreter call it; nothing here changes a database.
 #![tactic(auto)]
 
 mod condition;

@@ -1,5 +1,5 @@
-//! A statement under way, whichever it is: what refuses it at once, and then the machine of its kind.
-//! The engine seats it, drives it a step at a time, and knows no machine by name.
+//! A statement under way, whichever it is: what refuses it at once, and then the machine of its kind. The engine seats it,
+//! drives it a step at a time, and knows no machine by name. That it may be broken off at each step is a law beside it.
 #![tactic(auto)]
 
 mod broken_off;
