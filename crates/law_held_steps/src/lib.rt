@@ -5,9 +5,9 @@
 
 mod beginning;
 mod ending;
-mod entries;
 mod going;
 mod going_on;
+mod item_entries;
 mod leaving;
 mod making;
 mod moving;
@@ -20,9 +20,9 @@ mod undo_seen;
 
 pub use beginning::{a_change_is_begun, an_edit_can_be_keyed};
 pub use ending::a_change_is_taken_back;
-pub use entries::{an_entry_leaves_what_is_held, callers_see_the_entry};
 pub use going::{a_search_goes_on, a_search_is_given_up, a_search_may_step};
 pub use going_on::a_taking_back_goes_on;
+pub use item_entries::{an_entry_leaves_what_is_held, callers_see_the_entry};
 pub use leaving::an_index_is_left;
 pub use making::a_change_is_made;
 pub use moving::{a_held_world_stays_held, places_move};

@@ -1,5 +1,5 @@
 use Rattle.law_held_steps.proofs.SeenEntries.{now_of}
-use Rattle.law_held_steps.proofs.entries.callers_see_the_entry.Goals as goal
+use Rattle.law_held_steps.proofs.item_entries.callers_see_the_entry.Goals as goal
 
 pub returns : goal.returns
 returns c = now_of

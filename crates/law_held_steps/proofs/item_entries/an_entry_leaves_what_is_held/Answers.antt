@@ -1,5 +1,5 @@
 use Rattle.law_held_steps.proofs.Entering.{entered}
-use Rattle.law_held_steps.proofs.entries.an_entry_leaves_what_is_held.Goals as goal
+use Rattle.law_held_steps.proofs.item_entries.an_entry_leaves_what_is_held.Goals as goal
 
 pub returns : goal.returns
 returns c =
