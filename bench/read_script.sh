@@ -5,7 +5,7 @@
 set -euo pipefail
 cd "$(dirname "$0")/.."
 work="${1:-$(mktemp -d)}"
-crates="sum64 inno_types inno_db inno_model store_api sql_grammar sql_tokens script_parts script"
+crates="sum64 inno_types inno_db inno_model store_api sql_grammar sql_tokens script"
 mkdir -p "$work/crates/reading/src"
 : >"$work/crates.txt"
 for crate in $crates; do

@@ -1,4 +1,4 @@
-//! Reads a script, one part after another. What the parts are is told by `script_parts`; here they get their
+//! Reads a script, one part after another. What the parts are is told by `part_at`; here they get their
 //! meaning: whose items they are, and which limit they pass.
 
 ghost use Rattle.std.specs.Prelude.{◌≡◌, ◌<◌, ◌≤◌, ◌+◌, ◌++◌, ◌∷◌, [], ℕ, List, Result, length, IfOk, OnOk, IfErr, codes};
