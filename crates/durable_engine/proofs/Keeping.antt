@@ -20,8 +20,8 @@ use Rattle.inno_model.specs.declared.board.Phase.{Phase}
 use Rattle.inno_model.specs.declared.board.Phase.TheVariants.{Idle, Busy, Leaving, Left}
 use Rattle.session_engine.specs.Calls.{Acknowledges}
 use Rattle.session_engine.specs.Places.{IsExact, HasExactPlaces}
-use Rattle.stopped_sessions.specs.Seats.{State as StoppedState, phase_at, halted, ended}
-use Rattle.stopped_sessions.specs.Calls.{is_at_work, Starts as StoppedStarts, SameState as StoppedSameState, StepsBy as StoppedStepsBy}
+use Rattle.durable_engine.specs.Seats.{State as StoppedState, phase_at, halted, ended}
+use Rattle.durable_engine.specs.StoppedCalls.{is_at_work, Starts as StoppedStarts, SameState as StoppedSameState, StepsBy as StoppedStepsBy}
 use Rattle.durable_engine.specs.SessionsState.{State as LoggedState}
 use Rattle.durable_engine.specs.State.{running_state}
 use Rattle.durable_engine.specs.Calls.{StepsOn, GoesOn, StopsBy}

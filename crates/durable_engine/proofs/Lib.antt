@@ -3,3 +3,5 @@ mod Whole
 mod Taking
 mod Adding
 mod Seating
+pub mod Others
+pub mod StoppedKeeping

@@ -26,8 +26,8 @@ use Rattle.session_engine.specs.Seats.{State as Sessions, seat_at, phase_of, Has
 use Rattle.session_engine.specs.Calls.{Joins, SameState, Starts, StepsOn, StepsBy, Acknowledges}
 use Rattle.session_engine.proofs.Others.{has_item}
 use Rattle.statement.proofs.Broken.{of_statements, of_nothing}
-use Rattle.stopped_sessions.specs.declared.seats.Seat.{Seat}
-use Rattle.stopped_sessions.specs.Seats.{phase_at, seat_at as stopped_seat_at, PhaseAgrees, AreSeats as AreStoppedSeats}
+use Rattle.durable_engine.specs.declared.stopped_seats.Seat.{Seat}
+use Rattle.durable_engine.specs.Seats.{phase_at, seat_at as stopped_seat_at, PhaseAgrees, AreSeats as AreStoppedSeats}
 use Rattle.durable_engine.specs.SessionsState.{AreSeated}
 use Rattle.durable_engine.proofs.Adding.{AreAdded, opening_stays}
 use Rattle.shared_lists.specs.State.{State as Lists}

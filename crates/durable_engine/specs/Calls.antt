@@ -13,9 +13,9 @@ use Rattle.store_api.specs.declared.answers.Progress.TheVariants as progress
 use Rattle.inno_model.specs.declared.board.Phase.TheVariants.{Idle, Leaving, Left}
 use Rattle.sql_lists.specs.Steps.{WaitsFor}
 use Rattle.session_engine.specs.Calls.{KeepsItems, EndsItem, IsAwaited}
-use Rattle.stopped_sessions.specs.declared.seats.Seat.{Seat}
-use Rattle.stopped_sessions.specs.Seats.{State as StoppedState, phase_at, halted, ended, phase_after}
-use Rattle.stopped_sessions.specs.Calls.{is_at_work, StepsBy as StoppedStepsBy}
+use Rattle.durable_engine.specs.declared.stopped_seats.Seat.{Seat}
+use Rattle.durable_engine.specs.Seats.{State as StoppedState, phase_at, halted, ended, phase_after}
+use Rattle.durable_engine.specs.StoppedCalls.{is_at_work, StepsBy as StoppedStepsBy}
 use Rattle.durable_engine.specs.SessionsState.{State as LoggedState}
 use Rattle.durable_engine.specs.State.{State}
 

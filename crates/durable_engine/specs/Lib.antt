@@ -4,3 +4,5 @@ pub mod Going
 pub mod Whole
 pub mod Entering
 pub mod SessionsState
+pub mod Seats
+pub mod StoppedCalls

@@ -11,11 +11,11 @@ use Rattle.law_crashes.specs.Since.{KeepsSince}
 use Rattle.commit_log.specs.View.{IsLogging}
 use Rattle.session_engine.specs.Places.{HasExactPlaces}
 use Rattle.session_engine.specs.Seats.{State as Sessions, state_code as sessions_code, seat_at, owes}
-use Rattle.stopped_sessions.specs.declared.seats.Seat.{Seat}
-use Rattle.stopped_sessions.specs.contracts.seats.Seat as of_seat
+use Rattle.durable_engine.specs.declared.stopped_seats.Seat.{Seat}
+use Rattle.durable_engine.specs.contracts.seats.Seat as of_seat
 use Rattle.durable_engine.specs.SessionsState.{State as LoggedState}
-use Rattle.stopped_sessions.specs.Seats.{State as StoppedState, phase_at}
-use Rattle.stopped_sessions.specs.Calls.{is_at_work}
+use Rattle.durable_engine.specs.Seats.{State as StoppedState, phase_at}
+use Rattle.durable_engine.specs.StoppedCalls.{is_at_work}
 use Rattle.durable_engine.specs.declared.parts.Core.{Core}
 use Rattle.durable_engine.specs.declared.parts.Core.TheVariants.{Running, Stopped, Changing}
 

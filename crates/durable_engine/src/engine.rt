@@ -11,14 +11,14 @@ ghost use Rattle.shared_lists.specs.Tasks.{Idle as TaskIdle};
 ghost use Rattle.shared_lists.specs.State.{task_of};
 ghost use Rattle.commit_log.specs.Room.{IsLoggable};
 ghost use Rattle.commit_log.specs.View.{IsLogging};
-ghost use Rattle.stopped_sessions.specs.Calls.{is_at_work, has_left};
-ghost use Rattle.stopped_sessions.specs.Seats.{phase_at};
+ghost use Rattle.durable_engine.specs.StoppedCalls.{is_at_work, has_left};
+ghost use Rattle.durable_engine.specs.Seats.{phase_at};
 ghost use Rattle.session_engine.specs.Calls.{AreFirst};
 
-use crate::LoggedSessions;
 use crate::parts::Core;
 use crate::root::Root;
 use crate::stepping::{start_stopped, step_of};
+use crate::{LoggedSessions, StoppedSessions};
 use commit_log::CommitLog;
 use inno_model::History;
 use inno_types::{Bytes, Cause, Item};
@@ -27,7 +27,6 @@ use sql_lists::SqlLists;
 use std::alloc::Global;
 use std::marker::{Model, PhantomData};
 use std::mem;
-use stopped_sessions::StoppedSessions;
 use store_api::{Disk, Failed, NoMemory, Progress};
 
 /// An engine over a disk, with the files of a database.

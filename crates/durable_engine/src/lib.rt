@@ -9,7 +9,12 @@ mod logged;
 mod parts;
 mod root;
 mod stepping;
+mod stop_entries;
+mod stopped;
+mod stopped_seats;
 
 pub use engine::DurableEngine;
 pub use logged::LoggedSessions;
 pub use root::Root;
+pub use stopped::StoppedSessions;
+pub use stopped_seats::Seat;

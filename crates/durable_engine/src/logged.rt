@@ -14,14 +14,15 @@ ghost use Rattle.commit_log.specs.Room.{IsLoggable};
 ghost use Rattle.commit_log.specs.View.{IsJoined as IsDrafted, IsLogging};
 ghost use Rattle.commit_log.specs.DraftsView.{draft_of};
 ghost use Rattle.inno_model.specs.Past.{under_way};
-ghost use Rattle.stopped_sessions.specs.Seats.{phase_at, AreSeats as AreStoppedSeats};
-ghost use Rattle.stopped_sessions.specs.Calls.{is_at_work, has_left};
+ghost use Rattle.durable_engine.specs.Seats.{phase_at, AreSeats as AreStoppedSeats};
+ghost use Rattle.durable_engine.specs.StoppedCalls.{is_at_work, has_left};
 ghost use Rattle.session_engine.specs.Calls.{AreFirst};
 ghost use Rattle.session_engine.specs.Seats.{phase_of};
 ghost use Rattle.shared_lists.specs.Tasks.{Idle as TaskIdle};
 ghost use Rattle.shared_lists.specs.State.{task_of};
 ghost use Rattle.durable_engine.specs.Entering.{MayEnter};
 
+use crate::Seat;
 use crate::entering::enter_all;
 use commit_log::CommitLog;
 use inno_model::{History, Phase};
@@ -31,7 +32,6 @@ use shared_lists::SharedLists;
 use sql_lists::SqlLists;
 use std::alloc::Global;
 use std::marker::Model;
-use stopped_sessions::Seat;
 use store_api::{Disk, Failed, NoMemory, Progress};
 
 /// Sessions with their log.

@@ -1,9 +1,8 @@
 //! What an engine consists of beside its disk: sessions that run, or those of an engine that has stopped.
 //! Only the engine's own calls see it.
 
-use crate::LoggedSessions;
+use crate::{LoggedSessions, StoppedSessions};
 use shared_lists::SharedLists;
-use stopped_sessions::StoppedSessions;
 
 #[derive(Drop)]
 pub enum Core<L: SharedLists> {

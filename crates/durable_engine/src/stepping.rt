@@ -5,19 +5,18 @@ ghost use Rattle.session_engine.specs.Calls.{GivesUpInVain};
 ghost use Rattle.session_engine.specs.Places.{HasExactPlaces};
 ghost use Rattle.store_api.specs.Past.{Past};
 ghost use Rattle.commit_log.specs.View.{IsLogging};
-ghost use Rattle.stopped_sessions.specs.Seats.{phase_at};
+ghost use Rattle.durable_engine.specs.Seats.{phase_at};
 ghost use Rattle.law_crashes.specs.Since.{KeepsSince};
-ghost use Rattle.stopped_sessions.specs.Calls.{is_at_work, Starts as StoppedStarts, SameState as StoppedSameState, StepsBy as StoppedStepsBy};
+ghost use Rattle.durable_engine.specs.StoppedCalls.{is_at_work, Starts as StoppedStarts, SameState as StoppedSameState, StepsBy as StoppedStepsBy};
 ghost use Rattle.durable_engine.specs.State.{state_of, running_state, IsJoined, IsWorking, IsKeptRunning, IsKept};
 ghost use Rattle.durable_engine.specs.Calls.{StepsBy, StopsBy};
 ghost use Rattle.durable_engine.specs.Going.{Nears, NearsLacking};
 
-use crate::LoggedSessions;
 use crate::parts::Core;
+use crate::{LoggedSessions, StoppedSessions};
 use inno_model::Phase;
 use inno_types::{Cause, Item};
 use shared_lists::SharedLists;
-use stopped_sessions::StoppedSessions;
 use store_api::{Disk, Failed, NoMemory, Progress};
 
 /// A step of the session.

@@ -3,7 +3,7 @@ use Rattle.std.specs.Prelude.{ℕ, List, ◌++◌, codes, length}
 use Rattle.std.specs.Fmt.{decimal}
 use Rattle.inno_db.specs.Database.{Database}
 use Rattle.sql_history.specs.Counts.{rows_in}
-use Rattle.sql_dump.specs.Dump.{text_of}
+use Rattle.script_generator.specs.Dump.{text_of}
 use Rattle.run_outcome.specs.declared.shown.Shown.{Shown}
 use Rattle.run_outcome.specs.declared.shown.Shown.TheVariants.{Sql, Counts}
 

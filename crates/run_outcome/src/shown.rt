@@ -4,13 +4,13 @@ ghost use Rattle.std.specs.Prelude.{◌≡◌, ◌≤◌, IfOk};
 ghost use Rattle.std.specs.String.{string_bytes};
 ghost use Rattle.store_api.specs.Causes.{Rose};
 ghost use Rattle.sql_history.specs.Counts.{rows_in, most_rows};
-ghost use Rattle.sql_dump.specs.Dump.{text_of};
+ghost use Rattle.script_generator.specs.Dump.{text_of};
 ghost use Rattle.run_outcome.specs.Faults.{IsOutputFault, IsPrinted};
 ghost use Rattle.run_outcome.specs.Shown.{counts_text, shown_text};
 
 use crate::outcome::{Fault, print_bytes};
 use inno_db::Db;
-use sql_dump::dump_text;
+use script_generator::dump_text;
 use std::alloc::{AllocError, Global};
 use store_api::{NoMemory, Sink};
 

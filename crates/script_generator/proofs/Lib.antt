@@ -1,3 +1,4 @@
 pub mod Appended
 pub mod Playable
 pub mod Steps
+pub mod DumpAppended

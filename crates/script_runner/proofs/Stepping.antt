@@ -16,8 +16,8 @@ use Rattle.sql_history.specs.Counts.{has_stopped}
 use Rattle.inno_model.specs.declared.board.Phase.{Phase}
 use Rattle.inno_model.specs.declared.board.Phase.TheVariants as phases
 use Rattle.session_engine.specs.Calls.{KeepsItems, HasGiven}
-use Rattle.stopped_sessions.specs.Seats.{halted, ended, phase_at}
-use Rattle.stopped_sessions.specs.Calls.{is_at_work, has_left}
+use Rattle.durable_engine.specs.Seats.{halted, ended, phase_at}
+use Rattle.durable_engine.specs.StoppedCalls.{is_at_work, has_left}
 use Rattle.durable_engine.specs.State.{State}
 use Rattle.durable_engine.specs.Calls.{GoesOn, StepsBy}
 use Rattle.script_play.specs.Sessions.{StartsNothing}

@@ -1,7 +1,7 @@
 -- What play sees of an engine.
 use Rattle.std.specs.Prelude.{ℕ}
-use Rattle.stopped_sessions.specs.Seats.{phase_at}
-use Rattle.stopped_sessions.specs.Calls.{is_at_work, has_left}
+use Rattle.durable_engine.specs.Seats.{phase_at}
+use Rattle.durable_engine.specs.StoppedCalls.{is_at_work, has_left}
 use Rattle.durable_engine.specs.State.{State}
 use Rattle.durable_engine.specs.Going.{to_go}
 use Rattle.script_play.specs.Sessions.{Shown}

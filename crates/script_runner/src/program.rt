@@ -25,7 +25,7 @@ ghost use Rattle.run_outcome.specs.Words.{IsCommand, IsScriptCommand, IsInitComm
 ghost use Rattle.run_outcome.specs.Shown.{shown_text, counts_text};
 ghost use Rattle.run_outcome.specs.Reports.{IsReported, IsReportedWhole};
 ghost use Rattle.run_outcome.specs.Generating.{generated_text, IsGenerateFault};
-ghost use Rattle.sql_dump.specs.Dump.{text_of as dump_of};
+ghost use Rattle.script_generator.specs.Dump.{text_of as dump_of};
 ghost use Rattle.run_outcome.specs.Faults.{allowed, fault_of, IsPlayedFault, IsPrinted, answers_no_memory};
 ghost use Rattle.script_play.specs.Sessions.{AreNamed, FollowsScript, HasPlayed, HasAnswered};
 ghost use Rattle.engine.specs.Opened.{IsOpened};

@@ -15,8 +15,8 @@ use Rattle.store_api.specs.declared.answers.Progress.{Progress}
 use Rattle.store_api.specs.declared.answers.Progress.TheVariants as progress
 use Rattle.inno_model.specs.declared.board.Phase.{Phase}
 use Rattle.inno_model.specs.declared.board.Phase.TheVariants.{Idle, Busy, Leaving, Left}
-use Rattle.stopped_sessions.specs.Seats.{phase_at, halted, ended, phase_after}
-use Rattle.stopped_sessions.specs.Calls.{is_at_work}
+use Rattle.durable_engine.specs.Seats.{phase_at, halted, ended, phase_after}
+use Rattle.durable_engine.specs.StoppedCalls.{is_at_work}
 use Rattle.durable_engine.specs.State.{State}
 use Rattle.durable_engine.specs.Calls.{OthersStay, SameState, Joins, Starts, Leaves, EndsBy, StepsBy}
 use Rattle.shared_engine.specs.Shown.{AreAtRest}

@@ -16,7 +16,7 @@ use Rattle.inno_types.specs.contracts.stmt.Stmt as stmt
 use Rattle.store_api.specs.declared.disk.Disk as disk
 use Rattle.durable_engine.specs.declared.root.Root as root
 use Rattle.shared_lists.specs.declared.shared_lists.SharedLists as lists
-use Rattle.stopped_sessions.proofs.sessions.StoppedSessions.TheSendSync as stopped-sent
+use Rattle.durable_engine.proofs.stopped.StoppedSessions.TheSendSync as stopped-sent
 use Rattle.commit_log.proofs.commit_log.CommitLog.TheSendSync as log-sent
 use Rattle.transaction_statements.specs.contracts.statement.TransactionStatement as transaction
 use Rattle.create_statement.specs.contracts.machine.CreateStatement as creation

@@ -7,9 +7,9 @@ use Rattle.inno_model.specs.Past.{under_way}
 use Rattle.inno_model.specs.declared.board.Phase.{Phase}
 use Rattle.inno_model.specs.declared.board.Phase.TheVariants.{Idle, Busy, Leaving, Left}
 use Rattle.inno_model.specs.Boards.{phase_of}
-use Rattle.stopped_sessions.specs.declared.seats.Seat.{Seat}
-use Rattle.stopped_sessions.specs.Seats.{phase_at}
-use Rattle.stopped_sessions.specs.Calls.{is_at_work, has_left}
+use Rattle.durable_engine.specs.declared.stopped_seats.Seat.{Seat}
+use Rattle.durable_engine.specs.Seats.{phase_at}
+use Rattle.durable_engine.specs.StoppedCalls.{is_at_work, has_left}
 use Rattle.turn_engine.specs.Calls.{IsUnderWay, has_left as board_left}
 use Rattle.durable_engine.specs.State.{State}
 use Rattle.shared_engine.specs.Shown.{working_on, shown, all_shown, board_of}

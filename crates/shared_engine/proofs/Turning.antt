@@ -22,8 +22,8 @@ use Rattle.inno_model.specs.Boards.{calls_of, phase_of}
 use Rattle.inno_model.proofs.Places.{calls_of-append}
 use Rattle.turn_engine.specs.Calls.{Makes, Joins, EndsBy, StepsBy, IsUnderWay, item_number, reply_of}
 use Rattle.session_engine.specs.Calls.{KeepsItems, HasGiven}
-use Rattle.stopped_sessions.specs.Seats.{phase_at, halted, ended, phase_after}
-use Rattle.stopped_sessions.specs.Calls.{is_at_work, has_left}
+use Rattle.durable_engine.specs.Seats.{phase_at, halted, ended, phase_after}
+use Rattle.durable_engine.specs.StoppedCalls.{is_at_work, has_left}
 use Rattle.durable_engine.specs.State.{State}
 use Rattle.durable_engine.specs.Calls.{OthersStay, SameState, Joins as EngineJoins, Starts, Leaves, EndsBy as EngineEndsBy, StepsOn, StepsBy as EngineStepsBy}
 use Rattle.shared_engine.specs.Shown.{working_on, shown, board_of, AreAtRest}

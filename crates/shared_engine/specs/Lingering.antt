@@ -1,7 +1,7 @@
 -- When a commit that is yet to be acknowledged waits for others.
 use Rattle.std.specs.Prelude.{◌≡◌, ◌≢◌, ℕ, ◌<◌, true, false, length}
-use Rattle.stopped_sessions.specs.Seats.{phase_at}
-use Rattle.stopped_sessions.specs.Calls.{is_at_work}
+use Rattle.durable_engine.specs.Seats.{phase_at}
+use Rattle.durable_engine.specs.StoppedCalls.{is_at_work}
 use Rattle.durable_engine.specs.State.{State, owes_ack}
 
 -- The other session, one of the 68 that may join, is at work and owes no acknowledgement itself. One that waits for what this

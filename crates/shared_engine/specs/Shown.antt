@@ -6,8 +6,8 @@ use Rattle.inno_model.specs.Past.{under_way}
 use Rattle.inno_model.specs.declared.board.Board.{Board}
 use Rattle.inno_model.specs.declared.board.Phase.{Phase}
 use Rattle.inno_model.specs.declared.board.Phase.TheVariants.{Idle, Busy, Leaving, Left}
-use Rattle.stopped_sessions.specs.declared.seats.Seat.{Seat}
-use Rattle.stopped_sessions.specs.Seats.{phase_at}
+use Rattle.durable_engine.specs.declared.stopped_seats.Seat.{Seat}
+use Rattle.durable_engine.specs.Seats.{phase_at}
 use Rattle.durable_engine.specs.State.{State}
 
 -- a session at work has an item under way, or is on its way out

@@ -5,8 +5,8 @@ ghost use Rattle.std.specs.Prelude.{◌≡◌, ◌<◌, ℕ, [], length, true, N
 ghost use Rattle.inno_model.specs.Past.{under_way};
 ghost use Rattle.sql_grammar.specs.Grammar.{Spells};
 ghost use Rattle.sql_history.specs.Legal.{IsLegal};
-ghost use Rattle.stopped_sessions.specs.Seats.{phase_at};
-ghost use Rattle.stopped_sessions.specs.Calls.{has_left};
+ghost use Rattle.durable_engine.specs.Seats.{phase_at};
+ghost use Rattle.durable_engine.specs.StoppedCalls.{has_left};
 
 use crate::patience::Patience;
 use durable_engine::{DurableEngine, Root};

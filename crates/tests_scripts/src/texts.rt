@@ -6,7 +6,7 @@ use rand_core::{Rng, SeedableRng};
 use rand_xoshiro::SplitMix64;
 use script::{Directives, Script, ScriptBad, ScriptItem, WriteBad, read_script, write_script};
 use script_generator::generate;
-use sql_dump::dump_text;
+use script_generator::dump_text;
 use std::alloc::{AllocError, Global};
 use std::test::Fail;
 use store_api::NoMemory;

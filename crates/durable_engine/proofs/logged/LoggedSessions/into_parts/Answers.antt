@@ -1,5 +1,5 @@
 use Rattle.std.proofs.Common.{subst}
-use Rattle.stopped_sessions.specs.Seats.{AreSeats}
+use Rattle.durable_engine.specs.Seats.{AreSeats}
 use Rattle.durable_engine.proofs.Seating.{stops_seated}
 use Rattle.durable_engine.proofs.logged.LoggedSessions.into_parts.Goals as goal
 

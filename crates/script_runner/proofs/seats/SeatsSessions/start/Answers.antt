@@ -1,6 +1,6 @@
 use Rattle.std.proofs.Common.{◌≡◌, false, sym, subst}
-use Rattle.stopped_sessions.specs.Seats.{phase_at}
-use Rattle.stopped_sessions.specs.Calls.{is_at_work, has_left}
+use Rattle.durable_engine.specs.Seats.{phase_at}
+use Rattle.durable_engine.specs.StoppedCalls.{is_at_work, has_left}
 use Rattle.script_runner.proofs.Stepping.{idle}
 use Rattle.script_runner.proofs.seats.SeatsSessions.start.Goals as goal
 

@@ -1,6 +1,6 @@
 use Rattle.std.proofs.Common.{◌≡◌, ◌<◌, true, length, sym, subst}
-use Rattle.stopped_sessions.specs.Seats.{phase_at}
-use Rattle.stopped_sessions.specs.Calls.{is_at_work}
+use Rattle.durable_engine.specs.Seats.{phase_at}
+use Rattle.durable_engine.specs.StoppedCalls.{is_at_work}
 use Rattle.script_play.specs.Sessions.{StartsNothing}
 use Rattle.shared_engine.proofs.Resting.{stepped_rests}
 use Rattle.script_runner.specs.Engines.{shown_of}

@@ -1,0 +1,7 @@
+use Rattle.std.proofs.Common.{◌≡◌, ◌++◌, take}
+use Rattle.std.specs.List.{flat_map}
+use Rattle.script_generator.specs.Dump.{name_byte}
+use Rattle.script_generator.proofs.dump_pieces.push_doubled.Given as goal
+
+abbrev pub invariant-loop-b : goal.invariant-loop-b
+invariant-loop-b l = l.out.items ≡ l.fn.out.items ++ flat_map name_byte (take l.b-index l.name)

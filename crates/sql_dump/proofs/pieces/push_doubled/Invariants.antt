@@ -1,7 +1,0 @@
-use Rattle.std.proofs.Common.{◌≡◌, ◌++◌, take}
-use Rattle.std.specs.List.{flat_map}
-use Rattle.sql_dump.specs.Dump.{name_byte}
-use Rattle.sql_dump.proofs.pieces.push_doubled.Given as goal
-
-abbrev pub invariant-loop-b : goal.invariant-loop-b
-invariant-loop-b l = l.out.items ≡ l.fn.out.items ++ flat_map name_byte (take l.b-index l.name)

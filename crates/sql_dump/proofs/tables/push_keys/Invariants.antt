@@ -1,7 +1,0 @@
-use Rattle.std.proofs.Common.{◌≡◌, ◌++◌, take}
-use Rattle.std.specs.List.{flat_map}
-use Rattle.sql_dump.specs.Dump.{key_text}
-use Rattle.sql_dump.proofs.tables.push_keys.Given as goal
-
-abbrev pub invariant-loop-key : goal.invariant-loop-key
-invariant-loop-key l = l.out.items ≡ l.fn.out.items ++ flat_map (key_text l.columns) (take l.key-index l.keys)
