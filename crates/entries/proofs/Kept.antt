@@ -1,6 +1,6 @@
 -- What a map that is ordered by keys gives, in the words of pairs.
 use Rattle.std.proofs.Common.{◌≡◌, ℕ, ◌≤◌, Bool, true, false, cond, not, List, [], ◌∷◌, length, Option, None, Some, refl, sym, ◌∙◌, ap, subst}
-use Rattle.std.specs.Prelude.{MatchOption, IfNone, if◌then◌else◌, find, filter, is_some, option_map, ◌&&◌}
+use Rattle.std.specs.Prelude.{MatchOption, IfNone, IfOk, OnErr, Result, Ok, Err, if◌then◌else◌, find, filter, is_some, option_map, ◌&&◌}
 use Rattle.std.specs.declared.cmp.Ordering.{Ordering}
 use Rattle.std.specs.declared.cmp.Ordering.TheVariants.{Less, Equal, Greater}
 use Rattle.std.specs.declared.collections.Bound.{Bound}
@@ -170,3 +170,32 @@ no_length found n long none = none_some n (ap (option_map (λ (v : List ℕ). le
 pub there_is : (found : Option (List ℕ)) (n : ℕ) → option_map (λ (kept : List ℕ). length kept) found ≡ Some n → is_some found ≡ true
 there_is None n long = absurd (none_some n long)
 there_is (Some kept) n long = refl
+
+-- a copy of a pair was put where its key wasn't there
+module _ (key value key-copy value-copy : List ℕ) (pairs new : List Pair) (same-key : key-copy ≡ key) (same-value : value-copy ≡ value) where
+  abbrev WasPut : Option (List ℕ) → Type 0
+  WasPut kept = new ≡ (if is_some kept then pairs else insert_entry (slice_cmp nat_cmp) pairs key-copy value-copy)
+
+  put_if : (there : Bool) → new ≡ (if there then pairs else insert_entry (slice_cmp nat_cmp) pairs key-copy value-copy)
+      → new ≡ (if there then pairs else with_pair key value pairs)
+  put_if true is = is
+  put_if false is = put_copy key value key-copy value-copy pairs new same-key same-value is
+
+  pub put_new_is : {E : Type 0} (answer : Result (Option (List ℕ)) E) → IfOk answer WasPut
+      → IfOk answer (λ kept. new ≡ (if is_some kept then pairs else with_pair key value pairs))
+  put_new_is (Ok kept) ok = put_if (is_some kept) ok
+  put_new_is (Err e) ok = ok
+
+  sound_if : (there : Bool) → AreSound pairs → IsShort (key, value) → new ≡ (if there then pairs else with_pair key value pairs) → AreSound new
+  sound_if true sound short is = subst AreSound (sym is) sound
+  sound_if false sound short is = subst AreSound (sym is) (sound_with key value pairs short sound)
+
+  pub put_new_sound : {E : Type 0} (answer : Result (Option (List ℕ)) E) → AreSound pairs → IsShort (key, value) → IfOk answer WasPut → OnErr answer (new ≡ pairs)
+      → AreSound new
+  put_new_sound (Ok kept) sound short ok err = sound_if (is_some kept) sound short (put_if (is_some kept) ok)
+  put_new_sound (Err e) sound short ok err = subst AreSound (sym err) sound
+
+  pub put_new_kept : {E : Type 0} (answer : Result (Option (List ℕ)) E) → IfOk answer (λ kept. kept ≡ lookup (is_at (slice_cmp nat_cmp key-copy)) pairs)
+      → IfOk answer (λ kept. kept ≡ value_of key pairs)
+  put_new_kept (Ok kept) is = is ∙ ap (λ (k : List ℕ). lookup (is_at (slice_cmp nat_cmp k)) pairs) same-key ∙ got key pairs
+  put_new_kept (Err e) is = is

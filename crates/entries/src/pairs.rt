@@ -1,6 +1,10 @@
 //! The pairs of an index in memory, in a map that is ordered by their keys. `ListIndex` alone calls these.
 
 ghost use Rattle.std.specs.Prelude.{◌≡◌, ◌≤◌, ◌^◌, true, false, [], length, Some, MatchResult, IfOk, OnOk, OnErr, IsOk, vec_capacity, find, is_some, option_map, if◌then◌else◌};
+ghost use Rattle.std.specs.Ordering.{nat_cmp};
+ghost use Rattle.std.specs.Cmp.Lexicographic.{slice_cmp};
+ghost use Rattle.std.specs.Map.{lookup};
+ghost use Rattle.std.specs.BTreeMap.{is_at, insert_entry};
 ghost use Rattle.std.specs.Range.Bound.{bound_map};
 ghost use Rattle.std.specs.BTreeMap.Range.{is_from_start};
 ghost use Rattle.std.specs.Map.Iter.{deref_pair};
@@ -10,6 +14,7 @@ ghost use Rattle.entries.specs.Calls.{HasKey, is_as_long};
 use inno_types::Bytes;
 use std::alloc::{AllocError, Global};
 use std::collections::BTreeMap;
+use std::collections::btree_map::Entry;
 use std::marker::Model;
 use std::mem;
 use std::ops::Bound;
@@ -111,11 +116,7 @@ impl SortedPairs {
         ensures err { OnErr result (self.new ≡ self.old) }
         ensures sound { AreSound self.new }
     {
-        if let Some(kept) = self.stored.get(key) {
-            return Ok(Some(kept.copied()?));
-        }
-        self.stored.insert(key.copied()?, value.copied()?)?;
-        Ok(None)
+        put_new(&mut self.stored, key.copied()?, value.copied()?)
     }
 
     /// Gives the key another value, and answers whether the key is there. A value that is as long takes no memory.
@@ -187,6 +188,25 @@ impl SortedPairs {
         ensures sound { AreSound self.new }
     {
         self.stored.remove(key).is_some()
+    }
+}
+
+/// Puts a value at a key that isn't there, or answers a copy of the value that is. The key is looked for once.
+fn put_new(
+    stored: &mut BTreeMap<Bytes, Bytes>,
+    key: Bytes,
+    value: Bytes,
+) -> Result<Option<Bytes>, AllocError>
+    ensures kept { IfOk result (λ kept. kept ≡ lookup (is_at (slice_cmp nat_cmp key)) stored.old.entries) }
+    ensures ok { IfOk result (λ kept. stored.new.entries ≡ (if is_some kept then stored.old.entries else insert_entry (slice_cmp nat_cmp) stored.old.entries key value)) }
+    ensures err { OnErr result (stored.new.entries ≡ stored.old.entries) }
+{
+    match stored.entry(key)? {
+        Entry::Occupied(found) => Ok(Some(found.get().copied()?)),
+        Entry::Vacant(gap) => {
+            gap.insert(value);
+            Ok(None)
+        }
     }
 }
 
