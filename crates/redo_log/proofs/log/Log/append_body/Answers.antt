@@ -4,7 +4,9 @@ use Rattle.log_format.specs.Group.{group_bytes}
 use Rattle.log_format.specs.Block.{AreBlocks, blocks_for}
 use Rattle.redo_log.specs.View.{LogView, room_of, spare_of, numbers_left}
 use Rattle.redo_log.specs.Logged.{IsLogged}
+use Rattle.redo_log.specs.Halves.{IsWritten}
 use Rattle.redo_log.proofs.Appended.{appended}
+use Rattle.redo_log.proofs.Halves.{written_more}
 use Rattle.redo_log.proofs.Spare.{length_is, some_block, too_long, has_numbers, has_room, numbers_more, next_more, spare_after}
 use Rattle.redo_log.proofs.log.Log.append_body.Goals as goal
 
@@ -99,6 +101,7 @@ invariant_of-self-2 c =
       lsns = next_more (512 * blocks_for c.len.result) (i.block + i.count) i.next enough some c.self.invariant.lsns;
       begun = omega (arith, c.self.invariant.begun);
       waits = omega (arith, longer, want);
+      whole = omega (arith, longer, need_of_n, c.self.invariant.whole);
       none_waits = λ none. absurd (omega (arith, none, c.self.invariant.begun));
       room_fits = c.in_ok-self-inside.ensures.fits;
       room_pending = omega (arith, c.in_ok-self-inside.ensures.pending_holds, c.put_blocks-count.ensures.grows);
@@ -151,6 +154,64 @@ returns-clause-ok c = λ rs of first groups d is.
     (sym (put.2 ∙ ap (λ (l : List ℕ). l ++ put.0) c.in_ok-self-inside.ensures.pending)) now in
     subst
     (λ (l : LogView). IsLogged first (groups ++ record { lsn = l.next; records = rs } ∷ [])
+    (record {
+      run = i.run;
+      block = i.block;
+      pending = c.put_blocks-count.new.out.items;
+      count = i.count + n;
+      next = i.next + 1;
+      flushed =
+          i.flushed;
+      spare = after;
+    }) d)
+    c.self.view_is pending
+
+pub returns-clause-written : goal.returns-clause-written
+returns-clause-written c = λ rs of first groups w d is.
+    let i = c.self.inside in
+    let g : Group = record { lsn = i.next; records = rs } in
+    let size : c.len.result ≡ length (group_bytes g) =
+    c.len.ensures ∙ c.put_body_as.new.out.ok.0 ∙ ap length (c.in_ok-put_body_as.ensures.ok rs of
+    ∙ ap (λ (l : List ℕ). l ++ group_bytes g) c.clear.ensures.items) in
+    let need_is : 512 * blocks_for c.len.result ≡ room_of rs = ap (λ (n : ℕ). 512 * blocks_for n) (size ∙ length_is g) in
+    let bytes : c.deref.result.now ≡ group_bytes g =
+    c.deref.ensures.value ∙ c.in_ok-self-inside.ensures.work ∙ c.in_ok-put_body_as.ensures.ok rs of
+    ∙ ap (λ (l : List ℕ). l ++ group_bytes g) c.clear.ensures.items in
+    let n = c.put_blocks-count.result in
+    let n_is : n ≡ blocks_for (length (group_bytes g)) = c.put_blocks-count.ensures.count ∙ ap (λ (l : List ℕ). blocks_for (length l)) bytes in
+    let need_of_n : 512 * blocks_for c.len.result ≡ 512 * n = ap (λ (m : ℕ). 512 * blocks_for m) size ∙ ap (λ (m : ℕ). 512 * m) (sym n_is) in
+    let some : 512 ≤ 512 * blocks_for c.len.result = some_block c.len.result (omega (arith, size, length_is g)) in
+    let enough : 512 * blocks_for c.len.result ≤ numbers_left (i.block + i.count) i.next =
+    omega (arith, c.numbers_from.ensures, c.if-numbers_from-need.false) in
+    let log : LogView = record {
+      run = i.run;
+      block = i.block;
+      pending = i.pending.items;
+      count = i.count;
+      next = i.next;
+      flushed = i.flushed;
+      spare =
+          spare_of i.room (length i.pending.items) (i.block + i.count) i.next;
+    } in
+    let put = c.put_blocks-count.ensures.blocks in
+    let blocks = subst (λ (l : List ℕ). AreBlocks i.run (i.block + i.count) l n put.0) bytes put.1 in
+    let after = spare_of c.in_ok-self-inside.field-0 (length c.put_blocks-count.new.out.items) (i.block + (i.count + n)) (i.next + 1) in
+    let now = written_more first groups w log d (subst (λ (l : LogView). IsWritten first groups w l d) (sym c.self.view_is) is) g
+    (c.in_ok-put_body_as.ensures.group rs of) refl n put.0 blocks after in
+    let pending = subst
+    (λ (l : List ℕ). IsWritten first (groups ++ g ∷ []) w (record {
+      run = i.run;
+      block = i.block;
+      pending = l;
+      count = i.count + n;
+      next =
+          i.next + 1;
+      flushed = i.flushed;
+      spare = after;
+    }) d)
+    (sym (put.2 ∙ ap (λ (l : List ℕ). l ++ put.0) c.in_ok-self-inside.ensures.pending)) now in
+    subst
+    (λ (l : LogView). IsWritten first (groups ++ record { lsn = l.next; records = rs } ∷ []) w
     (record {
       run = i.run;
       block = i.block;
