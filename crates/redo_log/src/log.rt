@@ -17,7 +17,7 @@ ghost use Rattle.redo_log.specs.Logged.{GoesOnAt, IsLogged, LeavesPrefix, Stands
 use crate::body::{Body, put_body_as};
 use crate::room::{drop_front, numbers_from, widened};
 use crate::written::Written;
-use log_format::{Group, put_blocks};
+use log_format::{Group, put_both_as_blocks};
 use std::alloc::Global;
 use std::marker::Model;
 use store_api::{Area, Disk, Failed, NoMemory};
@@ -35,7 +35,7 @@ pub struct Log {
     count: u64,
     next: u64,
     flushed: u64,
-    /// One group, before it stands in blocks.
+    /// What of one group is spelled anew, before it stands in blocks.
     work: Vec<u8>,
     /// So much may wait without memory.
     room: usize,
@@ -177,17 +177,18 @@ impl Log {
         ensures err { OnErr result (self.new ≡ self.old) }
     {
         self.work.clear();
-        put_body_as(self.next, body, &mut self.work)?;
-        let need = 512 * ((self.work.len() + 483) / 484);
+        let rest = put_body_as(self.next, body, &mut self.work)?;
+        let need = 512 * ((self.work.len() + rest.len() + 483) / 484);
         if numbers_from(self.block + self.count, self.next) < need as u64 {
             return Err(NoMemory);
         }
         let want = self.pending.len() + need;
         self.room = widened(&mut self.pending, &mut self.work, self.room, want)?;
-        let count = put_blocks(
+        let count = put_both_as_blocks(
             self.run,
             self.block + self.count,
             &self.work,
+            rest,
             &mut self.pending,
         );
         self.count += count;
