@@ -1,5 +1,5 @@
 -- Blocks that stand one behind the other.
-use Rattle.std.proofs.Common.{◌≡◌, ℕ, suc, ◌+◌, ◌<◌, ◌≤◌, min, List, [], ◌∷◌, ◌++◌, length, refl, sym, ◌∙◌, ap, subst, arith, add-zero, append_assoc, length-append}
+use Rattle.std.proofs.Common.{◌≡◌, ◌⊎◌, inl, inr, ℕ, suc, ◌+◌, ◌<◌, ◌≤◌, min, List, [], ◌∷◌, ◌++◌, length, refl, sym, ◌∙◌, ap, subst, arith, add-zero, append_assoc, length-append}
 use Rattle.std.proofs.lemmas.List.{append-nil, nil_from_length}
 use Rattle.std.proofs.lemmas.List.Concat.{flat_map-append}
 use Rattle.std.proofs.lemmas.List.Elements.{All-nil, All-cons, All-append}
@@ -67,3 +67,19 @@ all_done run k bytes before count rest out so_far none =
     let nothing : rest ≡ [] = nil_from_length rest none in
     let all : so_far.done ≡ bytes = sym (so_far.parts ∙ ap (λ (r : List ℕ). so_far.done ++ r) nothing ∙ append-nil so_far.done) in
     ((so_far.blocks, subst (λ (l : List ℕ). AreBlocks run k l count so_far.blocks) all so_far.are, so_far.whole), omega (arith, so_far.number, none))
+
+-- A block's payload is what fits of the first list, and then of the second: the first is done with before the second is begun.
+pub both_split : (first rest front first_after back after : List ℕ) → first ≡ front ++ first_after → rest ≡ back ++ after
+    → (length first_after ≡ 0) ⊎ (length back ≡ 0) → first ++ rest ≡ (front ++ back) ++ (first_after ++ after)
+both_split first rest front first_after back after first_is rest_is (inl none) =
+    let nothing : first_after ≡ [] = nil_from_length first_after none in
+    let all : first ≡ front = first_is ∙ ap (λ (l : List ℕ). front ++ l) nothing ∙ append-nil front in
+    (λ i. all i ++ rest_is i)
+    ∙ sym (append_assoc front back after)
+    ∙ ap (λ (l : List ℕ). (front ++ back) ++ (l ++ after)) (sym nothing)
+both_split first rest front first_after back after first_is rest_is (inr none) =
+    let nothing : back ≡ [] = nil_from_length back none in
+    let all : rest ≡ after = rest_is ∙ ap (λ (l : List ℕ). l ++ after) nothing in
+    (λ i. first_is i ++ all i)
+    ∙ append_assoc front first_after after
+    ∙ ap (λ (l : List ℕ). l ++ (first_after ++ after)) (sym (append-nil front) ∙ ap (λ (l : List ℕ). front ++ l) (sym nothing))

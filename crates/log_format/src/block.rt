@@ -26,34 +26,36 @@ fn put_zeros(count: usize, out: &mut Vec<u8>)
     }
 }
 
-/// What the sum is over.
+/// What the sum is over, where the payload is two parts, one behind the other.
 #[tactic(auto, unfolding(crate::specs::Block::block_rest))]
-fn put_rest(run: u64, number: u64, payload: &[u8], out: &mut Vec<u8>)
-    requires small { length payload.now ≤ 484 }
+fn put_rest(run: u64, number: u64, front: &[u8], back: &[u8], out: &mut Vec<u8>)
+    requires small { length front.now + length back.now ≤ 484 }
     requires room { vec_len out.old + 504 ≤ vec_capacity out.old }
-    ensures items { out.new.items ≡ out.old.items ++ block_rest run number payload.now }
+    ensures items { out.new.items ≡ out.old.items ++ block_rest run number (front.now ++ back.now) }
     ensures len { vec_len out.new ≡ vec_len out.old + 504 }
     ensures grows { vec_capacity out.old ≤ vec_capacity out.new }
 {
+    let used = front.len() + back.len();
     put_u64_reserved(run, out);
     put_u64_reserved(number, out);
-    put_u16_reserved(payload.len() as u16, out);
+    put_u16_reserved(used as u16, out);
     extend_reserved(&[0, 0], out);
-    extend_reserved(payload, out);
-    put_zeros(PAYLOAD - payload.len(), out);
+    extend_reserved(front, out);
+    extend_reserved(back, out);
+    put_zeros(PAYLOAD - used, out);
 }
 
 #[tactic(auto, unfolding(crate::specs::Block::block_bytes, schema_codec::specs::Numbers::u64_bytes))]
-fn put_block(run: u64, number: u64, payload: &[u8], out: &mut Vec<u8>)
-    requires small { length payload.now ≤ 484 }
+fn put_block(run: u64, number: u64, front: &[u8], back: &[u8], out: &mut Vec<u8>)
+    requires small { length front.now + length back.now ≤ 484 }
     requires room { vec_len out.old + 512 ≤ vec_capacity out.old }
-    ensures items { out.new.items ≡ out.old.items ++ block_bytes run number payload.now }
+    ensures items { out.new.items ≡ out.old.items ++ block_bytes run number (front.now ++ back.now) }
     ensures len { vec_len out.new ≡ vec_len out.old + 512 }
     ensures grows { vec_capacity out.old ≤ vec_capacity out.new }
 {
     let start = out.len();
     extend_reserved(&[0; 8], out);
-    put_rest(run, number, payload, out);
+    put_rest(run, number, front, back, out);
     let sum = fnv(&out[start + 8..]);
     out[start..start + 8].copy_from_slice(&u64_bytes(sum));
 }
@@ -67,12 +69,33 @@ pub fn put_blocks(run: u64, number: u64, bytes: &[u8], out: &mut Vec<u8>) -> u64
     ensures len { vec_len out.new ≡ vec_len out.old + 512 * result }
     ensures grows { vec_capacity out.old ≤ vec_capacity out.new }
 {
+    put_both_as_blocks(run, number, &[], bytes, out)
+}
+
+/// Puts two lists of bytes, one behind the other, as `put_blocks` does with one list: nobody has to join them before.
+pub fn put_both_as_blocks(
+    run: u64,
+    number: u64,
+    head: &[u8],
+    bytes: &[u8],
+    out: &mut Vec<u8>,
+) -> u64
+    requires numbers { number + length head.now + length bytes.now < 2 ^ 64 }
+    requires room { vec_len out.old + 512 * blocks_for (length head.now + length bytes.now) ≤ vec_capacity out.old }
+    ensures blocks { (blocks : _) × AreBlocks run number (head.now ++ bytes.now) result blocks × (out.new.items ≡ out.old.items ++ blocks) }
+    ensures count { result ≡ blocks_for (length head.now + length bytes.now) }
+    ensures len { vec_len out.new ≡ vec_len out.old + 512 * result }
+    ensures grows { vec_capacity out.old ≤ vec_capacity out.new }
+{
     let mut count = 0;
+    let mut first = head;
     let mut rest = bytes;
-    while !rest.is_empty() {
-        let (payload, after) = rest.split_at(rest.len().min(PAYLOAD));
-        put_block(run, number + count, payload, out);
+    while first.len() + rest.len() > 0 {
+        let (front, first_after) = first.split_at(first.len().min(PAYLOAD));
+        let (back, after) = rest.split_at(rest.len().min(PAYLOAD - front.len()));
+        put_block(run, number + count, front, back, out);
         count += 1;
+        first = first_after;
         rest = after;
     }
     count

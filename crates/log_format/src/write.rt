@@ -194,9 +194,10 @@ pub fn put_group_as(lsn: u64, records: &Records, out: &mut Vec<u8>) -> Result<()
     Ok(())
 }
 
-/// Puts records that are spelled already at the end as the group of a log sequence number, as `put_group_as` does.
+/// Spells at the end what stands before the records of a group whose records are spelled already, so many of them. The
+/// records may stay where they are.
 #[tactic(auto, unfolding(crate::specs::Group::group_bytes, crate::specs::Group::body), using(schema_codec::proofs::Lengths::lengths))]
-pub fn put_spelled_as(
+pub fn put_head_as(
     lsn: u64,
     count: u16,
     records: &[u8],
@@ -204,7 +205,7 @@ pub fn put_spelled_as(
 ) -> Result<(), AllocError>
     requires { (rs : List RecordValue) × IsSpelled rs count records.now }
     ensures ok { OnOk result ((rs : List RecordValue) → IsSpelled rs count records.now
-        → out.new.items ≡ out.old.items ++ group_bytes (record { lsn = lsn; records = rs })) }
+        → out.new.items ++ records.now ≡ out.old.items ++ group_bytes (record { lsn = lsn; records = rs })) }
     ensures group { OnOk result ((rs : List RecordValue) → IsSpelled rs count records.now → IsGroup (record { lsn = lsn; records = rs })) }
     ensures grows { vec_capacity out.old ≤ vec_capacity out.new }
     ensures full { (room : ℕ) → room < 2 ^ 32 → vec_len out.old + room ≤ vec_capacity out.old →
@@ -216,7 +217,6 @@ pub fn put_spelled_as(
     put_u32(len, out)?;
     put_u64(lsn, out)?;
     put_u16(count, out)?;
-    out.extend_from_slice(records)?;
     Ok(())
 }
 

@@ -1,10 +1,9 @@
 -- What a group more makes of a log.
-use Rattle.std.proofs.Common.{◌≡◌, inl, inr, ℕ, ◌+◌, ◌*◌, List, [], ◌∷◌, ◌++◌, sym, ◌∙◌, ap, subst, arith, append_assoc, length-append}
-use Rattle.std.proofs.lemmas.Bool.{cases_lt}
-use Rattle.std.proofs.lemmas.List.{append-nil, take_all, take-append-le, take_at}
+use Rattle.std.proofs.Common.{◌≡◌, ℕ, ◌+◌, List, [], ◌∷◌, ◌++◌, sym, ◌∙◌, ap, subst, arith, append_assoc, length-append}
+use Rattle.std.proofs.lemmas.List.{append-nil}
 use Rattle.std.proofs.lemmas.List.Concat.{flat_map-append}
 use Rattle.std.proofs.lemmas.List.Elements.{All-weaker}
-use Rattle.store_api.specs.Areas.{Write, Contents}
+use Rattle.store_api.specs.Areas.{Contents}
 use Rattle.log_format.specs.declared.group.Group.{Group}
 use Rattle.log_format.specs.Group.{group_bytes, IsGroup}
 use Rattle.log_format.specs.Block.{AreBlocks}
@@ -14,26 +13,10 @@ use Rattle.log_format.proofs.Groups.{AreGroups-push}
 use Rattle.redo_log.specs.View.{LogView}
 use Rattle.redo_log.specs.Logged.{WritesFront, IsLogged}
 use Rattle.redo_log.proofs.Crash.{length-pending}
+use Rattle.redo_log.proofs.Halves.{front_longer}
 
 module _ (first : ℕ) (groups : List Group) (log : LogView) (c : Contents) (is : IsLogged first groups log c) (g : Group) (is_group : IsGroup g)
     (number : g.lsn ≡ log.next) (n : ℕ) (blocks : List ℕ) (put : AreBlocks log.run (log.block + log.count) (group_bytes g) n blocks) where
-  -- a front of what waited is a front of what waits now
-  front_more : (w : Write) → WritesFront log.block log.pending w → WritesFront log.block (log.pending ++ blocks) w
-  front_more w front =
-      let long = length-pending first groups log c is in
-      elim (cases_lt log.count front.blocks) [
-        | inl past ↦ record {
-          place = front.place;
-          blocks = log.count;
-          front = front.front ∙ take_all (512 * front.blocks) log.pending (omega (arith, long, past)) ∙ sym (take_at log.pending blocks (512 * log.count) long);
-        }
-        | inr within ↦ record {
-          place = front.place;
-          blocks = front.blocks;
-          front = front.front ∙ sym (take-append-le (512 * front.blocks) log.pending blocks (omega (arith, long, within)));
-        }
-      ]
-
   pub appended : (spare : ℕ)
       → IsLogged first (groups ++ g ∷ []) (record {
         run = log.run;
@@ -60,5 +43,7 @@ module _ (first : ℕ) (groups : List Group) (log : LogView) (c : Contents) (is 
         ap (λ (l : List ℕ). stream_of is.waiting ++ l) (sym (append-nil (group_bytes g))) ∙ sym (flat_map-append group_bytes is.waiting (g ∷ [])) in
         subst (λ (l : List ℕ). AreBlocks log.run log.block l (log.count + n) (log.pending ++ blocks)) stream
         (AreBlocks-append log.run log.block (stream_of is.waiting) (group_bytes g) log.count n log.pending blocks is.blocks put);
-    writes = All-weaker (WritesFront log.block log.pending) (WritesFront log.block (log.pending ++ blocks)) front_more c.writes is.writes;
+    writes =
+        All-weaker (WritesFront log.block log.pending) (WritesFront log.block (log.pending ++ blocks))
+        (front_longer log.block log.count log.pending blocks (length-pending first groups log c is)) c.writes is.writes;
   }

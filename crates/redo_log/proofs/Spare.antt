@@ -2,7 +2,7 @@
 use Rattle.std.proofs.Common.{◌≡◌, ℕ, ◌+◌, ◌*◌, ◌^◌, ◌<◌, ◌≤◌, max, length, arith}
 use Rattle.std.specs.List.{flat_map}
 use Rattle.log_format.specs.declared.group.Group.{Group}
-use Rattle.log_format.specs.Group.{record_bytes, group_bytes}
+use Rattle.log_format.specs.Group.{record_bytes, group_bytes, IsGroup}
 use Rattle.log_format.specs.Block.{blocks_for}
 use Rattle.log_format.proofs.Groups.{length-group, length-body}
 use Rattle.redo_log.specs.View.{room_of, numbers_left, spare_of}
@@ -39,3 +39,10 @@ next_more need block next enough some fits = omega (arith, enough, some, fits)
 pub spare_after : (need room pending block next n : ℕ) → need ≡ 512 * n → 512 ≤ need
     → spare_of room pending block next ≤ spare_of (max room (pending + need)) (pending + need) (block + n) (next + 1) + need
 spare_after need room pending block next n is some = omega (arith, is, some)
+
+-- a group that is spelled is shorter than its type's end
+pub group_fits : (g : Group) → IsGroup g → length (group_bytes g) < 2 ^ 32 + 4
+group_fits g is = omega (arith, length-group g, is.size)
+
+pub need_fits : (n : ℕ) → n < 2 ^ 32 + 4 → 512 * blocks_for n < 2 ^ 64
+need_fits n fits = omega (arith, fits)

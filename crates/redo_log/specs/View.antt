@@ -34,6 +34,7 @@ pub record IsBounded (run block count next flushed room pending has_pending has_
   pub lsns : next < 2 ^ 64
   pub begun : flushed < next
   pub waits : pending ≤ room
+  pub whole : pending ≡ 512 * count
   pub none_waits : flushed + 1 ≡ next → pending ≡ 0
   pub room_fits : room < 2 ^ 32
   pub room_pending : room ≤ has_pending

@@ -1,11 +1,11 @@
 //! The records of a group as the log takes them: as they are, or spelled already. Only the log asks here.
 
-ghost use Rattle.std.specs.Prelude.{◌≡◌, ◌+◌, ◌^◌, ◌<◌, ◌≤◌, ◌++◌, ℕ, List, length, vec_len, vec_capacity, OnOk, OnErr};
+ghost use Rattle.std.specs.Prelude.{◌≡◌, ◌+◌, ◌^◌, ◌<◌, ◌≤◌, ◌++◌, ℕ, List, length, vec_len, vec_capacity, OnOk, OnErr, IfOk};
 ghost use Rattle.log_format.specs.declared.group.Record.{Record as RecordValue};
 ghost use Rattle.log_format.specs.Group.{group_bytes, IsGroup};
 ghost use Rattle.redo_log.specs.Bodies.{IsOf};
 
-use log_format::{Records, put_group_as, put_spelled_as};
+use log_format::{Records, put_group_as, put_head_as};
 use std::alloc::AllocError;
 
 /// What a group says.
@@ -16,18 +16,25 @@ pub enum Body<'a> {
     Spelled(u16, &'a [u8]),
 }
 
-/// Spells a group at the end, as `put_group_as` does.
-pub fn put_body_as(lsn: u64, body: Body<'_>, out: &mut Vec<u8>) -> Result<(), AllocError>
+/// Spells a group at the end, and answers the bytes of it that stand elsewhere: records that are spelled already stay
+/// where they are, and come behind.
+pub fn put_body_as<'a>(lsn: u64, body: Body<'a>, out: &mut Vec<u8>) -> Result<&'a [u8], AllocError>
     requires { (rs : List RecordValue) × IsOf rs body }
-    ensures ok { OnOk result ((rs : List RecordValue) → IsOf rs body.entry
-        → out.new.items ≡ out.old.items ++ group_bytes (record { lsn = lsn; records = rs })) }
+    ensures ok { IfOk result (λ rest. (rs : List RecordValue) → IsOf rs body.entry
+        → out.new.items ++ rest.now ≡ out.old.items ++ group_bytes (record { lsn = lsn; records = rs })) }
     ensures group { OnOk result ((rs : List RecordValue) → IsOf rs body.entry → IsGroup (record { lsn = lsn; records = rs })) }
     ensures grows { vec_capacity out.old ≤ vec_capacity out.new }
     ensures full { (room : ℕ) (rs : List RecordValue) → IsOf rs body.entry → room < 2 ^ 32 → vec_len out.old + room ≤ vec_capacity out.old →
         OnErr result (room < length (group_bytes (record { lsn = lsn; records = rs }))) }
 {
     match body {
-        Body::Records(records) => put_group_as(lsn, records, out),
-        Body::Spelled(count, records) => put_spelled_as(lsn, count, records, out),
+        Body::Records(records) => {
+            put_group_as(lsn, records, out)?;
+            Ok(&[])
+        }
+        Body::Spelled(count, records) => {
+            put_head_as(lsn, count, records, out)?;
+            Ok(records)
+        }
     }
 }

@@ -5,5 +5,7 @@
 mod body;
 mod log;
 mod room;
+mod written;
 
 pub use log::{Log, goes_on_before_zeros, stands_for_what_is_left};
+pub use written::Written;

@@ -9,12 +9,15 @@ ghost use Rattle.log_format.specs.declared.group.Record.{Record as RecordValue};
 ghost use Rattle.log_format.specs.declared.group.Group.{Group as GroupValue};
 ghost use Rattle.log_format.specs.Scan.{IsScan, EndsAt};
 ghost use Rattle.redo_log.specs.Bodies.{IsOf};
+ghost use Rattle.redo_log.specs.Elsewhere.{LeavesBeside};
+ghost use Rattle.redo_log.specs.Halves.{WrittenView, IsFront, IsWritten, StandsWritten};
 ghost use Rattle.redo_log.specs.View.{LogView, room_of, numbers_left};
 ghost use Rattle.redo_log.specs.Logged.{GoesOnAt, IsLogged, LeavesPrefix, Stands, StandsMeanwhile};
 
 use crate::body::{Body, put_body_as};
-use crate::room::{numbers_from, widened};
-use log_format::{Group, put_blocks};
+use crate::room::{drop_front, numbers_from, widened};
+use crate::written::Written;
+use log_format::{Group, put_both_as_blocks};
 use std::alloc::Global;
 use std::marker::Model;
 use store_api::{Area, Disk, Failed, NoMemory};
@@ -32,7 +35,7 @@ pub struct Log {
     count: u64,
     next: u64,
     flushed: u64,
-    /// One group, before it stands in blocks.
+    /// What of one group is spelled anew, before it stands in blocks.
     work: Vec<u8>,
     /// So much may wait without memory.
     room: usize,
@@ -116,6 +119,11 @@ impl Log {
         ensures ok { OnOk result ((first : ℕ) (groups : List GroupValue) (c : Contents) → IsLogged first groups self.old c
             → IsLogged first (groups ++ record { lsn = self.old.next; records = group.now.records } ∷ []) self.new c) }
 
+        // It leaves a write that waits for its sync as it is.
+        ensures front { (w : WrittenView) → IsFront w self.old → IsFront w self.new }
+        ensures written { OnOk result ((first : ℕ) (groups : List GroupValue) (w : WrittenView) (c : Contents) → IsWritten first groups w self.old c
+            → IsWritten first (groups ++ record { lsn = self.old.next; records = group.now.records } ∷ []) w self.new c) }
+
         // It is never refused where the spare suffices.
         ensures suffices { room_of group.now.records ≤ self.old.spare → IsOk result }
         ensures spare { OnOk result (self.old.spare ≤ self.new.spare + room_of group.now.records) }
@@ -136,6 +144,12 @@ impl Log {
             → (first : ℕ) (groups : List GroupValue) (c : Contents) → IsLogged first groups self.old c
             → IsLogged first (groups ++ record { lsn = self.old.next; records = rs } ∷ []) self.new c) }
 
+        // It leaves a write that waits for its sync as it is.
+        ensures front { (w : WrittenView) → IsFront w self.old → IsFront w self.new }
+        ensures written { OnOk result ((rs : List RecordValue) → IsSpelled rs count records.now
+            → (first : ℕ) (groups : List GroupValue) (w : WrittenView) (c : Contents) → IsWritten first groups w self.old c
+            → IsWritten first (groups ++ record { lsn = self.old.next; records = rs } ∷ []) w self.new c) }
+
         // It is never refused where the spare suffices.
         ensures suffices { (rs : List RecordValue) → IsSpelled rs count records.now → room_of rs ≤ self.old.spare → IsOk result }
         ensures spare { OnOk result ((rs : List RecordValue) → IsSpelled rs count records.now → self.old.spare ≤ self.new.spare + room_of rs) }
@@ -154,27 +168,89 @@ impl Log {
         ensures ok { OnOk result ((rs : List RecordValue) → IsOf rs body.entry
             → (first : ℕ) (groups : List GroupValue) (c : Contents) → IsLogged first groups self.old c
             → IsLogged first (groups ++ record { lsn = self.old.next; records = rs } ∷ []) self.new c) }
+        ensures front { (w : WrittenView) → IsFront w self.old → IsFront w self.new }
+        ensures written { OnOk result ((rs : List RecordValue) → IsOf rs body.entry
+            → (first : ℕ) (groups : List GroupValue) (w : WrittenView) (c : Contents) → IsWritten first groups w self.old c
+            → IsWritten first (groups ++ record { lsn = self.old.next; records = rs } ∷ []) w self.new c) }
         ensures suffices { (rs : List RecordValue) → IsOf rs body.entry → room_of rs ≤ self.old.spare → IsOk result }
         ensures spare { OnOk result ((rs : List RecordValue) → IsOf rs body.entry → self.old.spare ≤ self.new.spare + room_of rs) }
         ensures err { OnErr result (self.new ≡ self.old) }
     {
         self.work.clear();
-        put_body_as(self.next, body, &mut self.work)?;
-        let need = 512 * ((self.work.len() + 483) / 484);
+        let rest = put_body_as(self.next, body, &mut self.work)?;
+        let need = 512 * ((self.work.len() + rest.len() + 483) / 484);
         if numbers_from(self.block + self.count, self.next) < need as u64 {
             return Err(NoMemory);
         }
         let want = self.pending.len() + need;
         self.room = widened(&mut self.pending, &mut self.work, self.room, want)?;
-        let count = put_blocks(
+        let count = put_both_as_blocks(
             self.run,
             self.block + self.count,
             &self.work,
+            rest,
             &mut self.pending,
         );
         self.count += count;
         self.next += 1;
         Ok(self.next - 1)
+    }
+
+    /// The first half of a flush: writes all blocks that wait, in one write. Groups may be appended and other areas called
+    /// before the second half; none of it counts as flushed until then.
+    pub fn begin_flush<D: Disk>(&self, disk: &mut D) -> Result<Written, Failed>
+        ensures front { IfOk result (λ w. IsFront w self.now) }
+        ensures all { IfOk result (λ w. w.last + 1 ≡ self.now.next) }
+        ensures cause { HasCause (D.past disk.old).faults (D.past disk.new).faults result }
+        ensures elsewhere { LeavesBeside (D.past disk.old) (D.past disk.new) }
+
+        // The log and the disk stand for the same groups as before, and where nothing failed a sync is all that is missing.
+        ensures stands { (first : ℕ) (groups : List GroupValue) (double pages : Contents) →
+            Now (Stands first groups self.now double pages) (D.past disk.old) → Now (Stands first groups self.now double pages) (D.past disk.new) }
+        ensures written { IfOk result (λ w. (first : ℕ) (groups : List GroupValue) (double pages : Contents) →
+            Now (Stands first groups self.now double pages) (D.past disk.old) →
+            Now (StandsWritten first groups w self.now double pages) (D.past disk.new)) }
+        ensures crash { (first : ℕ) (groups : List GroupValue) (double pages : Contents) →
+            Now (Stands first groups self.now double pages) (D.past disk.old) →
+            Meanwhile (StandsMeanwhile self.now.run first groups self.now.flushed double pages) (D.past disk.old) (D.past disk.new) }
+    {
+        disk.write(Area::Log, 512 * self.block, &self.pending)?;
+        Ok(Written {
+            block: self.block,
+            count: self.count,
+            last: self.next - 1,
+        })
+    }
+
+    /// The second half of a flush: syncs, and then the groups of the write are flushed, those that were appended since are not.
+    pub fn end_flush<D: Disk>(&mut self, written: Written, disk: &mut D) -> Result<(), Failed>
+        requires { IsFront written self.old }
+        ensures run { self.new.run ≡ self.old.run }
+        ensures next { self.new.next ≡ self.old.next }
+        ensures later { self.old.flushed ≤ self.new.flushed }
+        ensures flushed { OnOk result (self.new.flushed ≡ written.last) }
+        ensures err { OnErr result (self.new ≡ self.old) }
+
+        // The spare gets no smaller. What was flushed is given back to the spare, as far as numbers are left.
+        ensures spare { OnOk result (min (self.old.spare + 512 * written.count) (numbers_left (self.old.block + self.old.count) self.old.next) ≤ self.new.spare) }
+        ensures kept { self.old.spare ≤ self.new.spare }
+        ensures cause { HasCause (D.past disk.old).faults (D.past disk.new).faults result }
+        ensures elsewhere { LeavesBeside (D.past disk.old) (D.past disk.new) }
+
+        // The log and the disk stand for the same groups as before. After a failure the write counts as none.
+        ensures stands { (first : ℕ) (groups : List GroupValue) (double pages : Contents) →
+            Now (StandsWritten first groups written self.old double pages) (D.past disk.old) →
+            Now (Stands first groups self.new double pages) (D.past disk.new) }
+        ensures crash { (first : ℕ) (groups : List GroupValue) (double pages : Contents) →
+            Now (StandsWritten first groups written self.old double pages) (D.past disk.old) →
+            Meanwhile (StandsMeanwhile self.old.run first groups self.old.flushed double pages) (D.past disk.old) (D.past disk.new) }
+    {
+        disk.sync(Area::Log)?;
+        drop_front(&mut self.pending, 512 * written.count as usize);
+        self.block += written.count;
+        self.count -= written.count;
+        self.flushed = written.last;
+        Ok(())
     }
 
     /// Brings all groups onto the disk, in one write and a sync. After a failure the next flush writes the same
@@ -191,6 +267,9 @@ impl Log {
         ensures kept { self.old.spare ≤ self.new.spare }
         ensures cause { HasCause (D.past disk.old).faults (D.past disk.new).faults result }
 
+        // Pages and their copies stand as before at each moment, whatever the log and its area stand for.
+        ensures elsewhere { LeavesBeside (D.past disk.old) (D.past disk.new) }
+
         // The log and the disk stand for the same groups as before,
         ensures stands { (first : ℕ) (groups : List GroupValue) (double pages : Contents) →
             Now (Stands first groups self.old double pages) (D.past disk.old) → Now (Stands first groups self.new double pages) (D.past disk.new) }
@@ -203,13 +282,8 @@ impl Log {
         if self.flushed + 1 == self.next {
             return Ok(());
         }
-        disk.write(Area::Log, 512 * self.block, &self.pending)?;
-        disk.sync(Area::Log)?;
-        self.block += self.count;
-        self.count = 0;
-        self.pending.clear();
-        self.flushed = self.next - 1;
-        Ok(())
+        let written = self.begin_flush(disk)?;
+        self.end_flush(written, disk)
     }
 }
 

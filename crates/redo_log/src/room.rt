@@ -1,6 +1,6 @@
 //! The memory of a log: how much may be appended before any is taken.
 
-ghost use Rattle.std.specs.Prelude.{◌≡◌, ◌+◌, ◌-◌, ◌*◌, ◌^◌, ◌<◌, ◌≤◌, max, min, vec_len, vec_capacity, IsOk, OnOk, IfOk};
+ghost use Rattle.std.specs.Prelude.{◌≡◌, ◌+◌, ◌-◌, ◌*◌, ◌^◌, ◌<◌, ◌≤◌, max, min, drop, vec_len, vec_capacity, IsOk, OnOk, IfOk};
 ghost use Rattle.redo_log.specs.View.{numbers_left};
 
 use std::alloc::AllocError;
@@ -56,4 +56,16 @@ pub fn widened(
     grow(pending, want)?;
     grow(work, want)?;
     Ok(want)
+}
+
+/// Takes the first bytes away.
+pub fn drop_front(bytes: &mut Vec<u8>, count: usize)
+    requires { count ≤ vec_len bytes.old }
+    ensures items { bytes.new.items ≡ drop count bytes.old.items }
+    ensures len { vec_len bytes.new + count ≡ vec_len bytes.old }
+    ensures capacity { vec_capacity bytes.new ≡ vec_capacity bytes.old }
+{
+    let rest = bytes.len() - count;
+    bytes.copy_within(count.., 0);
+    bytes.truncate(rest);
 }
