@@ -1,5 +1,5 @@
 use Rattle.law_histories.proofs.Pieces.{tracks-work, tracks-answers}
-use Rattle.law_histories.proofs.work_answers_alone.Goals as goal
+use Rattle.law_histories.proofs.work.work_answers_alone.Goals as goal
 
 pub returns-clause-answers : goal.returns-clause-answers
 returns-clause-answers c = tracks-answers
