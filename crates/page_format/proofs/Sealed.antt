@@ -1,11 +1,7 @@
 -- A page whose sum is set.
-use Rattle.std.proofs.Common.{◌≡◌, ℕ, ◌^◌, ◌<◌, ◌≤◌, Bool, true, false, List, ◌++◌, take, drop, refl, sym, ap, ◌∙◌, subst, arith}
-use Rattle.std.specs.Int.{w16, w32, w64, to_be_bytes, from_be_bytes}
+use Rattle.std.proofs.Common.{◌≡◌, ℕ, ◌≤◌, Bool, true, false, List, take, drop, sym, ap, subst, arith}
+use Rattle.std.specs.Int.{w16, w32, from_be_bytes}
 use Rattle.std.specs.Prelude.{MatchBool, Option, slice_index}
-use Rattle.std.proofs.lemmas.List.{take_at, drop_at}
-use Rattle.std.proofs.lemmas.Nat.{from_be_bytes-to_be_bytes_8}
-use Rattle.sum64.specs.Fnv.{fnv_of}
-use Rattle.sum64.proofs.Bound.{fnv_of_below}
 use Rattle.store_api.specs.Areas.{PassesSum}
 use Rattle.page_format.specs.Words.{kind_of, low_of, high_of, records_of, fence, pieces}
 use Rattle.stored_pages.specs.Words.{u16_at, u32_at, number_of}
