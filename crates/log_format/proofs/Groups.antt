@@ -9,7 +9,7 @@ use Rattle.log_format.specs.declared.group.Group.{Group}
 use Rattle.schema_codec.specs.Numbers.{u32_bytes}
 use Rattle.schema_codec.proofs.Lengths.{length-u16, length-u32, length-u64}
 use Rattle.log_format.specs.Group.{record_bytes, body, group_bytes, IsGroup, AreGroups}
-use Rattle.log_format.specs.Scan.{stream_of}
+use Rattle.log_format.specs.Scan.{stream_of, NoGroup, HasWhole}
 
 read-u32 : (n : ℕ) → n < 2 ^ 32 → from_be_bytes w32 (u32_bytes n) ≡ n
 unfolding u32_bytes
@@ -108,3 +108,14 @@ AreGroups-drop first (g ∷ front) back are =
 pub AreGroups-push : (first : ℕ) (groups : List Group) (g : Group) → AreGroups first groups → IsGroup g → g.lsn ≡ first + length groups → AreGroups first (groups ++ g ∷ [])
 AreGroups-push first [] g are is lsn = (omega (arith, lsn), is, tt)
 AreGroups-push first (h ∷ groups) g are is lsn = (are.0, are.1, AreGroups-push (first + 1) groups g are.2 is (omega (arith, lsn)))
+
+-- where a group's bytes would be all there and no group begins, none begins with more behind
+pub none_with_more : (lsn : ℕ) (bytes more : List ℕ) → HasWhole bytes → NoGroup lsn bytes → NoGroup lsn (bytes ++ more)
+none_with_more lsn bytes more whole none = λ (g : Group) (tail : List ℕ) is_g number begins.
+    let n = length (group_bytes g) in
+    let said : from_be_bytes w32 (take 4 bytes) ≡ length (body g) =
+    ap (from_be_bytes w32) (sym (take-append-le 4 bytes more whole.0)) ∙ ap (λ (l : List ℕ). from_be_bytes w32 (take 4 l)) begins ∙ length_read g tail is_g in
+    let within : n ≤ length bytes = omega (arith, whole.1, said, length-group g) in
+    let front : take n bytes ≡ group_bytes g =
+    sym (take-append-le n bytes more within) ∙ ap (λ (l : List ℕ). take n l) begins ∙ take_at (group_bytes g) tail n refl in
+    none g (drop n bytes) is_g number (sym (take-append-drop n bytes) ∙ ap (λ (l : List ℕ). l ++ drop n bytes) front)

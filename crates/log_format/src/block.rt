@@ -11,7 +11,7 @@ use sum64::fnv;
 
 pub const BLOCK: usize = 512;
 
-const PAYLOAD: usize = 484;
+pub const PAYLOAD: usize = 484;
 
 /// Zeros where there is room for them; a vector asks for memory only past its capacity.
 fn put_zeros(count: usize, out: &mut Vec<u8>)

@@ -5,13 +5,15 @@
 mod block;
 mod fits;
 mod group;
+mod pieces;
 mod reading;
 mod scan;
 mod write;
 
 pub use block::{put_blocks, put_both_as_blocks};
 pub use group::{Group, Groups, Record, Records};
+pub use pieces::{is_whole, put_payloads};
 pub use reading::group_of;
-pub use scan::{Found, get_groups, one_scan, scan_log};
+pub use scan::{Found, get_groups, next_group, one_scan, scan_log};
 pub use schema_codec::Stop;
 pub use write::{put_group, put_group_as, put_head_as, put_removal, put_row, put_table};

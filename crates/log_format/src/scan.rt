@@ -19,7 +19,7 @@ use std::alloc::{AllocError, Global};
 use store_api::NoMemory;
 use sum64::fnv;
 
-fn is_good(block: &[u8], run: u64, number: u64) -> bool
+pub fn is_good(block: &[u8], run: u64, number: u64) -> bool
     requires { length block.now ≡ 512 }
     ensures { IsTrue result ↔ PassesSum block.now
         × (from_be_bytes w64 (take 8 (drop 8 block.now)) ≡ run)
@@ -29,7 +29,7 @@ fn is_good(block: &[u8], run: u64, number: u64) -> bool
 }
 
 #[tactic(auto, unfolding(crate::specs::Block::payload_of))]
-fn payload(block: &[u8]) -> &[u8]
+pub fn payload(block: &[u8]) -> &[u8]
     requires { length block.now ≡ 512 }
     ensures payload { result.now ≡ payload_of block.now }
     ensures small { length result.now ≤ 484 }
@@ -59,7 +59,11 @@ fn good_payloads(alloc: Global, bytes: &[u8], run: u64) -> Result<Vec<u8>, Alloc
 }
 
 /// The group of an LSN at the front of the bytes, and the bytes after it.
-fn next_group(alloc: Global, bytes: &[u8], lsn: u64) -> Result<Option<(Group, &[u8])>, AllocError>
+pub fn next_group(
+    alloc: Global,
+    bytes: &[u8],
+    lsn: u64,
+) -> Result<Option<(Group, &[u8])>, AllocError>
     ensures found { IfOk result (λ found. IfSome found (λ x. IsGroup x.0 × (x.0.lsn ≡ lsn) × (bytes.now ≡ group_bytes x.0 ++ x.1.now))) }
     ensures none { IfOk result (λ found. IfNone found (NoGroup lsn bytes.now)) }
 {
