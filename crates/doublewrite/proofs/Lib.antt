@@ -5,6 +5,7 @@ mod Copying
 mod InPlace
 mod Looked
 mod Newest
+mod Places
 mod Repaired
 mod Repairs
 mod Staging

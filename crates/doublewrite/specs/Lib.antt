@@ -1,4 +1,5 @@
 pub mod Batches
 pub mod Kept
+pub mod Places
 pub mod Reading
 pub mod Repairing
