@@ -1,6 +1,7 @@
 mod Appended
 mod Begun
 pub mod Crash
+mod Elsewhere
 mod Flush
 pub mod GoesOn
 mod Spare

@@ -9,6 +9,7 @@ ghost use Rattle.log_format.specs.declared.group.Record.{Record as RecordValue};
 ghost use Rattle.log_format.specs.declared.group.Group.{Group as GroupValue};
 ghost use Rattle.log_format.specs.Scan.{IsScan, EndsAt};
 ghost use Rattle.redo_log.specs.Bodies.{IsOf};
+ghost use Rattle.redo_log.specs.Elsewhere.{LeavesBeside};
 ghost use Rattle.redo_log.specs.View.{LogView, room_of, numbers_left};
 ghost use Rattle.redo_log.specs.Logged.{GoesOnAt, IsLogged, LeavesPrefix, Stands, StandsMeanwhile};
 
@@ -190,6 +191,9 @@ impl Log {
         ensures spare { OnOk result (min (self.old.spare + length self.old.pending) (numbers_left (self.old.block + self.old.count) self.old.next) ≤ self.new.spare) }
         ensures kept { self.old.spare ≤ self.new.spare }
         ensures cause { HasCause (D.past disk.old).faults (D.past disk.new).faults result }
+
+        // Pages and their copies stand as before at each moment, whatever the log and its area stand for.
+        ensures elsewhere { LeavesBeside (D.past disk.old) (D.past disk.new) }
 
         // The log and the disk stand for the same groups as before,
         ensures stands { (first : ℕ) (groups : List GroupValue) (double pages : Contents) →

@@ -3,6 +3,7 @@ use Rattle.std.specs.Prelude.{is_ok}
 use Rattle.store_api.specs.Past.{Now}
 use Rattle.redo_log.specs.View.{LogView, spare_of}
 use Rattle.redo_log.specs.Logged.{Stands}
+use Rattle.redo_log.proofs.Elsewhere.{leaves_none, after_one, after_two}
 use Rattle.redo_log.proofs.Flush.{meant, after_write, during_write, after_failed_sync, during_failed_sync, after_sync, during_sync}
 use Rattle.redo_log.proofs.Written.{flushed_log}
 use Rattle.redo_log.proofs.log.Log.flush.Goals as goal
@@ -89,3 +90,15 @@ returns-clause-crash g c = λ first groups double pages known.
     let next : log.flushed < log.next =
     omega (arith, bounds.begun, ap (λ (l : LogView). l.flushed) c.self.view_is, ap (λ (l : LogView). l.next) c.self.view_is) in
     during_sync first groups log double pages run end next 0 _ _ _ law known write c.in_ok-sync.ensures.goes
+
+pub returns-then-self-clause-elsewhere : goal.returns-then-self-clause-elsewhere
+returns-then-self-clause-elsewhere g c = leaves_none (g.D.Disk.past c.args.disk.now)
+
+pub returns-in_err-write-clause-elsewhere : goal.returns-in_err-write-clause-elsewhere
+returns-in_err-write-clause-elsewhere g c = after_one _ _ _ c.write.ensures.goes
+
+pub returns-in_err-sync-clause-elsewhere : goal.returns-in_err-sync-clause-elsewhere
+returns-in_err-sync-clause-elsewhere g c = after_two _ _ _ _ _ c.write.ensures.goes c.in_err-sync.ensures.goes
+
+pub returns-clause-elsewhere : goal.returns-clause-elsewhere
+returns-clause-elsewhere g c = after_two _ _ _ _ _ c.write.ensures.goes c.in_ok-sync.ensures.goes
