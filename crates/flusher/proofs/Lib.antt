@@ -1,3 +1,4 @@
+mod Afterwards
 mod Cleaned
 mod Counting
 mod Gathered
