@@ -1,10 +1,10 @@
 mod Afterwards
-mod Cleaned
+pub mod Cleaned
 mod Counting
 mod Gathered
 mod Going
 mod Holding
-mod Home
+pub mod Home
 mod Outlasting
 mod Runs
 mod Sealing

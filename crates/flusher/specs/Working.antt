@@ -38,7 +38,7 @@ IsBegun pool (Some staged) = HasGathered pool staged
 -- one page more of the batch is placed, and if it was the last one the batch is no more under way
 abbrev pub GoesOn : StagedView → Option StagedView → Type 0
 GoesOn old None = old.placed + 1 ≡ old.batch.count
-GoesOn old (Some new) = (new.batch ≡ old.batch) × (new.placed ≡ old.placed + 1)
+GoesOn old (Some new) = (new.batch ≡ old.batch) × (new.placed ≡ old.placed + 1) × (new.placed < new.batch.count)
 
 -- a batch of changed pages is staged, or one page more of the batch under way is placed
 abbrev pub Advances : PoolView → Option StagedView → Option StagedView → Type 0
