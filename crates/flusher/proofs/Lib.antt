@@ -5,6 +5,7 @@ mod Gathered
 mod Going
 mod Holding
 pub mod Home
+pub mod Homes
 mod Outlasting
 mod Runs
 mod Sealing

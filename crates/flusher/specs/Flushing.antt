@@ -1,5 +1,5 @@
 -- What the disk holds of a run while its pages are flushed, and what whatever a crash leaves stands for.
-use Rattle.std.specs.Prelude.{◌≡◌, ◌⊎◌, ℕ, ◌<◌, ◌≤◌, true, false, Option, Some, None, List, length, replicate}
+use Rattle.std.specs.Prelude.{◌≡◌, ◌⊎◌, ℕ, ◌<◌, ◌≤◌, true, false, Option, Some, None, List, length, replicate, All}
 use Rattle.store_api.specs.Areas.{State}
 use Rattle.page_format.specs.Words.{number_of}
 use Rattle.log_format.specs.declared.group.Group.{Group}
@@ -10,7 +10,7 @@ use Rattle.doublewrite.specs.Batches.{BatchView, StagedView, IsBatch, IsInBatch,
 use Rattle.doublewrite.specs.Reading.{place_of}
 use Rattle.doublewrite.specs.Kept.{IsSettled, IsStaged, HasPlaced, WasPage}
 use Rattle.doublewrite.specs.Places.{LeavesPages, PutsPage}
-use Rattle.law_logged_pages.specs.Applied.{logical}
+use Rattle.law_logged_pages.specs.Applied.{names, logical}
 use Rattle.law_logged_pages.specs.Stages.{AreBytes, SameButSum}
 use Rattle.law_logged_pages.specs.Keeping.{IsRun, Keeps, IsPlaced, MayBePlaced}
 
@@ -89,3 +89,7 @@ IsKept groups base page s =
 -- each page that isn't changed in the pool is kept
 abbrev pub AreKept : List Group → (ℕ → List ℕ) → PoolView → State → Type 0
 AreKept groups base pool s = (page : ℕ) → page < 65536 → is_dirty pool page ≡ false → IsKept groups base page s
+
+-- no group of these names the page
+abbrev pub AreSilent : ℕ → List Group → Type 0
+AreSilent page groups = All (λ (g : Group). names page g ≡ false) groups

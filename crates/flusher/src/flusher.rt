@@ -10,7 +10,7 @@ ghost use Rattle.buffer_pool.specs.Frames.{is_dirty};
 ghost use Rattle.doublewrite.specs.Kept.{IsReady};
 ghost use Rattle.doublewrite.specs.Places.{Leads};
 ghost use Rattle.flusher.specs.Cleaning.{HasSamePages, Settles, finished, waits, to_go};
-ghost use Rattle.flusher.specs.Flushing.{AreNewest, HoldsRun, KeepsSince, AreHome, AreInPlace, Places, whole_or};
+ghost use Rattle.flusher.specs.Flushing.{AreNewest, HoldsRun, KeepsSince, AreHome, AreInPlace, Places, AreKept, whole_or};
 ghost use Rattle.flusher.specs.Working.{IsAtRest, Advances, AreChanged, KeepsLog};
 ghost use Rattle.flusher.specs.declared.work.Worked.TheVariants.{Did, Idle};
 
@@ -86,6 +86,13 @@ impl Flusher {
         ensures home { (first : ℕ) (groups : List GroupValue) (base : ℕ → List ℕ) → AreNewest groups base pool.old
             → Now IsReady (D.past disk.old)
             → Now (HoldsRun first groups base self.old log.old) (D.past disk.old) → Now (AreHome pool.old pool.new) (D.past disk.new) }
+
+        // A page that isn't changed in the pool is in its place for good as all groups have left it, or nobody has written it, if
+        // that was so of those that weren't changed before: so it is of each page once nothing is left to be done.
+        ensures kept { (first : ℕ) (groups : List GroupValue) (base : ℕ → List ℕ) → AreNewest groups base pool.old
+            → Now IsReady (D.past disk.old) → AreChanged self.old pool.old
+            → Now (HoldsRun first groups base self.old log.old) (D.past disk.old)
+            → Now (AreKept groups base pool.old) (D.past disk.old) → Now (AreKept groups base pool.new) (D.past disk.new) }
 
         // As long as no call fails, the disk holds the run with its pages at their stages,
         ensures stands { (first : ℕ) (groups : List GroupValue) (base : ℕ → List ℕ) → AreNewest groups base pool.old

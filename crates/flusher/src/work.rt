@@ -16,7 +16,7 @@ ghost use Rattle.doublewrite.specs.Kept.{IsReady, IsReadyAs, IsStagedHonestly, K
 ghost use Rattle.doublewrite.specs.Places.{Leads, LeavesPages};
 ghost use Rattle.law_logged_pages.specs.Keeping.{Keeps};
 ghost use Rattle.flusher.specs.Cleaning.{HasSamePages, Settles, finished, waits, to_go};
-ghost use Rattle.flusher.specs.Flushing.{AreNewest, AreNewestIn, HoldsRun, KeepsSince, AreHome, AreInPlace, Places, whole_or};
+ghost use Rattle.flusher.specs.Flushing.{AreNewest, AreNewestIn, HoldsRun, KeepsSince, AreHome, AreInPlace, Places, AreKept, whole_or};
 ghost use Rattle.flusher.specs.Working.{IsWork, staged_of, IsAtRest, IsBegun, GoesOn, Advances, AreChanged, KeepsLog};
 ghost use Rattle.flusher.specs.declared.work.Worked.TheVariants.{Did, Idle};
 
@@ -168,6 +168,10 @@ fn go_on<D: Disk>(
     ensures home { (first : ℕ) (groups : List GroupValue) (base : ℕ → List ℕ) (log : LogView) → AreNewest groups base pool.old
         → Now IsReady (D.past disk.old)
         → Now (HoldsRun first groups base (Some staged) log) (D.past disk.old) → Now (AreHome pool.old pool.new) (D.past disk.new) }
+    ensures kept { (first : ℕ) (groups : List GroupValue) (base : ℕ → List ℕ) (log : LogView) → AreNewest groups base pool.old
+        → Now IsReady (D.past disk.old) → AreChanged (Some staged) pool.old
+        → Now (HoldsRun first groups base (Some staged) log) (D.past disk.old)
+        → Now (AreKept groups base pool.old) (D.past disk.old) → Now (AreKept groups base pool.new) (D.past disk.new) }
     ensures stands { (first : ℕ) (groups : List GroupValue) (base : ℕ → List ℕ) (log : LogView) → Now IsReady (D.past disk.old)
         → Now (HoldsRun first groups base (Some staged) log) (D.past disk.old)
         → Now (HoldsRun first groups base (staged_of result.0) log) (D.past disk.new) }
@@ -211,6 +215,10 @@ pub fn step_of<D: Disk>(
     ensures home { (first : ℕ) (groups : List GroupValue) (base : ℕ → List ℕ) → AreNewest groups base pool.old
         → Now IsReady (D.past disk.old)
         → Now (HoldsRun first groups base (staged_of work) log.old) (D.past disk.old) → Now (AreHome pool.old pool.new) (D.past disk.new) }
+    ensures kept { (first : ℕ) (groups : List GroupValue) (base : ℕ → List ℕ) → AreNewest groups base pool.old
+        → Now IsReady (D.past disk.old) → AreChanged (staged_of work) pool.old
+        → Now (HoldsRun first groups base (staged_of work) log.old) (D.past disk.old)
+        → Now (AreKept groups base pool.old) (D.past disk.old) → Now (AreKept groups base pool.new) (D.past disk.new) }
     ensures stands { (first : ℕ) (groups : List GroupValue) (base : ℕ → List ℕ) → AreNewest groups base pool.old
         → Now IsReady (D.past disk.old)
         → Now (HoldsRun first groups base (staged_of work) log.old) (D.past disk.old)
