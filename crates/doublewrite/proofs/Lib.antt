@@ -4,6 +4,7 @@ mod Calls
 mod Copying
 mod InPlace
 mod Looked
+mod Places
 mod Repaired
 mod Repairs
 mod Staging

@@ -1,3 +1,4 @@
 pub mod Batches
 pub mod Kept
+pub mod Places
 pub mod Repairing

@@ -5,8 +5,9 @@ ghost use Rattle.std.specs.Prelude.{◌≡◌, ◌↔◌, ◌+◌, ◌*◌, ◌<
 ghost use Rattle.store_api.specs.Areas.{State};
 ghost use Rattle.store_api.specs.Causes.{HasCause};
 ghost use Rattle.store_api.specs.Past.{Now, Meanwhile};
-ghost use Rattle.doublewrite.specs.Batches.{BatchView, StagedView};
+ghost use Rattle.doublewrite.specs.Batches.{BatchView, StagedView, IsBatch, page_at, number_at};
 ghost use Rattle.doublewrite.specs.Kept.{IsReadyAs, IsStaged, IsStagedHonestly, KeepsPages, HasPlaced};
+ghost use Rattle.doublewrite.specs.Places.{Leads, LeavesPages, PutsPage};
 
 use crate::batch::Batch;
 use std::marker::Model;
@@ -33,7 +34,9 @@ impl Model for Staged {
 
 /// Writes the copies of all pages in one write, and syncs.
 fn copy_all<D: Disk>(disk: &mut D, batch: &Batch) -> Result<(), Failed>
+    ensures is_batch { IsBatch batch.now }
     ensures cause { HasCause (D.past disk.old).faults (D.past disk.new).faults result }
+    ensures reads { Leads LeavesPages (D.past disk.old) (D.past disk.new) }
     ensures stands { (before : State) → Now (IsReadyAs before) (D.past disk.old) → OnOk result (Now (IsStagedHonestly before batch.now) (D.past disk.new)) }
     ensures crash { (before : State) → Now (IsReadyAs before) (D.past disk.old) → Meanwhile (KeepsPages before batch.now) (D.past disk.old) (D.past disk.new) }
 {
@@ -46,8 +49,10 @@ fn copy_all<D: Disk>(disk: &mut D, batch: &Batch) -> Result<(), Failed>
 fn place_page<D: Disk>(disk: &mut D, batch: &Batch, slot: usize) -> Result<bool, Failed>
     requires { slot < batch.now.count }
     ensures few { slot < 64 }
+    ensures is_batch { IsBatch batch.now }
     ensures more { IfOk result (λ more. IsTrue more ↔ (slot + 1 < batch.now.count)) }
     ensures cause { HasCause (D.past disk.old).faults (D.past disk.new).faults result }
+    ensures reads { OnOk result (Leads (PutsPage (number_at batch.now slot) (page_at batch.now slot)) (D.past disk.old) (D.past disk.new)) }
     ensures stands { (before : State) → Now (IsStagedHonestly before batch.now) (D.past disk.old) → Now (IsStaged before batch.now) (D.past disk.new) }
     ensures honest { (before : State) → Now (IsStagedHonestly before batch.now) (D.past disk.old) → IfOk result (λ more. IsTrue more → Now (IsStagedHonestly before batch.now) (D.past disk.new)) }
     ensures placed { Now (HasPlaced (record { batch = batch.now; placed = slot })) (D.past disk.old) → OnOk result (Now (HasPlaced (record { batch = batch.now; placed = slot + 1 })) (D.past disk.new)) }
@@ -68,7 +73,11 @@ pub fn stage<D: Disk>(disk: &mut D, batch: Batch) -> Result<Staged, (Batch, Fail
     requires { 0 < batch.count }
     ensures ok { IfOk result (λ staged. staged ≡ record { batch = batch; placed = 0 }) }
     ensures err { IfErr result (λ back. back.0 ≡ batch) }
+    ensures is_batch { IsBatch batch }
     ensures cause { HasCause (D.past disk.old).faults (D.past disk.new).faults result }
+
+    // The pages stand as before, whatever was answered.
+    ensures reads { Leads LeavesPages (D.past disk.old) (D.past disk.new) }
 
     // The batch may be placed from then on,
     ensures stands { (before : State) → Now (IsReadyAs before) (D.past disk.old) → OnOk result (Now (IsStagedHonestly before batch) (D.past disk.new)) }
@@ -98,7 +107,12 @@ impl Staged {
         ensures ok { OnOk result (self.new.placed ≡ self.old.placed + 1) }
         ensures more { IfOk result (λ more. IsTrue more ↔ (self.new.placed < self.new.batch.count)) }
         ensures err { OnErr result (self.new.placed ≡ 0) }
+        ensures is_batch { IsBatch self.old.batch }
         ensures cause { HasCause (D.past disk.old).faults (D.past disk.new).faults result }
+
+        // A read gives the next page of the batch in its place, and each other page as before. After a failure it may give anything.
+        ensures reads { OnOk result (Leads (PutsPage (number_at self.old.batch self.old.placed) (page_at self.old.batch self.old.placed))
+            (D.past disk.old) (D.past disk.new)) }
 
         // The batch stays staged; the other pages may be placed as it is, or after a failure if what reads give is honest.
         ensures stands { (before : State) → Now (IsStagedHonestly before self.old.batch) (D.past disk.old) → Now (IsStaged before self.new.batch) (D.past disk.new) }

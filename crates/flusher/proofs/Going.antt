@@ -14,7 +14,7 @@ use Rattle.flusher.proofs.Cleaned.{waits_as_before}
 -- a batch was staged
 pub begun_nears : (pool : PoolView) (new : Option StagedView) → IsBegun pool new → IsBelow (to_go new pool) (to_go None pool)
 begun_nears pool None begun = absurd begun
-begun_nears pool (Some staged) begun = inl (fewer_wait begun.2 pool staged begun.3 begun.1)
+begun_nears pool (Some staged) begun = inl (fewer_wait begun.upto pool staged begun.gathers begun.some)
 
 and_true : (b : Bool) → (b && not false) ≡ b
 and_true true = refl

@@ -55,7 +55,7 @@ and_second : (b d : Bool) → d ≡ false → (b && d) ≡ false
 and_second true d is = is
 and_second false d is = refl
 
-abbrev IsAmong : BatchView → ℕ → ℕ → ℕ → Type 0
+abbrev pub IsAmong : BatchView → ℕ → ℕ → ℕ → Type 0
 IsAmong batch n page lsn = (k : ℕ) × (k < n) × (number_at batch k ≡ page) × (lsn ≡ lsn_of (page_at batch k))
 
 among_last : (batch : BatchView) (n page lsn : ℕ) → (is_among batch n page lsn ≡ true → IsAmong batch n page lsn)
@@ -88,6 +88,15 @@ was_among true true is clean = refl
 was_among true false is clean = absurd cc
 was_among false among is clean = absurd cc
 
+-- a page that became clean is one of the batch, as it was taken
+pub became_clean : (staged : StagedView) (old new : PoolView) → Cleans staged.batch staged.batch.count old new → (page : ℕ)
+    → is_dirty old page ≡ true → is_dirty new page ≡ false → IsAmong staged.batch staged.batch.count page (lsn_of (bytes_of old page))
+became_clean staged old new cleans page dirty clean =
+    let waited : waits (Some staged) old page ≡ false = sym (waits_as_before staged old new page cleans) ∙ clean in
+    let batch = staged.batch in
+    found_among batch batch.count page (lsn_of (bytes_of old page))
+    (was_among (is_dirty old page) (is_among batch batch.count page (lsn_of (bytes_of old page))) dirty waited)
+
 -- ---- what stands in its place
 
 module _ (first flushed : ℕ) (groups : List Group) (base : ℕ → List ℕ) (staged : StagedView) (run : IsRun first groups base)
@@ -107,9 +116,7 @@ module _ (first flushed : ℕ) (groups : List Group) (base : ℕ → List ℕ) (
 
   pub at_home : (page : ℕ) → is_dirty old page ≡ true → is_dirty new page ≡ false → IsHome page (bytes_of new page) s
   at_home page dirty clean =
-      let waited : waits (Some staged) old page ≡ false = sym (waits_as_before staged old new page cleans) ∙ clean in
-      let found = found_among batch batch.count page (lsn_of (bytes_of old page))
-      (was_among (is_dirty old page) (is_among batch batch.count page (lsn_of (bytes_of old page))) dirty waited) in
+      let found = became_clean staged old new cleans page dirty clean in
       let k = found.0 in
       let rest = whole.synced refl in
       let place : place_of page s.pages.synced ≡ page_at batch k =

@@ -1,9 +1,11 @@
-mod Cleaned
+mod Afterwards
+pub mod Cleaned
 mod Counting
 mod Gathered
 mod Going
 mod Holding
-mod Home
+pub mod Home
+pub mod Homes
 mod Outlasting
 mod Runs
 mod Sealing

@@ -1,15 +1,16 @@
 -- What the disk holds of a run while its pages are flushed, and what whatever a crash leaves stands for.
-use Rattle.std.specs.Prelude.{◌≡◌, ℕ, ◌≤◌, true, false, Option, Some, None, List, length}
+use Rattle.std.specs.Prelude.{◌≡◌, ◌⊎◌, ℕ, ◌<◌, ◌≤◌, true, false, Option, Some, None, List, length, replicate, All}
 use Rattle.store_api.specs.Areas.{State}
 use Rattle.stored_pages.specs.Words.{number_of}
 use Rattle.log_format.specs.declared.group.Group.{Group}
 use Rattle.redo_log.specs.View.{LogView}
 use Rattle.redo_log.specs.Logged.{IsLogged}
 use Rattle.buffer_pool.specs.Frames.{PoolView, is_dirty, bytes_of}
-use Rattle.doublewrite.specs.Batches.{BatchView, StagedView, IsBatch, IsInBatch}
+use Rattle.doublewrite.specs.Batches.{BatchView, StagedView, IsBatch, IsInBatch, page_at, number_at}
 use Rattle.stored_pages.specs.Reading.{place_of}
-use Rattle.doublewrite.specs.Kept.{IsSettled, IsStaged, HasPlaced}
-use Rattle.law_logged_pages.specs.Applied.{logical}
+use Rattle.doublewrite.specs.Kept.{IsSettled, IsStaged, HasPlaced, WasPage}
+use Rattle.doublewrite.specs.Places.{LeavesPages, PutsPage}
+use Rattle.law_logged_pages.specs.Applied.{names, logical}
 use Rattle.law_logged_pages.specs.Stages.{AreBytes, SameButSum}
 use Rattle.law_logged_pages.specs.Keeping.{IsRun, Keeps, IsPlaced, MayBePlaced}
 
@@ -67,3 +68,28 @@ pub record IsHome (page : ℕ) (bytes : List ℕ) (s : State) : Type 0 where
 -- each page that became clean stands in its place for good as it is in the pool
 abbrev pub AreHome : PoolView → PoolView → State → Type 0
 AreHome old new s = (page : ℕ) → is_dirty old page ≡ true → is_dirty new page ≡ false → IsHome page (bytes_of new page) s
+
+-- What a step makes of what reads give: the next page of the batch under way stands in its place, and each other page as before.
+abbrev pub Places : Option StagedView → State → State → Type 0
+Places None before s = LeavesPages before s
+Places (Some staged) before s = PutsPage (number_at staged.batch staged.placed) (page_at staged.batch staged.placed) before s
+
+-- ---- pages that nobody need flush
+
+-- All groups have left zeros of the page, and nobody has written it.
+pub record IsNowhere (page : ℕ) (bytes : List ℕ) (s : State) : Type 0 where
+  pub zeros : bytes ≡ replicate 4096 0
+  pub no_page : (other : List ℕ) → WasPage s page (Some other) → ⊥
+
+-- The page is in its place for good as all groups have left it, or nobody has written it.
+abbrev pub IsKept : List Group → (ℕ → List ℕ) → ℕ → State → Type 0
+IsKept groups base page s =
+    IsHome page (logical base groups (length groups) page) s ⊎ IsNowhere page (logical base groups (length groups) page) s
+
+-- each page that isn't changed in the pool is kept
+abbrev pub AreKept : List Group → (ℕ → List ℕ) → PoolView → State → Type 0
+AreKept groups base pool s = (page : ℕ) → page < 65536 → is_dirty pool page ≡ false → IsKept groups base page s
+
+-- no group of these names the page
+abbrev pub AreSilent : ℕ → List Group → Type 0
+AreSilent page groups = All (λ (g : Group). names page g ≡ false) groups

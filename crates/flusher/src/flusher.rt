@@ -8,9 +8,10 @@ ghost use Rattle.store_api.specs.Past.{Now, Meanwhile};
 ghost use Rattle.log_format.specs.declared.group.Group.{Group as GroupValue};
 ghost use Rattle.buffer_pool.specs.Frames.{is_dirty};
 ghost use Rattle.doublewrite.specs.Kept.{IsReady};
+ghost use Rattle.doublewrite.specs.Places.{Leads};
 ghost use Rattle.flusher.specs.Cleaning.{HasSamePages, Settles, finished, waits, to_go};
-ghost use Rattle.flusher.specs.Flushing.{AreNewest, HoldsRun, KeepsSince, AreHome, AreInPlace, whole_or};
-ghost use Rattle.flusher.specs.Working.{IsAtRest, KeepsLog};
+ghost use Rattle.flusher.specs.Flushing.{AreNewest, HoldsRun, KeepsSince, AreHome, AreInPlace, Places, AreKept, whole_or};
+ghost use Rattle.flusher.specs.Working.{IsAtRest, Advances, AreChanged, KeepsLog};
 ghost use Rattle.flusher.specs.declared.work.Worked.TheVariants.{Did, Idle};
 
 use crate::work::{Work, Worked, step_of};
@@ -63,13 +64,20 @@ impl Flusher {
         // Each step that did something brings it nearer to rest.
         ensures nears { result ≡ Ok Did → IsBelow (to_go self.new pool.new) (to_go self.old pool.old) }
 
+        // A batch of changed pages is staged, or one page more of the batch under way is placed.
+        ensures advances { result ≡ Ok Did → Advances pool.old self.old self.new }
+
         // Everybody sees the same pages. Those of a batch whose last page was placed are clean, and one that was changed again
         // while its batch was under way stays changed.
         ensures pages { HasSamePages pool.old pool.new }
+        ensures under_way { AreChanged self.old pool.old → AreChanged self.new pool.new }
         ensures settles { Settles (finished self.old self.new) pool.old pool.new }
         ensures changed_again { (page : ℕ) → waits self.old pool.old page ≡ true → is_dirty pool.new page ≡ true }
         ensures log { KeepsLog log.old log.new }
         ensures cause { HasCause (D.past disk.old).faults (D.past disk.new).faults result }
+
+        // Where no call failed, a read gives the page that was placed in its place, and each other page as before.
+        ensures reads { OnOk result (Leads (Places self.old) (D.past disk.old) (D.past disk.new)) }
 
         // The pages of a batch are in their places as far as they were placed, and all of them for good once it is no more under way.
         ensures in_place { Now (AreInPlace self.old) (D.past disk.old) → Now (AreInPlace (whole_or self.old self.new)) (D.past disk.new) }
@@ -78,6 +86,13 @@ impl Flusher {
         ensures home { (first : ℕ) (groups : List GroupValue) (base : ℕ → List ℕ) → AreNewest groups base pool.old
             → Now IsReady (D.past disk.old)
             → Now (HoldsRun first groups base self.old log.old) (D.past disk.old) → Now (AreHome pool.old pool.new) (D.past disk.new) }
+
+        // A page that isn't changed in the pool is in its place for good as all groups have left it, or nobody has written it, if
+        // that was so of those that weren't changed before: so it is of each page once nothing is left to be done.
+        ensures kept { (first : ℕ) (groups : List GroupValue) (base : ℕ → List ℕ) → AreNewest groups base pool.old
+            → Now IsReady (D.past disk.old) → AreChanged self.old pool.old
+            → Now (HoldsRun first groups base self.old log.old) (D.past disk.old)
+            → Now (AreKept groups base pool.old) (D.past disk.old) → Now (AreKept groups base pool.new) (D.past disk.new) }
 
         // As long as no call fails, the disk holds the run with its pages at their stages,
         ensures stands { (first : ℕ) (groups : List GroupValue) (base : ℕ → List ℕ) → AreNewest groups base pool.old

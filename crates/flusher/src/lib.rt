@@ -8,6 +8,6 @@ mod gathering;
 mod settling;
 mod work;
 
-pub use between::a_run_outlasts_the_log;
+pub use between::{a_run_outlasts_the_log, kept_pages_outlast_changes};
 pub use flusher::Flusher;
 pub use work::Worked;

@@ -11,12 +11,13 @@ ghost use Rattle.log_format.specs.declared.group.Group.{Group as GroupValue};
 ghost use Rattle.redo_log.specs.View.{LogView};
 ghost use Rattle.redo_log.specs.Logged.{Stands, StandsMeanwhile};
 ghost use Rattle.buffer_pool.specs.Frames.{is_dirty};
-ghost use Rattle.doublewrite.specs.Batches.{page_at};
+ghost use Rattle.doublewrite.specs.Batches.{IsBatch, page_at};
 ghost use Rattle.doublewrite.specs.Kept.{IsReady, IsReadyAs, IsStagedHonestly, KeepsPages};
+ghost use Rattle.doublewrite.specs.Places.{Leads, LeavesPages};
 ghost use Rattle.law_logged_pages.specs.Keeping.{Keeps};
 ghost use Rattle.flusher.specs.Cleaning.{HasSamePages, Settles, finished, waits, to_go};
-ghost use Rattle.flusher.specs.Flushing.{AreNewest, AreNewestIn, HoldsRun, KeepsSince, AreHome, AreInPlace, whole_or};
-ghost use Rattle.flusher.specs.Working.{IsWork, staged_of, IsAtRest, IsBegun, GoesOn, KeepsLog};
+ghost use Rattle.flusher.specs.Flushing.{AreNewest, AreNewestIn, HoldsRun, KeepsSince, AreHome, AreInPlace, Places, AreKept, whole_or};
+ghost use Rattle.flusher.specs.Working.{IsWork, staged_of, IsAtRest, IsBegun, GoesOn, Advances, AreChanged, KeepsLog};
 ghost use Rattle.flusher.specs.declared.work.Worked.TheVariants.{Did, Idle};
 
 use crate::gathering::{gather, newest_lsn};
@@ -51,6 +52,7 @@ fn flush_for<D: Disk>(batch: &Batch, log: &mut Log, disk: &mut D) -> Result<(), 
     ensures logged { OnOk result ((k : ℕ) → k < batch.now.count → lsn_of (page_at batch.now k) < log.new.next → lsn_of (page_at batch.now k) ≤ log.new.flushed) }
     ensures log { KeepsLog log.old log.new }
     ensures cause { HasCause (D.past disk.old).faults (D.past disk.new).faults result }
+    ensures reads { Leads LeavesPages (D.past disk.old) (D.past disk.new) }
     ensures stands { (first : ℕ) (groups : List GroupValue) (double pages : Contents) →
         Now (Stands first groups log.old double pages) (D.past disk.old) → Now (Stands first groups log.new double pages) (D.past disk.new) }
     ensures crash { (first : ℕ) (groups : List GroupValue) (double pages : Contents) →
@@ -69,7 +71,9 @@ fn copy_all<D: Disk>(batch: Batch, disk: &mut D) -> (Work, Result<Worked, Failed
     ensures is_work { IsWork result.0 }
     ensures ok { OnOk result.1 ((result.1 ≡ Ok Did) × (staged_of result.0 ≡ Some (record { batch = batch; placed = 0 }))) }
     ensures err { OnErr result.1 (staged_of result.0 ≡ None) }
+    ensures is_batch { IsBatch batch }
     ensures cause { HasCause (D.past disk.old).faults (D.past disk.new).faults result.1 }
+    ensures reads { Leads LeavesPages (D.past disk.old) (D.past disk.new) }
     ensures stands { (before : State) → Now (IsReadyAs before) (D.past disk.old)
         → OnOk result.1 (Now (IsStagedHonestly before batch) (D.past disk.new)) }
     ensures crash { (before : State) → Now (IsReadyAs before) (D.past disk.old)
@@ -87,8 +91,10 @@ fn begin<D: Disk>(batch: Batch, log: &mut Log, disk: &mut D) -> (Work, Result<Wo
     ensures is_work { IsWork result.0 }
     ensures ok { OnOk result.1 ((result.1 ≡ Ok Did) × (staged_of result.0 ≡ Some (record { batch = batch; placed = 0 }))) }
     ensures err { OnErr result.1 (staged_of result.0 ≡ None) }
+    ensures is_batch { OnOk result.1 (IsBatch batch) }
     ensures log { KeepsLog log.old log.new }
     ensures cause { HasCause (D.past disk.old).faults (D.past disk.new).faults result.1 }
+    ensures reads { Leads LeavesPages (D.past disk.old) (D.past disk.new) }
     ensures stands { (first : ℕ) (groups : List GroupValue) (base : ℕ → List ℕ) → AreNewestIn groups base batch
         → Now IsReady (D.past disk.old)
         → Now (HoldsRun first groups base None log.old) (D.past disk.old)
@@ -127,6 +133,7 @@ fn gather_and_begin<D: Disk>(
     ensures err { OnErr result.1 (staged_of result.0 ≡ None) }
     ensures log { KeepsLog log.old log.new }
     ensures cause { HasCause (D.past disk.old).faults (D.past disk.new).faults result.1 }
+    ensures reads { Leads LeavesPages (D.past disk.old) (D.past disk.new) }
     ensures stands { (first : ℕ) (groups : List GroupValue) (base : ℕ → List ℕ) → AreNewest groups base pool.now
         → Now IsReady (D.past disk.old)
         → Now (HoldsRun first groups base None log.old) (D.past disk.old)
@@ -155,11 +162,16 @@ fn go_on<D: Disk>(
     ensures err { OnErr result.1 (staged_of result.0 ≡ Some (record { batch = staged.batch; placed = 0 })) }
     ensures pool { Settles (finished (Some staged) (staged_of result.0)) pool.old pool.new }
     ensures cause { HasCause (D.past disk.old).faults (D.past disk.new).faults result.1 }
+    ensures reads { OnOk result.1 (Leads (Places (Some staged)) (D.past disk.old) (D.past disk.new)) }
     ensures in_place { Now (AreInPlace (Some staged)) (D.past disk.old)
         → Now (AreInPlace (whole_or (Some staged) (staged_of result.0))) (D.past disk.new) }
     ensures home { (first : ℕ) (groups : List GroupValue) (base : ℕ → List ℕ) (log : LogView) → AreNewest groups base pool.old
         → Now IsReady (D.past disk.old)
         → Now (HoldsRun first groups base (Some staged) log) (D.past disk.old) → Now (AreHome pool.old pool.new) (D.past disk.new) }
+    ensures kept { (first : ℕ) (groups : List GroupValue) (base : ℕ → List ℕ) (log : LogView) → AreNewest groups base pool.old
+        → Now IsReady (D.past disk.old) → AreChanged (Some staged) pool.old
+        → Now (HoldsRun first groups base (Some staged) log) (D.past disk.old)
+        → Now (AreKept groups base pool.old) (D.past disk.old) → Now (AreKept groups base pool.new) (D.past disk.new) }
     ensures stands { (first : ℕ) (groups : List GroupValue) (base : ℕ → List ℕ) (log : LogView) → Now IsReady (D.past disk.old)
         → Now (HoldsRun first groups base (Some staged) log) (D.past disk.old)
         → Now (HoldsRun first groups base (staged_of result.0) log) (D.past disk.new) }
@@ -190,16 +202,23 @@ pub fn step_of<D: Disk>(
     ensures idle { (result.1 ≡ Ok Idle) ↔ IsAtRest (staged_of work) pool.old }
     ensures rests { result.1 ≡ Ok Idle → (staged_of result.0 ≡ staged_of work) × (log.new ≡ log.old) × (D.past disk.new ≡ D.past disk.old) }
     ensures nears { result.1 ≡ Ok Did → IsBelow (to_go (staged_of result.0) pool.new) (to_go (staged_of work) pool.old) }
+    ensures advances { result.1 ≡ Ok Did → Advances pool.old (staged_of work) (staged_of result.0) }
     ensures pages { HasSamePages pool.old pool.new }
+    ensures under_way { AreChanged (staged_of work) pool.old → AreChanged (staged_of result.0) pool.new }
     ensures settles { Settles (finished (staged_of work) (staged_of result.0)) pool.old pool.new }
     ensures changed_again { (page : ℕ) → waits (staged_of work) pool.old page ≡ true → is_dirty pool.new page ≡ true }
     ensures log { KeepsLog log.old log.new }
     ensures cause { HasCause (D.past disk.old).faults (D.past disk.new).faults result.1 }
+    ensures reads { OnOk result.1 (Leads (Places (staged_of work)) (D.past disk.old) (D.past disk.new)) }
     ensures in_place { Now (AreInPlace (staged_of work)) (D.past disk.old)
         → Now (AreInPlace (whole_or (staged_of work) (staged_of result.0))) (D.past disk.new) }
     ensures home { (first : ℕ) (groups : List GroupValue) (base : ℕ → List ℕ) → AreNewest groups base pool.old
         → Now IsReady (D.past disk.old)
         → Now (HoldsRun first groups base (staged_of work) log.old) (D.past disk.old) → Now (AreHome pool.old pool.new) (D.past disk.new) }
+    ensures kept { (first : ℕ) (groups : List GroupValue) (base : ℕ → List ℕ) → AreNewest groups base pool.old
+        → Now IsReady (D.past disk.old) → AreChanged (staged_of work) pool.old
+        → Now (HoldsRun first groups base (staged_of work) log.old) (D.past disk.old)
+        → Now (AreKept groups base pool.old) (D.past disk.old) → Now (AreKept groups base pool.new) (D.past disk.new) }
     ensures stands { (first : ℕ) (groups : List GroupValue) (base : ℕ → List ℕ) → AreNewest groups base pool.old
         → Now IsReady (D.past disk.old)
         → Now (HoldsRun first groups base (staged_of work) log.old) (D.past disk.old)

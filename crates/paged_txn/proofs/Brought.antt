@@ -120,6 +120,8 @@ and_all true = refl
 and_all false = refl
 
 pub record Refuses (told later : Bool) (page : ℕ) (before now : Past) (pool : PoolView) (dealt : List Entry) (records : List Record) (why : Visit) : Type 0 where
+  pub was : is_known later now ≡ true → is_known told before ≡ true
+  pub places : is_known later now ≡ true → (q : ℕ) → place_in now q ≡ place_in before q
   pub paged : IsPaged pool now dealt records later
   pub looks : LooksAt (pages_of dealt) (state_of pool before dealt records told) (state_of pool now dealt records later)
   pub explains : Explains page (state_of pool before dealt records told) (state_of pool now dealt records later) why
@@ -154,12 +156,14 @@ module _ (told : Bool) (page : ℕ) (before now : Past) (pool : PoolView) (dealt
       let tells_was = told_before false before now refused.1 in
       let rose = rose_too before now tells_was refused.0 in
       let on = look_on (told && false) tells_was (λ k. absurd (never k)) (λ k q. absurd (never k)) (λ k fine. absurd (fine rose)) in
-      record { paged = on.0; looks = on.1; explains = rose }
+      record { was = λ k. absurd (never k); places = λ k q. absurd (never k); paged = on.0; looks = on.1; explains = rose }
   refuses Again refused =
       let same : now ≡ before = refused.2 in
       let later = and_all told in
       subst (λ (p : Past). Refuses told (told && true) page before p pool dealt records Again) (sym same)
       (subst (λ (b : Bool). Refuses told b page before before pool dealt records Again) (sym later) (record {
+        was = λ k. k;
+        places = λ k q. refl;
         paged = is;
         looks = looked_looks pool before before dealt records told told is (λ k. k) (λ k q. refl) (λ k fine. k) (omega arith);
         explains = (
@@ -176,6 +180,8 @@ module _ (told : Bool) (page : ℕ) (before now : Past) (pool : PoolView) (dealt
             × Now (λ s. is_good page (page_in page s.pages.seen) ≡ false) before)
             → Refuses told told page before now pool dealt records (Bad number rule)
         go (inl none) = subst (λ (p : Past). Refuses told told page before p pool dealt records (Bad number rule)) (sym none.1) (record {
+          was = λ k. k;
+          places = λ k q. refl;
           paged = is;
           looks = looked_looks pool before before dealt records told told is (λ k. k) (λ k q. refl) (λ k fine. k) (omega arith);
           explains = (refused.0, λ k. absent_fault refused.2.absent (past_end page (length pool.slots) (place_in before page) none.0) ∙ ap Some (sym refused.1));
@@ -186,6 +192,8 @@ module _ (told : Bool) (page : ℕ) (before now : Past) (pool : PoolView) (dealt
             let on = look_on told tells_was was (λ k q. same_places true before now read.0 refl (known_tells told now k) q)
             (λ k fine. stays_known told before now later_faults k fine) in
             record {
+              was = was;
+              places = λ k q. same_places true before now read.0 refl (known_tells told now k) q;
               paged = on.0;
               looks = on.1;
               explains = (

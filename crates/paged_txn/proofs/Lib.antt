@@ -1,4 +1,6 @@
+pub mod Batched
 pub mod Brought
+pub mod Dirty
 pub mod Ended
 pub mod Fixed
 pub mod Flushed

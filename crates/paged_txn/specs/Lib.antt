@@ -1,4 +1,5 @@
 pub mod Bringing
 pub mod Ending
 pub mod Fixing
+pub mod UnderWay
 pub mod View

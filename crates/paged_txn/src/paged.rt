@@ -7,7 +7,7 @@ ghost use Rattle.redo_log.specs.View.{room_of};
 ghost use Rattle.store_api.specs.declared.visits.FreshBad.TheVariants.{Again as FreshAgain, NoMemory as NoFreshMemory};
 ghost use Rattle.store_api.specs.declared.visits.Visit.TheVariants.{Again as VisitAgain};
 ghost use Rattle.mtr.specs.Seen.{is_in, visit, IsShown, IsShut, IsWithin};
-ghost use Rattle.mtr.specs.Calls.{Asks, Makes, Puts, Commits, GivesUp};
+ghost use Rattle.mtr.specs.Calls.{Asks, Looks, Makes, Puts, Commits, GivesUp};
 ghost use Rattle.mini_txn.specs.Dealt.{pages_of};
 ghost use Rattle.mini_txn.specs.Edits.{edited};
 ghost use Rattle.mini_txn.specs.Grouped.{IsGrouped};
@@ -82,12 +82,18 @@ impl<D: Disk> PagedTxn<D> {
     }
 
     /// A step of the flusher: dirty pages are brought to the disk, so that their frames may be given up. The puts of the
-    /// mini-transaction under way aren't among them. After a step that did something the pages aren't told any more.
+    /// mini-transaction under way aren't among them. After a step that failed the pages aren't told any more.
     pub fn flush_step(&mut self) -> Result<Worked, Failed>
         ensures idle { (result ≡ Ok Idle) ↔ IsAtRest self.old.work.flusher self.old.work.pool }
         ensures rests { result ≡ Ok Idle →
             (state_of self.new.work.pool (D.past self.new.work.disk) self.new.work.dealt self.new.work.edits self.new.work.told
             ≡ state_of self.old.work.pool (D.past self.old.work.disk) self.old.work.dealt self.old.work.edits self.old.work.told) }
+
+        // Where it didn't fail, the pages are told still, and stand and are seen as before.
+        ensures looks { OnOk result (Looks (pages_of self.old.work.dealt)
+            (state_of self.old.work.pool (D.past self.old.work.disk) self.old.work.dealt self.old.work.edits self.old.work.told)
+            (state_of self.new.work.pool (D.past self.new.work.disk) self.new.work.dealt self.new.work.edits self.new.work.told)) }
+
         ensures nears { result ≡ Ok Did → IsBelow (to_go self.new.work.flusher self.new.work.pool) (to_go self.old.work.flusher self.old.work.pool) }
         ensures pages { HasSamePages self.old.work.pool self.new.work.pool }
         ensures log { KeepsLog self.old.work.log self.new.work.log }

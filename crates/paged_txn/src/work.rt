@@ -7,13 +7,14 @@ ghost use Rattle.redo_log.specs.View.{room_of};
 ghost use Rattle.store_api.specs.declared.visits.FreshBad.TheVariants.{Again as FreshAgain, NoMemory as NoFreshMemory};
 ghost use Rattle.store_api.specs.declared.visits.Visit.TheVariants.{Again as VisitAgain};
 ghost use Rattle.mtr.specs.Seen.{is_in, visit, IsShut, IsWithin, IsShown};
-ghost use Rattle.mtr.specs.Calls.{Asks, Makes, Puts, Commits, GivesUp};
+ghost use Rattle.mtr.specs.Calls.{Asks, Looks, Makes, Puts, Commits, GivesUp};
 ghost use Rattle.mini_txn.specs.Dealt.{pages_of};
 ghost use Rattle.mini_txn.specs.Edits.{edited, spare_of};
 ghost use Rattle.mini_txn.specs.Grouped.{IsGrouped};
-ghost use Rattle.buffer_pool.specs.Frames.{fixes_of, is_pooled, next_idle};
+ghost use Rattle.buffer_pool.specs.Frames.{fixes_of, is_pooled, is_dirty, next_idle};
 ghost use Rattle.paged_txn.specs.View.{HasNoPage, Begins, IsPaged, state_of, seen_in, standing_in, is_known};
 ghost use Rattle.paged_txn.specs.Ending.{IsPut};
+ghost use Rattle.paged_txn.specs.UnderWay.{IsFlushed};
 ghost use Rattle.paged_txn.specs.Fixing.{IsSecured};
 ghost use Rattle.paged_txn.specs.Bringing.{is_no_fault};
 ghost use Rattle.inno_types.specs.Order.{IsBelow};
@@ -48,6 +49,7 @@ pub struct Work<D: Disk> {
     pub flusher: Flusher,
     pub told: bool,
     ghost is_paged: { IsPaged pool (D.past disk) dealt edits told },
+    ghost is_flushed: { IsFlushed (is_known told (D.past disk)) pool log (D.past disk) flusher },
 }
 
 /// Whether page 0 counts no more pages than the pool may hold. Where it can't be read it isn't known; where what stands there is no
@@ -56,6 +58,7 @@ fn counts_few<D: Disk>(pool: &mut Pool, disk: &mut D) -> bool
     requires { HasNoPage (length pool.old.slots) pool.old }
     ensures paged { IsPaged pool.new (D.past disk.new) [] [] result }
     ensures begins { Begins (length pool.old.slots) (D.past disk.old) (D.past disk.new) pool.new result }
+    ensures clean { (page : ℕ) → is_dirty pool.new page ≡ false }
 {
     match bring(pool, disk, 0) {
         Ok(()) => {
@@ -73,13 +76,6 @@ fn leaves_disk_whole(why: Visit) -> bool
     ensures { result ≡ is_no_fault why }
 {
     why != Visit::Failed
-}
-
-/// Whether a step of the flusher had nothing to do.
-fn is_idle(worked: Result<Worked, Failed>) -> bool
-    ensures { IsTrue result ↔ (worked ≡ Ok Idle) }
-{
-    worked == Ok(Worked::Idle)
 }
 
 /// Whether a page can be made: it is dealt with, or in the pool, or there is a frame for it.
@@ -278,6 +274,8 @@ impl<D: Disk> Work<D> {
         ensures idle { (result ≡ Ok Idle) ↔ IsAtRest self.old.flusher self.old.pool }
         ensures rests { result ≡ Ok Idle → (state_of self.new.pool (D.past self.new.disk) self.new.dealt self.new.edits self.new.told
             ≡ state_of self.old.pool (D.past self.old.disk) self.old.dealt self.old.edits self.old.told) }
+        ensures looks { OnOk result (Looks (pages_of self.old.dealt) (state_of self.old.pool (D.past self.old.disk) self.old.dealt self.old.edits self.old.told)
+            (state_of self.new.pool (D.past self.new.disk) self.new.dealt self.new.edits self.new.told)) }
         ensures nears { result ≡ Ok Did → IsBelow (to_go self.new.flusher self.new.pool) (to_go self.old.flusher self.old.pool) }
         ensures pages { HasSamePages self.old.pool self.new.pool }
         ensures log { KeepsLog self.old.log self.new.log }
@@ -300,7 +298,7 @@ impl<D: Disk> Work<D> {
         let worked = self
             .flusher
             .step(&mut self.pool, &mut self.log, &mut self.disk);
-        self.told &= is_idle(worked);
+        self.told &= worked.is_ok();
         worked
     }
 }

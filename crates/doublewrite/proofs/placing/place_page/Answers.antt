@@ -3,6 +3,7 @@ use Rattle.std.specs.Prelude.{is_ok}
 use Rattle.stored_pages.specs.Words.{number_of}
 use Rattle.doublewrite.specs.Batches.{page_at, number_at}
 use Rattle.doublewrite.proofs.Calls.{meant, after_place, after_placed, during_place, after_sync, during_sync, placed_next, placed_last}
+use Rattle.doublewrite.proofs.Places.{place_leads, placed_leads}
 use Rattle.doublewrite.proofs.placing.place_page.Goals as goal
 
 pub overflow_add-slot : goal.overflow_add-slot
@@ -117,3 +118,23 @@ returns-clause-crash g c = λ before known.
     let place : 4096 * c.from.result ≡ 4096 * number_at batch c.args.slot = ap (λ (n : ℕ). 4096 * n) (c.from.ensures ∙ c.number_in.ensures ∙ ap number_of c.page-page.ensures.value) in
     let write = meant _ _ c.page-page.result.now (page_at batch c.args.slot) true (disk c.args.disk.now) (disk c.write.new.self) place c.page-page.ensures.value c.in_ok-write.ensures.goes in
     during_sync batch c.page-page.ensures.is_batch c.args.slot c.requires before _ _ _ law0 law1 known write _ c.in_ok-sync.ensures.goes
+
+pub returns-then-slot-len-clause-reads : goal.returns-then-slot-len-clause-reads
+returns-then-slot-len-clause-reads g c =
+    let disk = g.D.Disk.past in
+    let batch = c.args.batch.now in
+    let place : 4096 * c.from.result ≡ 4096 * number_at batch c.args.slot =
+    ap (λ (n : ℕ). 4096 * n) (c.from.ensures ∙ c.number_in.ensures ∙ ap number_of c.page-page.ensures.value) in
+    let write = meant _ _ c.page-page.result.now (page_at batch c.args.slot) true (disk c.args.disk.now) (disk c.write.new.self)
+    place c.page-page.ensures.value c.in_ok-write.ensures.goes in
+    place_leads batch c.page-page.ensures.is_batch c.args.slot c.requires _ _ write
+
+pub returns-clause-reads : goal.returns-clause-reads
+returns-clause-reads g c =
+    let disk = g.D.Disk.past in
+    let batch = c.args.batch.now in
+    let place : 4096 * c.from.result ≡ 4096 * number_at batch c.args.slot =
+    ap (λ (n : ℕ). 4096 * n) (c.from.ensures ∙ c.number_in.ensures ∙ ap number_of c.page-page.ensures.value) in
+    let write = meant _ _ c.page-page.result.now (page_at batch c.args.slot) true (disk c.args.disk.now) (disk c.write.new.self)
+    place c.page-page.ensures.value c.in_ok-write.ensures.goes in
+    placed_leads batch c.page-page.ensures.is_batch c.args.slot c.requires _ _ write _ c.in_ok-sync.ensures.goes

@@ -6,6 +6,7 @@ use Rattle.doublewrite.specs.Batches.{StagedView}
 use Rattle.doublewrite.specs.Kept.{IsReadyAs, IsStagedHonestly}
 use Rattle.flusher.specs.Flushing.{HoldsRun, KeepsSince}
 use Rattle.flusher.proofs.Runs.{flushed_run, flush_crash, staged_run, stage_crash}
+use Rattle.flusher.proofs.Afterwards.{leads_join}
 use Rattle.flusher.proofs.work.begin.Goals as goal
 
 on_ok_by : {X E : Type 0} (r : Result X E) (A B : State → Type 0) (C D : Type 0) → OnOk r C → ((x : State) → A x → OnOk r (B x)) →
@@ -45,3 +46,6 @@ returns-in-Ok-clause-crash g c = λ first groups base newest ready held.
     Meanwhile-join (KeepsSince log.run first log.flushed groups base) old mid new
     (flush_crash first groups base log old mid ready held (c.flush_for.ensures.crash first groups))
     (stage_crash first groups base flushed c.args.batch mid new run newest c.in-Ok.ensures.logged log.run log.flushed keeps.run keeps.flushed c.copy_all.ensures.crash)
+
+pub returns-in-Ok-clause-reads : goal.returns-in-Ok-clause-reads
+returns-in-Ok-clause-reads g c = leads_join _ _ _ c.flush_for.ensures.reads c.copy_all.ensures.reads

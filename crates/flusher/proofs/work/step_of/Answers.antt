@@ -6,9 +6,10 @@ use Rattle.doublewrite.specs.Batches.{StagedView}
 use Rattle.law_logged_pages.specs.Keeping.{Keeps}
 use Rattle.flusher.specs.Cleaning.{to_go}
 use Rattle.flusher.specs.Flushing.{HoldsRun, KeepsSince, AreInPlace, whole_or}
-use Rattle.flusher.specs.Working.{IsWork, staged_of, GoesOn}
+use Rattle.flusher.specs.Working.{IsWork, staged_of, GoesOn, AreChanged}
 use Rattle.flusher.proofs.Going.{begun_nears, placed_nears}
 use Rattle.flusher.proofs.Runs.{none_home}
+use Rattle.flusher.proofs.Homes.{kept_leads}
 use Rattle.flusher.proofs.work.step_of.Goals as goal
 
 on_any : {X E : Type 0} (P : Type 0) (r : Result X E) → P → OnOk r P
@@ -76,3 +77,14 @@ returns-in-Placing-clause-home g c = λ first groups base newest ready held.
     let some : staged_of c.args.work ≡ Some c.in-Placing.staged = ap staged_of c.in-Placing.is in
     let there = subst (λ (w : Option StagedView). Now (HoldsRun first groups base w c.args.log.now) (g.D.Disk.past c.args.disk.now)) some held in
     c.go_on.ensures.home first groups base c.args.log.now newest ready there
+
+pub returns-in-Free-clause-kept : goal.returns-in-Free-clause-kept
+returns-in-Free-clause-kept g c = λ first groups base newest ready changed held kept.
+    kept_leads groups base c.args.pool.now (g.D.Disk.past c.args.disk.now) (g.D.Disk.past c.gather_and_begin.new.disk) c.gather_and_begin.ensures.reads kept
+
+pub returns-in-Placing-clause-kept : goal.returns-in-Placing-clause-kept
+returns-in-Placing-clause-kept g c = λ first groups base newest ready changed held kept.
+    let some : staged_of c.args.work ≡ Some c.in-Placing.staged = ap staged_of c.in-Placing.is in
+    let there = subst (λ (w : Option StagedView). Now (HoldsRun first groups base w c.args.log.now) (g.D.Disk.past c.args.disk.now)) some held in
+    let under_way = subst (λ (w : Option StagedView). AreChanged w c.args.pool.now) some changed in
+    c.go_on.ensures.kept first groups base c.args.log.now newest ready under_way there kept

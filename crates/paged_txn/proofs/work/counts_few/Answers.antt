@@ -5,6 +5,7 @@ use Rattle.stored_pages.specs.Words.{u32_at}
 use Rattle.buffer_pool.specs.Frames.{bytes_of}
 use Rattle.paged_txn.specs.View.{IsPaged, Begins}
 use Rattle.paged_txn.specs.Bringing.{IsRefused}
+use Rattle.paged_txn.proofs.Dirty.{opened_clean}
 use Rattle.paged_txn.proofs.Opened.{opened_paged, opened_begins, unread_paged, unread_begins}
 use Rattle.paged_txn.proofs.work.counts_few.Goals as goal
 
@@ -40,3 +41,9 @@ returns-in-Err-Bad-clause-begins g c =
     let why = subst (IsRefused 0 past now c.args.pool.now) c.in-Err-Bad.field-0-is c.in-Err-Bad.ensures.refused in
     subst (λ p. Begins (length c.args.pool.now.slots) past now p true) (sym c.in-Err-Bad.ensures.same)
     (unread_begins past c.args.pool.now c.requires now why.2)
+
+pub returns-in-Ok-clause-clean : goal.returns-in-Ok-clause-clean
+returns-in-Ok-clause-clean g c =
+    let past = g.D.Disk.past c.args.disk.now in
+    let now = g.D.Disk.past c.bring.new.disk in
+    opened_clean 0 past now c.args.pool.now c.bring.new.pool c.let_go.new.pool c.requires c.in-Ok.ensures.ok c.let_go.ensures

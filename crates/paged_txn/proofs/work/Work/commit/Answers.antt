@@ -2,6 +2,7 @@ use Rattle.std.proofs.Common.{◌≡◌, ℕ, [], sym, subst, arith}
 use Rattle.mtr.specs.Calls.{Commits}
 use Rattle.paged_txn.specs.View.{state_of, IsPaged}
 use Rattle.paged_txn.specs.Ending.{IsPut}
+use Rattle.paged_txn.proofs.Batched.{commit_is_flushed}
 use Rattle.paged_txn.proofs.Ended.{commit_paged, commit_commits, commit_puts}
 use Rattle.paged_txn.proofs.work.Work.commit.Goals as goal
 
@@ -15,6 +16,8 @@ invariant_of-self-2 g c =
     record {
       is_paged = subst (λ d. IsPaged new past d c.clear.new.self m.told) (sym c.let_all_go.ensures.emptied)
           (subst (λ rs. IsPaged new past [] rs m.told) (sym c.clear.ensures) all);
+      is_flushed = commit_is_flushed m.pool c.place_copies.new.pool new past m.dealt m.edits m.told c.in_ok-lsn.lsn m.is_paged c.place_copies.ensures
+          c.let_all_go.ensures.pool m.log c.append.new.log m.flusher m.is_flushed c.in_ok-lsn.ensures.grouped c.in_ok-lsn.ensures.newest;
     }
 
 pub returns-clause-committed : goal.returns-clause-committed

@@ -1,6 +1,7 @@
-use Rattle.std.proofs.Common.{[], sym, subst}
+use Rattle.std.proofs.Common.{[], refl, sym, subst}
 use Rattle.mtr.specs.Calls.{GivesUp}
-use Rattle.paged_txn.specs.View.{state_of, IsPaged}
+use Rattle.paged_txn.specs.View.{is_known, state_of, IsPaged}
+use Rattle.paged_txn.proofs.Batched.{flushed_still, dropped_changed}
 use Rattle.paged_txn.proofs.Ended.{dropped_paged, dropped_gives_up}
 use Rattle.paged_txn.proofs.work.Work.give_up.Goals as goal
 
@@ -13,6 +14,8 @@ invariant_of-self g c =
     record {
       is_paged = subst (λ d. IsPaged new past d c.clear.new.self m.told) (sym c.let_all_go.ensures.emptied)
           (subst (λ rs. IsPaged new past [] rs m.told) (sym c.clear.ensures) all);
+      is_flushed = flushed_still (is_known m.told past) (is_known m.told past) m.pool new m.log past past m.flusher m.is_flushed (λ k. k) (λ k q. refl)
+          (dropped_changed m.pool new past m.dealt m.edits m.told m.is_paged c.let_all_go.ensures.pool);
     }
 
 pub returns-clause-gives_up : goal.returns-clause-gives_up

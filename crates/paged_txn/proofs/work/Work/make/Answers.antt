@@ -1,4 +1,4 @@
-use Rattle.std.proofs.Common.{sym, ap, subst, ◌∙◌}
+use Rattle.std.proofs.Common.{refl, sym, ap, subst, ◌∙◌}
 use Rattle.std.specs.Prelude.{◌||◌, is_some}
 use Rattle.buffer_pool.specs.Frames.{is_pooled, next_idle}
 use Rattle.mtr.specs.Seen.{is_in}
@@ -6,7 +6,9 @@ use Rattle.mtr.specs.Calls.{Makes}
 use Rattle.mtr.proofs.Claims.{visited_now}
 use Rattle.mini_txn.specs.Dealt.{pages_of, HasCopy}
 use Rattle.mini_txn.proofs.Bodies.{blank_is}
-use Rattle.paged_txn.specs.View.{state_of, IsPaged}
+use Rattle.paged_txn.specs.View.{is_known, state_of, IsPaged}
+use Rattle.paged_txn.proofs.Batched.{flushed_still}
+use Rattle.paged_txn.proofs.Dirty.{secured_changed}
 use Rattle.paged_txn.proofs.Made.{ready_by, never_shut}
 use Rattle.paged_txn.proofs.Meeting.{blanked_by, made_paged, made_makes}
 use Rattle.paged_txn.proofs.work.Work.make.Goals as goal
@@ -27,6 +29,8 @@ invariant_of-self g c =
     record {
       is_paged = subst (λ rs. IsPaged c.secure.new.pool past c.set.new.self rs m.told) (sym c.add_fresh.ensures)
           (made_paged m.pool c.secure.new.pool past m.dealt c.set.new.self m.edits m.told page m.is_paged ready blanks c.requires.within);
+      is_flushed = flushed_still (is_known m.told past) (is_known m.told past) m.pool c.secure.new.pool m.log past past m.flusher m.is_flushed (λ k. k)
+          (λ k q. refl) (secured_changed c.contains-known.result page m.pool c.secure.new.pool c.secure.ensures);
     }
 
 pub returns-clause-made : goal.returns-clause-made

@@ -4,7 +4,10 @@ use Rattle.std.specs.Option.{option_map_or}
 use Rattle.mtr.specs.Calls.{Looks, Explains}
 use Rattle.mini_txn.specs.Dealt.{copy_of, pages_of}
 use Rattle.mini_txn.specs.View.{body_of}
-use Rattle.paged_txn.specs.View.{standing_in, state_of, IsPaged}
+use Rattle.paged_txn.specs.View.{is_known, standing_in, state_of, IsPaged}
+use Rattle.paged_txn.specs.UnderWay.{IsFlushed}
+use Rattle.paged_txn.proofs.Batched.{flushed_still}
+use Rattle.paged_txn.proofs.Dirty.{same_pool, brought_changed}
 use Rattle.paged_txn.specs.Bringing.{is_no_fault}
 use Rattle.paged_txn.proofs.Brought.{brings, brings_shown, refuses}
 use Rattle.paged_txn.proofs.Meeting.{brought_paged, brought_looks}
@@ -21,6 +24,8 @@ invariant_of-self g c =
     record {
       is_paged = brought_paged m.pool c.bring.new.pool past now m.dealt m.edits m.told c.args.page m.is_paged b.was b.fixes unknown c.visit.new.self
           c.visit.ensures b.stands_now;
+      is_flushed = flushed_still (is_known m.told past) (is_known m.told now) m.pool c.bring.new.pool m.log past now m.flusher m.is_flushed b.was b.fixes.places
+          (brought_changed c.args.page past now m.pool c.bring.new.pool c.in-Ok.ensures.ok);
     }
 
 pub invariant_of-self-in-Err : goal.invariant_of-self-in-Err
@@ -33,6 +38,9 @@ invariant_of-self-in-Err g c =
     record {
       is_paged = subst (λ p. IsPaged p now m.dealt m.edits (m.told && c.leaves_disk_whole.result)) (sym c.in-Err.ensures.same)
           (subst (λ b. IsPaged m.pool now m.dealt m.edits (m.told && b)) (sym c.leaves_disk_whole.ensures) r.paged);
+      is_flushed = subst (λ b. IsFlushed (is_known (m.told && b) now) c.bring.new.pool m.log now m.flusher) (sym c.leaves_disk_whole.ensures)
+          (flushed_still (is_known m.told past) (is_known (m.told && is_no_fault c.in-Err.why) now) m.pool c.bring.new.pool m.log past now m.flusher m.is_flushed
+          r.was r.places (same_pool m.pool c.bring.new.pool c.in-Err.ensures.same));
     }
 
 pub returns-in-Ok-clause-asks : goal.returns-in-Ok-clause-asks
