@@ -4,5 +4,6 @@ pub mod Good
 pub mod Groups
 pub mod Scanned
 pub mod Sealed
+mod Streamed
 pub mod TwoLaws
 mod Values
