@@ -19,7 +19,7 @@ ghost use Rattle.store_api.specs.Past.{Now, Meanwhile};
 ghost use Rattle.log_format.specs.declared.group.Group.{Group as GroupValue};
 ghost use Rattle.doublewrite.specs.Kept.{IsReady};
 ghost use Rattle.flusher.specs.Cleaning.{HasSamePages, to_go};
-ghost use Rattle.flusher.specs.Flushing.{AreNewest, HoldsRun, KeepsSince, AreHome};
+ghost use Rattle.flusher.specs.Flushing.{AreNewest, HoldsRun, KeepsSince, AreHome, AreKept};
 ghost use Rattle.flusher.specs.Working.{IsAtRest, KeepsLog};
 ghost use Rattle.flusher.specs.declared.work.Worked.TheVariants.{Did, Idle};
 
@@ -104,6 +104,13 @@ impl<D: Disk> PagedTxn<D> {
             → Now IsReady (D.past self.old.work.disk)
             → Now (HoldsRun first groups base self.old.work.flusher self.old.work.log) (D.past self.old.work.disk)
             → Now (AreHome self.old.work.pool self.new.work.pool) (D.past self.new.work.disk) }
+
+        // Each page that isn't changed in the pool is in its place for good, or nobody has written it, if it was so before.
+        ensures kept { (first : ℕ) (groups : List GroupValue) (base : ℕ → List ℕ) → AreNewest groups base self.old.work.pool
+            → Now IsReady (D.past self.old.work.disk)
+            → Now (HoldsRun first groups base self.old.work.flusher self.old.work.log) (D.past self.old.work.disk)
+            → Now (AreKept groups base self.old.work.pool) (D.past self.old.work.disk)
+            → Now (AreKept groups base self.new.work.pool) (D.past self.new.work.disk) }
         ensures stands { (first : ℕ) (groups : List GroupValue) (base : ℕ → List ℕ) → AreNewest groups base self.old.work.pool
             → Now IsReady (D.past self.old.work.disk)
             → Now (HoldsRun first groups base self.old.work.flusher self.old.work.log) (D.past self.old.work.disk)

@@ -23,7 +23,7 @@ ghost use Rattle.store_api.specs.Past.{Now, Meanwhile};
 ghost use Rattle.log_format.specs.declared.group.Group.{Group as GroupValue};
 ghost use Rattle.doublewrite.specs.Kept.{IsReady};
 ghost use Rattle.flusher.specs.Cleaning.{HasSamePages, to_go};
-ghost use Rattle.flusher.specs.Flushing.{AreNewest, HoldsRun, KeepsSince, AreHome};
+ghost use Rattle.flusher.specs.Flushing.{AreNewest, HoldsRun, KeepsSince, AreHome, AreKept};
 ghost use Rattle.flusher.specs.Working.{IsAtRest, KeepsLog};
 ghost use Rattle.flusher.specs.declared.work.Worked.TheVariants.{Did, Idle};
 
@@ -286,6 +286,10 @@ impl<D: Disk> Work<D> {
             → Now IsReady (D.past self.old.disk)
             → Now (HoldsRun first groups base self.old.flusher self.old.log) (D.past self.old.disk)
             → Now (AreHome self.old.pool self.new.pool) (D.past self.new.disk) }
+        ensures kept { (first : ℕ) (groups : List GroupValue) (base : ℕ → List ℕ) → AreNewest groups base self.old.pool
+            → Now IsReady (D.past self.old.disk)
+            → Now (HoldsRun first groups base self.old.flusher self.old.log) (D.past self.old.disk)
+            → Now (AreKept groups base self.old.pool) (D.past self.old.disk) → Now (AreKept groups base self.new.pool) (D.past self.new.disk) }
         ensures stands { (first : ℕ) (groups : List GroupValue) (base : ℕ → List ℕ) → AreNewest groups base self.old.pool
             → Now IsReady (D.past self.old.disk)
             → Now (HoldsRun first groups base self.old.flusher self.old.log) (D.past self.old.disk)

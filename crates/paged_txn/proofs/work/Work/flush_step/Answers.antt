@@ -37,3 +37,9 @@ returns-clause-looks g c =
     (stepped_looks step.result m.pool step.new.pool past now m.told m.log step.new.log m.flusher step.new.self m.is_flushed step.ensures.pages
     step.ensures.settles step.ensures.log step.ensures.reads step.ensures.advances
     (λ idle. ((step.ensures.idle.0 idle).none, (step.ensures.rests idle).0)) m.dealt m.edits m.is_paged step.ensures.cause.later)
+
+pub returns-clause-kept : goal.returns-clause-kept
+returns-clause-kept g c = λ first groups base newest ready held kept.
+    let m = c.args.self.now in
+    let past = g.D.Disk.past m.disk in
+    c.step-worked.ensures.kept first groups base newest ready (changed_in (is_known m.told past) m.pool m.log past m.flusher m.is_flushed) held kept
