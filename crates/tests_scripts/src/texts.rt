@@ -5,8 +5,7 @@ use inno_types::{Bytes, Column, Columns, Item, Key, Kind, Listed, Schema, Value}
 use rand_core::{Rng, SeedableRng};
 use rand_xoshiro::SplitMix64;
 use script::{Directives, Script, ScriptBad, ScriptItem, WriteBad, read_script, write_script};
-use script_generator::generate;
-use script_generator::dump_text;
+use script_generator::{dump_text, generate};
 use std::alloc::{AllocError, Global};
 use std::test::Fail;
 use store_api::NoMemory;
