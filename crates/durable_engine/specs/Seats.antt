@@ -16,7 +16,7 @@ use Rattle.sql_history.specs.Legal.{IsLegal, MadeSome, is_leaving, owes_commit}
 use Rattle.inno_model.specs.declared.board.Phase.{Phase}
 use Rattle.inno_model.specs.declared.board.Phase.TheVariants.{Idle, Busy, Leaving, Left}
 use Rattle.durable_engine.specs.declared.stopped_seats.Seat.{Seat}
-use Rattle.durable_engine.specs.contracts.seats.Seat as of_seat
+use Rattle.durable_engine.specs.contracts.stopped_seats.Seat as of_seat
 
 -- why the engine stopped, if the past says so
 abbrev pub stopped_by : List Event → Option Cause

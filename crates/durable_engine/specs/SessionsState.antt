@@ -5,7 +5,7 @@ use Rattle.inno_model.specs.Past.{started, opening}
 use Rattle.inno_model.specs.declared.board.Phase.TheVariants.{Idle}
 use Rattle.session_engine.specs.Seats.{State as Sessions, state_code as sessions_code, seat_at, phase_of}
 use Rattle.durable_engine.specs.declared.stopped_seats.Seat.{Seat}
-use Rattle.durable_engine.specs.contracts.seats.Seat as of_seat
+use Rattle.durable_engine.specs.contracts.stopped_seats.Seat as of_seat
 use Rattle.durable_engine.specs.Seats.{phase_at, seat_at as stopped_seat_at}
 use Rattle.durable_engine.specs.StoppedCalls.{is_at_work}
 use Rattle.commit_log.specs.Room.{IsLoggable}

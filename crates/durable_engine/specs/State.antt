@@ -12,7 +12,7 @@ use Rattle.commit_log.specs.View.{IsLogging}
 use Rattle.session_engine.specs.Places.{HasExactPlaces}
 use Rattle.session_engine.specs.Seats.{State as Sessions, state_code as sessions_code, seat_at, owes}
 use Rattle.durable_engine.specs.declared.stopped_seats.Seat.{Seat}
-use Rattle.durable_engine.specs.contracts.seats.Seat as of_seat
+use Rattle.durable_engine.specs.contracts.stopped_seats.Seat as of_seat
 use Rattle.durable_engine.specs.SessionsState.{State as LoggedState}
 use Rattle.durable_engine.specs.Seats.{State as StoppedState, phase_at}
 use Rattle.durable_engine.specs.StoppedCalls.{is_at_work}
