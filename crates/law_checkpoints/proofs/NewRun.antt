@@ -22,9 +22,10 @@ use Rattle.law_logged_pages.specs.Keeping.{IsRun, durable}
 use Rattle.law_logged_pages.proofs.Edits.{lsn-same, same_itself}
 use Rattle.law_logged_pages.proofs.Groups.{lsn_logical, length-logical}
 use Rattle.law_logged_pages.proofs.Afterwards.{length-page}
-use Rattle.flusher.specs.Flushing.{IsHome}
+use Rattle.mini_txn.proofs.Bodies.{blank_is}
+use Rattle.flusher.specs.Flushing.{IsHome, IsNowhere}
 use Rattle.page_recovery.specs.Leaving.{IsFileRun, LeavesRun}
-use Rattle.law_checkpoints.specs.Checkpoints.{begun, IsNowhere, IsClean, IsCheckpoint}
+use Rattle.law_checkpoints.specs.Checkpoints.{begun, IsClean, IsCheckpoint}
 
 -- ---- the pages of the new run
 
@@ -134,7 +135,10 @@ module _ (capacity run first : ℕ) (groups : List Group) (base : ℕ → List �
     }
     other_stage page (Some b) unlike old (inr nowhere) = absurd (nowhere.no_page b old)
     other_stage page None unlike old (inl home) = absurd (old home.settled)
-    other_stage page None unlike old (inr nowhere) = record { zeros = begun_other header base groups page unlike ∙ nowhere.zeros; fresh = refl }
+    other_stage page None unlike old (inr nowhere) = record {
+      zeros = begun_other header base groups page unlike ∙ nowhere.zeros ∙ sym blank_is;
+      fresh = refl;
+    }
 
     own_number : (page : ℕ) (content : Option (List ℕ)) → IsInBatchToo batch page content → page ≡ 0
     own_number page (Some b) own = (in_batch page b own).1

@@ -12,10 +12,10 @@ use Rattle.stored_pages.specs.Reading.{IsGoodPage, IsPageIn}
 use Rattle.std.proofs.lemmas.Bool.{cases_eq}
 use Rattle.law_logged_pages.specs.Stages.{AreBytes}
 use Rattle.law_logged_pages.specs.Applied.{logical}
-use Rattle.flusher.specs.Flushing.{IsHome}
+use Rattle.flusher.specs.Flushing.{IsHome, IsNowhere}
 use Rattle.law_logged_pages.specs.Keeping.{IsRun, IsPlaced}
 use Rattle.page_recovery.specs.Leaving.{IsFileRun, LeavesRun}
-use Rattle.law_checkpoints.specs.Checkpoints.{begun, IsClean, IsCheckpoint, IsNowhere}
+use Rattle.law_checkpoints.specs.Checkpoints.{begun, IsClean, IsCheckpoint}
 use Rattle.page_checkpoint.specs.declared.checking.NewRun.{NewRun}
 use Rattle.page_checkpoint.specs.Header.{IsNextHeader}
 use Rattle.page_checkpoint.specs.Beginning.{IsNextRun, HoldsAll, HasBegun, IsUnused, LeavesOne, alone}

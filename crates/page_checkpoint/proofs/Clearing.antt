@@ -23,8 +23,7 @@ use Rattle.doublewrite.specs.Kept.{HadCopy, IsSettled, WasPage}
 use Rattle.law_logged_pages.specs.Stages.{SameButSum}
 use Rattle.law_logged_pages.specs.Keeping.{IsPlaced}
 use Rattle.law_logged_pages.proofs.Placement.{placed_keep}
-use Rattle.flusher.specs.Flushing.{IsHome}
-use Rattle.law_checkpoints.specs.Checkpoints.{IsNowhere}
+use Rattle.flusher.specs.Flushing.{IsHome, IsNowhere}
 use Rattle.page_checkpoint.specs.Beginning.{IsUnused, IsCleared, HoldsAll, HasBegun, LeavesBegun}
 
 abbrev IsZeros : List ℕ → Type 0

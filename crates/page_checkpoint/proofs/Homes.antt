@@ -13,28 +13,15 @@ use Rattle.doublewrite.specs.Kept.{Spares, IsSettled, IsStaged, HasPlaced}
 use Rattle.law_logged_pages.specs.Applied.{logical}
 use Rattle.law_logged_pages.specs.Stages.{SameButSum}
 use Rattle.law_logged_pages.proofs.Edits.{same_itself}
-use Rattle.flusher.specs.Flushing.{IsHome}
-use Rattle.law_checkpoints.specs.Checkpoints.{begun, IsNowhere}
+use Rattle.flusher.specs.Flushing.{IsHome, IsNowhere}
+use Rattle.flusher.proofs.Homes as homes
+use Rattle.law_checkpoints.specs.Checkpoints.{begun}
 use Rattle.page_checkpoint.specs.Beginning.{alone}
 use Rattle.page_checkpoint.proofs.Alone.{page_alone}
 
 pub begun_later : (header : List ℕ) (base : ℕ → List ℕ) (groups : List Group) (page : ℕ) → page ≢ 0
     → begun header base groups page ≡ logical base groups (length groups) page
 begun_later header base groups page later = ap (λ (b : Bool). cond b header (logical base groups (length groups) page)) (ne_eqb page 0 later)
-
--- what was whole in a settled place stands there
-stood : (page : ℕ) (b : State) (bytes : List ℕ) → IsSettled page b.pages → IsGoodPage page bytes → WasWhole b.pages (4096 * page) bytes
-    → bytes ≡ place_of page b.pages.synced
-stood page b bytes settled good whole =
-    ⊎_elim
-    (λ (there : take (length bytes) (drop (4096 * page) b.pages.synced) ≡ bytes).
-    sym there ∙ (λ i. take (good.size i) (drop (4096 * page) b.pages.synced)))
-    (λ (put : (w : Write) × Contains b.pages.writes w × Puts (4096 * page) bytes w).
-    let spares = All-contains (Spares page) b.pages.writes put.0 settled.spared put.1 in
-    absurd (⊎_elim
-    (λ (early : end_of put.0 ≤ 4096 * page). omega (arith, early, put.2.ends, good.size))
-    (λ (late : 4096 * (page + 1) ≤ put.0.at). omega (arith, late, put.2.begins)) spares))
-    whole
 
 module _ (header : List ℕ) (good : IsGoodPage 0 header) where
   same : page_at (alone header) 0 ≡ header
@@ -63,21 +50,8 @@ module _ (header : List ℕ) (good : IsGoodPage 0 header) where
     }
 
   module _ (b s : State) (staged : IsStaged b (alone header) s) (page : ℕ) (later : page ≢ 0) (bytes : List ℕ) where
-    before : (other : List ℕ) → IsGoodPage page other → WasWhole s.pages (4096 * page) other → WasWhole b.pages (4096 * page) other
-    before other is whole =
-        ⊎_elim (λ (here : IsInBatch (alone header) page other). absurd (not_in page other later here))
-        (λ (old : WasWhole b.pages (4096 * page) other). old) (staged.held page other is whole)
-
     pub stays_home : IsHome page bytes b → IsHome page bytes s
-    stays_home home =
-        let settled : IsSettled page s.pages = staged.settled page (λ other here. not_in page other later here) home.settled in
-        let place : List ℕ = place_of page s.pages.synced in
-        let whole : WasWhole s.pages (4096 * page) place = inl (λ i. take (settled.good.size i) (drop (4096 * page) s.pages.synced)) in
-        let old : place ≡ place_of page b.pages.synced = stood page b place home.settled settled.good (before place settled.good whole) in
-        record { settled = settled; same = subst (λ (l : List ℕ). SameButSum l bytes) (sym old) home.same }
+    stays_home = homes.stays_home (alone header) b s staged page (λ other here. not_in page other later here) bytes
 
     pub stays_nowhere : IsNowhere page bytes b → IsNowhere page bytes s
-    stays_nowhere none = record {
-      zeros = none.zeros;
-      no_page = λ other was. none.no_page other (was.0, before other was.0 was.1);
-    }
+    stays_nowhere = homes.stays_nowhere (alone header) b s staged page (λ other here. not_in page other later here) bytes

@@ -13,9 +13,9 @@ use Rattle.stored_pages.specs.Reading.{IsPageIn}
 use Rattle.law_logged_pages.specs.Applied.{logical}
 use Rattle.law_logged_pages.specs.Stages.{SameButSum}
 use Rattle.law_logged_pages.specs.Keeping.{IsPlaced}
-use Rattle.flusher.specs.Flushing.{HoldsRun, IsHome}
+use Rattle.flusher.specs.Flushing.{HoldsRun, IsHome, IsNowhere, AreKept}
 use Rattle.page_recovery.specs.Leaving.{IsFileRun, LeavesRun}
-use Rattle.law_checkpoints.specs.Checkpoints.{begun, IsNowhere}
+use Rattle.law_checkpoints.specs.Checkpoints.{begun}
 use Rattle.page_checkpoint.specs.declared.checking.CheckpointBad.{CheckpointBad}
 use Rattle.page_checkpoint.specs.declared.checking.CheckpointBad.TheVariants.{Dirty, NotFlushed, NoGroups, NoNumbers, NoMemory, Failed}
 use Rattle.page_checkpoint.specs.declared.checking.NewRun.{NewRun}
@@ -78,8 +78,7 @@ alone header = record { count = 1; bytes = header }
 pub record HoldsAll (capacity first : ℕ) (groups : List Group) (base : ℕ → List ℕ) (pool : PoolView) (log : LogView) (s : State) : Type 0 where
   pub file : IsFileRun capacity log.run first groups base
   pub held : HoldsRun first groups base None log s
-  pub each : (page : ℕ) → page < 65536 → is_dirty pool page ≡ false
-      → IsHome page (logical base groups (length groups) page) s ⊎ IsNowhere page (logical base groups (length groups) page) s
+  pub each : AreKept groups base pool s
   pub header : SameButSum (bytes_of pool 0) (logical base groups (length groups) 0)
 
 -- ---- the new run

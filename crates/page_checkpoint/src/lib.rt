@@ -7,7 +7,9 @@ mod checking;
 mod header;
 mod making;
 mod placing;
+mod premise;
 
 pub use beginning::begin_log;
 pub use checking::{CheckpointBad, NewRun};
 pub use making::checkpoint;
+pub use premise::a_flushed_run_may_end;
