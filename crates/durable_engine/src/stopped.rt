@@ -75,7 +75,7 @@ impl StoppedSessions {
     }
 
     /// Adds a session, whose number is that of the sessions before it.
-    #[tactic(auto, using(crate::proofs::Keeping::seat_more))]
+    #[tactic(auto, using(crate::proofs::StoppedKeeping::seat_more))]
     pub fn join(&mut self, name: &Bytes) -> Result<u32, NoMemory>
         requires { length self.old.names < 2 ^ 32 }
         ensures number { IfOk result (λ s. s ≡ length self.old.names) }

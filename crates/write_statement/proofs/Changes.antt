@@ -166,6 +166,7 @@ module _ (past : List Event) (writer : Option ℕ) (s : ℕ) (work : Work) (todo
           before_is = r.before_is;
           same = r.same;
           plain = r.plain;
+          accepted = r.accepted;
           answer = r.answer;
           tables = no_table_more s change past of-row ∙ r.tables;
           made = r.made ++ change ∷ [];

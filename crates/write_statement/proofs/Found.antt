@@ -46,7 +46,7 @@ use Rattle.write_statement.specs.declared.machine.Search.{Search}
 use Rattle.write_statement.specs.declared.settling.Settled.{Settled}
 use Rattle.sql_plan.specs.Planning.{Covers, HoldsKeys, HoldsMatches}
 use Rattle.sql_plan.proofs.Inserting.{other_keys}
-use Rattle.write_statement.specs.Running.{IsEarly, HasRight, IsFound, AreEnough, IsChanging}
+use Rattle.write_statement.specs.Running.{IsEarly, HasRight, IsFound, AreEnough, IsChanging, is_refusal}
 use Rattle.write_statement.specs.Settling.{IsSettledBy}
 
 -- ---- the same rows, whether later tables are there or not
@@ -263,9 +263,9 @@ none_enough past writer s statement right unchanged stands none =
 -- its reply and its changes are those of the outcome over the latest rows
 pub settled : (past : List Event) (writer : Option ℕ) (s : ℕ) (statement : Stmt) (alone : Bool) (before : ℕ) (rows : List (List Value)) (found : Settled)
     → IsEarly s statement alone past → HasRight s past writer → before ≡ length (own s past)
-    → (enough : AreEnough s statement rows past) → IsSettledBy statement enough.db found → IsChanging past writer s
+    → (enough : AreEnough s statement rows past) → IsSettledBy statement enough.db found → is_refusal found.kept ≡ false → IsChanging past writer s
     (record { alone = alone; before = before; kept = found.kept; given = found.given }) found.todo.items
-settled past writer s statement alone before rows found early right before-is enough is =
+settled past writer s statement alone before rows found early right before-is enough is accepted =
     record {
       statement = statement;
       working = early.working;
@@ -274,6 +274,7 @@ settled past writer s statement alone before rows found early right before-is en
       before_is = before-is ∙ ap length early.unchanged;
       same = is.same;
       plain = is.plain;
+      accepted = accepted;
       answer = is.answer ∙ ap (λ (o : Outcome). o.reply) enough.same;
       tables = enough.tables;
       made = [];

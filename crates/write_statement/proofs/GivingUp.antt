@@ -1,5 +1,5 @@
 -- A statement that is given up: it takes its changes back, and its own transaction with them.
-use Rattle.std.proofs.Common.{◌≡◌, ℕ, ◌+◌, ◌-◌, ◌<◌, ◌≤◌, ◌≢◌, Bool, true, false, eqb, Option, Some, None, List, [], ◌∷◌, ◌++◌, length, take, drop, zero, suc, reverse, refl, sym, ap, subst, ◌∙◌, ◌⊎◌, inl, inr, arith}
+use Rattle.std.proofs.Common.{◌≡◌, ℕ, ◌+◌, ◌-◌, ◌<◌, ◌≤◌, Bool, true, false, eqb, Option, Some, None, List, [], ◌∷◌, ◌++◌, length, take, drop, zero, suc, reverse, refl, sym, ap, subst, ◌∙◌, inl, inr, arith}
 use Rattle.std.proofs.lemmas.Bool.Decides.{nat_tests}
 use Rattle.std.proofs.lemmas.Bool.{false≢true}
 use Rattle.std.proofs.lemmas.List.{length-append}
@@ -39,7 +39,7 @@ use Rattle.sql_lists.proofs.Staying.{point_now}
 use Rattle.write_statement.specs.declared.machine.Work.{Work}
 use Rattle.write_statement.specs.declared.machine.WriteStatement.TheVariants.{BackingOut}
 use Rattle.write_statement.specs.Going.{to_go}
-use Rattle.write_statement.specs.Running.{InTxn, IsWorking, IsEarly, IsChanging, is_count, is_refusal, PutsRows, MayAnswer, IsBackingOut, MayGoBack, IsClosing, IsRunning, given_up}
+use Rattle.write_statement.specs.Running.{InTxn, IsWorking, IsEarly, HasRight, IsChanging, is_count, is_refusal, PutsRows, MayAnswer, IsBackingOut, MayGoBack, IsClosing, IsRunning, given_up}
 use Rattle.write_statement.proofs.Writing.{of_writing, some_of}
 use Rattle.sql_lists.proofs.Moving.{moves_closes, moves_takes_back, below_first, below_second, fewer_stand}
 use Rattle.write_statement.proofs.Own.{acked_of, did_same, did_now, over_now, entries_are, takes_own, reply_closed, working_own}
@@ -71,6 +71,35 @@ early_given_up h writer s statement work early before-is kept-is given-is =
       own_is = early.unchanged;
     }
 
+refused_answers : (h : List Event) (s : ℕ) (statement : Stmt) (kept : Reply) → is_refusal kept ≡ true
+    → kept ≡ (outcome statement (base s (point s h))).reply → (is_count kept ≡ false) × MayAnswer s statement 0 kept h
+refused_answers h s statement (replies.Fail error) is answer = (refl, answer)
+refused_answers h s statement other is answer = absurd (false≢true is)
+
+-- the interpreter refuses it, and it has changed nothing
+pub refused : (h : List Event) (writer : Option ℕ) (s : ℕ) (statement : Stmt) (work : Work) → IsEarly s statement work.alone h → HasRight s h writer
+    → work.before ≡ length (own s h) → work.given ≡ work.kept → work.kept ≡ (outcome statement (base s h)).reply → is_refusal work.kept ≡ true
+    → IsBackingOut h writer s work
+refused h writer s statement work early right before-is same answer is =
+    let now = point_now h s early.goes_on.not_over in
+    let answers = refused_answers h s statement work.kept is (answer ∙ ap (λ p. (outcome statement (base s p)).reply) (sym now)) in
+    record {
+      statement = statement;
+      working = early.working;
+      before_is = before-is ∙ ap length early.unchanged;
+      same = same;
+      backs = answers.0;
+      reply = record {
+        was_open = ap (λ p. is_some (level s p)) now ∙ early.working.is_open;
+        count = 0;
+        made = subst (λ p. HasMade 0 s (outcome statement (base s p)).changes p) (sym now) early.unchanged;
+        answers = answers.1;
+      };
+      moves = inr (record { not_over = early.goes_on.not_over; stays = inr right });
+      rest = [];
+      own_is = early.unchanged;
+    }
+
 module _ (g : List Event) (writer : Option ℕ) (s : ℕ) (work : Work) (todo : List Change) (r : IsChanging g writer s work todo) where
   made_now : HasMade (length r.made) s (outcome r.statement (base s g)).changes g
   made_now = r.own_is ∙ ap (λ changes. reverse changes ++ own_before s g) (sym (ap (take (length r.made)) r.parts ∙ taken r.made (reverse todo)))
@@ -96,18 +125,6 @@ module _ (g : List Event) (writer : Option ℕ) (s : ℕ) (work : Work) (todo : 
         rest = reverse r.made;
         own_is = r.own_is;
       }
-
-  answer_now : work.kept ≡ (outcome r.statement (base s (point s g))).reply
-  answer_now = r.answer ∙ ap (λ p. (outcome r.statement (base s p)).reply) (sym (point_now g s r.goes_on.not_over))
-
-  refused_answers : (kept : Reply) → is_refusal kept ≡ true → kept ≡ (outcome r.statement (base s (point s g))).reply
-      → (is_count kept ≡ false) × MayAnswer s r.statement (length r.made) kept g
-  refused_answers (replies.Fail error) is answer = (refl, answer)
-  refused_answers other is answer = absurd (false≢true is)
-
-  -- the interpreter refused it
-  pub refused : is_refusal work.kept ≡ true → IsBackingOut g writer s work
-  refused is = let answers = refused_answers work.kept is answer_now in gives_up work refl refl r.same answers.0 answers.1
 
 -- at this moment
 now_so : (P : List Event → Type 0) (s : ℕ) (h : List Event) → IsOpen s h → P h → Sometime P s h

@@ -1,5 +1,5 @@
 -- What a step does to what all sessions share.
-use Rattle.std.proofs.Common.{◌≡◌, ℕ, ◌+◌, ◌<◌, ◌≤◌, List, ◌∷◌, inl, refl, sym, ap, subst, ◌∙◌, arith}
+use Rattle.std.proofs.Common.{◌≡◌, ℕ, ◌∷◌, refl, sym, ap, subst, ◌∙◌, arith}
 use Rattle.std.proofs.lemmas.Bool.Decides.{nat_tests}
 use Rattle.std.proofs.lemmas.Bool.{false≢true}
 use Rattle.inno_types.specs.declared.reply.Reply.{Reply}
@@ -13,10 +13,6 @@ use Rattle.sql_lists.specs.declared.advance.Advance.{Advance}
 use Rattle.sql_lists.specs.declared.advance.Advance.TheVariants as advance
 use Rattle.sql_lists.proofs.Moving.{moves_adds}
 use Rattle.write_statement.specs.declared.machine.WriteStatement.{WriteStatement}
-use Rattle.inno_db.specs.declared.change.Change.{Change}
-use Rattle.inno_db.specs.declared.change.Change.TheVariants.{Put, Remove, Create}
-use Rattle.inno_model.specs.declared.event.Event.{Event}
-use Rattle.sql_history.specs.Counts.{rows_of_entry, rows_kept, most_rows}
 use Rattle.write_statement.specs.Going.{to_go, IsNearer}
 
 -- the item ends

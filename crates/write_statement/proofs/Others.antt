@@ -188,6 +188,7 @@ module _ (old new : State) (t s : ℕ) (differ : t ≢ s) (adding : AddingOne t 
         before_is = r.before_is ∙ ap length (sym had_is);
         same = r.same;
         plain = r.plain;
+        accepted = r.accepted;
         answer = r.answer ∙ ap (λ db. (outcome r.statement db).reply) (sym same);
         tables = tables_are r.right ∙ (r.tables ∙ ap (λ (db : Database). db.schemas) (sym same));
         made = r.made;

@@ -116,6 +116,11 @@ pub record AreEnough (s : ℕ) (statement : Stmt) (rows : List (List Value)) (pa
 
 -- ---- changing
 
+abbrev pub is_refusal : Reply → Bool
+is_refusal (replies.Fail error) = true
+is_refusal other = false
+
+-- nothing refuses it: a refused statement makes no change
 pub record IsChanging (past : List Event) (writer : Option ℕ) (s : ℕ) (work : Work) (todo : List Change) : Type 0 where
   pub statement : Stmt
   pub working : IsWorking s statement work.alone past
@@ -124,6 +129,7 @@ pub record IsChanging (past : List Event) (writer : Option ℕ) (s : ℕ) (work 
   pub before_is : work.before ≡ length (own_before s past)
   pub same : work.given ≡ work.kept
   pub plain : IsPlain work.kept
+  pub accepted : is_refusal work.kept ≡ false
   pub answer : work.kept ≡ (outcome statement (base s past)).reply
   pub tables : created past ≡ (base s past).schemas
   -- the changes that are made, and those that are not
@@ -146,10 +152,6 @@ pub record IsFinishing (past : List Event) (writer : Option ℕ) (task : Task) (
   pub under_way : is_changing task ≡ true
   pub told : asked task ≡ None
   pub stands : work.before < length (own s past)
-
-abbrev pub is_refusal : Reply → Bool
-is_refusal (replies.Fail error) = true
-is_refusal other = false
 
 -- ---- the end
 

@@ -7,16 +7,18 @@ ghost use Rattle.shared_lists.specs.State.{task_of};
 ghost use Rattle.sql_lists.specs.Steps.{Steps};
 ghost use Rattle.sql_lists.specs.Going.{left};
 ghost use Rattle.write_statement.specs.Going.{IsNearer};
-ghost use Rattle.write_statement.specs.Running.{IsEarly, HasRight, AreEnough, IsRunning, given_up};
+ghost use Rattle.write_statement.specs.Running.{IsEarly, HasRight, AreEnough, IsRunning, given_up, is_refusal};
 
 use crate::machine::{Work, WriteStatement};
 use crate::settling::{Settled, settle};
-use inno_types::{Rows, Stmt};
+use inno_types::{Reply, Rows, Stmt};
 use shared_lists::SharedLists;
 use sql_lists::{Advance, SqlLists};
 use std::alloc::Global;
 
-/// The statement knows its reply and its changes.
+/// The statement knows its reply and its changes. Who may write meets no lock amid them, so what refuses the statement is all
+/// known here, and a refused one makes none of its changes. Where each row was locked only as its change comes, a statement
+/// would make the changes before its refusal and take them back.
 pub fn answer<L: SharedLists>(
     alloc: Global,
     stmt: &Stmt,
@@ -43,10 +45,20 @@ pub fn answer<L: SharedLists>(
                 kept,
                 given,
             };
+            if is_refusal(&work.kept) {
+                drop(todo);
+                return (WriteStatement::BackingOut(work), Advance::Went);
+            }
             (WriteStatement::Changing { work, todo }, Advance::Went)
         }
         Err(_) => give_up(alone, before),
     }
+}
+
+fn is_refusal(reply: &Reply) -> bool
+    ensures { result ≡ is_refusal reply.now }
+{
+    matches!(reply, Reply::Fail(_))
 }
 
 /// No memory was found, and nothing is changed yet.

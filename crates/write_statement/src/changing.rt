@@ -9,7 +9,7 @@ ghost use Rattle.shared_lists.specs.State.{task_of};
 ghost use Rattle.sql_lists.specs.Steps.{Steps};
 ghost use Rattle.sql_lists.specs.Going.{Nears};
 ghost use Rattle.write_statement.specs.Going.{to_go, to_change, IsNearer};
-ghost use Rattle.write_statement.specs.Running.{IsRunning, IsChanging, is_refusal};
+ghost use Rattle.write_statement.specs.Running.{IsRunning, IsChanging};
 
 use crate::answering::give_up;
 use crate::ending::end;
@@ -123,9 +123,7 @@ fn break_off(rows: u64, work: Work) -> (WriteStatement, Advance)
     (WriteStatement::BackingOut(work), Advance::Went)
 }
 
-/// All changes are made. A refused statement takes them back, and one with a transaction of its own commits it.
-/// That a statement is refused is known before its first change, and it makes its changes all the same: once rows are
-/// locked one by one, a statement meets its refusal amid its work, and goes back from there.
+/// All changes are made. A statement with a transaction of its own commits it.
 fn made_all<L: SharedLists>(
     work: Work,
     session: u32,
@@ -137,9 +135,6 @@ fn made_all<L: SharedLists>(
     ensures steps { Steps IsRunning session lists.old lists.new result.0 result.1 }
     ensures nears { IsNearer (to_change 0) session lists.new result.0 result.1 }
 {
-    if is_refusal(&work.kept) {
-        return (WriteStatement::BackingOut(work), Advance::Went);
-    }
     let Work {
         alone,
         before: _,
@@ -151,10 +146,4 @@ fn made_all<L: SharedLists>(
         return (WriteStatement::Unacked { kept, given }, Advance::Went);
     }
     end(kept, given, session, lists)
-}
-
-fn is_refusal(reply: &Reply) -> bool
-    ensures { result ≡ is_refusal reply.now }
-{
-    matches!(reply, Reply::Fail(_))
 }
