@@ -7,4 +7,6 @@ mod causes;
 #[cfg(test)]
 mod file;
 #[cfg(test)]
+mod full_room;
+#[cfg(test)]
 mod many_pages;
