@@ -1,5 +1,5 @@
 -- What each step leaves of the files' promise, and what a commit's acknowledgement is to the callers of the engine.
-use Rattle.std.proofs.Common.{◌≡◌, ℕ, Bool, true, false, Option, Some, List, [], ◌∷◌, refl, sym, ap, subst, ◌∙◌, cond, arith}
+use Rattle.std.proofs.Common.{◌≡◌, ◌≢◌, inl, inr, ℕ, Bool, true, false, Option, Some, List, [], ◌∷◌, refl, sym, ap, subst, ◌∙◌, cond, arith}
 use Rattle.std.proofs.lemmas.Bool.Decides.{nat_tests}
 use Rattle.std.specs.Prelude.{Result, Ok, Err, OnOk, OnErr}
 use Rattle.inno_types.specs.declared.reply.Cause.{Cause}
@@ -18,13 +18,16 @@ use Rattle.law_crashes.specs.Since.{KeepsSince}
 use Rattle.law_crashes.proofs.Keeps.{keeps_entry}
 use Rattle.inno_model.specs.declared.board.Phase.{Phase}
 use Rattle.inno_model.specs.declared.board.Phase.TheVariants.{Idle, Busy, Leaving, Left}
-use Rattle.session_engine.specs.Calls.{Acknowledges}
+use Rattle.session_engine.specs.declared.seats.Seat.{Seat}
+use Rattle.session_engine.specs.declared.seats.Seat.TheVariants as seats
+use Rattle.session_engine.specs.Seats.{seat_at, is_working, phase_of}
+use Rattle.session_engine.specs.Calls.{Acknowledges, StepsBy as SessionStepsBy}
 use Rattle.session_engine.specs.Places.{IsExact, HasExactPlaces}
 use Rattle.durable_engine.specs.Seats.{State as StoppedState, phase_at, halted, ended}
 use Rattle.durable_engine.specs.StoppedCalls.{is_at_work, Starts as StoppedStarts, SameState as StoppedSameState, StepsBy as StoppedStepsBy}
 use Rattle.durable_engine.specs.SessionsState.{State as LoggedState}
 use Rattle.durable_engine.specs.State.{running_state}
-use Rattle.durable_engine.specs.Calls.{StepsOn, GoesOn, StopsBy}
+use Rattle.durable_engine.specs.Calls.{StepsBy, StepsOn, GoesOn, StopsBy}
 
 -- what the entries of an engine that stops, or has stopped, leave as it was
 module _ (P : List Event → Type 0) (stops : (cause : Cause) (past : List Event) → P past → P (events.Stopped cause ∷ past))
@@ -119,6 +122,40 @@ acked_on s moment before after old new acks same works = (
   record { entries = events.Acked s moment ∷ []; past_is = acks.past_is; each = ((grind (arith, nat_tests), tt), tt) },
   ap (λ seats. is_at_work (phase_at seats s)) same ∙ works,
 )
+
+-- a session that works is at work
+working_phase : (seat : Seat) → is_working seat ≡ true → is_at_work (phase_of seat) ≡ true
+working_phase seats.Idle works = works
+working_phase (seats.Busy statement) works = refl
+working_phase (seats.Refused at) works = refl
+working_phase (seats.Signalling item) works = refl
+working_phase seats.Leaving works = refl
+working_phase seats.Left works = works
+
+-- a step of sessions that run is one of the engine
+module _ {D : Type 0} (disk : D) (s : ℕ) (old new : LoggedState) (was : phase_at old.seats s ≡ phase_of (seat_at old.sessions.seats s))
+    (is : phase_at new.seats s ≡ phase_of (seat_at new.sessions.seats s)) (others : (u : ℕ) → u ≢ s → phase_at new.seats u ≡ phase_at old.seats u) where
+  works : is_working (seat_at new.sessions.seats s) ≡ true → is_at_work (phase_at new.seats s) ≡ true
+  works working = ap is_at_work is ∙ working_phase (seat_at new.sessions.seats s) working
+
+  pub ran_on : (answer : Progress) → SessionStepsBy s answer old.sessions new.sessions → StepsBy s answer (running_state disk old) (running_state disk new)
+  ran_on progress.Went (on, goes, working) = (
+    record { names_stay = on.names_stay; others_stay = others },
+    record { entries = goes.entries; past_is = goes.past_is; each = goes.each },
+    works working,
+  )
+  ran_on (progress.Waiting blockers) (on, same, working, waits) =
+      (record { names_stay = on.names_stay; others_stay = others }, same.past_stays, works working, waits)
+  ran_on progress.NoMemory (on, past, working) = (record { names_stay = on.names_stay; others_stay = others }, past, works working)
+  ran_on progress.NotYet (on, same, working, awaited) =
+      (record { names_stay = on.names_stay; others_stay = others }, same.past_stays, works working, awaited)
+  ran_on (progress.Done reply) (on, inl (ends, seat)) =
+      (record { names_stay = on.names_stay; others_stay = others }, inl (ends, is ∙ ap phase_of seat))
+  ran_on (progress.Done reply) (on, inr (leaving, done, lists, left)) = (
+    record { names_stay = on.names_stay; others_stay = others },
+    inr (was ∙ ap phase_of leaving, done, ap (λ l. l.past) lists, is ∙ ap phase_of left),
+  )
+  ran_on other steps = elim steps [ ]
 
 -- an engine stops
 pub stops_of : (s : ℕ) (answer : Progress) (old : LoggedState) (before new : StoppedState)

@@ -170,6 +170,12 @@ impl<D: Disk, R: Root, L: SharedLists> DurableEngine<D, R, L> {
         ensures lacks { NearsLacking s result self.old self.new }
         ensures waited { IfSome self.old.running (GivesUpInVain s now result) }
     {
+        // Sessions that run are stepped where they lie, since most steps are theirs and a core is large.
+        if let Core::Running(sessions) = &mut self.core
+            && !sessions.owes_ack(s)
+        {
+            return sessions.step(s, now);
+        }
         let core = mem::replace(&mut self.core, Core::Changing);
         let (core, progress) = step_of(core, s, now, &mut self.disk);
         self.core = core;

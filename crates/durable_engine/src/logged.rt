@@ -188,6 +188,7 @@ impl<L: SharedLists> LoggedSessions<L> {
         ensures nears { Nears s result self.old.sessions self.new.sessions }
         ensures lacks { NearsLacking s result self.old.sessions self.new.sessions }
         ensures waited { GivesUpInVain s now result self.old.sessions }
+        ensures was { phase_at self.old.seats s ≡ phase_of (seat_at self.old.sessions.seats s) }
         ensures phase { phase_at self.new.seats s ≡ phase_of (seat_at self.new.sessions.seats s) }
         ensures others { (u : ℕ) → u ≢ s → phase_at self.new.seats u ≡ phase_at self.old.seats u }
         ensures kept { (root past : Past) → IsLogging root past self.old.sessions.lists.past self.old.log

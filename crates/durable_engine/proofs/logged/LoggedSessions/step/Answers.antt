@@ -7,7 +7,9 @@ use Rattle.commit_log.specs.View.{IsLogging}
 use Rattle.commit_log.specs.DraftsView.{draft_of}
 use Rattle.law_logged_histories.proofs.Records.{tables_loggable, have_records}
 use Rattle.store_api.specs.declared.answers.Progress.TheVariants.{NoMemory}
+use Rattle.session_engine.specs.Seats.{seat_at, phase_of}
 use Rattle.session_engine.specs.Calls.{TellsNone}
+use Rattle.durable_engine.specs.Seats.{phase_at}
 use Rattle.durable_engine.proofs.Adding.{steps_added, opening_stays, enters_added}
 use Rattle.durable_engine.proofs.Seating.{stepped_seats, steps_on}
 use Rattle.durable_engine.proofs.logged.LoggedSessions.step.Goals as goal
@@ -78,3 +80,11 @@ returns-clause-kept g c =
     subst (λ h. IsLogging root now h c.take_over.new.log) c.history-2.ensures.past
     (c.take_over.ensures.kept root now added.entries old (c.history-2.ensures.past ∙ added.past_is) (sym told)
     (c.has_room.ensures.kept root now old (subst (λ st. IsLogging root now st.sessions.lists.past st.log) (sym c.self.view_is) is)))
+
+pub returns-then-not-has_room-clause-was : goal.returns-then-not-has_room-clause-was
+returns-then-not-has_room-clause-was g c =
+    subst (λ st. phase_at st.seats c.args.s ≡ phase_of (seat_at st.sessions.seats c.args.s)) c.self.view_is (c.self.invariant.phases c.args.s)
+
+pub returns-clause-was : goal.returns-clause-was
+returns-clause-was g c =
+    subst (λ st. phase_at st.seats c.args.s ≡ phase_of (seat_at st.sessions.seats c.args.s)) c.self.view_is (c.self.invariant.phases c.args.s)
