@@ -1,5 +1,5 @@
 -- What a step of a session adds to the history, as the log takes it over.
-use Rattle.std.proofs.Common.{◌≡◌, ◌≢◌, ◌⊎◌, ℕ, zero, suc, ◌+◌, ◌-◌, ◌≤◌, Bool, true, false, cond, Option, None, Some, List, [], ◌∷◌, ◌++◌, length, take, drop, reverse, refl, sym, ap, subst, ◌∙◌, inl, inr, arith}
+use Rattle.std.proofs.Common.{◌≡◌, ◌⊎◌, ℕ, ◌+◌, ◌-◌, ◌≤◌, Bool, true, false, cond, List, [], ◌∷◌, ◌++◌, length, take, drop, reverse, refl, sym, ap, subst, ◌∙◌, inl, inr, arith}
 use Rattle.std.specs.Prelude.{count_by}
 use Rattle.std.proofs.lemmas.Bool.{false≢true}
 use Rattle.std.proofs.lemmas.Bool.Decides.{nat_tests}
@@ -8,7 +8,6 @@ use Rattle.std.proofs.lemmas.List.Sums.{sum_by-append}
 use Rattle.std.specs.List.{AllByRecursion}
 use Rattle.store_api.specs.declared.answers.Progress.{Progress}
 use Rattle.store_api.specs.declared.answers.Progress.TheVariants as progress
-use Rattle.inno_types.specs.declared.reply.Item.{Item}
 use Rattle.inno_types.specs.declared.reply.Reply.{Reply}
 use Rattle.inno_model.specs.declared.event.Event.{Event}
 use Rattle.inno_model.specs.declared.event.Event.TheVariants as events
@@ -17,7 +16,7 @@ use Rattle.sql_lists.specs.Steps.{is_apart, changes_rows}
 use Rattle.commit_log.specs.View.{is_acknowledgement, IsEntryOf}
 use Rattle.law_logged_histories.specs.Records.{HasItsRecord}
 use Rattle.session_engine.specs.Seats.{State as Sessions}
-use Rattle.session_engine.specs.Calls.{KeepsItems, TellsOne as StepTellsOne, TellsNone, GoesOn, HasGiven, StepsBy}
+use Rattle.session_engine.specs.Calls.{KeepsItems, TellsOne as StepTellsOne, TellsNone, HasGiven, StepsBy}
 use Rattle.durable_engine.specs.Entering.{MayEnter, TellsOne, TellNone, tells_change}
 
 -- ---- entries, the newest first

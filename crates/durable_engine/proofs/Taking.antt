@@ -1,15 +1,14 @@
 -- How far the entries of a step have been taken over into the log.
-use Rattle.std.proofs.Common.{◌≡◌, ◌⊎◌, ℕ, suc, ◌+◌, ◌<◌, Bool, true, false, List, [], ◌∷◌, ◌++◌, length, take, drop, get_or, reverse, refl, sym, ap, subst, ◌∙◌, inl, inr, arith}
+use Rattle.std.proofs.Common.{◌≡◌, ◌⊎◌, ℕ, suc, ◌+◌, ◌<◌, Bool, true, false, List, [], ◌∷◌, ◌++◌, length, take, drop, get_or, reverse, refl, sym, ap, ◌∙◌, inl, inr, arith}
 use Rattle.std.proofs.lemmas.Bool.{false≢true}
 use Rattle.std.proofs.lemmas.List.{reverse-append}
 use Rattle.std.proofs.Math.Seq.{drop-cons, take-add}
-use Rattle.std.specs.List.{AllByRecursion}
 use Rattle.inno_model.specs.declared.event.Event.{Event}
 use Rattle.inno_model.specs.declared.event.Event.TheVariants as events
-use Rattle.inno_model.specs.Past.{is_of, begins_txn}
-use Rattle.commit_log.specs.View.{IsReady, is_acknowledgement}
+use Rattle.inno_model.specs.Past.{begins_txn}
+use Rattle.commit_log.specs.View.{IsReady}
 use Rattle.commit_log.specs.DraftsView.{DraftView, draft_of}
-use Rattle.durable_engine.specs.Entering.{MayEnter, TellsOne, TellNone, tells_change}
+use Rattle.durable_engine.specs.Entering.{MayEnter, TellsOne, TellNone}
 
 -- there is room for the change that the entry tells
 pub ready_for : (s : ℕ) (drafts : List DraftView) (e : Event) (later : List Event) → MayEnter s (draft_of s drafts).ready (e ∷ later) → IsReady s e drafts

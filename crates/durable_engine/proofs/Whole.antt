@@ -1,11 +1,11 @@
 -- Where the last commit of every session may be acknowledged now, whatever a crash leaves holds every commit.
-use Rattle.std.proofs.Common.{◌≡◌, ℕ, List, [], ◌∷◌, refl, sym, ap, subst, ◌∙◌, arith}
-use Rattle.std.proofs.lemmas.Bool.Decides.{nat_tests, eqb_tells}
+use Rattle.std.proofs.Common.{◌≡◌, ℕ, List, [], ◌∷◌, refl, sym, subst, arith}
+use Rattle.std.proofs.lemmas.Bool.Decides.{nat_tests}
 use Rattle.inno_model.specs.declared.event.Event.{Event}
 use Rattle.inno_model.specs.declared.event.Event.TheVariants.{Committed, Acked}
 use Rattle.inno_model.specs.Past.{commits, db_after}
 use Rattle.store_api.specs.Past.{Past}
-use Rattle.law_crashes.specs.Commits.{place, acked_by}
+use Rattle.law_crashes.specs.Commits.{place}
 use Rattle.law_crashes.specs.Files.{StandsFor}
 use Rattle.law_crashes.specs.Since.{KeepsSince}
 use Rattle.durable_engine.specs.Whole.{HoldsAll}

@@ -1,5 +1,5 @@
 -- A disk to which every commit was brought.
-use Rattle.std.specs.Prelude.{◌≡◌, ℕ, List, Some}
+use Rattle.std.specs.Prelude.{◌≡◌, List, Some}
 use Rattle.store_api.specs.Areas.{State, Image, IsImage, IsHonest}
 use Rattle.store_api.specs.Past.{Past}
 use Rattle.inno_db.specs.Database.{Database}

@@ -1,4 +1,4 @@
-use Rattle.std.proofs.Common.{◌∙◌, ◌++◌, drop, reverse, sym, subst, ap}
+use Rattle.std.proofs.Common.{◌∙◌, drop, reverse, sym, subst}
 use Rattle.std.proofs.lemmas.List.{reverse-reverse}
 use Rattle.commit_log.specs.View.{IsLogging}
 use Rattle.commit_log.specs.DraftsView.{draft_of}

@@ -1,5 +1,4 @@
-use Rattle.std.proofs.Common.{◌≤◌, sym, subst, ap, arith}
-use Rattle.law_crashes.specs.Since.{KeepsSince}
+use Rattle.std.proofs.Common.{arith}
 use Rattle.durable_engine.proofs.Keeping.{acked_on}
 use Rattle.durable_engine.proofs.stepping.run_on.Goals as goal
 

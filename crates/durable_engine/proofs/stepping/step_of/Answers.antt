@@ -1,4 +1,4 @@
-use Rattle.std.proofs.Common.{subst, sym, ◌∙◌}
+use Rattle.std.proofs.Common.{subst, ◌∙◌}
 use Rattle.durable_engine.specs.State.{IsKept}
 use Rattle.durable_engine.proofs.stepping.step_of.Goals as goal
 

@@ -1,4 +1,4 @@
-use Rattle.std.proofs.Common.{◌≡◌, ◌∙◌, refl, sym, ap, subst, arith}
+use Rattle.std.proofs.Common.{◌∙◌, refl, sym, ap, subst, arith}
 use Rattle.law_crashes.specs.Since.{KeepsSince}
 use Rattle.durable_engine.specs.State.{IsKept, state_of}
 use Rattle.durable_engine.specs.Whole.{HoldsAll}

@@ -1,6 +1,5 @@
-use Rattle.std.proofs.Common.{◌≡◌, ◌≤◌, ◌∙◌, sym, ap, subst, length, arith}
+use Rattle.std.proofs.Common.{sym, ap, subst, length, arith}
 use Rattle.commit_log.specs.View.{IsLogging}
-use Rattle.sql_history.specs.Counts.{last_moment}
 use Rattle.durable_engine.proofs.Seating.{acknowledged_seats, last_is_acked}
 use Rattle.durable_engine.proofs.logged.LoggedSessions.acknowledge.Goals as goal
 

@@ -1,4 +1,4 @@
-use Rattle.std.proofs.Common.{◌∙◌, sym, subst}
+use Rattle.std.proofs.Common.{sym, subst}
 use Rattle.commit_log.specs.View.{IsLogging}
 use Rattle.durable_engine.proofs.Seating.{joined_seats, joined_past}
 use Rattle.durable_engine.proofs.logged.LoggedSessions.join.Goals as goal
