@@ -1,19 +1,13 @@
-//! Disks in memory and on files, the bytes of the log, and what crashes leave of groups and of pages.
+//! The bytes of the log and its reader, and what crashes leave of groups and of pages.
 //! There is nothing here but tests.
 #![tactic(auto)]
 
 #[cfg(test)]
-mod disks_in_memory;
-#[cfg(test)]
-mod failing_files;
-#[cfg(test)]
-mod files;
-#[cfg(test)]
-mod files_that_fail;
-#[cfg(test)]
 mod flushes;
 #[cfg(test)]
 mod groups;
+#[cfg(test)]
+mod halves;
 #[cfg(test)]
 mod mounts;
 #[cfg(test)]
