@@ -22,7 +22,7 @@ pub enum Met {
 }
 
 /// Where a record of a leaf stands.
-#[derive(Clone, Copy, Debug, PartialEq, Eq)]
+#[derive(Clone, Copy)]
 pub struct Spot {
     pub page: u32,
     pub place: u16,

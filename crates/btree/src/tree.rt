@@ -2,7 +2,7 @@
 //! A tree's page 0 says nothing of it: whoever keeps the catalog knows its root.
 
 /// An index's tree: its number, its root, and how many bytes a key and a value have.
-#[derive(Clone, Copy, Debug, PartialEq, Eq)]
+#[derive(Clone, Copy, PartialEq, Eq)]
 pub struct Tree {
     pub index: u32,
     pub root: u32,
@@ -11,7 +11,7 @@ pub struct Tree {
 }
 
 /// Which keys pass in a search: those at or above a key, or those above it.
-#[derive(Clone, Copy, Debug, PartialEq, Eq)]
+#[derive(Clone, Copy)]
 pub enum Bound {
     AtOrAbove,
     Above,

@@ -16,7 +16,7 @@ use page_format::Found;
 use store_api::{NoMemory, SpaceBad};
 
 /// What becomes of a pair that is to be added.
-#[derive(Clone, Copy, Debug, PartialEq, Eq)]
+#[derive(Clone, Copy, Debug)]
 pub enum Insertion {
     Added,
     /// The key has a pair.

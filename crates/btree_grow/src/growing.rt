@@ -18,7 +18,7 @@ use mtr::Mtr;
 use store_api::{SpaceBad, Visit};
 
 /// What comes of making room.
-#[derive(Clone, Copy, Debug, PartialEq, Eq)]
+#[derive(Clone, Copy)]
 pub enum Room {
     /// The leaf of the key, which has room now.
     Leaf(u32),

@@ -40,7 +40,7 @@ const FIELDS: usize = 20;
 
 /// A page that is to be cut: the record in the middle that the new page begins with, and the record of the parent that leads
 /// to the page.
-#[derive(Clone, Copy, Debug, PartialEq, Eq)]
+#[derive(Clone, Copy)]
 pub struct Cut {
     pub parent: u32,
     pub place: u16,

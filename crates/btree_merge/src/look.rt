@@ -20,7 +20,7 @@ use stored_pages::read_u16;
 const LEVEL: usize = 21;
 
 /// Two leaves side by side under one parent.
-#[derive(Clone, Copy, Debug, PartialEq, Eq)]
+#[derive(Clone, Copy)]
 pub struct Couple {
     pub left: u32,
     pub right: u32,

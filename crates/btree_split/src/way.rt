@@ -19,7 +19,7 @@ const MOST_LEVELS: u8 = 8;
 const WRONG_LEVEL: u8 = 3;
 
 /// The lowest page of a way that has room, if any has, and how many pages below it are full.
-#[derive(Clone, Copy, Debug, PartialEq, Eq)]
+#[derive(Clone, Copy)]
 pub struct LowestRoom {
     pub above: Option<u32>,
     pub full: u8,

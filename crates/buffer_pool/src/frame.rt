@@ -16,7 +16,7 @@ use stored_pages::read_u64;
 pub const PAGE: usize = 4096;
 
 /// What a frame holds.
-#[derive(Clone, Copy, Debug, PartialEq, Eq)]
+#[derive(Clone, Copy)]
 pub enum Content {
     /// No page.
     Empty,

@@ -16,7 +16,7 @@ pub struct Held {
 pub type Schemas = Listed<Held>;
 
 /// Why bytes are no entry of the catalog.
-#[derive(Clone, Copy, Debug, PartialEq, Eq)]
+#[derive(Clone, Copy, Debug)]
 pub enum EntryBad {
     Shape,
     NoMemory,

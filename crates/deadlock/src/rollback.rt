@@ -7,7 +7,7 @@ ghost use Rattle.deadlock.specs.Victim.{changes_of, GoesBefore, IsVictim};
 use inno_types::{Edges, Listed};
 
 /// How many row changes of a transaction stand: those that no rollback to a savepoint has put back.
-#[derive(Clone, Copy, Debug, PartialEq, Eq)]
+#[derive(Clone, Copy)]
 pub struct Size {
     pub txn: u64,
     pub changes: u64,

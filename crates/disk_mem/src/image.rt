@@ -12,7 +12,7 @@ use std::alloc::{AllocError, Global};
 use store_api::Area;
 
 /// What a crash makes of the writes since the last sync.
-#[derive(Clone, Copy, Debug, PartialEq, Eq)]
+#[derive(Clone, Copy)]
 pub enum Pick {
     /// Their old bytes.
     Lost,

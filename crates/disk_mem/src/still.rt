@@ -5,7 +5,7 @@ ghost use Rattle.std.specs.Prelude.{Some};
 use store_api::{Clock, Gate, Worker};
 
 /// Always tells `now`.
-#[derive(Clone, Copy, Debug, PartialEq, Eq)]
+#[derive(Clone, Copy)]
 pub struct FixedClock {
     pub now: u64,
 }
@@ -19,7 +19,7 @@ impl Clock for FixedClock {
 }
 
 /// Does nothing.
-#[derive(Clone, Copy, Debug, PartialEq, Eq)]
+#[derive(Clone, Copy)]
 pub struct OpenGate;
 
 impl Gate for OpenGate {

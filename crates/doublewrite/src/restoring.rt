@@ -16,7 +16,7 @@ use store_api::{Area, Disk, Failed};
 use stored_pages::{copy_at, good_number, newest_slot, number_of_copy, restorable};
 
 /// Why a repair gave up. It may be made again.
-#[derive(Clone, Copy, Debug, PartialEq, Eq)]
+#[derive(Clone, Copy)]
 pub enum RepairBad {
     Failed,
     NoMemory,

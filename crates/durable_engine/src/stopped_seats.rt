@@ -3,7 +3,7 @@
 use inno_model::Phase;
 
 /// How far a session is, and the number of its last item: 0 before it has started one.
-#[derive(Clone, Copy, Debug, PartialEq, Eq)]
+#[derive(Clone, Copy)]
 pub struct Seat {
     pub phase: Phase,
     pub started: u32,

@@ -14,7 +14,7 @@ pub const PAGE: usize = 4096;
 const MAGIC: u64 = 5_282_245_515_307_668_038;
 
 /// What page 0 says: the run of the log, and the LSN of its first group.
-#[derive(Clone, Copy, Debug, PartialEq, Eq)]
+#[derive(Clone, Copy)]
 pub struct Header {
     pub run: u64,
     pub first: u64,

@@ -1,7 +1,7 @@
 //! The types of SQL values, which a statement's operands must agree in.
 
 /// The type of a column, its size aside.
-#[derive(Clone, Copy, Debug, PartialEq, Eq)]
+#[derive(Clone, Copy)]
 pub enum DataType {
     Number,
     Text,

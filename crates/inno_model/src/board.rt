@@ -6,7 +6,7 @@ use inno_types::Bytes;
 use std::collections::LinkedList;
 
 /// How far a session is.
-#[derive(Clone, Copy, Debug, PartialEq, Eq)]
+#[derive(Clone, Copy)]
 pub enum Phase {
     /// It runs no item. One that hasn't joined is idle too.
     Idle,

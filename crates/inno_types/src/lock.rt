@@ -15,13 +15,13 @@ pub enum Level {
     Serializable,
 }
 
-#[derive(Clone, Copy, Debug, PartialEq, Eq)]
+#[derive(Clone, Copy)]
 pub enum Mode {
     S,
     X,
 }
 
-#[derive(Clone, Copy, Debug, PartialEq, Eq)]
+#[derive(Clone, Copy)]
 pub enum LockKind {
     Rec,
     Gap,
@@ -37,7 +37,7 @@ pub struct Spot {
 }
 
 /// By which rule, item and level a lock was taken.
-#[derive(Clone, Copy, Debug, PartialEq, Eq)]
+#[derive(Clone, Copy)]
 pub struct Reason {
     pub rule: u8,
     pub item: u32,

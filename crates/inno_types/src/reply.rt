@@ -53,7 +53,7 @@ pub enum Reply {
 }
 
 /// Why an engine stopped.
-#[derive(Clone, Copy, Debug, PartialEq, Eq)]
+#[derive(Clone, Copy)]
 pub enum Cause {
     Disk,
     Reread { page: u32, rule: u8 },

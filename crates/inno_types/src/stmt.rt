@@ -5,7 +5,7 @@ use crate::listed::{Bytes, Listed};
 use crate::lock::{Level, Mode};
 
 /// A literal of a statement.
-#[derive(Clone, Drop)]
+#[derive(Drop)]
 pub enum Literal {
     Null,
     Int(i64),
@@ -20,7 +20,7 @@ pub type Names = Listed<Bytes>;
 
 pub type Tuples = Listed<Literals>;
 
-#[derive(Clone, Copy, Debug, PartialEq, Eq)]
+#[derive(Clone, Copy)]
 pub enum Comparison {
     Equal,
     NotEqual,
@@ -31,7 +31,7 @@ pub enum Comparison {
 }
 
 /// One side of a comparison.
-#[derive(Clone, Drop)]
+#[derive(Drop)]
 pub enum Operand {
     Literal(Literal),
     Column(Bytes),
@@ -86,7 +86,7 @@ pub struct Set {
 pub type Sets = Listed<Set>;
 
 /// The type of a column as CREATE TABLE declares it.
-#[derive(Clone, Copy, Debug, PartialEq, Eq)]
+#[derive(Clone, Copy)]
 pub enum DeclaredKind {
     BigInt,
     /// None where the number is above 255.
@@ -94,7 +94,7 @@ pub enum DeclaredKind {
 }
 
 /// One entry between the brackets of CREATE TABLE.
-#[derive(Clone, Drop)]
+#[derive(Drop)]
 pub enum Definition {
     Column {
         name: Bytes,
@@ -115,14 +115,14 @@ pub enum Definition {
 pub type Definitions = Listed<Definition>;
 
 /// What a SELECT gives of each row.
-#[derive(Clone, Drop)]
+#[derive(Drop)]
 pub enum Selected {
     AllColumns,
     Columns(Names),
 }
 
 /// For which transactions SET TRANSACTION ISOLATION LEVEL sets the level.
-#[derive(Clone, Copy, Debug, PartialEq, Eq)]
+#[derive(Clone, Copy)]
 pub enum LevelScope {
     Session,
     NextTransaction,
@@ -177,7 +177,7 @@ pub enum Stmt {
 }
 
 /// One end of a range: the encoded key of a value of the searched column.
-#[derive(Clone, Drop)]
+#[derive(Drop)]
 pub enum Bound {
     Open,
     With(Bytes),
@@ -185,7 +185,7 @@ pub enum Bound {
 }
 
 /// The keys that a search visits.
-#[derive(Clone, Drop)]
+#[derive(Drop)]
 pub struct Range {
     pub empty: bool,
     pub low: Bound,

@@ -14,13 +14,13 @@ pub enum Value {
 }
 
 /// The type of a column.
-#[derive(Clone, Copy, Debug, PartialEq, Eq)]
+#[derive(Clone, Copy, PartialEq, Eq)]
 pub enum Kind {
     BigInt,
     VarBinary(u8),
 }
 
-#[derive(Clone, Drop)]
+#[derive(Drop)]
 pub struct Column {
     pub name: Bytes,
     pub kind: Kind,
@@ -28,14 +28,14 @@ pub struct Column {
 }
 
 /// A secondary key, on the column at this place.
-#[derive(Clone, Drop)]
+#[derive(Drop)]
 pub struct Key {
     pub name: Bytes,
     pub column: u8,
 }
 
 /// A table's columns, with the place of the primary key among them.
-#[derive(Clone, Drop)]
+#[derive(Drop)]
 pub struct Schema {
     pub name: Bytes,
     pub columns: Columns,

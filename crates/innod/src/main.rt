@@ -108,7 +108,7 @@ fn objects<'r>(
 
 /// Says the cause of a fault, if there is one.
 fn tell(rt: &HostRuntime, fault: Fault, file: &str, script: &str) -> io::Result<()> {
-    if fault == Fault::Nothing {
+    if matches!(fault, Fault::Nothing) {
         return Ok(());
     }
     match cause_line(rt.alloc(), fault, file, script) {

@@ -12,7 +12,7 @@ use inno_types::{Bytes, Kind, Value};
 use std::alloc::{AllocError, AllocFailed, Global};
 
 /// Why bytes are not read as a key: they are none, or memory ran out.
-#[derive(Clone, Copy, Debug, PartialEq, Eq)]
+#[derive(Clone, Copy, Debug)]
 pub enum KeyBad {
     Bad,
     NoMemory,

@@ -17,14 +17,14 @@ pub const MOST_ACTORS: usize = 71;
 pub const MOST_TARGETS: usize = 64;
 
 /// What a latch is held on, by number.
-#[derive(Clone, Copy, Debug, PartialEq, Eq)]
+#[derive(Clone, Copy, PartialEq, Eq)]
 pub enum Target {
     Index(u32),
     Page(u32),
 }
 
 /// An actor's latch.
-#[derive(Clone, Copy, Debug, PartialEq, Eq)]
+#[derive(Clone, Copy)]
 pub struct Latch {
     pub actor: u32,
     pub target: Target,

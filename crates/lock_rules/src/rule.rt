@@ -43,7 +43,7 @@ pub enum Rule {
 
 /// Where the spot of a case stands: in the range of the search (of `ClusteredOfEntry`, its entry does), first past it,
 /// or where a change is made.
-#[derive(Clone, Copy, Debug, PartialEq, Eq)]
+#[derive(Clone, Copy)]
 pub enum Place {
     Within,
     Past,
@@ -53,7 +53,7 @@ pub enum Place {
 /// A moment at which a lock is due: the rule's number, the level of the transaction, its item, the index and range of
 /// the search, the mode that the search asks for (of `RecordWent` and `CopiedOnInsert` that of the old lock), the spot,
 /// whether its record (of `ClusteredOfEntry`, the entry) is marked, and where it stands.
-#[derive(Clone, Drop)]
+#[derive(Drop)]
 pub struct Case {
     pub rule: u8,
     pub level: Level,

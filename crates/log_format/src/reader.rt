@@ -34,7 +34,7 @@ pub enum Next {
 }
 
 /// Why a step found nothing. The reader is as it was, and may be asked again.
-#[derive(Clone, Copy, Debug, PartialEq, Eq)]
+#[derive(Clone, Copy)]
 pub enum ReadBad {
     Failed,
     NoMemory,

@@ -9,7 +9,7 @@ use std::alloc::AllocError;
 use store_api::{Failed, NoMemory};
 
 /// Why files aren't recovered. Recovery may be tried again.
-#[derive(Clone, Copy, Debug, PartialEq, Eq)]
+#[derive(Clone, Copy)]
 pub enum RecoverBad {
     /// The disk failed.
     Failed,

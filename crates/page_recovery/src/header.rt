@@ -20,7 +20,7 @@ const FEWEST: u32 = 21;
 const MOST: u32 = 65536;
 
 /// What page 0 says: how many pages the file may have, the run of the log, and the LSN of its first group.
-#[derive(Clone, Copy, Debug, PartialEq, Eq)]
+#[derive(Clone, Copy)]
 pub struct Header {
     pub capacity: u32,
     pub run: u64,

@@ -10,7 +10,7 @@ use store_api::{MOST_BYTES_OF_KEY, Move};
 use world::World;
 
 /// What is done next.
-#[derive(Clone, Copy, Debug, PartialEq, Eq)]
+#[derive(Clone, Copy)]
 pub enum DropPhase {
     /// Keep others from changing keys.
     Next,

@@ -14,7 +14,7 @@ use world::World;
 const UNMARKED: u8 = 0;
 
 /// What is done next.
-#[derive(Clone, Copy, Debug, PartialEq, Eq)]
+#[derive(Clone, Copy)]
 pub enum PutPhase {
     /// See whether the entry is there.
     Look,

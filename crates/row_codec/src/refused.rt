@@ -7,7 +7,7 @@ use key_codec::KeyBad;
 use std::alloc::{AllocError, AllocFailed};
 
 /// Why bytes are not read as a version: they are none, or memory ran out.
-#[derive(Clone, Copy, Debug, PartialEq, Eq)]
+#[derive(Clone, Copy, Debug)]
 pub enum RowBad {
     Shape,
     NoMemory,

@@ -1,7 +1,7 @@
 //! Where a key lies beside a range.
 
 /// Before the range's low bound, within, or behind the high one.
-#[derive(Clone, Copy, Debug, PartialEq, Eq)]
+#[derive(Clone, Copy)]
 pub enum Side {
     Before,
     Within,

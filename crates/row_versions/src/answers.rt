@@ -3,7 +3,7 @@
 use store_api::Visit;
 
 /// Why a version isn't shown: its page isn't, or memory ran out.
-#[derive(Clone, Copy, Debug, PartialEq, Eq)]
+#[derive(Clone, Copy)]
 pub enum ChainBad {
     Visit(Visit),
     NoMemory,

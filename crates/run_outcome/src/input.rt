@@ -8,7 +8,7 @@ use std::alloc::{AllocError, Global};
 use store_api::{Failed, Source};
 
 /// Why a source isn't read to its end.
-#[derive(Clone, Copy, Debug, PartialEq, Eq)]
+#[derive(Clone, Copy)]
 pub enum ReadBad {
     Failed,
     NoMemory,

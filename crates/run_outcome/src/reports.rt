@@ -18,7 +18,7 @@ use std::alloc::Global;
 use store_api::{NoMemory, Sink};
 
 /// What is printed of a history.
-#[derive(Clone, Copy, Debug, PartialEq, Eq)]
+#[derive(Clone, Copy)]
 pub enum Report {
     Transcript,
     Totals(Asked),

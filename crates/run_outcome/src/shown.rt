@@ -15,7 +15,7 @@ use std::alloc::{AllocError, Global};
 use store_api::{NoMemory, Sink};
 
 /// What is shown of a database.
-#[derive(Clone, Copy, Debug, PartialEq, Eq)]
+#[derive(Clone, Copy)]
 pub enum Shown {
     Sql,
     Counts,

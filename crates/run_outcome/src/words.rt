@@ -14,7 +14,7 @@ const MOST_SESSIONS: u64 = 64;
 const MOST_TRANSFERS: u64 = 25_000;
 
 /// The number of a generated script, its sessions, and the transactions of each.
-#[derive(Clone, Copy, Debug, PartialEq, Eq)]
+#[derive(Clone, Copy)]
 pub struct Asked {
     pub number: u64,
     pub sessions: u32,
@@ -22,14 +22,14 @@ pub struct Asked {
 }
 
 /// How the sessions of a script play.
-#[derive(Clone, Copy, Debug, PartialEq, Eq)]
+#[derive(Clone, Copy)]
 pub enum Way {
     InTurn,
     OnThreads,
 }
 
 /// What the words ask for.
-#[derive(Clone, Copy, Debug, PartialEq, Eq)]
+#[derive(Clone, Copy)]
 pub enum Command {
     /// They are no command.
     Unknown,

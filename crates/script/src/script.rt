@@ -15,7 +15,7 @@ pub struct ScriptItem {
 }
 
 /// So many seconds pass behind the first items of the script.
-#[derive(Clone, Copy, Debug, PartialEq, Eq)]
+#[derive(Clone, Copy, PartialEq, Eq)]
 pub struct Tick {
     pub items: usize,
     pub seconds: u32,
@@ -121,7 +121,7 @@ fn same_item(item: &Item, other: &Item) -> bool
 }
 
 /// Which directives a script may have besides those that name a session.
-#[derive(Clone, Copy, Debug, PartialEq, Eq)]
+#[derive(Clone, Copy)]
 pub struct Directives {
     pub signals: bool,
     pub ticks: bool,
@@ -148,7 +148,7 @@ impl From<AllocError> for ScriptBad {
 }
 
 /// Why a script isn't written. What would be written of an unreadable one is no script, or another one.
-#[derive(Clone, Copy, Debug, PartialEq, Eq)]
+#[derive(Clone, Copy, Debug)]
 pub enum WriteBad {
     Unreadable,
     NoMemory,

@@ -3,7 +3,7 @@
 use inno_types::Rows;
 
 /// How a session reads.
-#[derive(Clone, Copy, Debug, PartialEq, Eq)]
+#[derive(Clone, Copy)]
 pub enum Reading {
     /// By its transaction's view.
     View,
@@ -22,7 +22,7 @@ pub enum Searched {
 }
 
 /// How far a change of a row came.
-#[derive(Clone, Copy, Debug, PartialEq, Eq)]
+#[derive(Clone, Copy)]
 pub enum Changed {
     Went,
     /// The history tells it now. Keys are yet to take it over.
@@ -33,7 +33,7 @@ pub enum Changed {
 }
 
 /// How far a taking back came. It takes no memory.
-#[derive(Clone, Copy, Debug, PartialEq, Eq)]
+#[derive(Clone, Copy)]
 pub enum Undone {
     Went,
     /// The change is taken back, and the history says so.

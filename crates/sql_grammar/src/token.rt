@@ -25,7 +25,7 @@ pub enum Token {
 }
 
 /// A word that has a meaning in its place: the reserved ones first, then those that may be names too.
-#[derive(Clone, Copy, Debug, PartialEq, Eq)]
+#[derive(Clone, Copy)]
 pub enum Word {
     And,
     Between,

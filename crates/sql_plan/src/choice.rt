@@ -23,7 +23,7 @@ use store_api::NoMemory;
 
 /// Which keys a search visits: those of a range of one index. `which` is 0 for the clustered index, and 1 to 4 for
 /// the secondary keys in order. MySQL 8.0 Reference Manual, "Range Optimization".
-#[derive(Clone, Drop)]
+#[derive(Drop)]
 pub struct Plan {
     pub which: u8,
     pub range: Range,

@@ -11,7 +11,7 @@ use sql_values::{assign_all, evaluate};
 use std::alloc::AllocError;
 
 /// Why a row is not assigned to: the statement is refused, or memory ran out.
-#[derive(Clone, Drop)]
+#[derive(Drop)]
 pub enum AssignBad {
     Fail(SqlError),
     NoMemory,

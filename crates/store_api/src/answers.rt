@@ -53,7 +53,7 @@ pub enum Asked {
 }
 
 /// One version of a row: who wrote it, where the version before it is kept (0 for none), and whether it is deleted.
-#[derive(Clone, Drop)]
+#[derive(Drop)]
 pub struct Version {
     pub row: Row,
     pub writer: u64,
@@ -62,7 +62,7 @@ pub struct Version {
 }
 
 /// An undo record: the version that a change replaced.
-#[derive(Clone, Drop)]
+#[derive(Drop)]
 pub struct Undo {
     pub kind: u8,
     pub table: u8,
@@ -72,7 +72,7 @@ pub struct Undo {
 
 /// Where a session stands: its open transaction, that one's level or else the next one's, whether autocommit is on,
 /// the transaction's id or 0, and the number of its own changes.
-#[derive(Clone, Copy, Debug, PartialEq, Eq)]
+#[derive(Clone, Copy)]
 pub struct Standing {
     pub txn: Option<u64>,
     pub level: Level,

@@ -8,7 +8,7 @@ ghost use Rattle.store_api.specs.Causes.{HasCause};
 use std::alloc::{AllocError, AllocFailed};
 
 /// Memory ran out.
-#[derive(Clone, Copy, Debug, PartialEq, Eq)]
+#[derive(Clone, Copy, Debug)]
 pub struct NoMemory;
 
 impl From<AllocError> for NoMemory {
@@ -68,7 +68,7 @@ pub trait Clock {
 }
 
 /// An actor that works beside the sessions.
-#[derive(Clone, Copy, Debug, PartialEq, Eq)]
+#[derive(Clone, Copy)]
 pub enum Worker {
     Purge,
     Flush,

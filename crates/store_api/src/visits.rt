@@ -26,7 +26,7 @@ pub enum FreshBad {
 }
 
 /// Why no page is taken or given back.
-#[derive(Clone, Copy, Debug, PartialEq, Eq)]
+#[derive(Clone, Copy, Debug)]
 pub enum SpaceBad {
     /// No page is free.
     Full,
@@ -35,7 +35,7 @@ pub enum SpaceBad {
 }
 
 /// Why something isn't found on pages.
-#[derive(Clone, Copy, Debug, PartialEq, Eq)]
+#[derive(Clone, Copy, Debug)]
 pub enum FindBad {
     Visit(Visit),
     /// What the page holds breaks a rule of the files.

@@ -6,7 +6,7 @@ ghost use Rattle.transaction_statements.specs.Committing.{stmt_of};
 use inno_types::{Level, Stmt};
 
 /// A statement that commits an open transaction.
-#[derive(Clone, Copy, Debug, PartialEq, Eq)]
+#[derive(Clone, Copy)]
 pub enum Committer {
     Commit,
     /// SET autocommit, which turns it on.

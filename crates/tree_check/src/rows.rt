@@ -24,7 +24,7 @@ const RIGHT: usize = 28;
 
 /// Where a walk along two levels has come: the page above and its record that comes next, the page below, and the one before
 /// that, or 0 where there is none.
-#[derive(Clone, Copy, Debug, PartialEq, Eq)]
+#[derive(Clone, Copy)]
 pub struct Walk {
     pub upper: u32,
     pub place: u16,

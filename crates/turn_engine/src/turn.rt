@@ -18,7 +18,7 @@ use store_api::{NoMemory, Progress};
 use turn_rule::{Gate, Pass};
 
 /// How long a session stays away from the turn after a step.
-#[derive(Clone, Copy, Debug, PartialEq, Eq)]
+#[derive(Clone, Copy)]
 pub enum Pause {
     /// It takes the turn again at once.
     No,

@@ -13,7 +13,7 @@ use std::marker::Model;
 use store_api::NoMemory;
 
 /// What is kept of an open transaction. Its id is 0 until it first writes.
-#[derive(Clone, Copy, Debug, PartialEq, Eq)]
+#[derive(Clone, Copy)]
 pub struct OpenTxn {
     pub session: u32,
     pub level: Level,

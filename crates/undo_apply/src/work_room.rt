@@ -10,7 +10,7 @@ use std::alloc::Global;
 use store_api::{MOST_BYTES_OF_KEY, MOST_BYTES_OF_VALUE, NoMemory};
 
 /// What is done next. Keys are counted from 0.
-#[derive(Clone, Copy, Debug, PartialEq, Eq)]
+#[derive(Clone, Copy)]
 pub enum Stage {
     /// See whether the change stands.
     Find,
