@@ -1,6 +1,7 @@
 pub mod Applying
-pub mod InPlace
 pub mod Kept
 pub mod Keys
 pub mod Outcomes
+pub mod Placing
+pub mod Rising
 pub mod Tables

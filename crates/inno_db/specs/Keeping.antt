@@ -1,13 +1,20 @@
 -- A table's list of rows, in the order of their keys, with a row put at its key or removed.
-use Rattle.std.specs.Prelude.{◌<◌, not, List, [], ◌∷◌, ℕ, length, filter, slice_set, slice_index_or}
+use Rattle.std.specs.Prelude.{◌≡◌, ◌<◌, not, List, [], ◌∷◌, ℕ, length, filter, slice_set, slice_index_or}
 use Rattle.std.specs.FinMap.Entries.{by_order}
 use Rattle.std.specs.Ordering.{is_eq}
+use Rattle.std.specs.List.{AllByRecursion}
+use Rattle.std.specs.declared.cmp.Ordering.TheVariants.{Less}
 use Rattle.inno_types.specs.declared.value.Value.{Value}
 use Rattle.inno_types.specs.declared.value.Schema.{Schema}
 use Rattle.inno_db.specs.declared.change.Change.{Change}
 use Rattle.inno_db.specs.declared.change.Change.TheVariants.{Create, Put, Remove}
 use Rattle.inno_db.specs.declared.limits.TheConstants.{MOST_TABLES}
 use Rattle.inno_db.specs.Database.{Database, value_cmp, key_of}
+
+-- each row's key is below those of the rows after it
+abbrev pub AreRising : Schema → List (List Value) → Type 0
+AreRising schema [] = Unit {0}
+AreRising schema (row ∷ rows) = AllByRecursion (λ after. value_cmp (key_of schema row) (key_of schema after) ≡ Less) rows × AreRising schema rows
 
 -- a row stands before those of greater keys, and in place of one of the same key
 abbrev pub with_row : Schema → List Value → List (List Value) → List (List Value)

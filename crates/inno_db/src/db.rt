@@ -136,7 +136,7 @@ fn put(
     row: Row,
 ) -> Result<(), AllocError>
     requires there { table < length schemas.now }
-    requires known { length schemas.now ≡ vec_len tables.old }
+    requires in_order { IsInOrder schemas.now tables.old.items }
     ensures ok { OnOk result ((schema : Schema) → slice_get schemas.now table ≡ Some schema → tables.new.items ≡ tables_with schema table row tables.old.items) }
     ensures err { OnErr result (tables.new.items ≡ tables.old.items) }
 {
@@ -150,7 +150,7 @@ fn put(
 /// Removes the row of a key from a table, if there is one.
 fn remove(alloc: Global, schemas: &Listed<Schema>, tables: &mut Vec<Rows>, table: usize, key: Value)
     requires there { table < length schemas.now }
-    requires known { length schemas.now ≡ vec_len tables.old }
+    requires in_order { IsInOrder schemas.now tables.old.items }
     ensures { (schema : Schema) → slice_get schemas.now table ≡ Some schema → tables.new.items ≡ tables_without schema table key tables.old.items }
 {
     let schema = &schemas.as_slice()[table];

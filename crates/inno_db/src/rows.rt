@@ -1,9 +1,9 @@
-//! A table's rows in the order of their keys. A database puts and removes its rows here.
+//! A table's rows in the order of their keys. A database puts and removes its rows here, each found by halves.
 
-ghost use Rattle.std.specs.Prelude.{◌≡◌, ◌≤◌, ◌++◌, length, OnOk, OnErr};
+ghost use Rattle.std.specs.Prelude.{◌≡◌, length, OnOk, OnErr};
+ghost use Rattle.std.specs.List.Sorted.{IsBinarySearchResult, IsSearchInRange};
 ghost use Rattle.inno_db.specs.Database.{key_of, value_cmp};
-ghost use Rattle.inno_db.specs.Keeping.{with_row, without_key};
-ghost use Rattle.inno_db.specs.Outcome.{is_same_value};
+ghost use Rattle.inno_db.specs.Keeping.{AreRising, with_row, without_key};
 ghost use Rattle.inno_db.specs.Seen.{seen};
 
 use crate::datum::{Datum, at_place, of_value, order};
@@ -18,43 +18,43 @@ pub fn key_of_row<'a>(schema: &Schema, row: &'a Row) -> Datum<'a>
     at_place(row, usize::from(schema.primary))
 }
 
-fn key_order(schema: &Schema, a: &Row, b: &Row) -> Ordering
-    ensures { result ≡ value_cmp (key_of schema.now a.now) (key_of schema.now b.now) }
+/// Where a key stands among rows in the order of their keys: at the row that has it, or before the first greater one. It
+/// halves the rows in question each time.
+fn place_of_key(schema: &Schema, rows: &[Row], key: Datum<'_>) -> Result<usize, usize>
+    ensures within { IsSearchInRange result (length rows.now) }
+    ensures place { IsBinarySearchResult (λ row. value_cmp (key_of schema.now row) (seen key.entry)) rows.now result }
 {
-    order(key_of_row(schema, a), key_of_row(schema, b))
-}
-
-fn has_key(schema: &Schema, value: &Value, row: &Row) -> bool
-    ensures { result ≡ is_same_value value.now (key_of schema.now row.now) }
-{
-    order(of_value(value), key_of_row(schema, row)).is_eq()
+    rows.binary_search_by(
+        |row: &Row| -> Ordering
+            ensures { result ≡ value_cmp (key_of schema.entry.now row.now) (seen key.entry) }
+        { order(key_of_row(schema, row), key) },
+    )
 }
 
 /// Puts a row at its key. An `Err` changes nothing.
 pub fn put_row(schema: &Schema, rows: &mut Vec<Row>, row: Row) -> Result<(), AllocError>
+    requires rising { AreRising schema.now rows.old.items }
     ensures ok { OnOk result (rows.new.items ≡ with_row schema.now row rows.old.items) }
     ensures err { OnErr result (rows.new.items ≡ rows.old.items) }
 {
-    for place in 0..rows.len() {
-        match key_order(schema, &row, &rows[place]) {
-            Ordering::Less => {
-                rows.insert(place, row)?;
-                return Ok(());
-            }
-            Ordering::Equal => {
-                rows[place] = row;
-                return Ok(());
-            }
-            Ordering::Greater => {}
+    match place_of_key(schema, rows.as_slice(), key_of_row(schema, &row)) {
+        Ok(place) => {
+            rows[place] = row;
+            Ok(())
+        }
+        Err(place) => {
+            rows.insert(place, row)?;
+            Ok(())
         }
     }
-    rows.push(row)?;
-    Ok(())
 }
 
 /// Removes the row of a key, if there is one.
 pub fn remove_row(schema: &Schema, rows: &mut Vec<Row>, key: &Value)
+    requires rising { AreRising schema.now rows.old.items }
     ensures { rows.new.items ≡ without_key schema.now key.now rows.old.items }
 {
-    rows.retain(|row| !has_key(schema, key, row));
+    if let Ok(place) = place_of_key(schema, rows.as_slice(), of_value(key)) {
+        drop(rows.remove(place));
+    }
 }
