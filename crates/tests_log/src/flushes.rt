@@ -114,6 +114,14 @@ fn each_crash_leaves_a_prefix_with_all_that_was_flushed(rt: HostRuntime) -> Resu
     let alloc = rt.alloc();
     for fail in 0..14 {
         twenty_groups(&rt, alloc, fail, Log::new(alloc, 1, 0, 1)?)?;
+    }
+    Ok(())
+}
+
+#[test]
+fn each_crash_leaves_a_prefix_of_packed_groups(rt: HostRuntime) -> Result<(), Fail> {
+    let alloc = rt.alloc();
+    for fail in 0..14 {
         twenty_groups(&rt, alloc, fail, Log::packing(alloc, 1, 0, 1)?)?;
     }
     Ok(())

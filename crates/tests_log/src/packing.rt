@@ -72,10 +72,10 @@ fn seven_and_one(rt: &impl Abort, alloc: Global, mut log: Log) -> Result<[[usize
 #[test]
 fn groups_of_one_flush_share_blocks(rt: HostRuntime) -> Result<(), Fail> {
     let alloc = rt.alloc();
-    let together = seven_and_one(&rt, alloc, Log::packing(alloc, 1, 0, 1)?);
-    let apart = seven_and_one(&rt, alloc, Log::new(alloc, 1, 0, 1)?);
-    assert_eq!(rt; together?, [[1024, 7, 7], [1536, 8, 8]]);
-    assert_eq!(rt; apart?, [[3584, 7, 7], [4096, 8, 8]]);
+    let together = seven_and_one(&rt, alloc, Log::packing(alloc, 1, 0, 1)?)?;
+    let apart = seven_and_one(&rt, alloc, Log::new(alloc, 1, 0, 1)?)?;
+    assert_eq!(rt; together, [[1024, 7, 7], [1536, 8, 8]]);
+    assert_eq!(rt; apart, [[3584, 7, 7], [4096, 8, 8]]);
     Ok(())
 }
 
