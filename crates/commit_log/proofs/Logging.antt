@@ -281,13 +281,13 @@ due_joined dues after begun u is = ap (λ (xs : List ℕ). get_or xs u begun) is
 -- ---- an opening
 
 pub log_as : (run block next : ℕ) (log : LogView)
-    → log ≡ record { run = run; block = block; pending = []; count = 0; next = next; flushed = next - 1; spare = 1048576 }
-    → log ≡ record { run = run; block = block; pending = []; count = 0; next = next; flushed = next - 1; spare = log.spare }
+    → log ≡ record { run = run; block = block; pending = []; count = 0; tried = 0; next = next; flushed = next - 1; spare = 1048576 }
+    → log ≡ record { run = run; block = block; pending = []; count = 0; tried = 0; next = next; flushed = next - 1; spare = log.spare }
 log_as run block next log is =
-    is ∙ ap (λ n. record { run = run; block = block; pending = []; count = 0; next = next; flushed = next - 1; spare = n }) (sym (ap (λ (l : LogView). l.spare) is))
+    is ∙ ap (λ n. record { run = run; block = block; pending = []; count = 0; tried = 0; next = next; flushed = next - 1; spare = n }) (sym (ap (λ (l : LogView). l.spare) is))
 
 pub opened_logging : (run block next : ℕ) (view : CommitView) → 0 < next
-    → view.log ≡ record { run = run; block = block; pending = []; count = 0; next = next; flushed = next - 1; spare = view.log.spare }
+    → view.log ≡ record { run = run; block = block; pending = []; count = 0; tried = 0; next = next; flushed = next - 1; spare = view.log.spare }
     → ((scan_first : ℕ) (groups : List Group) (c : Contents) → next ≡ scan_first + length groups → GoesOnAt run scan_first block groups c
     → IsLogged scan_first groups view.log c)
     → view.drafts ≡ [] → view.dues ≡ [] → view.begun ≡ next - 1 → (root now : Past) (db : Database) → IsMounted root now run block next db

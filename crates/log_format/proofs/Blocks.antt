@@ -5,7 +5,7 @@ use Rattle.std.proofs.lemmas.List.Concat.{flat_map-append}
 use Rattle.std.proofs.lemmas.List.Elements.{All-nil, All-cons, All-append}
 use Rattle.log_format.specs.Block.{block_bytes, sealed, AreBlocks, blocks_for}
 
-sealed-append : (run k : ℕ) (ps qs : List (List ℕ)) → sealed run k (ps ++ qs) ≡ sealed run k ps ++ sealed run (k + length ps) qs
+pub sealed-append : (run k : ℕ) (ps qs : List (List ℕ)) → sealed run k (ps ++ qs) ≡ sealed run k ps ++ sealed run (k + length ps) qs
 sealed-append run k [] qs = ap (λ (n : ℕ). sealed run n qs) (sym (add-zero k))
 sealed-append run k (p ∷ ps) qs =
     let number : (k + 1) + length ps ≡ k + suc (length ps) = omega arith in

@@ -2,6 +2,7 @@ mod Behind
 pub mod Blocks
 pub mod Good
 pub mod Groups
+pub mod Open
 pub mod Scanned
 pub mod Sealed
 mod Streamed

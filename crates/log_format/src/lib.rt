@@ -13,7 +13,7 @@ mod write;
 
 pub use block::{put_blocks, put_both_as_blocks};
 pub use group::{Group, Groups, Record, Records};
-pub use pieces::{is_whole, put_payloads};
+pub use pieces::{is_whole, put_payload, put_payloads};
 pub use reader::{Next, ReadBad, Reader};
 pub use reading::group_of;
 pub use scan::{Found, get_groups, next_group, one_scan, scan_log};

@@ -1,8 +1,8 @@
-//! A log area that is read piece by piece: the payloads of the good blocks at a piece's front.
+//! A log area that is read piece by piece: the payloads of the good blocks at a piece's front; and a single block's payload.
 //! Who reads a log from a disk asks here; `scan` does the same for an area that stands in memory whole.
 
-ghost use Rattle.std.specs.Prelude.{◌≡◌, ◌+◌, ◌^◌, ◌<◌, ◌++◌, ◌↔◌, ℕ, List, length, IsTrue, IfOk, OnErr};
-ghost use Rattle.log_format.specs.Block.{payloads};
+ghost use Rattle.std.specs.Prelude.{◌≡◌, ◌+◌, ◌^◌, ◌<◌, ◌≤◌, ◌++◌, ◌↔◌, ℕ, List, length, vec_len, vec_capacity, IsTrue, IfOk, OnErr};
+ghost use Rattle.log_format.specs.Block.{payload_of, payloads};
 ghost use Rattle.log_format.specs.Scan.{NoGroup, HasGoodFront, HasWhole};
 
 use crate::block::{BLOCK, PAYLOAD};
@@ -34,6 +34,19 @@ pub fn put_payloads(
         extend_reserved(payload(block), out);
     }
     Ok(blocks as u64)
+}
+
+/// Puts the payload of a block at the end, where there is room for a block. Of no bytes it puts none. Whether the block is good
+/// is not looked at.
+pub fn put_payload(block: &[u8], out: &mut Vec<u8>)
+    requires whole { 0 < length block.now → length block.now ≡ 512 }
+    requires room { vec_len out.old + length block.now ≤ vec_capacity out.old }
+    ensures items { out.new.items ≡ out.old.items ++ payload_of block.now }
+    ensures grows { vec_capacity out.old ≤ vec_capacity out.new }
+{
+    if !block.is_empty() {
+        extend_reserved(payload(block), out);
+    }
 }
 
 /// Whether all bytes are there that the length at the front counts. If no group begins with these bytes then, none does

@@ -73,7 +73,7 @@ module _ (first : ℕ) (groups : List Group) (log : LogView) (c : Contents) (is 
   unused = record {
     other = λ other. no_other c.synced (is.good 0 has_block) other;
     later =
-        All-weaker (WritesFront log.block log.pending) (λ (w : Write). (512 ≤ w.at) ⊎ (w.bytes ≡ replicate (length w.bytes) 0))
+        All-weaker (WritesFront log.block log.tried log.pending) (λ (w : Write). (512 ≤ w.at) ⊎ (w.bytes ≡ replicate (length w.bytes) 0))
         (λ (w : Write) front. inl (omega (arith, front.place, has_block))) c.writes
         is.writes;
   }

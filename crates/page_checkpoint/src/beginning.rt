@@ -82,7 +82,7 @@ pub fn begin_log<D: Disk>(alloc: Global, next: NewRun, disk: &mut D) -> Result<L
     ensures crash { (capacity run last : ℕ) (base : ℕ → List ℕ) → Now (HasBegun capacity run last base) (D.past disk.old)
         → Meanwhile (LeavesBegun run last base) (D.past disk.old) (D.past disk.new) }
 {
-    let Ok(log) = Log::new(alloc, next.run, 0, next.first) else {
+    let Ok(log) = Log::packing(alloc, next.run, 0, next.first) else {
         return Err(CheckpointBad::NoMemory);
     };
     match clear_log(alloc, disk) {

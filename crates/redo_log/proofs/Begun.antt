@@ -9,7 +9,7 @@ use Rattle.log_format.proofs.Blocks.{AreBlocks-none}
 use Rattle.redo_log.specs.Logged.{WritesFront, GoesOnAt, IsLogged}
 
 pub begun : (run first block next spare : ℕ) (groups : List Group) (c : Contents) → 0 < next → next ≡ first + length groups → GoesOnAt run first block groups c
-    → IsLogged first groups (record { run = run; block = block; pending = []; count = 0; next = next; flushed = next - 1; spare = spare }) c
+    → IsLogged first groups (record { run = run; block = block; pending = []; count = 0; tried = 0; next = next; flushed = next - 1; spare = spare }) c
 begun run first block next spare groups c some number goes_on = record {
   durable = groups;
   waiting = [];
@@ -21,5 +21,5 @@ begun run first block next spare groups c some number goes_on = record {
   bad = goes_on.bad;
   stored = goes_on.stored;
   blocks = AreBlocks-none run block;
-  writes = subst (All (WritesFront block [])) (sym goes_on.rests) (All-nil (WritesFront block []));
+  writes = subst (All (WritesFront block 0 [])) (sym goes_on.rests) (All-nil (WritesFront block 0 []));
 }

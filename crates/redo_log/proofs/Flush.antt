@@ -5,11 +5,11 @@ use Rattle.store_api.specs.Areas.{Contents, State, MayLeave, IsImage, seen_image
 use Rattle.store_api.specs.Past.{Past, Now, Goes, Meanwhile}
 use Rattle.store_api.proofs.Moments.{Now-goes, Now-weaker, Meanwhile-none, Meanwhile-goes}
 use Rattle.log_format.specs.declared.group.Group.{Group}
-use Rattle.redo_log.specs.View.{LogView}
+use Rattle.redo_log.specs.View.{LogView, all_tried}
 use Rattle.redo_log.specs.Logged.{Stands, StandsMeanwhile}
 use Rattle.redo_log.specs.Halves.{WrittenView, StandsWritten}
 use Rattle.redo_log.proofs.Crash.{holds_prefix}
-use Rattle.redo_log.proofs.Flushed.{written, sync_failed}
+use Rattle.redo_log.proofs.Flushed.{written, all_tried_logged, sync_failed}
 use Rattle.redo_log.proofs.Halves.{all_written, still_logged, rest_logged}
 
 -- the write, as it is meant
@@ -31,6 +31,7 @@ rest_of w log spare =
       block = log.block + w.count;
       pending = drop (512 * w.count) log.pending;
       count = log.count - w.count;
+      tried = log.tried - w.count;
       next = log.next;
       flushed = w.last;
       spare = spare;
@@ -52,40 +53,54 @@ module _ (first : ℕ) (groups : List Group) (log : LogView) (double pages : Con
     stands : Stands first groups log double pages s
     seen : MayLeave s.log s.log.seen
 
-  writes : (ok : Bool) (b s : State) → IsReady b → Within Log (Wrote (512 * log.block) log.pending ok) b s → Stands first groups log double pages s
-  writes ok b s ready within = record {
-    logged = written first groups log b.log ready.stands.logged ready.seen ok s.log within.here;
-    double_is = within.elsewhere Double (λ same. cc) ∙ ready.stands.double_is;
-    pages_is = within.elsewhere Pages (λ same. cc) ∙ ready.stands.pages_is;
-  }
+  -- ---- the first half: all blocks are tried
 
-  writes_all : 0 < log.next → (b s : State) → IsReady b → Within Log (Wrote (512 * log.block) log.pending true) b s
-      → StandsWritten first groups (whole_of log) log double pages s
-  writes_all some b s ready within = record {
-    log_is = all_written first groups log b.log ready.stands.logged ready.seen s.log within.here some;
-    double_is = within.elsewhere Double (λ same. cc) ∙ ready.stands.double_is;
-    pages_is = within.elsewhere Pages (λ same. cc) ∙ ready.stands.pages_is;
-  }
+  module _ (tries : log.tried ≤ log.count) where
+    meanwhile_tried : (s : State) → Stands first groups (all_tried log) double pages s → During s
+    meanwhile_tried s stands = record {
+      log = λ image left honest. holds_prefix first groups (all_tried log) s.log stands.logged image left honest;
+      double_is = stands.double_is;
+      pages_is = stands.pages_is;
+    }
 
-  -- ---- the first half
+    writes : (ok : Bool) (b s : State) → IsReady b → Within Log (Wrote (512 * log.block) log.pending ok) b s
+        → Stands first groups (all_tried log) double pages s
+    writes ok b s ready within = record {
+      logged =
+          written first groups (all_tried log) b.log (all_tried_logged first groups log b.log tries ready.stands.logged) ready.seen (omega arith) ok s.log
+          within.here;
+      double_is = within.elsewhere Double (λ same. cc) ∙ ready.stands.double_is;
+      pages_is = within.elsewhere Pages (λ same. cc) ∙ ready.stands.pages_is;
+    }
 
-  module _ (p0 p1 : Past) (law : (m : ℕ) (s : State) → p0.state_at m ≡ Some s → IsImage s (seen_image s))
-      (known : Now (Stands first groups log double pages) p0) (ok : Bool) (write : Goes (Within Log (Wrote (512 * log.block) log.pending ok)) p0 p1) where
-    pub after_write : Now (Stands first groups log double pages) p1
-    after_write =
-        Now-goes IsReady (Stands first groups log double pages) (Within Log (Wrote (512 * log.block) log.pending ok)) p0 p1
-        (λ s ticks is. record { stands = known s ticks is; seen = (law p0.moment s is).log }) write (writes ok)
+    writes_all : 0 < log.next → (b s : State) → IsReady b → Within Log (Wrote (512 * log.block) log.pending true) b s
+        → StandsWritten first groups (whole_of log) (all_tried log) double pages s
+    writes_all some b s ready within = record {
+      log_is =
+          all_written first groups (all_tried log) b.log (all_tried_logged first groups log b.log tries ready.stands.logged) ready.seen s.log within.here some
+          refl;
+      double_is = within.elsewhere Double (λ same. cc) ∙ ready.stands.double_is;
+      pages_is = within.elsewhere Pages (λ same. cc) ∙ ready.stands.pages_is;
+    }
 
-    pub during_write : Meanwhile During p0 p1
-    during_write =
-        Meanwhile-goes During _ p0 p0 p1 (Meanwhile-none During p0) write (Now-weaker (Stands first groups log double pages) During p1 after_write meanwhile)
+    module _ (p0 p1 : Past) (law : (m : ℕ) (s : State) → p0.state_at m ≡ Some s → IsImage s (seen_image s))
+        (known : Now (Stands first groups log double pages) p0) (ok : Bool) (write : Goes (Within Log (Wrote (512 * log.block) log.pending ok)) p0 p1) where
+      pub after_write : Now (Stands first groups (all_tried log) double pages) p1
+      after_write =
+          Now-goes IsReady (Stands first groups (all_tried log) double pages) (Within Log (Wrote (512 * log.block) log.pending ok)) p0 p1
+          (λ s ticks is. record { stands = known s ticks is; seen = (law p0.moment s is).log }) write (writes ok)
 
-  pub after_whole_write : (p0 p1 : Past) → ((m : ℕ) (s : State) → p0.state_at m ≡ Some s → IsImage s (seen_image s))
-      → Now (Stands first groups log double pages) p0 → 0 < log.next → Goes (Within Log (Wrote (512 * log.block) log.pending true)) p0 p1
-      → Now (StandsWritten first groups (whole_of log) log double pages) p1
-  after_whole_write p0 p1 law known some write =
-      Now-goes IsReady (StandsWritten first groups (whole_of log) log double pages) (Within Log (Wrote (512 * log.block) log.pending true)) p0 p1
-      (λ s ticks is. record { stands = known s ticks is; seen = (law p0.moment s is).log }) write (writes_all some)
+      pub during_write : Meanwhile During p0 p1
+      during_write =
+          Meanwhile-goes During _ p0 p0 p1 (Meanwhile-none During p0) write
+          (Now-weaker (Stands first groups (all_tried log) double pages) During p1 after_write meanwhile_tried)
+
+    pub after_whole_write : (p0 p1 : Past) → ((m : ℕ) (s : State) → p0.state_at m ≡ Some s → IsImage s (seen_image s))
+        → Now (Stands first groups log double pages) p0 → 0 < log.next → Goes (Within Log (Wrote (512 * log.block) log.pending true)) p0 p1
+        → Now (StandsWritten first groups (whole_of log) (all_tried log) double pages) p1
+    after_whole_write p0 p1 law known some write =
+        Now-goes IsReady (StandsWritten first groups (whole_of log) (all_tried log) double pages) (Within Log (Wrote (512 * log.block) log.pending true)) p0 p1
+        (λ s ticks is. record { stands = known s ticks is; seen = (law p0.moment s is).log }) write (writes_all some)
 
   -- ---- the second half
 

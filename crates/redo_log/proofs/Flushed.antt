@@ -14,13 +14,13 @@ use Rattle.log_format.specs.Group.{group_bytes}
 use Rattle.log_format.specs.Block.{block_bytes, IsGood, payloads}
 use Rattle.log_format.specs.Scan.{stream_of}
 use Rattle.log_format.proofs.Good.{IsGood-same, IsGood-block, payloads-same, payloads-put}
-use Rattle.redo_log.specs.View.{LogView}
+use Rattle.redo_log.specs.View.{LogView, all_tried}
 use Rattle.redo_log.specs.Logged.{WritesFront, IsLogged, GoesOnAt}
 use Rattle.redo_log.proofs.Crash.{reach, length-pending, piece-pending, front_stays}
 
 -- only what is on the disk and what was written since matters
 pub IsLogged-same : (first : ℕ) (groups : List Group) (log : LogView) (c d : Contents) → IsLogged first groups log c → d.synced ≡ c.synced
-    → All (WritesFront log.block log.pending) d.writes → IsLogged first groups log d
+    → All (WritesFront log.block log.tried log.pending) d.writes → IsLogged first groups log d
 IsLogged-same first groups log c d is same writes = record {
   durable = is.durable;
   waiting = is.waiting;
@@ -38,7 +38,29 @@ IsLogged-same first groups log c d is same writes = record {
 pub sync_failed : (first : ℕ) (groups : List Group) (log : LogView) (c d : Contents) → IsLogged first groups log c → d.synced ≡ c.synced
     → d.writes ≡ c.writes → IsLogged first groups log d
 sync_failed first groups log c d is same writes =
-    IsLogged-same first groups log c d is same (subst (All (WritesFront log.block log.pending)) (sym writes) is.writes)
+    IsLogged-same first groups log c d is same (subst (All (WritesFront log.block log.tried log.pending)) (sym writes) is.writes)
+
+-- a write may try more blocks
+pub tries_more : (block few many : ℕ) (pending : List ℕ) → few ≤ many → (w : Write) → WritesFront block few pending w → WritesFront block many pending w
+tries_more block few many pending more w put = record { place = put.place; blocks = put.blocks; few = omega (arith, put.few, more); front = put.front }
+
+pub all_tried_logged : (first : ℕ) (groups : List Group) (log : LogView) (c : Contents) → log.tried ≤ log.count → IsLogged first groups log c
+    → IsLogged first groups (all_tried log) c
+all_tried_logged first groups log c tries is = record {
+  durable = is.durable;
+  waiting = is.waiting;
+  split = is.split;
+  each = is.each;
+  next = is.next;
+  flushed = is.flushed;
+  good = is.good;
+  bad = is.bad;
+  stored = is.stored;
+  blocks = is.blocks;
+  writes =
+      All-weaker (WritesFront log.block log.tried log.pending) (WritesFront log.block log.count log.pending)
+      (tries_more log.block log.tried log.count log.pending tries) c.writes is.writes;
+}
 
 -- ---- the write
 
@@ -52,16 +74,17 @@ module _ (first : ℕ) (groups : List Group) (log : LogView) (c : Contents) (is 
       let none : 512 * log.block - length c.seen ≡ 0 = omega (arith, seen.no_shorter, reach first groups log c is) in
       ap (λ (n : ℕ). replicate n 0 ++ log.pending) none
 
-  pub written : (ok : Bool) (d : Contents) → Wrote (512 * log.block) log.pending ok c d → IsLogged first groups log d
-  written ok d wrote =
+  pub written : log.count ≤ log.tried → (ok : Bool) (d : Contents) → Wrote (512 * log.block) log.pending ok c d → IsLogged first groups log d
+  written tried ok d wrote =
       let w = write_of c.seen (512 * log.block) log.pending in
-      let front : WritesFront log.block log.pending w = record {
+      let front : WritesFront log.block log.tried log.pending w = record {
         place = place;
         blocks = log.count;
+        few = tried;
         front = no_gap ∙ sym (take_all (512 * log.count) log.pending (omega (arith, length-pending first groups log c is)));
       } in
       IsLogged-same first groups log c d is wrote.synced
-      (subst (All (WritesFront log.block log.pending)) (sym wrote.writes) (All-push (WritesFront log.block log.pending) c.writes w is.writes front))
+      (subst (All (WritesFront log.block log.tried log.pending)) (sym wrote.writes) (All-push (WritesFront log.block log.tried log.pending) c.writes w is.writes front))
 
   length-front : length (take (512 * log.block) c.seen) ≡ 512 * log.block
   length-front = length-take-le (512 * log.block) c.seen (omega (arith, seen.no_shorter, reach first groups log c is))
@@ -110,7 +133,7 @@ module _ (first : ℕ) (groups : List Group) (log : LogView) (c : Contents) (is 
 
   ends : All (λ (w : Write). end_of w ≤ 512 * (log.block + log.count)) c.writes
   ends =
-      All-weaker (WritesFront log.block log.pending) (λ (w : Write). end_of w ≤ 512 * (log.block + log.count))
+      All-weaker (WritesFront log.block log.tried log.pending) (λ (w : Write). end_of w ≤ 512 * (log.block + log.count))
       (λ (w : Write) put. omega (arith, put.place, ap length put.front, length-take (512 * put.blocks) log.pending, length-pending first groups log c is))
       c.writes is.writes
 

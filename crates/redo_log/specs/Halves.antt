@@ -14,17 +14,28 @@ pub record WrittenView : Type 0 where
   pub count : ℕ
   pub last : ℕ
 
--- the blocks of the write are the log's first ones that wait, and all of them unless a group was appended since
+-- the blocks of the write are the log's first ones that wait, which are tried, and all of them unless a group was appended since
 pub record IsFront (w : WrittenView) (log : LogView) : Type 0 where
   pub place : w.block ≡ log.block
   pub few : w.count ≤ log.count
+  pub tried : w.count ≤ log.tried
   pub from : log.flushed ≤ w.last
   pub to : w.last < log.next
   pub all : w.last + 1 ≡ log.next → w.count ≡ log.count
 
 -- the log as it would be without the groups behind those of the write
 abbrev pub front_log : WrittenView → LogView → List ℕ → LogView
-front_log w log front = record { run = log.run; block = log.block; pending = front; count = w.count; next = w.last + 1; flushed = log.flushed; spare = 0 }
+front_log w log front =
+    record {
+      run = log.run;
+      block = log.block;
+      pending = front;
+      count = w.count;
+      tried = w.count;
+      next = w.last + 1;
+      flushed = log.flushed;
+      spare = 0;
+    }
 
 -- These are all the groups that the log has had. Those up to the write's last one are on the disk for good or in its
 -- blocks, which a read gives; the later ones stand in the blocks behind, of which nothing was written.
@@ -39,6 +50,7 @@ pub record IsWritten (first : ℕ) (groups : List Group) (w : WrittenView) (log 
   pub parts : log.pending ≡ front ++ back
   pub more : ℕ
   pub number : log.count ≡ w.count + more
+  pub tried : w.count ≤ log.tried
   pub written : IsLogged first sent (front_log w log front) c
   pub behind : AreBlocks log.run (log.block + w.count) (stream_of later) more back
   pub seen : take (512 * w.count) (drop (512 * log.block) c.seen) ≡ front

@@ -5,15 +5,37 @@ use Rattle.log_format.specs.declared.group.Record.{Record}
 use Rattle.log_format.specs.Group.{record_bytes}
 use Rattle.log_format.specs.Block.{blocks_for}
 
--- the run, the number of the first block that isn't flushed, the blocks that wait for a flush and how many they are, the next LSN, the last one that is flushed, and how long what waits may still become without memory
+-- the run, the number of the first block that isn't flushed, the blocks that wait for a flush, how many they are, and how many of
+-- them a write has tried, the next LSN, the last one that is flushed, and how long what waits may still become without memory
 pub record LogView : Type 0 where
   pub run : ℕ
   pub block : ℕ
   pub pending : List ℕ
   pub count : ℕ
+  pub tried : ℕ
   pub next : ℕ
   pub flushed : ℕ
   pub spare : ℕ
+
+-- the log, where a write has tried all the blocks that wait
+abbrev pub all_tried : LogView → LogView
+all_tried log =
+    record {
+      run = log.run;
+      block = log.block;
+      pending = log.pending;
+      count = log.count;
+      tried = log.count;
+      next = log.next;
+      flushed = log.flushed;
+      spare = log.spare;
+    }
+
+-- So many of the blocks that wait stay as they are where a group is appended: all that a write has tried, and all but the last.
+pub record Stay (kept : ℕ) (log : LogView) : Type 0 where
+  pub tried : log.tried ≤ kept
+  pub few : kept ≤ log.count
+  pub most : log.count ≤ kept + 1
 
 -- how long a group of these records is in the log, where it begins a new block: 14 bytes and the records, in whole blocks
 abbrev pub room_of : List Record → ℕ
@@ -28,9 +50,10 @@ abbrev pub spare_of : ℕ → ℕ → ℕ → ℕ → ℕ
 spare_of room pending block next = min (room - pending) (numbers_left block next)
 
 -- No number of a log passes its type's end, and there is room for what waits and what may still be appended.
-pub record IsBounded (run block count next flushed room pending has_pending has_work : ℕ) : Type 0 where
+pub record IsBounded (run block count tried next flushed room pending has_pending has_work : ℕ) : Type 0 where
   pub run_fits : run < 2 ^ 64
   pub blocks : block + count ≤ 2 ^ 54
+  pub tries : tried ≤ count
   pub lsns : next < 2 ^ 64
   pub begun : flushed < next
   pub waits : pending ≤ room

@@ -11,10 +11,10 @@ ghost use Rattle.log_format.specs.Scan.{IsScan, EndsAt};
 ghost use Rattle.redo_log.specs.Bodies.{IsOf};
 ghost use Rattle.redo_log.specs.Elsewhere.{LeavesBeside};
 ghost use Rattle.redo_log.specs.Halves.{WrittenView, IsFront, IsWritten, StandsWritten};
-ghost use Rattle.redo_log.specs.View.{LogView, room_of, numbers_left};
+ghost use Rattle.redo_log.specs.View.{LogView, Stay, all_tried, room_of, numbers_left};
 ghost use Rattle.redo_log.specs.Logged.{GoesOnAt, IsLogged, LeavesPrefix, Stands, StandsMeanwhile};
 
-use crate::body::{Body, put_body_as};
+use crate::body::{Body, put_behind};
 use crate::room::{drop_front, numbers_from, widened};
 use crate::written::Written;
 use log_format::{Group, put_both_as_blocks};
@@ -25,17 +25,29 @@ use store_api::{Area, Disk, Failed, NoMemory};
 /// How much may be appended to a new log without memory.
 const FIRST_SPARE: usize = 1_048_576;
 
+/// How the groups of a log lie in its blocks.
+#[derive(Clone, Copy)]
+enum Packing {
+    /// Each group begins a new block.
+    Apart,
+    /// A group goes on in the last block that waits, unless a write has tried it.
+    Together,
+}
+
 /// The log as it is in memory.
 #[derive(Drop)]
 pub struct Log {
+    packing: Packing,
     run: u64,
     block: u64,
     /// The blocks that wait for a flush, and how many they are.
     pending: Vec<u8>,
     count: u64,
+    /// How many of them a write has tried. They stay as they are, since the disk may hold them.
+    tried: u64,
     next: u64,
     flushed: u64,
-    /// What of one group is spelled anew, before it stands in blocks.
+    /// What is spelled anew of an append, before it stands in blocks.
     work: Vec<u8>,
     /// So much may wait without memory.
     room: usize,
@@ -48,19 +60,45 @@ impl Model for Log {
 
     ghost Value = { LogView };
 
-    ghost invariant = { λ l. IsBounded l.run l.block l.count l.next l.flushed l.room (length l.pending.items) (vec_capacity l.pending) (vec_capacity l.work) };
+    ghost invariant = { λ l. IsBounded l.run l.block l.count l.tried l.next l.flushed l.room (length l.pending.items) (vec_capacity l.pending) (vec_capacity l.work) };
 
-    ghost view = { λ l. record { run = l.run; block = l.block; pending = l.pending.items; count = l.count; next = l.next; flushed = l.flushed; spare = spare_of l.room (length l.pending.items) (l.block + l.count) l.next } };
+    ghost view = { λ l. record { run = l.run; block = l.block; pending = l.pending.items; count = l.count; tried = l.tried; next = l.next; flushed = l.flushed; spare = spare_of l.room (length l.pending.items) (l.block + l.count) l.next } };
 }
 
 impl Log {
-    /// A log whose groups go on at this block and with this LSN. Where the numbers end within its first spare, it
-    /// answers as if there were no memory for it.
+    /// A log whose groups go on at this block and with this LSN, each in blocks of its own: a mount that goes on in the same run
+    /// needs that groups end with a block. Where the numbers end within its first spare, it answers as if there were no memory for it.
     pub fn new(alloc: Global, run: u64, block: u64, first: u64) -> Result<Log, NoMemory>
         requires { 0 < first }
-        ensures log { IfOk result (λ log. log ≡ record { run = run; block = block; pending = []; count = 0; next = first; flushed = first - 1; spare = 1048576 }) }
+        ensures log { IfOk result (λ log. log ≡ record { run = run; block = block; pending = []; count = 0; tried = 0; next = first; flushed = first - 1; spare = 1048576 }) }
 
         // It goes on where a scan of the log area ended, if nothing that a scan would take stands from there on.
+        ensures stands { IfOk result (λ log. (scan_first : ℕ) (groups : List GroupValue) (c : Contents) → first ≡ scan_first + length groups
+            → GoesOnAt run scan_first block groups c → IsLogged scan_first groups log c) }
+    {
+        Log::with_packing(alloc, run, block, first, Packing::Apart)
+    }
+
+    /// As `new`, but the groups that are appended before one flush lie together: each begins where the one before has ended,
+    /// unless a write has tried that block.
+    pub fn packing(alloc: Global, run: u64, block: u64, first: u64) -> Result<Log, NoMemory>
+        requires { 0 < first }
+        ensures log { IfOk result (λ log. log ≡ record { run = run; block = block; pending = []; count = 0; tried = 0; next = first; flushed = first - 1; spare = 1048576 }) }
+        ensures stands { IfOk result (λ log. (scan_first : ℕ) (groups : List GroupValue) (c : Contents) → first ≡ scan_first + length groups
+            → GoesOnAt run scan_first block groups c → IsLogged scan_first groups log c) }
+    {
+        Log::with_packing(alloc, run, block, first, Packing::Together)
+    }
+
+    fn with_packing(
+        alloc: Global,
+        run: u64,
+        block: u64,
+        first: u64,
+        packing: Packing,
+    ) -> Result<Log, NoMemory>
+        requires { 0 < first }
+        ensures log { IfOk result (λ log. log ≡ record { run = run; block = block; pending = []; count = 0; tried = 0; next = first; flushed = first - 1; spare = 1048576 }) }
         ensures stands { IfOk result (λ log. (scan_first : ℕ) (groups : List GroupValue) (c : Contents) → first ≡ scan_first + length groups
             → GoesOnAt run scan_first block groups c → IsLogged scan_first groups log c) }
     {
@@ -68,10 +106,12 @@ impl Log {
             return Err(NoMemory);
         }
         Ok(Log {
+            packing,
             run,
             block,
             pending: Vec::with_capacity(alloc, FIRST_SPARE)?,
             count: 0,
+            tried: 0,
             next: first,
             flushed: first - 1,
             work: Vec::with_capacity(alloc, FIRST_SPARE)?,
@@ -176,44 +216,60 @@ impl Log {
         ensures spare { OnOk result ((rs : List RecordValue) → IsOf rs body.entry → self.old.spare ≤ self.new.spare + room_of rs) }
         ensures err { OnErr result (self.new ≡ self.old) }
     {
-        self.work.clear();
-        let rest = put_body_as(self.next, body, &mut self.work)?;
-        let need = 512 * ((self.work.len() + rest.len() + 483) / 484);
-        if numbers_from(self.block + self.count, self.next) < need as u64 {
+        let kept = self.kept();
+        let end = 512 * kept as usize;
+        let rest = put_behind(&self.pending[end..], self.next, body, &mut self.work)?;
+        let want = end + 512 * ((self.work.len() + rest.len() + 483) / 484);
+        let more = want - self.pending.len();
+        if numbers_from(self.block + self.count, self.next) < more.max(512) as u64 {
             return Err(NoMemory);
         }
-        let want = self.pending.len() + need;
         self.room = widened(&mut self.pending, &mut self.work, self.room, want)?;
+        self.pending.truncate(end);
         let count = put_both_as_blocks(
             self.run,
-            self.block + self.count,
+            self.block + kept,
             &self.work,
             rest,
             &mut self.pending,
         );
-        self.count += count;
+        self.count = kept + count;
         self.next += 1;
         Ok(self.next - 1)
     }
 
+    /// How many of the blocks that wait stay where a group is appended. The group goes on in the one behind them, if there is
+    /// one; where that is full, it becomes what it was.
+    fn kept(&self) -> u64
+        ensures { Stay result self.now }
+    {
+        match self.packing {
+            Packing::Apart => self.count,
+            Packing::Together => self.tried.max(self.count.saturating_sub(1)),
+        }
+    }
+
     /// The first half of a flush: writes all blocks that wait, in one write. Groups may be appended and other areas called
-    /// before the second half; none of it counts as flushed until then.
-    pub fn begin_flush<D: Disk>(&self, disk: &mut D) -> Result<Written, Failed>
-        ensures front { IfOk result (λ w. IsFront w self.now) }
-        ensures all { IfOk result (λ w. w.last + 1 ≡ self.now.next) }
+    /// before the second half; none of it counts as flushed until then. The blocks stay as they are from then on, also where the
+    /// write failed.
+    pub fn begin_flush<D: Disk>(&mut self, disk: &mut D) -> Result<Written, Failed>
+        ensures log { self.new ≡ all_tried self.old }
+        ensures front { IfOk result (λ w. IsFront w self.new) }
+        ensures all { IfOk result (λ w. w.last + 1 ≡ self.new.next) }
         ensures cause { HasCause (D.past disk.old).faults (D.past disk.new).faults result }
         ensures elsewhere { LeavesBeside (D.past disk.old) (D.past disk.new) }
 
         // The log and the disk stand for the same groups as before, and where nothing failed a sync is all that is missing.
         ensures stands { (first : ℕ) (groups : List GroupValue) (double pages : Contents) →
-            Now (Stands first groups self.now double pages) (D.past disk.old) → Now (Stands first groups self.now double pages) (D.past disk.new) }
+            Now (Stands first groups self.old double pages) (D.past disk.old) → Now (Stands first groups self.new double pages) (D.past disk.new) }
         ensures written { IfOk result (λ w. (first : ℕ) (groups : List GroupValue) (double pages : Contents) →
-            Now (Stands first groups self.now double pages) (D.past disk.old) →
-            Now (StandsWritten first groups w self.now double pages) (D.past disk.new)) }
+            Now (Stands first groups self.old double pages) (D.past disk.old) →
+            Now (StandsWritten first groups w self.new double pages) (D.past disk.new)) }
         ensures crash { (first : ℕ) (groups : List GroupValue) (double pages : Contents) →
-            Now (Stands first groups self.now double pages) (D.past disk.old) →
-            Meanwhile (StandsMeanwhile self.now.run first groups self.now.flushed double pages) (D.past disk.old) (D.past disk.new) }
+            Now (Stands first groups self.old double pages) (D.past disk.old) →
+            Meanwhile (StandsMeanwhile self.old.run first groups self.old.flushed double pages) (D.past disk.old) (D.past disk.new) }
     {
+        self.tried = self.count;
         disk.write(Area::Log, 512 * self.block, &self.pending)?;
         Ok(Written {
             block: self.block,
@@ -249,18 +305,19 @@ impl Log {
         drop_front(&mut self.pending, 512 * written.count as usize);
         self.block += written.count;
         self.count -= written.count;
+        self.tried -= written.count;
         self.flushed = written.last;
         Ok(())
     }
 
     /// Brings all groups onto the disk, in one write and a sync. After a failure the next flush writes the same
-    /// blocks again and then new ones, so that each place only ever has one block that counts.
+    /// blocks again, as they are, and then new ones, so that each place only ever has one block that counts.
     pub fn flush<D: Disk>(&mut self, disk: &mut D) -> Result<(), Failed>
         ensures run { self.new.run ≡ self.old.run }
         ensures next { self.new.next ≡ self.old.next }
         ensures later { self.old.flushed ≤ self.new.flushed }
         ensures flushed { OnOk result (self.new.flushed + 1 ≡ self.old.next) }
-        ensures err { OnErr result (self.new ≡ self.old) }
+        ensures err { OnErr result (self.new ≡ all_tried self.old) }
 
         // The spare gets no smaller. What was flushed is given back to the spare, as far as numbers are left.
         ensures spare { OnOk result (min (self.old.spare + length self.old.pending) (numbers_left (self.old.block + self.old.count) self.old.next) ≤ self.new.spare) }

@@ -94,12 +94,11 @@ fn expect_images(
     Ok(())
 }
 
-/// Twenty groups on a disk whose call of this number fails.
-fn twenty_groups(rt: &impl Abort, alloc: Global, fail: u64) -> Result<(), Fail> {
+/// Twenty groups in a new log, on a disk whose call of this number fails.
+fn twenty_groups(rt: &impl Abort, alloc: Global, fail: u64, mut log: Log) -> Result<(), Fail> {
     let mut calls = Ids::new(alloc);
     calls.push(fail)?;
     let mut disk = MemDisk::new(alloc, calls)?;
-    let mut log = Log::new(alloc, 1, 0, 1)?;
     let mut marks = Vec::new(alloc);
     for number in 1..21 {
         assert_eq!(rt; append(rt, alloc, &mut log, number)?, u64::from(number));
@@ -112,8 +111,18 @@ fn twenty_groups(rt: &impl Abort, alloc: Global, fail: u64) -> Result<(), Fail> 
 
 #[test]
 fn each_crash_leaves_a_prefix_with_all_that_was_flushed(rt: HostRuntime) -> Result<(), Fail> {
+    let alloc = rt.alloc();
     for fail in 0..14 {
-        twenty_groups(&rt, rt.alloc(), fail)?;
+        twenty_groups(&rt, alloc, fail, Log::new(alloc, 1, 0, 1)?)?;
+    }
+    Ok(())
+}
+
+#[test]
+fn each_crash_leaves_a_prefix_of_packed_groups(rt: HostRuntime) -> Result<(), Fail> {
+    let alloc = rt.alloc();
+    for fail in 0..14 {
+        twenty_groups(&rt, alloc, fail, Log::packing(alloc, 1, 0, 1)?)?;
     }
     Ok(())
 }

@@ -32,7 +32,7 @@ fn append_one(alloc: Global, log: &mut Log, number: u8) -> Result<u64, NoMemory>
 /// Which LSN is flushed between the halves of a flush, after the second one, and after another flush. A group is appended
 /// between the halves.
 fn flushed_by_halves(alloc: Global, disk: &mut MemDisk) -> Result<[u64; 3], Fail> {
-    let mut log = Log::new(alloc, 1, 0, 1)?;
+    let mut log = Log::packing(alloc, 1, 0, 1)?;
     append_one(alloc, &mut log, 1)?;
     append_one(alloc, &mut log, 2)?;
     let written = log.begin_flush(disk)?;

@@ -11,4 +11,6 @@ mod halves;
 #[cfg(test)]
 mod mounts;
 #[cfg(test)]
+mod packing;
+#[cfg(test)]
 mod placed_pages;

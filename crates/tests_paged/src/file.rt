@@ -44,7 +44,7 @@ pub fn disk_of(alloc: Global, written: u32, fail: Ids) -> Result<MemDisk, Fail> 
 
 /// Mini-transactions over a disk.
 pub fn begin(alloc: Global, disk: MemDisk, frames: u32) -> Result<PagedTxn<MemDisk>, Fail> {
-    let log = Log::new(alloc, 1, 0, 1);
+    let log = Log::packing(alloc, 1, 0, 1);
     let room = Room::new(alloc, PAGES, frames);
     match (log, room) {
         (Ok(log), Ok(room)) => Ok(PagedTxn::new(room, log, disk)),

@@ -82,7 +82,7 @@ fn flush_all(
 ) -> Result<Result<u8, Failed>, Fail> {
     place_old(disk)?;
     let mut pool = pool_of_pages(rt, alloc, disk)?;
-    let mut log = Log::new(alloc, 1, 0, 1)?;
+    let mut log = Log::packing(alloc, 1, 0, 1)?;
     let mut flusher = Flusher::new(alloc)?;
     assert_eq!(rt; flusher.step(&mut pool, &mut log, disk), Ok(Worked::Idle));
     for page in 0..PAGES {

@@ -152,7 +152,7 @@ fn committed_and_seen(
 
 #[test]
 fn puts_stand_at_once_with_one_group(rt: HostRuntime) -> Result<(), Fail> {
-    let mut m = mini_txn(&rt, rt.alloc(), Log::new(rt.alloc(), 1, 0, 1)?)?;
+    let mut m = mini_txn(&rt, rt.alloc(), Log::packing(rt.alloc(), 1, 0, 1)?)?;
     let found = committed_and_seen(&rt, &mut m);
     let groups = groups_of(rt.alloc(), m);
     let (before, after, seen) = found?;
@@ -172,7 +172,7 @@ fn small_group(alloc: Global) -> Result<Group, Fail> {
 
 /// A log that has no numbers left for a group more.
 fn full_log(rt: &impl Abort, alloc: Global) -> Result<Log, Fail> {
-    let mut log = Log::new(alloc, 1, 0, u64::MAX - 2048)?;
+    let mut log = Log::packing(alloc, 1, 0, u64::MAX - 2048)?;
     let group = small_group(alloc)?;
     assert!(rt; group.fits());
     for _ in 0..2048 {
@@ -226,7 +226,7 @@ fn made(m: &mut MiniTxn) -> Result<([Result<u32, Visit>; 3], bool), Fail> {
 
 #[test]
 fn a_new_page_stands_once_committed(rt: HostRuntime) -> Result<(), Fail> {
-    let mut m = mini_txn(&rt, rt.alloc(), Log::new(rt.alloc(), 1, 0, 1)?)?;
+    let mut m = mini_txn(&rt, rt.alloc(), Log::packing(rt.alloc(), 1, 0, 1)?)?;
     let found = made(&mut m);
     drop(m);
     let (seen, is_pooled) = found?;

@@ -175,7 +175,7 @@ fn end_run(
 fn work(rt: &impl Abort, alloc: Global, disk: &mut MemDisk) -> Result<Vec<(Run, u64)>, Fail> {
     place_first(disk)?;
     let mut pool = pool_of_pages(rt, alloc, disk)?;
-    let mut log = Log::new(alloc, 1, 0, 1)?;
+    let mut log = Log::packing(alloc, 1, 0, 1)?;
     let mut numbers = NewRun { run: 1, first: 1 };
     let mut runs = Vec::new(alloc);
     for _ in 0..3 {

@@ -140,7 +140,7 @@ fn recovered(alloc: Global, pages: &Pages) -> Result<Vec<u8>, Fail> {
 fn work(rt: &impl Abort, alloc: Global, disk: &mut MemDisk) -> Result<Vec<Vec<u8>>, Fail> {
     place_first(disk)?;
     let mut pool = pool_of_pages(rt, alloc, disk)?;
-    let mut log = Log::new(alloc, 1, 0, 1)?;
+    let mut log = Log::packing(alloc, 1, 0, 1)?;
     let mut flusher = Flusher::new(alloc)?;
     let mut after = Vec::new(alloc);
     after.push(pooled(alloc, &pool)?)?;

@@ -42,6 +42,7 @@ returns-clause-stands g c = λ first groups double pages known.
       block = i.block + w.count;
       pending = l;
       count = i.count - w.count;
+      tried = i.tried - w.count;
       next = i.next;
       flushed = w.last;
       spare = spare;

@@ -1,7 +1,7 @@
 use Rattle.std.proofs.Common.{◌+◌}
 use Rattle.redo_log.specs.View.{spare_of}
 use Rattle.redo_log.proofs.Begun.{begun}
-use Rattle.redo_log.proofs.log.Log.new.Goals as goal
+use Rattle.redo_log.proofs.log.Log.with_packing.Goals as goal
 
 pub returns-clause-stands : goal.returns-clause-stands
 returns-clause-stands c = λ scan_first groups area number goes_on.
