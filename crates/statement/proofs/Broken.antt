@@ -4,6 +4,8 @@ use Rattle.std.proofs.lemmas.Bool.{false≢true}
 use Rattle.inno_types.specs.declared.stmt.Stmt.{Stmt}
 use Rattle.inno_types.specs.declared.stmt.Stmt.TheVariants as stmt
 use Rattle.inno_db.specs.declared.change.Change.{Change}
+use Rattle.inno_db.specs.declared.outcome.Outcome.{Outcome}
+use Rattle.inno_db.specs.Database.{Database}
 use Rattle.inno_db.specs.Outcome.{outcome}
 use Rattle.inno_model.specs.declared.event.Event.{Event}
 use Rattle.inno_model.specs.Past.{of_item, did, begins_txn, IsOpen}
@@ -25,7 +27,8 @@ use Rattle.read_statement.specs.Running as of_read
 use Rattle.read_statement.proofs.Items.{none_closed, turn_goes_on}
 use Rattle.write_statement.specs.declared.machine.WriteStatement.{WriteStatement}
 use Rattle.write_statement.specs.declared.machine.WriteStatement.TheVariants as writings
-use Rattle.write_statement.specs.declared.machine.Work.{Work}
+use Rattle.write_statement.specs.declared.machine.Part.{Part}
+use Rattle.write_statement.specs.Parts.{of_part, of_rest}
 use Rattle.write_statement.specs.Running as of_write
 use Rattle.write_statement.proofs.Writing.{sees_base}
 use Rattle.write_statement.proofs.GivingUp.{changing_no_memory}
@@ -127,20 +130,20 @@ replied s past statement takes writes was-open count made =
       }),
     )
 
-changing : (state : State) (s : ℕ) (work : Work) (todo : List Change) → of_write.IsChanging state.past state.writer s work todo
-    → MadeSome Spells s state.past
-changing state s work todo c =
-    let back = changing_no_memory state.past state.writer s work todo c in
+changing : (state : State) (s : ℕ) (part : Part) (next : Database → Outcome) (todo : List Change)
+    → of_write.IsChanging state.past state.writer s part next todo → MadeSome Spells s state.past
+changing state s part next todo c =
+    let back = changing_no_memory state.past state.writer s part next todo c in
     replied s state.past back.statement back.working.takes back.working.writes back.reply.was_open back.reply.count back.reply.made
 
 pub of_writings : (state : State) (s : ℕ) (m : WriteStatement) → of_write.IsRunning state s m → MadeSome Spells s state.past
 of_writings state s (writings.Fresh statement) r = inl (none_yet s state.past r.0.nothing)
 of_writings state s writings.Unopened r = inl (none_yet s state.past r.0.taken.nothing)
 of_writings state s (writings.Locking statement alone) r = early s state.past statement alone r.0
-of_writings state s (writings.Searching search) r = early s state.past search.stmt search.alone r.reading.early
-of_writings state s (writings.Changing work todo) r = changing state s work todo.items r.0
-of_writings state s (writings.Making work todo rows) r = changing state s work (todo.items ++ r.change ∷ []) r.changing
-of_writings state s (writings.Finishing work todo) r = changing state s work todo.items r.changing
+of_writings state s (writings.Searching part) r = changing state s part (of_part part) [] r.reading.changing
+of_writings state s (writings.Changing part todo) r = changing state s part (of_rest part) todo.items r.0
+of_writings state s (writings.Making part todo rows) r = changing state s part (of_rest part) (todo.items ++ r.change ∷ []) r.changing
+of_writings state s (writings.Finishing part todo) r = changing state s part (of_rest part) todo.items r.changing
 of_writings state s (writings.BackingOut work) r =
     replied s state.past r.0.statement r.0.working.takes r.0.working.writes r.0.reply.was_open r.0.reply.count r.0.reply.made
 of_writings state s (writings.Unacked kept given) r =

@@ -120,10 +120,11 @@ writing_intends_none s old new (writings.Fresh statement) after r nears none =
     intends_none s old statement r.0.takes.asks (writing_makes_none statement r.1) none
 writing_intends_none s old new writings.Unopened after r nears none = absurd (below_none (to_write.to_go s new after) nears)
 writing_intends_none s old new (writings.Locking statement alone) after r nears none = works_none s old statement alone r.0.working none
-writing_intends_none s old new (writings.Searching search) after r nears none = works_none s old search.stmt search.alone r.reading.early.working none
-writing_intends_none s old new (writings.Changing work todo) after r nears none = works_none s old r.0.statement work.alone r.0.working none
-writing_intends_none s old new (writings.Making work todo rows) after r nears none = works_none s old r.changing.statement work.alone r.changing.working none
-writing_intends_none s old new (writings.Finishing work todo) after r nears none = works_none s old r.changing.statement work.alone r.changing.working none
+writing_intends_none s old new (writings.Searching part) after r nears none =
+    works_none s old r.reading.changing.statement part.alone r.reading.changing.working none
+writing_intends_none s old new (writings.Changing part todo) after r nears none = works_none s old r.0.statement part.alone r.0.working none
+writing_intends_none s old new (writings.Making part todo rows) after r nears none = works_none s old r.changing.statement part.alone r.changing.working none
+writing_intends_none s old new (writings.Finishing part todo) after r nears none = works_none s old r.changing.statement part.alone r.changing.working none
 writing_intends_none s old new (writings.BackingOut work) after r nears none = works_none s old r.0.statement work.alone r.0.working none
 writing_intends_none s old new (writings.Unacked kept given) after r nears none =
     intends_none s old r.0.statement r.0.takes.asks (writing_makes_none r.0.statement r.0.writes) none

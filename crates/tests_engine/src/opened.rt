@@ -15,7 +15,7 @@ use std::test::Fail;
 use store_api::NoMemory;
 
 /// What the only session asks, and what it is answered: it reads by a view, takes its changes back, and commits one in the end.
-const ASKED: [(&str, Answer); 13] = [
+const ASKED: [(&str, Answer); 19] = [
     (
         "SELECT * FROM t",
         Answer::Rows {
@@ -48,6 +48,10 @@ const ASKED: [(&str, Answer); 13] = [
         },
     ),
     ("INSERT INTO t VALUES (5, 1)", Answer::Refused(1062)),
+    (
+        "INSERT INTO t VALUES (-1000, 1), (1000, 2), (5, 3)",
+        Answer::Refused(1062),
+    ),
     ("DELETE FROM u WHERE i < 10", Answer::Count(10)),
     ("ROLLBACK", Answer::Done),
     (
@@ -64,6 +68,29 @@ const ASKED: [(&str, Answer); 13] = [
             count: 100,
             sum: 701,
         },
+    ),
+    (
+        "INSERT INTO t VALUES (1005, 1), (1001, 2), (1005, 3)",
+        Answer::Refused(1062),
+    ),
+    (
+        "SELECT * FROM t",
+        Answer::Rows {
+            count: 200,
+            sum: 900,
+        },
+    ),
+    (
+        "INSERT INTO t VALUES (9000000000000, 1), (-9000000000000, 2), (1001, 4)",
+        Answer::Count(3),
+    ),
+    (
+        "SELECT * FROM t WHERE i < 0 OR i > 1000",
+        Answer::Rows { count: 3, sum: 7 },
+    ),
+    (
+        "INSERT INTO t VALUES (2000, 1), (2001)",
+        Answer::Refused(1136),
     ),
 ];
 

@@ -12,7 +12,8 @@ use Rattle.inno_db.specs.declared.change.Change.{Change}
 use Rattle.inno_db.specs.declared.change.Change.TheVariants.{Create, Put, Remove}
 use Rattle.inno_db.specs.Database.{Database, Place}
 use Rattle.inno_db.specs.Outcome.{outcome}
-use Rattle.inno_db.specs.Changes.{Spares}
+use Rattle.inno_db.specs.Changes.{Spares, apply}
+use Rattle.inno_db.specs.declared.outcome.Outcome.{Outcome}
 use Rattle.inno_model.specs.declared.event.Event.{Event}
 use Rattle.inno_model.specs.declared.event.Event.TheVariants as events
 use Rattle.inno_model.specs.Past.{own}
@@ -28,7 +29,8 @@ use Rattle.law_stored_rows.proofs.Spelled.{spelled-Has64Bits}
 use Rattle.law_found_rows.proofs.FittingDatabases.{latest_coded, statement_fits}
 use Rattle.shared_lists.specs.Fitting.{FitsWell, FitsThen}
 use Rattle.sql_lists.specs.Kept.{IsInOrder}
-use Rattle.write_statement.specs.declared.machine.Work.{Work}
+use Rattle.write_statement.specs.declared.machine.Part.{Part}
+use Rattle.write_statement.specs.Parts.{IsCut, GoesOnWith, behind}
 use Rattle.write_statement.specs.Running.{IsChanging}
 use Rattle.write_statement.proofs.Writing.{of_writing}
 use Rattle.write_statement.proofs.Own.{did_same, over_same, working_own}
@@ -95,16 +97,25 @@ no_table_more t (Create schema) h of-row = absurd of-row
 no_table_more t (Put table row) h of-row = refl
 no_table_more t (Remove table key) h of-row = refl
 
-module _ (past : List Event) (writer : Option ℕ) (s : ℕ) (work : Work) (todo : List Change) (change : Change)
-    (r : IsChanging past writer s work (todo ++ change ∷ [])) where
-  pub parts_are : (outcome r.statement (base s past)).changes ≡ r.made ++ change ∷ reverse todo
-  parts_are = r.parts ∙ ap (λ later. r.made ++ later) (next_first todo change)
+module _ (past : List Event) (writer : Option ℕ) (s : ℕ) (part : Part) (next : Database → Outcome) (todo : List Change) (change : Change)
+    (r : IsChanging past writer s part next (todo ++ change ∷ [])) where
+  -- what comes behind it
+  abbrev behind_it : List Change
+  behind_it = reverse todo ++ (next (apply (base s past) (r.made ++ reverse (todo ++ change ∷ [])))).changes
+
+  pub parts_are : (later : List Change) × ((outcome r.statement (base s past)).changes ≡ r.made ++ change ∷ later)
+  parts_are =
+      let more : List Change = (next (apply (base s past) (r.made ++ reverse (todo ++ change ∷ [])))).changes in (
+        behind_it,
+        r.goes.changes
+            ∙ (append_assoc r.made (reverse (todo ++ change ∷ [])) more ∙ ap (λ (xs : List Change). r.made ++ (xs ++ more)) (next_first todo change)),
+      )
 
   pub tabled : IsTabled (length (created past)) change
   tabled =
       subst (λ (schemas : List Schema). IsTabled (length schemas) change) (sym r.tables)
-      (tabled_of (base s past) (outcome r.statement (base s past)).changes r.made change (reverse todo) (outcome-AreApplicable r.statement (base s past))
-      parts_are)
+      (tabled_of (base s past) (outcome r.statement (base s past)).changes r.made change parts_are.0 (outcome-AreApplicable r.statement (base s past))
+      parts_are.1)
 
   pub may_change : rows_kept (events.Changed s change ∷ past) ≤ most_rows → MayChange Spells s change past
   may_change within =
@@ -123,10 +134,10 @@ module _ (past : List Event) (writer : Option ℕ) (s : ℕ) (work : Work) (todo
   fits then ordered in-order =
       let coded = latest_coded past s (reverse r.made) then ordered in-order r.own_is r.tables in
       let stores = spelled-Has64Bits r.working.takes.asks.0 r.statement r.working.takes.asks.2 in
-      let all : All (FitsWell (base s past).schemas) (r.made ++ change ∷ reverse todo) =
-      subst (All (FitsWell (base s past).schemas)) parts_are (statement_fits r.statement (base s past) coded stores) in
+      let all : All (FitsWell (base s past).schemas) (r.made ++ change ∷ parts_are.0) =
+      subst (All (FitsWell (base s past).schemas)) parts_are.1 (statement_fits r.statement (base s past) coded stores) in
       subst (λ (schemas : List Schema). FitsWell schemas change) (sym r.tables)
-      (All-head (FitsWell (base s past).schemas) change (reverse todo) (All-behind (FitsWell (base s past).schemas) r.made (change ∷ reverse todo) all))
+      (All-head (FitsWell (base s past).schemas) change parts_are.0 (All-behind (FitsWell (base s past).schemas) r.made (change ∷ parts_are.0) all))
 
   -- the history tells it
   module _ (of-row : IsOfRow change) where
@@ -142,8 +153,8 @@ module _ (past : List Event) (writer : Option ℕ) (s : ℕ) (work : Work) (todo
     others_none : (other : ℕ) → other ≢ s → own other after ≡ []
     others_none other ne = grind (arith, nat_tests, ne, r.right.alone other ne)
 
-    made_parts : (outcome r.statement (base s past)).changes ≡ (r.made ++ change ∷ []) ++ reverse todo
-    made_parts = parts_are ∙ sym (append_assoc r.made (change ∷ []) (reverse todo))
+    told_next : r.made ++ reverse (todo ++ change ∷ []) ≡ (r.made ++ change ∷ []) ++ reverse todo
+    told_next = ap (λ (xs : List Change). r.made ++ xs) (next_first todo change) ∙ sym (append_assoc r.made (change ∷ []) (reverse todo))
 
     made_own : own s after ≡ reverse (r.made ++ change ∷ []) ++ own_before s after
     made_own = own_now ∙ (ap (λ changes. change ∷ changes) r.own_is ∙ ap (λ changes. changes ++ own_before s past) (sym (one_more_made r.made change)))
@@ -151,11 +162,11 @@ module _ (past : List Event) (writer : Option ℕ) (s : ℕ) (work : Work) (todo
     rows_alone : AllByRecursion IsOfRow (own s after)
     rows_alone = subst (AllByRecursion IsOfRow) (sym own_now) (of-row, r.working.rows_alone)
 
-    pub changing_then : IsChanging after writer s work todo
+    pub changing_then : IsChanging after writer s part next todo
     changing_then =
         record {
           statement = r.statement;
-          working = working_own (events.Changed s change) past s mine refl refl refl refl refl refl rows_alone r.statement work.alone r.working;
+          working = working_own (events.Changed s change) past s mine refl refl refl refl refl refl rows_alone r.statement part.alone r.working;
           goes_on =
               record {
                 not_over = over_same (events.Changed s change) past s mine refl refl refl ∙ r.goes_on.not_over;
@@ -164,18 +175,16 @@ module _ (past : List Event) (writer : Option ℕ) (s : ℕ) (work : Work) (todo
               };
           right = record { locked = r.right.locked; alone = others_none };
           before_is = r.before_is;
-          same = r.same;
-          plain = r.plain;
-          accepted = r.accepted;
-          answer = r.answer;
           tables = no_table_more s change past of-row ∙ r.tables;
+          writes = r.writes;
+          cut = subst (λ (schemas : List Schema). IsCut schemas part.stmt (behind part)) (sym (no_table_more s change past of-row)) r.cut;
           made = r.made ++ change ∷ [];
-          parts = made_parts;
           own_is = made_own;
+          goes = subst (λ (changes : List Change). GoesOnWith r.statement (base s past) changes next) told_next r.goes;
         }
 
     -- and it stands behind those that stood before the statement
-    pub stands_now : work.before < length (own s after)
+    pub stands_now : part.before < length (own s after)
     stands_now =
         let before : length (own_before s past) ≤ length (own s past) = omega (arith, ap length r.own_is, length-append (reverse r.made) (own_before s past)) in
         omega (arith, before, r.before_is, ap length own_now)

@@ -1,8 +1,8 @@
 -- A statement that is answered by a count ends, or commits its own transaction first.
-use Rattle.std.proofs.Common.{◌≡◌, ℕ, true, false, eqb, Some, None, List, [], ◌∷◌, ◌++◌, length, reverse, refl, sym, ap, subst, ◌∙◌, inl, inr, arith, Option}
+use Rattle.std.proofs.Common.{◌≡◌, ℕ, ◌-◌, ◌≤◌, Bool, true, false, eqb, Some, None, List, [], ◌∷◌, ◌++◌, length, reverse, refl, sym, ap, subst, ◌∙◌, inl, inr, arith, Option}
 use Rattle.std.proofs.lemmas.Bool.Decides.{nat_tests}
 use Rattle.std.proofs.lemmas.Bool.{false≢true}
-use Rattle.std.proofs.lemmas.List.{append-nil, take_all}
+use Rattle.std.proofs.lemmas.List.{length-append, length-reverse, take_all}
 use Rattle.std.specs.Prelude.{is_some, ◌&&◌, is_none}
 use Rattle.std.specs.List.{AllByRecursion}
 use Rattle.inno_types.specs.declared.reply.SqlError.{SqlError}
@@ -15,9 +15,8 @@ use Rattle.inno_model.specs.declared.event.Event.TheVariants as events
 use Rattle.inno_model.specs.Past.{before_item, of_item, begins_txn, commits_txn, rolls_back_txn, level, own, started, awaits_ack, IsClosed}
 use Rattle.sql_grammar.specs.Grammar.{Spells}
 use Rattle.sql_history.specs.Items.{own_before, base, point, HasMade, undoes}
-use Rattle.sql_history.specs.Settings.{Either}
 use Rattle.sql_history.specs.Answers.{MakesFor}
-use Rattle.sql_history.specs.Endings.{Commits, Goes, BacksOut}
+use Rattle.sql_history.specs.Endings.{Commits, Goes}
 use Rattle.sql_history.specs.Legal.{IsSettled, CommitsBy, MayCommit, is_alone}
 use Rattle.sql_history.specs.Waiting.{is_victim}
 use Rattle.law_past_agreement.specs.Order.{IsOfRow}
@@ -27,12 +26,10 @@ use Rattle.sql_lists.specs.Kept.{MayReply, OwesAck}
 use Rattle.sql_lists.specs.Going.{NearsAcked}
 use Rattle.sql_lists.specs.Steps.{Moves, GoesOnAcked}
 use Rattle.sql_lists.proofs.Staying.{point_now, point_stays}
-use Rattle.write_statement.specs.declared.machine.Work.{Work}
 use Rattle.write_statement.specs.declared.machine.WriteStatement.{WriteStatement}
 use Rattle.write_statement.specs.declared.machine.WriteStatement.TheVariants as machine
 use Rattle.write_statement.specs.Going.{to_go}
-use Rattle.write_statement.specs.Settling.{IsPlain}
-use Rattle.write_statement.specs.Running.{InTxn, IsChanging, is_count, is_refusal, MayAnswer, HasReply, IsClosing, IsRunning, owes_ack, acked}
+use Rattle.write_statement.specs.Running.{InTxn, IsMade, HasReply, IsClosing, IsRunning, owes_ack, acked}
 use Rattle.write_statement.proofs.Writing.{of_writing, some_of, sees_base}
 use Rattle.sql_lists.proofs.Moving.{moves_closes, below_phase}
 use Rattle.write_statement.proofs.Replies.{reply_stays}
@@ -40,24 +37,31 @@ use Rattle.write_statement.proofs.Ends.{rolls_back_on, txn_ends_on}
 use Rattle.write_statement.proofs.Own.{acked_of, did_same, did_now, over_now, over_still, entries_are, some_on, takes_own, reply_closed}
 use Rattle.write_statement.proofs.MayReply.{may_reply, not_done}
 
-count_of : (kept : Reply) → IsPlain kept → is_refusal kept ≡ false → (n : ℕ) × (kept ≡ replies.Count n)
-count_of (replies.Count n) plain is = (n, refl)
-count_of (replies.Fail error) plain is = absurd (false≢true (sym is))
-count_of other plain is = absurd plain
-
 makes_all : (s n : ℕ) (kept : Reply) (changes : List Change) (at : List Event) → kept ≡ replies.Count n → HasMade (length changes) s changes at
     → MakesFor kept s changes at
 makes_all s n kept changes at is made = subst (λ (reply : Reply). MakesFor reply s changes at) (sym is) made
 
-never_refused : (n : ℕ) (kept : Reply) (error : SqlError) → kept ≡ replies.Count n → kept ≡ replies.Fail error → ⊥
-never_refused n kept error is refused = cc
+never_refused : (n : ℕ) (error : SqlError) → replies.Count n ≡ replies.Fail error → ⊥
+never_refused n error refused = cc
 
-module _ (h : List Event) (writer : Option ℕ) (s : ℕ) (work : Work) (r : IsChanging h writer s work []) (accepted : is_refusal work.kept ≡ false) where
+-- so many changes are made
+pub count_is : (h : List Event) (writer : Option ℕ) (s : ℕ) (alone : Bool) (before : ℕ) (r : IsMade h writer s alone before)
+    → length (own s h) - before ≡ length (outcome r.statement (base s h)).changes
+count_is h writer s alone before r =
+    let changes : List Change = (outcome r.statement (base s h)).changes in
+    omega (arith, ap length r.own_is, length-append (reverse changes) (own_before s h), length-reverse changes, r.before_is)
+
+pub not_fewer : (h : List Event) (writer : Option ℕ) (s : ℕ) (alone : Bool) (before : ℕ) (r : IsMade h writer s alone before) → before ≤ length (own s h)
+not_fewer h writer s alone before r =
+    omega (arith, ap length r.own_is, length-append (reverse (outcome r.statement (base s h)).changes) (own_before s h), r.before_is)
+
+module _ (h : List Event) (writer : Option ℕ) (s : ℕ) (alone : Bool) (before n : ℕ) (r : IsMade h writer s alone before)
+    (counts : n ≡ length (outcome r.statement (base s h)).changes) where
   mine : eqb s s ≡ true
   mine = grind (arith, nat_tests)
 
-  counted : (n : ℕ) × (work.kept ≡ replies.Count n)
-  counted = count_of work.kept r.plain accepted
+  abbrev kept : Reply
+  kept = replies.Count n
 
   now : point s h ≡ h
   now = point_now h s r.goes_on.not_over
@@ -65,38 +69,27 @@ module _ (h : List Event) (writer : Option ℕ) (s : ℕ) (work : Work) (r : IsC
   abbrev changes : List Change
   changes = (outcome r.statement (base s h)).changes
 
-  all_made : r.made ≡ changes
-  all_made = sym (r.parts ∙ append-nil r.made)
-
   made_now : HasMade (length changes) s changes h
-  made_now = r.own_is ∙ ap (λ (xs : List Change). reverse xs ++ own_before s h) (all_made ∙ sym (take_all (length changes) changes (omega arith)))
+  made_now = r.own_is ∙ ap (λ (xs : List Change). reverse xs ++ own_before s h) (sym (take_all (length changes) changes (omega arith)))
 
   made_then : HasMade (length (outcome r.statement (base s (point s h))).changes) s (outcome r.statement (base s (point s h))).changes (point s h)
   made_then = subst (λ p. HasMade (length (outcome r.statement (base s p)).changes) s (outcome r.statement (base s p)).changes p) (sym now) made_now
 
-  answer_then : work.kept ≡ (outcome r.statement (base s (point s h))).reply
-  answer_then = r.answer ∙ ap (λ p. (outcome r.statement (base s p)).reply) (sym now)
+  answer_then : kept ≡ (outcome r.statement (base s (point s h))).reply
+  answer_then = ap replies.Count counts ∙ (sym r.answer ∙ ap (λ p. (outcome r.statement (base s p)).reply) (sym now))
 
-  answers_then : MayAnswer s r.statement (length (outcome r.statement (base s (point s h))).changes) work.kept h
-  answers_then =
-      subst (λ (kept : Reply). MayAnswer s r.statement (length (outcome r.statement (base s (point s h))).changes) kept h) (sym counted.1)
-      (sym counted.1 ∙ answer_then, refl)
-
-  reply : HasReply s r.statement work.kept h
+  reply : HasReply s r.statement kept h
   reply =
       record {
         was_open = ap (λ p. is_some (level s p)) now ∙ r.working.is_open;
         count = length (outcome r.statement (base s (point s h))).changes;
         made = made_then;
-        answers = answers_then;
+        answers = (answer_then, refl);
       }
-
-  is_counted : is_count work.kept ≡ true
-  is_counted = ap is_count counted.1
 
   -- ---- in a transaction that stays open
 
-  module _ (not-own : work.alone ≡ false) where
+  module _ (not-own : alone ≡ false) where
     txn_open : InTxn false r.working.takes.setting s h
     txn_open = subst (λ alone. InTxn alone r.working.takes.setting s h) not-own r.working.in_txn
 
@@ -125,16 +118,14 @@ module _ (h : List Event) (writer : Option ℕ) (s : ℕ) (work : Work) (r : IsC
           (subst (λ autocommit. Goes None autocommit s h) (sym opened.1) here)
     ]
 
-    pub may_end : MayReply s work.kept h
+    pub may_end : MayReply s kept h
     may_end =
-        may_reply s r.statement h r.working.takes r.working.writes r.working.no_victim work.kept reply
-        (subst (λ b. Either b (Goes (level s (before_item s h)) r.working.takes.setting.autocommit s h)
-        (BacksOut (level s (before_item s h)) r.working.takes.setting.autocommit s h)) (sym is_counted) goes_open)
-        (λ no-count. absurd (false≢true (sym no-count ∙ is_counted))) (acked_of (of_item s h) r.working.not_committed)
+        may_reply s r.statement h r.working.takes r.working.writes r.working.no_victim kept reply
+        goes_open (λ no-count. absurd (false≢true (sym no-count))) (acked_of (of_item s h) r.working.not_committed)
 
   -- ---- in one of its own
 
-  module _ (its-own : work.alone ≡ true) where
+  module _ (its-own : alone ≡ true) where
     txn : InTxn true r.working.takes.setting s h
     txn = subst (λ alone. InTxn alone r.working.takes.setting s h) its-own r.working.in_txn
 
@@ -149,14 +140,14 @@ module _ (h : List Event) (writer : Option ℕ) (s : ℕ) (work : Work) (r : IsC
           not_over = r.goes_on.not_over;
           l = l.0;
           level_is = l.1;
-          reply = work.kept;
+          reply = kept;
           answers = record {
             db = base s (point s h);
             sees = sees_base l.0 s r.working.takes.setting h (point s h) reply.was_open r.statement r.working.writes;
             answer = answer_then;
-            changes = makes_all s counted.0 work.kept (outcome r.statement (base s (point s h))).changes (point s h) counted.1 made_then;
+            changes = makes_all s n kept (outcome r.statement (base s (point s h))).changes (point s h) refl made_then;
           };
-          not_refused = λ error is. never_refused counted.0 work.kept error counted.1 is;
+          not_refused = λ error is. never_refused n error is;
         }
 
     commits_by : CommitsBy s r.working.takes.setting r.statement h
@@ -190,34 +181,33 @@ module _ (h : List Event) (writer : Option ℕ) (s : ℕ) (work : Work) (r : IsC
         subst (λ l. Goes l r.working.takes.setting.autocommit s after) (sym txn.0.was_closed)
         (subst (λ autocommit. Goes None autocommit s after) (sym txn.1) here)
 
-    closing : IsClosing s work.kept work.given after
+    closing : IsClosing s kept kept after
     closing =
         record {
-          same = r.same;
+          same = refl;
           statement = r.statement;
           takes = takes_own (events.Committed s) h s mine refl refl r.statement r.working.takes;
           writes = r.working.writes;
           over = over_now (events.Committed s) h s mine refl refl refl;
           no_victim = did_same (events.Committed s) h s mine refl refl is_victim refl ∙ r.working.no_victim;
           rows_alone = (let none : own s after ≡ [] = rw mine refl in subst (AllByRecursion IsOfRow) (sym none) tt);
-          reply = reply_closed (events.Committed s) h s mine refl refl refl r.statement work.kept reply;
-          ends =
-              subst (λ b. Either b (Goes (level s (before_item s after)) r.working.takes.setting.autocommit s after)
-              (BacksOut (level s (before_item s after)) r.working.takes.setting.autocommit s after)) (sym is_counted) goes;
-          leaves = λ no-count. absurd (false≢true (sym no-count ∙ is_counted));
+          reply = reply_closed (events.Committed s) h s mine refl refl refl r.statement kept reply;
+          ends = goes;
+          leaves = λ no-count. absurd (false≢true (sym no-count));
         }
 
-    pub closing_then : IsClosing s work.kept work.given after × (awaits_ack (of_item s after) ≡ true) × IsClosed s after
+    pub closing_then : IsClosing s kept kept after × (awaits_ack (of_item s after) ≡ true) × IsClosed s after
     closing_then = (closing, ap awaits_ack (entries_are (events.Committed s) h s mine refl refl), commits.closed)
 
-pub committed : (old new : State) (s : ℕ) (work : Work) (r : IsChanging old.past old.writer s work []) (accepted : is_refusal work.kept ≡ false)
-    (its-own : work.alone ≡ true) → task_of s old ≡ Idle → Closes (events.Committed s) s old new
-    → Moves s old new × (IsClosing s work.kept work.given new.past × (awaits_ack (of_item s new.past) ≡ true) × IsClosed s new.past × (task_of s new ≡ Idle))
+pub committed : (old new : State) (s : ℕ) (alone : Bool) (before n : ℕ) (r : IsMade old.past old.writer s alone before)
+    → n ≡ length (outcome r.statement (base s old.past)).changes → alone ≡ true → task_of s old ≡ Idle → Closes (events.Committed s) s old new
+    → Moves s old new
+    × (IsClosing s (replies.Count n) (replies.Count n) new.past × (awaits_ack (of_item s new.past) ≡ true) × IsClosed s new.past × (task_of s new ≡ Idle))
     × (started s new.past ≡ started s old.past)
-committed old new s work r accepted its-own idle closes-it =
+committed old new s alone before n r counts its-own idle closes-it =
     let then =
-    subst (λ h. IsClosing s work.kept work.given h × (awaits_ack (of_item s h) ≡ true) × IsClosed s h) (sym closes-it.past_is)
-    (closing_then old.past old.writer s work r accepted its-own) in (
+    subst (λ h. IsClosing s (replies.Count n) (replies.Count n) h × (awaits_ack (of_item s h) ≡ true) × IsClosed s h) (sym closes-it.past_is)
+    (closing_then old.past old.writer s alone before n r counts its-own) in (
       moves_closes s (events.Committed s) old new (grind (arith, nat_tests)) refl refl closes-it,
       (then.0, then.1, then.2, closes-it.task_is ∙ idle),
       ap (started s) closes-it.past_is,
@@ -266,7 +256,7 @@ module _ (past : List Event) (s : ℕ) (kept given : Reply) (c : IsClosing s kep
   closing_not_done is = not_done s c.statement past kept c.reply is
 
 pub owes_it : (state : State) (s : ℕ) (m : WriteStatement) → owes_ack m ≡ true → IsRunning state s m → OwesAck s state.past
-owes_it state s (machine.Unacked kept given) owes r = record { owed = r.1; closed = r.2 }
+owes_it state s (machine.Unacked _ given) owes r = record { owed = r.1; closed = r.2 }
 owes_it state s m owes r = absurd (false≢true owes)
 
 pub goes_on_acked : (m : WriteStatement) → owes_ack m ≡ true → GoesOnAcked IsRunning m (acked m)

@@ -8,7 +8,8 @@ use Rattle.inno_model.specs.Past.{before_item, did, begins_txn, commits_txn, rol
 use Rattle.sql_history.specs.Items.{undoes}
 use Rattle.sql_history.specs.Settings.{Setting, Either}
 use Rattle.sql_history.specs.Endings.{StaysIn, Opens, Commits, RollsBack, Goes, BacksOut}
-use Rattle.write_statement.specs.Running.{EndsTxn, is_count}
+use Rattle.write_statement.specs.Settling.{is_count}
+use Rattle.write_statement.specs.Running.{EndsTxn}
 
 either_on : (b : Bool) (A B A' B' : Type 0) → (A → A') → (B → B') → Either b A B → Either b A' B'
 either_on true A B A' B' f g x = f x

@@ -19,39 +19,40 @@ use Rattle.sql_lists.specs.Steps.{Moves, Steps}
 use Rattle.sql_lists.specs.declared.advance.Advance.{Advance}
 use Rattle.sql_lists.specs.declared.advance.Advance.TheVariants as advance
 use Rattle.sql_lists.proofs.Moving.{moves_turns, moves_goes_on, moves_enters}
-use Rattle.write_statement.specs.declared.machine.Work.{Work}
+use Rattle.write_statement.specs.declared.machine.Part.{Part}
 use Rattle.write_statement.specs.declared.machine.WriteStatement.{WriteStatement}
 use Rattle.write_statement.specs.declared.machine.WriteStatement.TheVariants as machine
+use Rattle.write_statement.specs.Parts.{of_rest}
 use Rattle.write_statement.specs.Running.{IsChanging, IsMaking, IsFinishing, IsRunning, given_up}
 use Rattle.write_statement.proofs.Changes.{with_entry, tabled, may_change, changing_then, stands_now}
 use Rattle.write_statement.proofs.Turning.{changing_given_up}
 
 -- the change that is asked for may come
-pub may_make : (past : List Event) (writer : Option ℕ) (task : Task) (s : ℕ) (work : Work) (todo : List Change) (rows : ℕ)
-    → IsMaking past writer task s work todo rows → rows_kept past + rows ≤ most_rows
+pub may_make : (past : List Event) (writer : Option ℕ) (task : Task) (s : ℕ) (part : Part) (todo : List Change) (rows : ℕ)
+    → IsMaking past writer task s part todo rows → rows_kept past + rows ≤ most_rows
     → (change : Change) → asked task ≡ Some change → MayChange Spells s change past × IsTabled (length (created past)) change × IsOfRow change
-may_make past writer task s work todo rows r within change is =
+may_make past writer task s part todo rows r within change is =
     let same = same_Some r.change change (sym r.asked_is ∙ is) in
     subst (λ (x : Change). MayChange Spells s x past × IsTabled (length (created past)) x × IsOfRow x) same (
-      may_change past writer s work todo r.change r.changing (with_entry s rows r.change past r.rows_are within),
-      tabled past writer s work todo r.change
+      may_change past writer s part (of_rest part) todo r.change r.changing (with_entry s rows r.change past r.rows_are within),
+      tabled past writer s part (of_rest part) todo r.change
           r.changing,
       r.of_row,
     )
 
 -- the history tells it
-pub entered : (s : ℕ) (old new : State) (work : Work) (todo : List Change) (rows : ℕ) → IsMaking old.past old.writer (task_of s old) s work todo rows
+pub entered : (s : ℕ) (old new : State) (part : Part) (todo : List Change) (rows : ℕ) → IsMaking old.past old.writer (task_of s old) s part todo rows
     → Enters s old new
-    → Moves s old new × IsFinishing new.past new.writer (task_of s new) s work todo × (started s new.past ≡ started s old.past)
-entered s old new work todo rows r enters =
+    → Moves s old new × IsFinishing new.past new.writer (task_of s new) s part todo × (started s new.past ≡ started s old.past)
+entered s old new part todo rows r enters =
     let same : enters.change ≡ r.change = same_Some enters.change r.change (sym enters.asked_was ∙ r.asked_is) in
     let past-is : new.past ≡ events.Changed s r.change ∷ old.past = enters.now.past_is ∙ ap (λ x. events.Changed s x ∷ old.past) same in
-    let changing : IsChanging new.past new.writer s work todo =
-    subst (λ h. IsChanging h new.writer s work todo) (sym past-is)
-    (subst (λ w. IsChanging (events.Changed s r.change ∷ old.past) w s work todo) (sym enters.now.writer_is)
-    (changing_then old.past old.writer s work todo r.change r.changing r.of_row)) in
-    let stands : work.before < length (own s new.past) =
-    subst (λ (h : List Event). work.before < length (own s h)) (sym past-is) (stands_now old.past old.writer s work todo r.change r.changing r.of_row) in (
+    let changing : IsChanging new.past new.writer s part (of_rest part) todo =
+    subst (λ h. IsChanging h new.writer s part (of_rest part) todo) (sym past-is)
+    (subst (λ w. IsChanging (events.Changed s r.change ∷ old.past) w s part (of_rest part) todo) (sym enters.now.writer_is)
+    (changing_then old.past old.writer s part (of_rest part) todo r.change r.changing r.of_row)) in
+    let stands : part.before < length (own s new.past) =
+    subst (λ (h : List Event). part.before < length (own s h)) (sym past-is) (stands_now old.past old.writer s part (of_rest part) todo r.change r.changing r.of_row) in (
       moves_enters s old new r.changing.right.locked enters,
       record
           { changing = changing; under_way = enters.still; told = enters.asked_is; stands = stands },
@@ -59,13 +60,13 @@ entered s old new work todo rows r enters =
     )
 
 -- it comes a step nearer, before the history tells it
-pub making_went : (s : ℕ) (old new : State) (work : Work) (todo : Vec Change Global) (rows : ℕ)
-    → IsMaking old.past old.writer (task_of s old) s work todo.items rows → GoesOn s old new
-    → Steps IsRunning s old new (machine.Making work todo rows) advance.Went
-making_went s old new work todo rows r goes =
-    let there : IsChanging new.past new.writer s work (todo.items ++ r.change ∷ []) =
-    subst (λ h. IsChanging h new.writer s work (todo.items ++ r.change ∷ [])) (sym goes.turns.past_is)
-    (subst (λ w. IsChanging old.past w s work (todo.items ++ r.change ∷ [])) (sym goes.turns.writer_is) r.changing) in (
+pub making_went : (s : ℕ) (old new : State) (part : Part) (todo : Vec Change Global) (rows : ℕ)
+    → IsMaking old.past old.writer (task_of s old) s part todo.items rows → GoesOn s old new
+    → Steps IsRunning s old new (machine.Making part todo rows) advance.Went
+making_went s old new part todo rows r goes =
+    let there : IsChanging new.past new.writer s part (of_rest part) (todo.items ++ r.change ∷ []) =
+    subst (λ h. IsChanging h new.writer s part (of_rest part) (todo.items ++ r.change ∷ [])) (sym goes.turns.past_is)
+    (subst (λ w. IsChanging old.past w s part (of_rest part) (todo.items ++ r.change ∷ [])) (sym goes.turns.writer_is) r.changing) in (
       moves_goes_on s old new goes,
       record {
         change = r.change;
@@ -78,21 +79,21 @@ making_went s old new work todo rows r goes =
       ap (started s) goes.turns.past_is,
     )
 
-module _ (s : ℕ) (old new : State) (work : Work) (todo : Vec Change Global) (r : IsFinishing old.past old.writer (task_of s old) s work todo.items) where
-  changing_on : new.past ≡ old.past → new.writer ≡ old.writer → IsChanging new.past new.writer s work todo.items
+module _ (s : ℕ) (old new : State) (part : Part) (todo : Vec Change Global) (r : IsFinishing old.past old.writer (task_of s old) s part todo.items) where
+  changing_on : new.past ≡ old.past → new.writer ≡ old.writer → IsChanging new.past new.writer s part (of_rest part) todo.items
   changing_on same-past same-writer =
-      subst (λ h. IsChanging h new.writer s work todo.items) (sym same-past)
-      (subst (λ w. IsChanging old.past w s work todo.items) (sym same-writer) r.changing)
+      subst (λ h. IsChanging h new.writer s part (of_rest part) todo.items) (sym same-past)
+      (subst (λ w. IsChanging old.past w s part (of_rest part) todo.items) (sym same-writer) r.changing)
 
   -- and behind that
-  finishing_on : GoesOn s old new → Steps IsRunning s old new (machine.Finishing work todo) advance.Went
+  finishing_on : GoesOn s old new → Steps IsRunning s old new (machine.Finishing part todo) advance.Went
   finishing_on goes = (
     moves_goes_on s old new goes,
     record {
       changing = changing_on goes.turns.past_is goes.turns.writer_is;
       under_way = goes.still;
       told = goes.asked_is ∙ r.told;
-      stands = subst (λ (h : List Event). work.before < length (own s h)) (sym goes.turns.past_is) r.stands;
+      stands = subst (λ (h : List Event). part.before < length (own s h)) (sym goes.turns.past_is) r.stands;
     },
     ap (started s) goes.turns.past_is,
   )
@@ -102,28 +103,28 @@ module _ (s : ℕ) (old new : State) (work : Work) (todo : Vec Change Global) (r
   told_once enters = (let x : None ≡ Some enters.change = sym r.told ∙ enters.asked_was in cc)
 
   pub finishing_went : (answer : Changed) → (answer ≡ made.Went) ⊎ (answer ≡ made.Entered) → Changes s old new answer
-      → Steps IsRunning s old new (machine.Finishing work todo) advance.Went
+      → Steps IsRunning s old new (machine.Finishing part todo) advance.Went
   finishing_went answer (inl went) changes = finishing_on (subst (Changes s old new) went changes)
   finishing_went answer (inr entered) changes = absurd (told_once (subst (Changes s old new) entered changes))
 
   -- the change is made
-  pub finishing_done : Turns s Idle old new → Steps IsRunning s old new (machine.Changing work todo) advance.Went
+  pub finishing_done : Turns s Idle old new → Steps IsRunning s old new (machine.Changing part todo) advance.Went
   finishing_done turns =
       (moves_turns s Idle old new turns, (changing_on turns.past_is turns.writer_is, turns.task_is), ap (started s) turns.past_is)
 
 -- ---- for want of memory
 
 -- what the history doesn't tell was never made
-pub making_given_up : (s : ℕ) (old new : State) (work : Work) (todo : List Change) (rows : ℕ) (m : WriteStatement) (a : Advance)
-    → IsMaking old.past old.writer (task_of s old) s work todo rows → Turns s (left_by (asked (task_of s old))) old new
-    → m ≡ machine.BackingOut (given_up work.alone work.before) → a ≡ advance.NoMemory → Steps IsRunning s old new m a
-making_given_up s old new work todo rows m a r turns state answer =
-    changing_given_up s old new (left_by (asked (task_of s old))) work (todo ++ r.change ∷ []) m a r.changing turns (inl (ap left_by r.asked_is)) state answer
+pub making_given_up : (s : ℕ) (old new : State) (part : Part) (todo : List Change) (rows : ℕ) (m : WriteStatement) (a : Advance)
+    → IsMaking old.past old.writer (task_of s old) s part todo rows → Turns s (left_by (asked (task_of s old))) old new
+    → m ≡ machine.BackingOut (given_up part.alone part.before) → a ≡ advance.NoMemory → Steps IsRunning s old new m a
+making_given_up s old new part todo rows m a r turns state answer =
+    changing_given_up s old new (left_by (asked (task_of s old))) part (of_rest part) (todo ++ r.change ∷ []) m a r.changing turns (inl (ap left_by r.asked_is)) state answer
 
 -- and what it tells is to be taken back
-pub finishing_given_up : (s : ℕ) (old new : State) (work : Work) (todo : List Change) (m : WriteStatement) (a : Advance)
-    → IsFinishing old.past old.writer (task_of s old) s work todo → Turns s (left_by (asked (task_of s old))) old new
-    → m ≡ machine.BackingOut (given_up work.alone work.before) → a ≡ advance.NoMemory → Steps IsRunning s old new m a
-finishing_given_up s old new work todo m a r turns state answer =
-    changing_given_up s old new (left_by (asked (task_of s old))) work todo m a r.changing turns
+pub finishing_given_up : (s : ℕ) (old new : State) (part : Part) (todo : List Change) (m : WriteStatement) (a : Advance)
+    → IsFinishing old.past old.writer (task_of s old) s part todo → Turns s (left_by (asked (task_of s old))) old new
+    → m ≡ machine.BackingOut (given_up part.alone part.before) → a ≡ advance.NoMemory → Steps IsRunning s old new m a
+finishing_given_up s old new part todo m a r turns state answer =
+    changing_given_up s old new (left_by (asked (task_of s old))) part (of_rest part) todo m a r.changing turns
     (inr (subst MayTakeBack (sym (ap left_by r.told)) tt, r.stands)) state answer

@@ -1,6 +1,7 @@
--- The rows that a search found are enough: the statement has the outcome that it has over the latest rows.
-use Rattle.std.proofs.Common.{◌≡◌, ℕ, ◌<◌, Bool, true, false, Option, Some, None, List, [], ◌∷◌, ◌++◌, length, refl, sym, ap, subst, ◌∙◌, arith}
+-- The rows that a search found are enough: a part has the outcome that it has over the latest rows with the session's own.
+use Rattle.std.proofs.Common.{◌≡◌, ℕ, ◌<◌, Bool, true, false, Option, Some, None, List, [], ◌∷◌, ◌++◌, length, reverse, refl, sym, ap, subst, ◌∙◌, arith}
 use Rattle.std.proofs.lemmas.List.{append-nil, append_assoc, length-append}
+use Rattle.std.proofs.lemmas.List.Elements.{All-nil, All-cons, All-head, All-tail, All-weaker}
 use Rattle.std.specs.FinMap.{insert, remove}
 use Rattle.std.specs.List.{list_all}
 use Rattle.std.specs.Prelude.{All, ◌&&◌, ◌==◌, not, filter, slice_get}
@@ -21,33 +22,39 @@ use Rattle.inno_db.specs.Names.{table_place}
 use Rattle.inno_db.specs.Outcome.{outcome, answer_to, unless_refused, counted, inserted, insert_answer, on_number, on_schema}
 use Rattle.inno_db.specs.Refusals.{refusal, refused_if, on_table, schema_at, schema_named, insert_refusal, update_refusal, delete_refusal, names_known, names_twice, width_of, leaves_out}
 use Rattle.inno_db.specs.Typing.{filter_fits, set_fits, set_known, tuple_fits, where_fits, where_known}
+use Rattle.inno_db.proofs.Keys.{IsKeyed}
 use Rattle.inno_db.proofs.Outcomes.{table_read}
 use Rattle.inno_model.specs.declared.event.Event.{Event}
-use Rattle.inno_model.specs.Past.{own, commits, committed, opening, changed}
+use Rattle.inno_model.specs.Past.{own, commits, opening, changed, current}
 use Rattle.law_past_agreement.specs.Order.{created, IsOrdered}
 use Rattle.law_past_agreement.specs.Rows.{seen}
 use Rattle.law_past_agreement.proofs.Tables.{key_stays}
 use Rattle.law_past_agreement.specs.DatabaseTables.{with_all_tables}
 use Rattle.sql_history.specs.Items.{own_before, base}
 use Rattle.sql_history.specs.Legal.{IsWriting}
-use Rattle.law_found_rows.proofs.FittingDatabases.{unchanged_coded}
+use Rattle.law_found_rows.proofs.FittingDatabases.{latest_coded}
+use Rattle.law_found_rows.proofs.FittingChanges.{own_fits}
 use Rattle.law_found_rows.specs.Plans.{SearchesFor, IsOpenRange}
 use Rattle.law_found_rows.proofs.Covered.{reads_enough, open_range}
 use Rattle.law_found_rows.proofs.Fits.{fitting_rows_fit}
 use Rattle.law_found_rows.proofs.Passing.{passing_map, rows_of-passing}
-use Rattle.shared_lists.specs.Fitting.{FitsThen}
+use Rattle.law_stored_rows.specs.Fitting.{FitsTables}
+use Rattle.law_stored_rows.specs.Numbers.{ChangeHas64Bits}
+use Rattle.law_stored_rows.proofs.Applying.{AreFitting-changed}
+use Rattle.law_stored_rows.proofs.Numbers.{changed-Has64Bits}
+use Rattle.law_stored_rows.proofs.Rows.{AreFitting-IsKeyed}
+use Rattle.shared_lists.specs.Fitting.{CanBeCoded, FitsWell, FitsThen}
 use Rattle.shared_lists.specs.State.{State}
 use Rattle.sql_plan.specs.declared.choice.Plan.{Plan}
 use Rattle.sql_plan.specs.Plans.{whole_index}
 use Rattle.inno_types.specs.Ranges.{is_within}
 use Rattle.sql_plan.specs.Visits.{index_key, IsRowOf}
 use Rattle.sql_lists.specs.Kept.{AreStanding, AreInOrder, IsInOrder, made}
-use Rattle.write_statement.specs.declared.machine.Search.{Search}
-use Rattle.write_statement.specs.declared.settling.Settled.{Settled}
+use Rattle.write_statement.specs.declared.machine.Part.{Part}
 use Rattle.sql_plan.specs.Planning.{Covers, HoldsKeys, HoldsMatches}
 use Rattle.sql_plan.proofs.Inserting.{other_keys}
-use Rattle.write_statement.specs.Running.{IsEarly, HasRight, IsFound, AreEnough, IsChanging, is_refusal}
-use Rattle.write_statement.specs.Settling.{IsSettledBy}
+use Rattle.write_statement.specs.Running.{IsFound, AreEnough, IsChanging}
+use Rattle.write_statement.proofs.PartByPart.{current_changed}
 
 -- ---- the same rows, whether later tables are there or not
 
@@ -84,27 +91,48 @@ module _ (db : Database) (tables : List Schema) where
       ∙ ap (λ (key : Value). insert (changed db earlier).rows (table, key) row) (key_same more earlier table row is in-order.0)
   rows_same more (Remove table key ∷ earlier) is in-order = ap (λ (rows : RowMap). remove rows (table, key)) (rows_same more earlier is in-order.1)
 
--- ---- the latest rows, before the statement changed any
+-- ---- the latest rows, with those that the session has changed
 
-module _ (past : List Event) (writer : Option ℕ) (s : ℕ) (right : HasRight s past writer) (unchanged : own s past ≡ own_before s past)
-    (stands : AreStanding past) where
-  base_seen : base s past ≡ changed (opening past) (seen past s (commits past))
-  base_seen = ap (λ changes. changed (opening past) (changes ++ committed (commits past) past)) (sym unchanged)
-
-  tables_now : created past ≡ (changed (opening past) (seen past s (commits past))).schemas
+module _ (past : List Event) (s : ℕ) (stands : AreStanding past) where
+  pub tables_now : created past ≡ (current s past).schemas
   tables_now = stands.tables s
 
-  tables_are : created past ≡ (base s past).schemas
-  tables_are = tables_now ∙ ap (λ (db : Database). db.schemas) (sym base_seen)
-
-  rows_are : IsInOrder past → (table : ℕ) → rows_of table (changed (with_all_tables past) (seen past s (commits past))) ≡ rows_of table (base s past)
+  rows_are : IsInOrder past → (table : ℕ) → rows_of table (changed (with_all_tables past) (seen past s (commits past))) ≡ rows_of table (current s past)
   rows_are in-order table =
       let is : created past ≡ ((opening past).schemas ++ made (seen past s (commits past))) ++ [] =
       tables_now ∙ (schemas_after (opening past) (seen past s (commits past)) ∙ sym
       (append-nil ((opening past).schemas ++ made (seen past s (commits past))))) in
       ap (λ (rows : RowMap). rows_of table (record { schemas = []; rows = rows }))
       (rows_same (opening past) (created past) [] (seen past s (commits past)) is (in-order s))
-      ∙ ap (λ (db : Database). rows_of table db) (sym base_seen)
+
+-- ---- they can be coded
+
+all_front : (P : Change → Type 0) (front later : List Change) → All P (front ++ later) → All P front
+all_front P [] later all = All-nil P
+all_front P (change ∷ front) later all =
+    All-cons P change front (All-head P change (front ++ later) all) (all_front P front later (All-tail P change (front ++ later) all))
+
+current_coded : (past : List Event) (s : ℕ) (later : List Change) → FitsThen past → IsOrdered past → IsInOrder past
+    → own s past ≡ later ++ own_before s past → created past ≡ (base s past).schemas → CanBeCoded (current s past)
+current_coded past s later fits ordered in-order parts tables =
+    let coded = latest_coded past s later fits ordered in-order parts tables in
+    let mine : All (FitsWell (created past)) (later ++ own_before s past) = subst (All (FitsWell (created past))) parts (own_fits past s fits ordered) in
+    let all : All (FitsWell (base s past).schemas) later =
+    subst (λ (schemas : List Schema). All (FitsWell schemas) later) tables (all_front (FitsWell (created past)) later (own_before s past) mine) in
+    subst CanBeCoded (sym (current_changed past s later parts)) (record {
+      fitting =
+          AreFitting-changed (base s past) later coded.fitting
+          (All-weaker (FitsWell (base s past).schemas) (FitsTables (base s past).schemas) (λ change both. both.0) later all);
+      numbers =
+          changed-Has64Bits (base s past) later coded.numbers
+          (All-weaker (FitsWell (base s past).schemas) ChangeHas64Bits (λ change both. both.1) later all);
+    })
+
+-- each row stands at its key
+pub current_keyed : (past : List Event) (writer : Option ℕ) (s : ℕ) (part : Part) (next : Database → Outcome) (todo : List Change)
+    → IsChanging past writer s part next todo → FitsThen past → IsOrdered past → IsInOrder past → IsKeyed (current s past)
+current_keyed past writer s part next todo r fits ordered in-order =
+    AreFitting-IsKeyed (current s past) (current_coded past s (reverse r.made) fits ordered in-order r.own_is r.tables).fitting
 
 -- ---- what a statement reads by its plan
 
@@ -219,24 +247,23 @@ same_number a b is = cc
 never : {P : Type 0} (n : ℕ) (o : Option ℕ) → o ≡ None → o ≡ Some n → P
 never n o none some = cc
 
-pub found_enough : (state : State) (s : ℕ) (search : Search) (rows : List (List Value)) → IsFound state s search rows → AreStanding state.past
-    → IsOrdered state.past → IsInOrder state.past → FitsThen state.past → AreEnough s search.stmt rows state.past
-found_enough state s search rows r stands ordered in-order fits =
+pub found_enough : (state : State) (s : ℕ) (part : Part) (rows : List (List Value)) → IsFound state s part rows → AreStanding state.past
+    → IsOrdered state.past → IsInOrder state.past → FitsThen state.past → AreEnough s part.stmt rows state.past
+found_enough state s part rows r stands ordered in-order fits =
     let past = state.past in
     let read = r.reading in
-    let same = read.early.unchanged in
-    let db = base s past in
-    let tables = tables_are past state.writer s read.right same stands in
-    let coded = unchanged_coded past s fits ordered in-order stands same in
+    let changing = read.changing in
+    let db = current s past in
+    let tables = tables_now past s stands in
+    let coded = current_coded past s (reverse changing.made) fits ordered in-order changing.own_is changing.tables in
     let there : slice_get db.schemas read.table ≡ Some read.schema = ap (λ schemas. slice_get schemas read.table) (sym tables) ∙ read.there in
-    let at : table_read db.schemas search.stmt ≡ Some read.table = ap (λ schemas. table_read schemas search.stmt) (sym tables) ∙ read.table_is in
+    let at : table_read db.schemas part.stmt ≡ Some read.table = ap (λ schemas. table_read schemas part.stmt) (sym tables) ∙ read.table_is in
     let fit = fitting_rows_fit db read.table read.schema coded.fitting coded.numbers there in
-    let known = same_outcome db read.table read.schema read.plan there fit search.stmt read.early.working.writes read.enough at in
+    let known = same_outcome db read.table read.schema read.plan there fit part.stmt changing.writes read.enough at in
     let passes : List Value → Bool = λ row. is_within read.plan.range (index_key read.schema read.plan.which row) in
     let rows-there : rows_of read.table (record db { rows = known.0 }) ≡ rows = known.1 ∙
-    (ap (filter passes) (sym (rows_are past state.writer s read.right same stands in-order read.table)) ∙ sym (r.found read.schema read.there)) in
+    (ap (filter passes) (sym (rows_are past s stands in-order read.table)) ∙ sym (r.found read.schema read.there)) in
     record {
-      tables = tables;
       db = record db { rows = known.0 };
       read = record {
         tables = sym tables;
@@ -246,38 +273,15 @@ found_enough state s search rows r stands ordered in-order fits =
     }
 
 -- a table that isn't there has no rows
-pub none_enough : (past : List Event) (writer : Option ℕ) (s : ℕ) (statement : Stmt) → HasRight s past writer → own s past ≡ own_before s past
-    → AreStanding past → table_read (created past) statement ≡ None → AreEnough s statement [] past
-none_enough past writer s statement right unchanged stands none =
-    let tables = tables_are past writer s right unchanged stands in
+pub none_enough : (past : List Event) (s : ℕ) (statement : Stmt) → AreStanding past → table_read (created past) statement ≡ None
+    → AreEnough s statement [] past
+none_enough past s statement stands none =
+    let tables = tables_now past s stands in
     record {
-      tables = tables;
-      db = base s past;
+      db = current s past;
       read = record {
         tables = sym tables;
-        each = λ n is. never n (table_read (base s past).schemas statement) (ap (λ schemas. table_read schemas statement) (sym tables) ∙ none) is;
+        each = λ n is. never n (table_read (current s past).schemas statement) (ap (λ schemas. table_read schemas statement) (sym tables) ∙ none) is;
       };
       same = refl;
-    }
-
--- its reply and its changes are those of the outcome over the latest rows
-pub settled : (past : List Event) (writer : Option ℕ) (s : ℕ) (statement : Stmt) (alone : Bool) (before : ℕ) (rows : List (List Value)) (found : Settled)
-    → IsEarly s statement alone past → HasRight s past writer → before ≡ length (own s past)
-    → (enough : AreEnough s statement rows past) → IsSettledBy statement enough.db found → is_refusal found.kept ≡ false → IsChanging past writer s
-    (record { alone = alone; before = before; kept = found.kept; given = found.given }) found.todo.items
-settled past writer s statement alone before rows found early right before-is enough is accepted =
-    record {
-      statement = statement;
-      working = early.working;
-      goes_on = early.goes_on;
-      right = right;
-      before_is = before-is ∙ ap length early.unchanged;
-      same = is.same;
-      plain = is.plain;
-      accepted = accepted;
-      answer = is.answer ∙ ap (λ (o : Outcome). o.reply) enough.same;
-      tables = enough.tables;
-      made = [];
-      parts = ap (λ (o : Outcome). o.changes) (sym enough.same) ∙ is.changes;
-      own_is = early.unchanged;
     }

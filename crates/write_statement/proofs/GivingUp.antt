@@ -2,7 +2,7 @@
 use Rattle.std.proofs.Common.{◌≡◌, ℕ, ◌+◌, ◌-◌, ◌<◌, ◌≤◌, Bool, true, false, eqb, Option, Some, None, List, [], ◌∷◌, ◌++◌, length, take, drop, zero, suc, reverse, refl, sym, ap, subst, ◌∙◌, inl, inr, arith}
 use Rattle.std.proofs.lemmas.Bool.Decides.{nat_tests}
 use Rattle.std.proofs.lemmas.Bool.{false≢true}
-use Rattle.std.proofs.lemmas.List.{length-append}
+use Rattle.std.proofs.lemmas.List.{append_assoc, length-append}
 use Rattle.std.specs.Prelude.{is_some, ◌&&◌, is_none}
 use Rattle.std.specs.List.{AllByRecursion}
 use Rattle.inno_types.specs.declared.stmt.Stmt.{Stmt}
@@ -13,6 +13,8 @@ use Rattle.inno_types.specs.declared.value.Value.{Value}
 use Rattle.inno_db.specs.declared.change.Change.{Change}
 use Rattle.inno_db.specs.declared.change.Change.TheVariants.{Put}
 use Rattle.inno_db.specs.Database.{Database}
+use Rattle.inno_db.specs.declared.outcome.Outcome.{Outcome}
+use Rattle.inno_db.specs.Changes.{apply}
 use Rattle.inno_db.specs.Outcome.{outcome}
 use Rattle.inno_model.specs.declared.event.Event.{Event}
 use Rattle.inno_model.specs.declared.event.Event.TheVariants as events
@@ -36,10 +38,12 @@ use Rattle.sql_lists.specs.Kept.{MayReply}
 use Rattle.sql_lists.specs.Steps.{Moves, Steps}
 use Rattle.sql_lists.specs.declared.advance.Advance.TheVariants as advance
 use Rattle.sql_lists.proofs.Staying.{point_now}
+use Rattle.write_statement.specs.declared.machine.Part.{Part}
 use Rattle.write_statement.specs.declared.machine.Work.{Work}
 use Rattle.write_statement.specs.declared.machine.WriteStatement.TheVariants.{BackingOut}
 use Rattle.write_statement.specs.Going.{to_go}
-use Rattle.write_statement.specs.Running.{InTxn, IsWorking, IsEarly, HasRight, IsChanging, is_count, is_refusal, PutsRows, MayAnswer, IsBackingOut, MayGoBack, IsClosing, IsRunning, given_up}
+use Rattle.write_statement.specs.Settling.{is_count, is_refusal}
+use Rattle.write_statement.specs.Running.{InTxn, IsWorking, IsEarly, IsChanging, PutsRows, MayAnswer, IsBackingOut, MayGoBack, IsClosing, IsRunning, given_up}
 use Rattle.write_statement.proofs.Writing.{of_writing, some_of}
 use Rattle.sql_lists.proofs.Moving.{moves_closes, moves_takes_back, below_first, below_second, fewer_stand}
 use Rattle.write_statement.proofs.Own.{acked_of, did_same, did_now, over_now, entries_are, takes_own, reply_closed, working_own}
@@ -71,41 +75,16 @@ early_given_up h writer s statement work early before-is kept-is given-is =
       own_is = early.unchanged;
     }
 
-refused_answers : (h : List Event) (s : ℕ) (statement : Stmt) (kept : Reply) → is_refusal kept ≡ true
-    → kept ≡ (outcome statement (base s (point s h))).reply → (is_count kept ≡ false) × MayAnswer s statement 0 kept h
-refused_answers h s statement (replies.Fail error) is answer = (refl, answer)
-refused_answers h s statement other is answer = absurd (false≢true is)
-
--- the interpreter refuses it, and it has changed nothing
-pub refused : (h : List Event) (writer : Option ℕ) (s : ℕ) (statement : Stmt) (work : Work) → IsEarly s statement work.alone h → HasRight s h writer
-    → work.before ≡ length (own s h) → work.given ≡ work.kept → work.kept ≡ (outcome statement (base s h)).reply → is_refusal work.kept ≡ true
-    → IsBackingOut h writer s work
-refused h writer s statement work early right before-is same answer is =
-    let now = point_now h s early.goes_on.not_over in
-    let answers = refused_answers h s statement work.kept is (answer ∙ ap (λ p. (outcome statement (base s p)).reply) (sym now)) in
-    record {
-      statement = statement;
-      working = early.working;
-      before_is = before-is ∙ ap length early.unchanged;
-      same = same;
-      backs = answers.0;
-      reply = record {
-        was_open = ap (λ p. is_some (level s p)) now ∙ early.working.is_open;
-        count = 0;
-        made = subst (λ p. HasMade 0 s (outcome statement (base s p)).changes p) (sym now) early.unchanged;
-        answers = answers.1;
-      };
-      moves = inr (record { not_over = early.goes_on.not_over; stays = inr right });
-      rest = [];
-      own_is = early.unchanged;
-    }
-
-module _ (g : List Event) (writer : Option ℕ) (s : ℕ) (work : Work) (todo : List Change) (r : IsChanging g writer s work todo) where
+module _ (g : List Event) (writer : Option ℕ) (s : ℕ) (part : Part) (next : Database → Outcome) (todo : List Change)
+    (r : IsChanging g writer s part next todo) where
   made_now : HasMade (length r.made) s (outcome r.statement (base s g)).changes g
-  made_now = r.own_is ∙ ap (λ changes. reverse changes ++ own_before s g) (sym (ap (take (length r.made)) r.parts ∙ taken r.made (reverse todo)))
+  made_now =
+      let more : List Change = (next (apply (base s g) (r.made ++ reverse todo))).changes in
+      let all : (outcome r.statement (base s g)).changes ≡ r.made ++ (reverse todo ++ more) = r.goes.changes ∙ append_assoc r.made (reverse todo) more in
+      r.own_is ∙ ap (λ changes. reverse changes ++ own_before s g) (sym (ap (take (length r.made)) all ∙ taken r.made (reverse todo ++ more)))
 
   -- with another reply, for which it may be given up
-  pub gives_up : (other : Work) → other.alone ≡ work.alone → other.before ≡ work.before → other.given ≡ other.kept → is_count other.kept ≡ false
+  pub gives_up : (other : Work) → other.alone ≡ part.alone → other.before ≡ part.before → other.given ≡ other.kept → is_count other.kept ≡ false
       → MayAnswer s r.statement (length r.made) other.kept g → IsBackingOut g writer s other
   gives_up other same-alone same-before same no-count answers =
       let now = point_now g s r.goes_on.not_over in
@@ -125,6 +104,19 @@ module _ (g : List Event) (writer : Option ℕ) (s : ℕ) (work : Work) (todo : 
         rest = reverse r.made;
         own_is = r.own_is;
       }
+
+  refused_answers : (count : ℕ) (kept : Reply) → is_refusal kept ≡ true → kept ≡ (outcome r.statement (base s (point s g))).reply
+      → (is_count kept ≡ false) × MayAnswer s r.statement count kept g
+  refused_answers count (replies.Fail error) is answer = (refl, answer)
+  refused_answers count other is answer = absurd (false≢true is)
+
+  -- the interpreter refuses it
+  pub refused : (kept given : Reply) → given ≡ kept → is_refusal kept ≡ true → kept ≡ (outcome r.statement (base s g)).reply
+      → IsBackingOut g writer s (record { alone = part.alone; before = part.before; kept = kept; given = given })
+  refused kept given same is answer =
+      let now = point_now g s r.goes_on.not_over in
+      let answers = refused_answers (length r.made) kept is (answer ∙ ap (λ p. (outcome r.statement (base s p)).reply) (sym now)) in
+      gives_up (record { alone = part.alone; before = part.before; kept = kept; given = given }) refl refl same answers.0 answers.1
 
 -- at this moment
 now_so : (P : List Event → Type 0) (s : ℕ) (h : List Event) → IsOpen s h → P h → Sometime P s h
@@ -406,9 +398,9 @@ pub early_no_memory : (past : List Event) (writer : Option ℕ) (task : Task) (s
 early_no_memory past writer task s statement alone before early before-is idle =
     (early_given_up past writer s statement (given_up alone before) early before-is refl refl, inl idle)
 
-pub changing_no_memory : (past : List Event) (writer : Option ℕ) (s : ℕ) (work : Work) (todo : List Change) → IsChanging past writer s work todo
-    → IsBackingOut past writer s (given_up work.alone work.before)
-changing_no_memory past writer s work todo r = gives_up past writer s work todo r (given_up work.alone work.before) refl refl refl refl tt
+pub changing_no_memory : (past : List Event) (writer : Option ℕ) (s : ℕ) (part : Part) (next : Database → Outcome) (todo : List Change)
+    → IsChanging past writer s part next todo → IsBackingOut past writer s (given_up part.alone part.before)
+changing_no_memory past writer s part next todo r = gives_up past writer s part next todo r (given_up part.alone part.before) refl refl refl refl tt
 
 -- ---- for want of rows
 
@@ -420,13 +412,14 @@ puts_rows db (stmt.Delete name condition) before table row later writes is =
     absurd (no_put before table row later (subst RemovesAlone is (removes db name condition)))
 puts_rows db other before table row later writes is = absurd writes
 
-abbrev pub broken_off : Work → ℕ → Work
-broken_off work rows = record { alone = work.alone; before = work.before; kept = replies.RunLimit rows; given = replies.RunLimit rows }
+abbrev pub broken_off : Part → ℕ → Work
+broken_off part rows = record { alone = part.alone; before = part.before; kept = replies.RunLimit rows; given = replies.RunLimit rows }
 
-pub overfull : (past : List Event) (writer : Option ℕ) (s : ℕ) (work : Work) (todo : List Change) (table : ℕ) (row : List Value) (rows : ℕ)
-    → IsChanging past writer s work (todo ++ Put table row ∷ []) → most_rows < rows → rows ≡ rows_kept past + 1
-    → IsBackingOut past writer s (broken_off work rows)
-overfull past writer s work todo table row rows r many count =
-    let puts = puts_rows (base s past) r.statement r.made table row (reverse todo) r.working.writes (parts_are past writer s work todo (Put table row) r) in
-    gives_up past writer s work (todo ++ Put table row ∷ []) r (broken_off work rows) refl refl refl refl
+pub overfull : (past : List Event) (writer : Option ℕ) (s : ℕ) (part : Part) (next : Database → Outcome) (todo : List Change) (table : ℕ) (row : List Value)
+    (rows : ℕ) → IsChanging past writer s part next (todo ++ Put table row ∷ []) → most_rows < rows → rows ≡ rows_kept past + 1
+    → IsBackingOut past writer s (broken_off part rows)
+overfull past writer s part next todo table row rows r many count =
+    let parts = parts_are past writer s part next todo (Put table row) r in
+    let puts = puts_rows (base s past) r.statement r.made table row parts.0 r.working.writes parts.1 in
+    gives_up past writer s part next (todo ++ Put table row ∷ []) r (broken_off part rows) refl refl refl refl
     (many, puts, now_so (λ h. rows ≡ rows_kept h + 1) s past r.working.is_open count)

@@ -9,9 +9,12 @@ pub mod Joining
 pub mod Own
 pub mod Found
 pub mod Plans
+pub mod TupleByTuple
+pub mod PartByPart
 pub mod Changes
 pub mod Removing
 pub mod GivingUp
+pub mod Answered
 pub mod Turning
 pub mod Entering
 pub mod Committing

@@ -17,7 +17,8 @@ use Rattle.sql_history.specs.Legal.{Takes, IsWriting, AnswersRows, EndsRows, End
 use Rattle.sql_history.specs.Waiting.{is_victim}
 use Rattle.sql_history.specs.Counts.{rows_of_reply}
 use Rattle.sql_lists.specs.Kept.{MayReply}
-use Rattle.write_statement.specs.Running.{HasReply, MayAnswer, PutsRows, EndsTxn, is_count}
+use Rattle.write_statement.specs.Settling.{is_count}
+use Rattle.write_statement.specs.Running.{HasReply, MayAnswer, PutsRows, EndsTxn}
 use Rattle.write_statement.proofs.Writing.{on_rows, sees_base, no_view, some_of}
 
 module _ (s : ℕ) (statement : Stmt) (past : List Event) (takes : Takes Spells s statement past) (writes : IsWriting statement)

@@ -2,9 +2,11 @@
 use Rattle.std.proofs.Common.{◌≡◌, ◌≢◌, ◌<◌, ℕ, Bool, true, false, Some, None, List, [], ◌∷◌, ◌++◌, length, take, reverse, refl, sym, ap, subst, ◌∙◌, ◌⊎◌, inl, inr}
 use Rattle.std.specs.Prelude.{is_some, slice_get}
 use Rattle.std.specs.List.{AllByRecursion, list_any}
+use Rattle.inno_types.specs.declared.value.Schema.{Schema}
 use Rattle.inno_types.specs.declared.stmt.Stmt.{Stmt}
 use Rattle.inno_types.specs.declared.reply.Reply.{Reply}
 use Rattle.inno_db.specs.Database.{Database}
+use Rattle.inno_db.specs.declared.outcome.Outcome.{Outcome}
 use Rattle.inno_db.specs.Outcome.{outcome}
 use Rattle.inno_db.specs.declared.change.Change.{Change}
 use Rattle.inno_db.proofs.Outcomes.{table_read}
@@ -25,10 +27,11 @@ use Rattle.law_past_agreement.specs.Order.{created, IsOfRow, IsNoOthers}
 use Rattle.sql_lists.specs.Steps.{IsTaken, StaysRunning, MayWriteAlone, changes_rows}
 use Rattle.sql_lists.proofs.Moving.{AddingOne, stays_running}
 use Rattle.sql_lists.proofs.Staying.{other_of, not_starting, at_work, point_now, point_stays, IsSteady, steady_on, base_on}
-use Rattle.write_statement.specs.declared.machine.Search.{Search}
+use Rattle.write_statement.specs.declared.machine.Part.{Part}
 use Rattle.write_statement.specs.declared.machine.Work.{Work}
 use Rattle.write_statement.specs.declared.machine.WriteStatement.{WriteStatement}
 use Rattle.write_statement.specs.declared.machine.WriteStatement.TheVariants as machine
+use Rattle.write_statement.specs.Parts.{IsCut, GoesOnWith, behind, of_part, of_rest}
 use Rattle.write_statement.specs.Running.{Joins, HasOpened, InTxn, IsWorking, GoesOn, IsEarly, IsChanging, HasReply, HasRight, IsReading, IsMaking, IsFinishing, MovesOn, IsBackingOut, MayGoBack, MayAnswer, EndsTxn, IsClosing, IsRunning}
 use Rattle.write_statement.proofs.Replies.{reply_stays, reply_goes_on}
 use Rattle.write_statement.proofs.Ends.{rolls_back_on, txn_ends_on}
@@ -163,59 +166,57 @@ module _ (old new : State) (t s : ℕ) (differ : t ≢ s) (adding : AddingOne t 
 
   -- ---- its states
 
-  abbrev reading_on : (search : Search) → IsReading old.past old.writer s search → IsReading new.past new.writer s search
-  reading_on search r =
+  changing_on : (part : Part) (next : Database → Outcome) (todo : List Change) → IsChanging old.past old.writer s part next todo
+      → IsChanging new.past new.writer s part next todo
+  changing_on part next todo r =
+      let same = base_is r.right in
       record {
-        early = early_on search.stmt search.alone r.early;
+        statement = r.statement;
+        working = working_on r.statement part.alone r.working;
+        goes_on = goes_on r.goes_on;
         right = right_on r.right;
-        before_is = r.before_is ∙ ap length (sym own_is);
+        before_is = r.before_is ∙ ap length (sym had_is);
+        tables = tables_are r.right ∙ (r.tables ∙ ap (λ (db : Database). db.schemas) (sym same));
+        writes = r.writes;
+        cut = subst (λ (schemas : List Schema). IsCut schemas part.stmt (behind part)) (sym (tables_are r.right)) r.cut;
+        made = r.made;
+        own_is = own_is ∙ (r.own_is ∙ ap (λ changes. reverse r.made ++ changes) (sym had_is));
+        goes = subst (λ (db : Database). GoesOnWith r.statement db (r.made ++ reverse todo) next) (sym same) r.goes;
+      }
+
+  abbrev reading_on : (part : Part) → IsReading old.past old.writer s part → IsReading new.past new.writer s part
+  reading_on part r =
+      let tables = tables_are r.changing.right in
+      record {
+        changing = changing_on part (of_part part) [] r.changing;
         table = r.table;
-        table_is = ap (λ schemas. table_read schemas search.stmt) (tables_are r.right) ∙ r.table_is;
+        table_is = ap (λ schemas. table_read schemas part.stmt) tables ∙ r.table_is;
         schema = r.schema;
-        there = ap (λ schemas. slice_get schemas r.table) (tables_are r.right) ∙ r.there;
+        there = ap (λ schemas. slice_get schemas r.table) tables ∙ r.there;
         plan = r.plan;
         enough = r.enough;
       }
 
-  changing_on : (work : Work) (todo : List Change) → IsChanging old.past old.writer s work todo → IsChanging new.past new.writer s work todo
-  changing_on work todo r =
-      let same = base_is r.right in
-      record {
-        statement = r.statement;
-        working = working_on r.statement work.alone r.working;
-        goes_on = goes_on r.goes_on;
-        right = right_on r.right;
-        before_is = r.before_is ∙ ap length (sym had_is);
-        same = r.same;
-        plain = r.plain;
-        accepted = r.accepted;
-        answer = r.answer ∙ ap (λ db. (outcome r.statement db).reply) (sym same);
-        tables = tables_are r.right ∙ (r.tables ∙ ap (λ (db : Database). db.schemas) (sym same));
-        made = r.made;
-        parts = ap (λ db. (outcome r.statement db).changes) same ∙ r.parts;
-        own_is = own_is ∙ (r.own_is ∙ ap (λ changes. reverse r.made ++ changes) (sym had_is));
-      }
-
-  making_on : (work : Work) (todo : List Change) (rows : ℕ) → IsMaking old.past old.writer (task_of s old) s work todo rows
-      → IsMaking new.past new.writer (task_of s new) s work todo rows
-  making_on work todo rows r =
+  making_on : (part : Part) (todo : List Change) (rows : ℕ) → IsMaking old.past old.writer (task_of s old) s part todo rows
+      → IsMaking new.past new.writer (task_of s new) s part todo rows
+  making_on part todo rows r =
       record {
         change = r.change;
         of_row = r.of_row;
         rows_are = r.rows_are;
-        changing = changing_on work (todo ++ r.change ∷ []) r.changing;
+        changing = changing_on part (of_rest part) (todo ++ r.change ∷ []) r.changing;
         under_way = ap is_changing task-is ∙ r.under_way;
         asked_is = ap asked task-is ∙ r.asked_is;
       }
 
-  finishing_on : (work : Work) (todo : List Change) → IsFinishing old.past old.writer (task_of s old) s work todo
-      → IsFinishing new.past new.writer (task_of s new) s work todo
-  finishing_on work todo r =
+  finishing_on : (part : Part) (todo : List Change) → IsFinishing old.past old.writer (task_of s old) s part todo
+      → IsFinishing new.past new.writer (task_of s new) s part todo
+  finishing_on part todo r =
       record {
-        changing = changing_on work todo r.changing;
+        changing = changing_on part (of_rest part) todo r.changing;
         under_way = ap is_changing task-is ∙ r.under_way;
         told = ap asked task-is ∙ r.told;
-        stands = subst (λ (changes : List Change). work.before < length changes) (sym own_is) r.stands;
+        stands = subst (λ (changes : List Change). part.before < length changes) (sym own_is) r.stands;
       }
 
   back_on : (before : ℕ) → MayGoBack before s old.past (task_of s old) → MayGoBack before s new.past (task_of s new)
@@ -311,10 +312,10 @@ module _ (old new : State) (t s : ℕ) (differ : t ≢ s) (adding : AddingOne t 
   running_on (machine.Fresh statement) r = (taken_on statement r.0, r.1, task-is ∙ r.2)
   running_on machine.Unopened r = (record { statement = r.0.statement; taken = taken_on r.0.statement r.0.taken }, task-is ∙ r.1)
   running_on (machine.Locking statement alone) r = (early_on statement alone r.0, task-is ∙ r.1)
-  running_on (machine.Searching search) r = record { reading = reading_on search r.reading; task_is = task-is ∙ r.task_is }
-  running_on (machine.Changing work todo) r = (changing_on work todo.items r.0, task-is ∙ r.1)
-  running_on (machine.Making work todo rows) r = making_on work todo.items rows r
-  running_on (machine.Finishing work todo) r = finishing_on work todo.items r
+  running_on (machine.Searching part) r = record { reading = reading_on part r.reading; task_is = task-is ∙ r.task_is }
+  running_on (machine.Changing part todo) r = (changing_on part (of_rest part) todo.items r.0, task-is ∙ r.1)
+  running_on (machine.Making part todo rows) r = making_on part todo.items rows r
+  running_on (machine.Finishing part todo) r = finishing_on part todo.items r
   running_on (machine.BackingOut work) r = (backing_on work r.0, back_on work.before r.1)
   running_on (machine.Unacked kept given) r = (closing_on kept given r.0, acks_are ∙ r.1, level_is ∙ r.2, task-is ∙ r.3)
   running_on (machine.Ending kept given) r = (closing_on kept given r.0, acks_are ∙ r.1, task-is ∙ r.2)

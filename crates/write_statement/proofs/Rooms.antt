@@ -19,10 +19,10 @@ pub asks_for_none : (state : State) (s : ℕ) (m : WriteStatement) → wants_roo
 asks_for_none state s (machine.Fresh statement) wants-none r = ap asked r.2
 asks_for_none state s machine.Unopened wants-none r = ap asked r.1
 asks_for_none state s (machine.Locking statement alone) wants-none r = ap asked r.1
-asks_for_none state s (machine.Searching search) wants-none r = ap asked r.task_is
-asks_for_none state s (machine.Changing work todo) wants-none r = absurd (false≢true (sym wants-none))
-asks_for_none state s (machine.Making work todo rows) wants-none r = absurd (false≢true (sym wants-none))
-asks_for_none state s (machine.Finishing work todo) wants-none r = r.told
+asks_for_none state s (machine.Searching part) wants-none r = ap asked r.task_is
+asks_for_none state s (machine.Changing part todo) wants-none r = absurd (false≢true (sym wants-none))
+asks_for_none state s (machine.Making part todo rows) wants-none r = absurd (false≢true (sym wants-none))
+asks_for_none state s (machine.Finishing part todo) wants-none r = r.told
 asks_for_none state s (machine.BackingOut work) wants-none r =
     taken_back_asks_none (task_of s state) (may_take_back work.before s state.past (task_of s state) r.1)
 asks_for_none state s (machine.Unacked kept given) wants-none r = ap asked r.3

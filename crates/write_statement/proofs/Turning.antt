@@ -6,6 +6,8 @@ use Rattle.inno_types.specs.declared.value.Value.{Value}
 use Rattle.inno_types.specs.declared.value.Schema.{Schema}
 use Rattle.inno_types.specs.declared.stmt.Stmt.{Stmt}
 use Rattle.inno_db.proofs.Outcomes.{table_read}
+use Rattle.inno_db.specs.Database.{Database}
+use Rattle.inno_db.specs.declared.outcome.Outcome.{Outcome}
 use Rattle.inno_db.specs.declared.change.Change.{Change}
 use Rattle.inno_db.specs.declared.change.Change.TheVariants.{Put}
 use Rattle.inno_model.specs.declared.event.Event.{Event}
@@ -24,12 +26,12 @@ use Rattle.sql_lists.specs.Steps.{Steps}
 use Rattle.sql_lists.specs.declared.advance.Advance.{Advance}
 use Rattle.sql_lists.specs.declared.advance.Advance.TheVariants as advance
 use Rattle.sql_lists.proofs.Moving.{moves_turns, moves_stays, moves_none, carried}
-use Rattle.write_statement.specs.declared.machine.Search.{Search}
-use Rattle.write_statement.specs.declared.machine.Work.{Work}
+use Rattle.write_statement.specs.declared.machine.Part.{Part}
 use Rattle.write_statement.specs.declared.machine.WriteStatement.{WriteStatement}
 use Rattle.write_statement.specs.declared.machine.WriteStatement.TheVariants as machine
 use Rattle.sql_plan.specs.Planning.{IsPlanFor}
-use Rattle.write_statement.specs.Running.{IsEarly, HasRight, IsReading, IsSearching, IsFound, IsChanging, IsBackingOut, MayGoBack, IsRunning, given_up}
+use Rattle.write_statement.specs.Parts.{of_part, of_rest}
+use Rattle.write_statement.specs.Running.{IsEarly, IsReading, IsSearching, IsFound, IsChanging, IsBackingOut, MayGoBack, IsRunning, given_up}
 use Rattle.write_statement.proofs.Moving.{steps_as}
 use Rattle.write_statement.proofs.GivingUp.{early_no_memory, changing_no_memory, broken_off, overfull}
 
@@ -55,37 +57,39 @@ early_given_up s old new statement alone before m a early before-is turns state 
     )
 
 -- amid its changes
-pub changing_given_up : (s : ℕ) (old new : State) (task : Task) (work : Work) (todo : List Change) (m : WriteStatement) (a : Advance)
-    → IsChanging old.past old.writer s work todo → Turns s task old new → MayGoBack work.before s old.past task
-    → m ≡ machine.BackingOut (given_up work.alone work.before) → a ≡ advance.NoMemory → Steps IsRunning s old new m a
-changing_given_up s old new task work todo m a r turns back state answer =
-    let given : IsBackingOut new.past new.writer s (given_up work.alone work.before) =
-    subst (λ h. IsBackingOut h new.writer s (given_up work.alone work.before)) (sym turns.past_is)
-    (subst (λ w. IsBackingOut old.past w s (given_up work.alone work.before)) (sym turns.writer_is) (changing_no_memory old.past old.writer s work todo r)) in
-    let goes : MayGoBack work.before s new.past (task_of s new) =
-    subst (λ h. MayGoBack work.before s h (task_of s new)) (sym turns.past_is) (subst (MayGoBack work.before s old.past) (sym turns.task_is) back) in
-    steps_as IsRunning s old new m (machine.BackingOut (given_up work.alone work.before)) a advance.NoMemory state answer
+pub changing_given_up : (s : ℕ) (old new : State) (task : Task) (part : Part) (next : Database → Outcome) (todo : List Change) (m : WriteStatement)
+    (a : Advance) → IsChanging old.past old.writer s part next todo → Turns s task old new → MayGoBack part.before s old.past task
+    → m ≡ machine.BackingOut (given_up part.alone part.before) → a ≡ advance.NoMemory → Steps IsRunning s old new m a
+changing_given_up s old new task part next todo m a r turns back state answer =
+    let given : IsBackingOut new.past new.writer s (given_up part.alone part.before) =
+    subst (λ h. IsBackingOut h new.writer s (given_up part.alone part.before)) (sym turns.past_is)
+    (subst (λ w. IsBackingOut old.past w s (given_up part.alone part.before)) (sym turns.writer_is)
+    (changing_no_memory old.past old.writer s part next todo r)) in
+    let goes : MayGoBack part.before s new.past (task_of s new) =
+    subst (λ h. MayGoBack part.before s h (task_of s new)) (sym turns.past_is) (subst (MayGoBack part.before s old.past) (sym turns.task_is) back) in
+    steps_as IsRunning s old new m (machine.BackingOut (given_up part.alone part.before)) a advance.NoMemory state answer
     (moves_turns s task old new turns, (given, goes), turns.past_is)
 
 -- its reply is that the history would hold too many rows
-pub broke_off : (s : ℕ) (state : State) (work : Work) (todo : List Change) (change : Change) (table : ℕ) (row : List Value) (rows : ℕ) (m : WriteStatement)
-    (a : Advance) → IsChanging state.past state.writer s work (todo ++ change ∷ []) → task_of s state ≡ Idle → change ≡ Put table row
-    → most_rows < rows → rows ≡ rows_kept state.past + 1 → m ≡ machine.BackingOut (broken_off work rows) → a ≡ advance.Went → Steps IsRunning s state state m a
-broke_off s state work todo change table row rows m a r idle puts many count answer-state answer =
-    let here = subst (λ (x : Change). IsChanging state.past state.writer s work (todo ++ x ∷ [])) puts r in
-    steps_as IsRunning s state state m (machine.BackingOut (broken_off work rows)) a advance.Went answer-state answer
-    (moves_none s state, (overfull state.past state.writer s work todo table row rows here many count, inl idle), refl)
+pub broke_off : (s : ℕ) (state : State) (part : Part) (next : Database → Outcome) (todo : List Change) (change : Change) (table : ℕ) (row : List Value)
+    (rows : ℕ) (m : WriteStatement) (a : Advance) → IsChanging state.past state.writer s part next (todo ++ change ∷ []) → task_of s state ≡ Idle
+    → change ≡ Put table row → most_rows < rows → rows ≡ rows_kept state.past + 1 → m ≡ machine.BackingOut (broken_off part rows) → a ≡ advance.Went
+    → Steps IsRunning s state state m a
+broke_off s state part next todo change table row rows m a r idle puts many count answer-state answer =
+    let here = subst (λ (x : Change). IsChanging state.past state.writer s part next (todo ++ x ∷ [])) puts r in
+    steps_as IsRunning s state state m (machine.BackingOut (broken_off part rows)) a advance.Went answer-state answer
+    (moves_none s state, (overfull state.past state.writer s part next todo table row rows here many count, inl idle), refl)
 
 -- ---- a change is begun
 
-pub begun : (s : ℕ) (old new : State) (work : Work) (todo : Vec Change Global) (change : Change) (rows : ℕ)
-    → IsChanging old.past old.writer s work (todo.items ++ change ∷ []) → IsOfRow change → rows ≡ rows_of_entry (Changed s change)
+pub begun : (s : ℕ) (old new : State) (part : Part) (todo : Vec Change Global) (change : Change) (rows : ℕ)
+    → IsChanging old.past old.writer s part (of_rest part) (todo.items ++ change ∷ []) → IsOfRow change → rows ≡ rows_of_entry (Changed s change)
     → Turns s (task_of s new) old new → is_changing (task_of s new) ≡ true → asked (task_of s new) ≡ Some change
-    → Steps IsRunning s old new (machine.Making work todo rows) advance.Went
-begun s old new work todo change rows r of-row rows-are turns under-way asked-is =
-    let there : IsChanging new.past new.writer s work (todo.items ++ change ∷ []) =
-    subst (λ h. IsChanging h new.writer s work (todo.items ++ change ∷ [])) (sym turns.past_is)
-    (subst (λ w. IsChanging old.past w s work (todo.items ++ change ∷ [])) (sym turns.writer_is) r) in (
+    → Steps IsRunning s old new (machine.Making part todo rows) advance.Went
+begun s old new part todo change rows r of-row rows-are turns under-way asked-is =
+    let there : IsChanging new.past new.writer s part (of_rest part) (todo.items ++ change ∷ []) =
+    subst (λ h. IsChanging h new.writer s part (of_rest part) (todo.items ++ change ∷ [])) (sym turns.past_is)
+    (subst (λ w. IsChanging old.past w s part (of_rest part) (todo.items ++ change ∷ [])) (sym turns.writer_is) r) in (
       moves_turns s (task_of s new) old new turns,
       record { change = change; of_row = of-row; rows_are = rows-are; changing = there; under_way = under-way; asked_is = asked-is },
       ap (started s) turns.past_is,
@@ -93,19 +97,15 @@ begun s old new work todo change rows r of-row rows-are turns under-way asked-is
 
 -- ---- the search
 
-pub begins_search : (s : ℕ) (old new : State) (statement : Stmt) (alone : Bool) (before table : ℕ) (plan : Plan) (schemas : List Schema)
-    → IsEarly s statement alone old.past → HasRight s old.past old.writer → before ≡ length (own s old.past)
-    → table_read (created old.past) statement ≡ Some table → schemas ≡ created old.past → IsPlanFor schemas table statement plan → Turns s
-    (Searching table plan Newest) old new
-    → Steps IsRunning s old new (machine.Searching (record { stmt = statement; alone = alone; before = before })) advance.Went
-begins_search s old new statement alone before table plan schemas early right before-is table-is tables p turns =
-    let sought : Search = record { stmt = statement; alone = alone; before = before } in
-    let here : IsSearching old.past old.writer (Searching table plan Newest) s sought =
+pub begins_search : (s : ℕ) (old new : State) (part : Part) (table : ℕ) (plan : Plan) (schemas : List Schema)
+    → IsChanging old.past old.writer s part (of_part part) [] → table_read (created old.past) part.stmt ≡ Some table → schemas ≡ created old.past
+    → IsPlanFor schemas table part.stmt plan → Turns s (Searching table plan Newest) old new
+    → Steps IsRunning s old new (machine.Searching part) advance.Went
+begins_search s old new part table plan schemas changing table-is tables p turns =
+    let here : IsSearching old.past old.writer (Searching table plan Newest) s part =
     record {
       reading = record {
-        early = early;
-        right = right;
-        before_is = before-is;
+        changing = changing;
         table = table;
         table_is = table-is;
         schema = p.schema;
@@ -115,34 +115,34 @@ begins_search s old new statement alone before table plan schemas early right be
       };
       task_is = refl;
     } in
-    let there : IsSearching new.past new.writer (task_of s new) s sought =
-    subst (λ h. IsSearching h new.writer (task_of s new) s sought) (sym turns.past_is)
-    (subst (λ w. IsSearching old.past w (task_of s new) s sought) (sym turns.writer_is)
-    (subst (λ task. IsSearching old.past old.writer task s sought) (sym turns.task_is) here)) in
+    let there : IsSearching new.past new.writer (task_of s new) s part =
+    subst (λ h. IsSearching h new.writer (task_of s new) s part) (sym turns.past_is)
+    (subst (λ w. IsSearching old.past w (task_of s new) s part) (sym turns.writer_is)
+    (subst (λ task. IsSearching old.past old.writer task s part) (sym turns.task_is) here)) in
     (moves_turns s (Searching table plan Newest) old new turns, there, ap (started s) turns.past_is)
 
-pub search_went : (s : ℕ) (old new : State) (sought : Search) → IsSearching old.past old.writer (task_of s old) s sought → Stays s old new
-    → Steps IsRunning s old new (machine.Searching sought) advance.Went
-search_went s old new sought r stays = (
+pub search_went : (s : ℕ) (old new : State) (part : Part) → IsSearching old.past old.writer (task_of s old) s part → Stays s old new
+    → Steps IsRunning s old new (machine.Searching part) advance.Went
+search_went s old new part r stays = (
   moves_stays s old new stays,
-  carried (λ h w task. IsSearching h w task s sought) s old new stays r,
+  carried (λ h w task. IsSearching h w task s part) s old new stays r,
   ap (started s) stays.past_is,
 )
 
 -- what is known of a search, by its answer
-pub searches_as : (s : ℕ) (old new : State) (sought : Search) (answer other : Searched) → (r : IsSearching old.past old.writer (task_of s old) s sought)
+pub searches_as : (s : ℕ) (old new : State) (part : Part) (answer other : Searched) → (r : IsSearching old.past old.writer (task_of s old) s part)
     → answer ≡ other → Searches r.reading.table r.reading.plan Newest s old new answer → Searches r.reading.table r.reading.plan Newest s old new other
-searches_as s old new sought answer other r is searches = subst (Searches r.reading.table r.reading.plan Newest s old new) is searches
+searches_as s old new part answer other r is searches = subst (Searches r.reading.table r.reading.plan Newest s old new) is searches
 
 -- its rows
-abbrev HasFound : (s : ℕ) (sought : Search) (rows : List (List Value)) (past : List Event) (writer : Option ℕ) → Type 0
-HasFound s sought rows past writer = (reading : IsReading past writer s sought) × AreRowsSeen reading.table reading.plan past s (commits past) rows
+abbrev HasFound : (s : ℕ) (part : Part) (rows : List (List Value)) (past : List Event) (writer : Option ℕ) → Type 0
+HasFound s part rows past writer = (reading : IsReading past writer s part) × AreRowsSeen reading.table reading.plan past s (commits past) rows
 
-pub search_found : (s : ℕ) (old new : State) (sought : Search) (rows : List (List Value)) (r : IsSearching old.past old.writer (task_of s old) s sought)
-    → Searches r.reading.table r.reading.plan Newest s old new (searched.Found rows) → IsFound new s sought rows
-search_found s old new sought rows r searches =
+pub search_found : (s : ℕ) (old new : State) (part : Part) (rows : List (List Value)) (r : IsSearching old.past old.writer (task_of s old) s part)
+    → Searches r.reading.table r.reading.plan Newest s old new (searched.Found rows) → IsFound new s part rows
+search_found s old new part rows r searches =
     let turns = searches.0 in
-    let there : HasFound s sought rows new.past new.writer =
-    subst (λ h. HasFound s sought rows h new.writer) (sym turns.past_is)
-    (subst (λ w. HasFound s sought rows old.past w) (sym turns.writer_is) (r.reading, searches.1)) in
+    let there : HasFound s part rows new.past new.writer =
+    subst (λ h. HasFound s part rows h new.writer) (sym turns.past_is)
+    (subst (λ w. HasFound s part rows old.past w) (sym turns.writer_is) (r.reading, searches.1)) in
     record { reading = there.0; idle = turns.task_is; found = there.1 }

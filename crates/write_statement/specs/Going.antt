@@ -7,22 +7,25 @@ use Rattle.sql_lists.specs.declared.advance.Advance.{Advance}
 use Rattle.sql_lists.specs.declared.advance.Advance.TheVariants as advance
 use Rattle.sql_lists.specs.Going.{left, to_search}
 use Rattle.inno_types.specs.Order.{IsBelow}
+use Rattle.write_statement.specs.Parts.{tuples_of}
 use Rattle.write_statement.specs.declared.machine.WriteStatement.{WriteStatement}
 use Rattle.write_statement.specs.declared.machine.WriteStatement.TheVariants as machine
 
--- so many changes are to be made
-abbrev pub to_change : ℕ → List ℕ
-to_change count = left 4 (3 * count) 0 0
+-- so many changes are to be made, and behind them so many tuples come
+abbrev pub to_change : ℕ → ℕ → List ℕ
+to_change later count = left (4 + 2 * later) (3 * count) 0 0
 
 abbrev pub to_go : ℕ → State → WriteStatement → List ℕ
-to_go s state (machine.Fresh stmt) = left 7 0 0 0
-to_go s state (machine.Locking stmt alone) = left 6 0 0 0
--- the places that its search has before it
-to_go s state (machine.Searching search) = to_search 5 s state
-to_go s state (machine.Changing work todo) = to_change (length todo.items)
+to_go s state (machine.Fresh stmt) = left (7 + 2 * tuples_of stmt) 0 0 0
+to_go s state (machine.Locking stmt alone) = left (6 + 2 * tuples_of stmt) 0 0 0
+-- the places that its search has before it, and two phases for each tuple behind
+to_go s state (machine.Searching part) = to_search (5 + 2 * length part.later.items) s state
+to_go s state (machine.Changing part todo) = to_change (length part.later.items) (length todo.items)
 -- the steps of the change under way, before the history tells it and behind that
-to_go s state (machine.Making work todo rows) = left 4 (3 * length todo.items + 2) (steps_left (task_of s state)) 0
-to_go s state (machine.Finishing work todo) = left 4 (3 * length todo.items + 1) (steps_left (task_of s state)) 0
+to_go s state (machine.Making part todo rows) =
+    left (4 + 2 * length part.later.items) (3 * length todo.items + 2) (steps_left (task_of s state)) 0
+to_go s state (machine.Finishing part todo) =
+    left (4 + 2 * length part.later.items) (3 * length todo.items + 1) (steps_left (task_of s state)) 0
 -- the changes that it may yet take back
 to_go s state (machine.BackingOut work) = left 3 (length (own s state.past)) (undo_to_go (task_of s state)) 0
 to_go s state (machine.Unacked kept given) = left 2 0 0 0

@@ -1,3 +1,5 @@
+pub mod Following
+pub mod Parts
 pub mod Settling
 pub mod Running
 pub mod Going

@@ -7,13 +7,14 @@ use Rattle.inno_types.specs.declared.stmt.Stmt.TheVariants as stmt
 use Rattle.inno_types.specs.declared.reply.Reply.{Reply}
 use Rattle.inno_types.specs.declared.reply.Reply.TheVariants as replies
 use Rattle.inno_db.specs.declared.change.Change.{Change}
+use Rattle.inno_db.specs.declared.outcome.Outcome.{Outcome}
 use Rattle.inno_db.specs.Database.{Database}
 use Rattle.inno_db.specs.Outcome.{outcome}
 use Rattle.inno_db.proofs.Outcomes.{table_read}
 use Rattle.inno_model.specs.declared.event.Event.{Event}
 use Rattle.inno_model.specs.declared.event.Event.TheVariants.{Changed}
 use Rattle.inno_model.specs.Moments.{Sometime}
-use Rattle.inno_model.specs.Past.{before_item, of_item, did, begins_txn, commits_txn, rolls_back_txn, level, own, commits, awaits_ack, IsOpen, IsClosed}
+use Rattle.inno_model.specs.Past.{before_item, of_item, did, begins_txn, commits_txn, rolls_back_txn, level, own, commits, current, awaits_ack, IsOpen, IsClosed}
 use Rattle.sql_grammar.specs.Grammar.{Spells}
 use Rattle.sql_history.specs.Items.{is_over, own_before, base, point, HasMade, undoes}
 use Rattle.sql_history.specs.Settings.{Setting, Either}
@@ -30,11 +31,12 @@ use Rattle.shared_lists.specs.Steps.{AreRowsSeen}
 use Rattle.sql_plan.specs.declared.choice.Plan.{Plan}
 use Rattle.sql_lists.specs.Steps.{HasRowsAlone, IsTaken}
 use Rattle.sql_plan.specs.Planning.{HoldsMatches}
-use Rattle.write_statement.specs.declared.machine.Search.{Search}
+use Rattle.write_statement.specs.declared.machine.Part.{Part}
 use Rattle.write_statement.specs.declared.machine.Work.{Work}
 use Rattle.write_statement.specs.declared.machine.WriteStatement.{WriteStatement}
 use Rattle.write_statement.specs.declared.machine.WriteStatement.TheVariants as machine
-use Rattle.write_statement.specs.Settling.{IsPlain}
+use Rattle.write_statement.specs.Settling.{is_count}
+use Rattle.write_statement.specs.Parts.{IsCut, GoesOnWith, behind, of_part, of_rest}
 
 -- ---- its transaction
 
@@ -82,82 +84,77 @@ pub record HasRight (s : ℕ) (past : List Event) (writer : Option ℕ) : Type 0
   pub locked : writer ≡ Some s
   pub alone : (other : ℕ) → other ≢ s → own other past ≡ []
 
--- ---- searching
+-- ---- its parts
 
--- Its table is there, and the plan of its search leaves out no row that its outcome depends on.
-pub record IsReading (past : List Event) (writer : Option ℕ) (s : ℕ) (search : Search) : Type 0 where
-  pub early : IsEarly s search.stmt search.alone past
+-- Its item has made some of its changes, and is about to make these, the next one last. Nothing refuses it so far.
+pub record IsChanging (past : List Event) (writer : Option ℕ) (s : ℕ) (part : Part) (next : Database → Outcome) (todo : List Change) : Type 0 where
+  pub statement : Stmt
+  pub working : IsWorking s statement part.alone past
+  pub goes_on : GoesOn s past
   pub right : HasRight s past writer
-  pub before_is : search.before ≡ length (own s past)
+  pub before_is : part.before ≡ length (own_before s past)
+  pub tables : created past ≡ (base s past).schemas
+  pub writes : IsWriting part.stmt
+  pub cut : IsCut (created past) part.stmt (behind part)
+  -- the changes that are made, and what comes behind those that are not
+  pub made : List Change
+  pub own_is : own s past ≡ reverse made ++ own_before s past
+  pub goes : GoesOnWith statement (base s past) (made ++ reverse todo) next
+
+-- The table of its part is there, and the plan of its search leaves out no row that the part's outcome depends on.
+pub record IsReading (past : List Event) (writer : Option ℕ) (s : ℕ) (part : Part) : Type 0 where
+  pub changing : IsChanging past writer s part (of_part part) []
   pub table : ℕ
-  pub table_is : table_read (created past) search.stmt ≡ Some table
+  pub table_is : table_read (created past) part.stmt ≡ Some table
   pub schema : Schema
   pub there : slice_get (created past) table ≡ Some schema
   pub plan : Plan
-  pub enough : HoldsMatches schema search.stmt plan
+  pub enough : HoldsMatches schema part.stmt plan
 
-pub record IsSearching (past : List Event) (writer : Option ℕ) (task : Task) (s : ℕ) (search : Search) : Type 0 where
-  pub reading : IsReading past writer s search
+pub record IsSearching (past : List Event) (writer : Option ℕ) (task : Task) (s : ℕ) (part : Part) : Type 0 where
+  pub reading : IsReading past writer s part
   pub task_is : task ≡ Searching reading.table reading.plan Newest
 
 -- its search is over, with these rows
-pub record IsFound (state : State) (s : ℕ) (search : Search) (rows : List (List Value)) : Type 0 where
-  pub reading : IsReading state.past state.writer s search
+pub record IsFound (state : State) (s : ℕ) (part : Part) (rows : List (List Value)) : Type 0 where
+  pub reading : IsReading state.past state.writer s part
   pub idle : task_of s state ≡ Idle
   pub found : AreRowsSeen reading.table reading.plan state.past s (commits state.past) rows
 
--- These rows of its table are enough: over some database where the table has them, the statement has the outcome that it
--- has over the latest rows.
+-- These rows of its table are enough for a part: over some database where the table has them, it has the outcome that it has
+-- over the latest rows with those that the session has changed.
 pub record AreEnough (s : ℕ) (statement : Stmt) (rows : List (List Value)) (past : List Event) : Type 0 where
-  pub tables : created past ≡ (base s past).schemas
   pub db : Database
   pub read : IsReadFrom (created past) rows statement db
-  pub same : outcome statement db ≡ outcome statement (base s past)
-
--- ---- changing
-
-abbrev pub is_refusal : Reply → Bool
-is_refusal (replies.Fail error) = true
-is_refusal other = false
-
--- nothing refuses it: a refused statement makes no change
-pub record IsChanging (past : List Event) (writer : Option ℕ) (s : ℕ) (work : Work) (todo : List Change) : Type 0 where
-  pub statement : Stmt
-  pub working : IsWorking s statement work.alone past
-  pub goes_on : GoesOn s past
-  pub right : HasRight s past writer
-  pub before_is : work.before ≡ length (own_before s past)
-  pub same : work.given ≡ work.kept
-  pub plain : IsPlain work.kept
-  pub accepted : is_refusal work.kept ≡ false
-  pub answer : work.kept ≡ (outcome statement (base s past)).reply
-  pub tables : created past ≡ (base s past).schemas
-  -- the changes that are made, and those that are not
-  pub made : List Change
-  pub parts : (outcome statement (base s past)).changes ≡ made ++ reverse todo
-  pub own_is : own s past ≡ reverse made ++ own_before s past
+  pub same : outcome statement db ≡ outcome statement (current s past)
 
 -- the next change is under way, which the history doesn't tell yet
-pub record IsMaking (past : List Event) (writer : Option ℕ) (task : Task) (s : ℕ) (work : Work) (todo : List Change) (rows : ℕ) : Type 0 where
+pub record IsMaking (past : List Event) (writer : Option ℕ) (task : Task) (s : ℕ) (part : Part) (todo : List Change) (rows : ℕ) : Type 0 where
   pub change : Change
   pub of_row : IsOfRow change
   pub rows_are : rows ≡ rows_of_entry (Changed s change)
-  pub changing : IsChanging past writer s work (todo ++ change ∷ [])
+  pub changing : IsChanging past writer s part (of_rest part) (todo ++ change ∷ [])
   pub under_way : is_changing task ≡ true
   pub asked_is : asked task ≡ Some change
 
 -- the change under way is the newest that stands
-pub record IsFinishing (past : List Event) (writer : Option ℕ) (task : Task) (s : ℕ) (work : Work) (todo : List Change) : Type 0 where
-  pub changing : IsChanging past writer s work todo
+pub record IsFinishing (past : List Event) (writer : Option ℕ) (task : Task) (s : ℕ) (part : Part) (todo : List Change) : Type 0 where
+  pub changing : IsChanging past writer s part (of_rest part) todo
   pub under_way : is_changing task ≡ true
   pub told : asked task ≡ None
-  pub stands : work.before < length (own s past)
+  pub stands : part.before < length (own s past)
+
+-- all its changes are made
+pub record IsMade (past : List Event) (writer : Option ℕ) (s : ℕ) (alone : Bool) (before : ℕ) : Type 0 where
+  pub statement : Stmt
+  pub working : IsWorking s statement alone past
+  pub goes_on : GoesOn s past
+  pub right : HasRight s past writer
+  pub before_is : before ≡ length (own_before s past)
+  pub answer : (outcome statement (base s past)).reply ≡ replies.Count (length (outcome statement (base s past)).changes)
+  pub own_is : own s past ≡ reverse (outcome statement (base s past)).changes ++ own_before s past
 
 -- ---- the end
-
-abbrev pub is_count : Reply → Bool
-is_count (replies.Count n) = true
-is_count other = false
 
 -- what becomes of its transaction
 abbrev pub EndsTxn : Reply → Setting → ℕ → List Event → Type 0
@@ -231,8 +228,8 @@ pub record IsUnopened (s : ℕ) (past : List Event) : Type 0 where
 
 -- it is about to tell a change to the history, for which an engine that logs its changes needs room in its log
 abbrev pub wants_room : WriteStatement → Bool
-wants_room (machine.Changing work todo) = true
-wants_room (machine.Making work todo rows) = true
+wants_room (machine.Changing part todo) = true
+wants_room (machine.Making part todo rows) = true
 wants_room other = false
 
 -- its commit is yet to be acknowledged
@@ -249,10 +246,10 @@ abbrev pub IsRunning : State → ℕ → WriteStatement → Type 0
 IsRunning state s (machine.Fresh stmt) = IsTaken s stmt state.past × IsWriting stmt × (task_of s state ≡ Idle)
 IsRunning state s machine.Unopened = IsUnopened s state.past × (task_of s state ≡ Idle)
 IsRunning state s (machine.Locking stmt alone) = IsEarly s stmt alone state.past × (task_of s state ≡ Idle)
-IsRunning state s (machine.Searching search) = IsSearching state.past state.writer (task_of s state) s search
-IsRunning state s (machine.Changing work todo) = IsChanging state.past state.writer s work todo.items × (task_of s state ≡ Idle)
-IsRunning state s (machine.Making work todo rows) = IsMaking state.past state.writer (task_of s state) s work todo.items rows
-IsRunning state s (machine.Finishing work todo) = IsFinishing state.past state.writer (task_of s state) s work todo.items
+IsRunning state s (machine.Searching part) = IsSearching state.past state.writer (task_of s state) s part
+IsRunning state s (machine.Changing part todo) = IsChanging state.past state.writer s part (of_rest part) todo.items × (task_of s state ≡ Idle)
+IsRunning state s (machine.Making part todo rows) = IsMaking state.past state.writer (task_of s state) s part todo.items rows
+IsRunning state s (machine.Finishing part todo) = IsFinishing state.past state.writer (task_of s state) s part todo.items
 IsRunning state s (machine.BackingOut work) = IsBackingOut state.past state.writer s work × MayGoBack work.before s state.past (task_of s state)
 IsRunning state s (machine.Unacked kept given) =
     IsClosing s kept given state.past × (awaits_ack (of_item s state.past) ≡ true) × IsClosed s state.past × (task_of s state ≡ Idle)

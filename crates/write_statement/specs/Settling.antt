@@ -1,5 +1,5 @@
 -- What is settled of a statement over the rows of its table.
-use Rattle.std.specs.Prelude.{◌≡◌, ℕ, List, Option, Some, None, reverse}
+use Rattle.std.specs.Prelude.{◌≡◌, ℕ, Bool, true, false, List, Option, Some, None, reverse}
 use Rattle.inno_types.specs.declared.stmt.Stmt.{Stmt}
 use Rattle.inno_types.specs.declared.stmt.Stmt.TheVariants as stmt
 use Rattle.inno_types.specs.declared.reply.Reply.{Reply}
@@ -7,19 +7,22 @@ use Rattle.inno_types.specs.declared.reply.Reply.TheVariants as replies
 use Rattle.inno_db.specs.Database.{Database}
 use Rattle.inno_db.specs.Outcome.{outcome}
 use Rattle.write_statement.specs.declared.settling.Settled.{Settled}
+use Rattle.write_statement.specs.declared.settling.Settled.TheVariants as settled
 
--- a count or a refusal
-abbrev pub IsPlain : Reply → Type 0
-IsPlain (replies.Count n) = Unit {0}
-IsPlain (replies.Fail error) = Unit {0}
-IsPlain other = ⊥
+abbrev pub is_refusal : Reply → Bool
+is_refusal (replies.Fail error) = true
+is_refusal other = false
 
--- the reply twice, and the changes, the first of them last
-pub record IsSettledBy (statement : Stmt) (db : Database) (settled : Settled) : Type 0 where
-  pub same : settled.given ≡ settled.kept
-  pub plain : IsPlain settled.kept
-  pub answer : settled.kept ≡ (outcome statement db).reply
-  pub changes : (outcome statement db).changes ≡ reverse settled.todo.items
+abbrev pub is_count : Reply → Bool
+is_count (replies.Count n) = true
+is_count other = false
+
+-- A refusal, twice; or a count, with the changes, the first of them last.
+abbrev pub IsSettledBy : Stmt → Database → Settled → Type 0
+IsSettledBy statement db (settled.Refused kept given) =
+    (given ≡ kept) × (is_refusal kept ≡ true) × (kept ≡ (outcome statement db).reply)
+IsSettledBy statement db (settled.Todo todo) =
+    (is_count (outcome statement db).reply ≡ true) × ((outcome statement db).changes ≡ reverse todo.items)
 
 -- the name of the table whose rows the statement reads
 abbrev pub IsTableNamed : Stmt → Option (List ℕ) → Type 0

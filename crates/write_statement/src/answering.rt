@@ -1,68 +1,70 @@
-//! A statement that knows enough rows of its table asks what it does to them.
+//! A statement that knows enough rows of its table asks what its part does to them.
 
-ghost use Rattle.std.specs.Prelude.{◌≡◌, ◌<◌, ℕ, length};
-ghost use Rattle.inno_model.specs.Past.{own};
+ghost use Rattle.std.specs.Prelude.{◌≡◌, ◌<◌, ◌+◌, ◌*◌, ℕ, [], length};
 ghost use Rattle.shared_lists.specs.Tasks.{Idle};
 ghost use Rattle.shared_lists.specs.State.{task_of};
 ghost use Rattle.sql_lists.specs.Steps.{Steps};
 ghost use Rattle.sql_lists.specs.Going.{left};
 ghost use Rattle.write_statement.specs.Going.{IsNearer};
-ghost use Rattle.write_statement.specs.Running.{IsEarly, HasRight, AreEnough, IsRunning, given_up, is_refusal};
+ghost use Rattle.write_statement.specs.Parts.{of_part};
+ghost use Rattle.write_statement.specs.Running.{IsChanging, AreEnough, IsRunning, given_up};
 
-use crate::machine::{Work, WriteStatement};
+use crate::machine::{Part, Work, WriteStatement};
 use crate::settling::{Settled, settle};
-use inno_types::{Reply, Rows, Stmt};
+use inno_types::{Reply, Rows};
 use shared_lists::SharedLists;
 use sql_lists::{Advance, SqlLists};
 use std::alloc::Global;
 
-/// The statement knows its reply and its changes. Who may write meets no lock amid them, so what refuses the statement is all
-/// known here, and a refused one makes none of its changes. Where each row was locked only as its change comes, a statement
-/// would make the changes before its refusal and take them back.
+/// The part's reply and changes are known. One that is refused makes none of its changes, and those of the tuples before it are
+/// taken back. Who may write meets no lock amid an UPDATE or DELETE, so what refuses one is all known here. Where each row was
+/// locked only as its change comes, it would make the changes before its refusal and take them back.
 pub fn answer<L: SharedLists>(
     alloc: Global,
-    stmt: &Stmt,
-    alone: bool,
-    before: usize,
+    part: Part,
     rows: &Rows,
     session: u32,
     lists: &SqlLists<L>,
 ) -> (WriteStatement, Advance)
-    requires early { IsEarly session stmt.now alone lists.now.past }
-    requires right { HasRight session lists.now.past lists.now.writer }
+    requires changing { IsChanging lists.now.past lists.now.writer session part (of_part part) [] }
     requires idle { task_of session lists.now ≡ Idle }
-    requires before_is { before ≡ length (own session lists.now.past) }
-    requires enough { AreEnough session stmt.now rows.now lists.now.past }
+    requires enough { AreEnough session part.stmt rows.now lists.now.past }
     ensures steps { Steps IsRunning session lists.now lists.now result.0 result.1 }
-    ensures nears { (phases : ℕ) → 4 < phases → (first second third : ℕ) → IsNearer (left phases first second third) session lists.now result.0 result.1 }
+    ensures nears { (phases : ℕ) → 4 + 2 * length part.later.items < phases → (first second third : ℕ) → IsNearer (left phases first second third) session lists.now result.0 result.1 }
 {
-    match settle(alloc, lists.lists().schemas(), rows, stmt) {
-        Ok(settled) => {
-            let Settled { kept, given, todo } = settled;
-            let work = Work {
-                alone,
-                before,
-                kept,
-                given,
-            };
-            if is_refusal(&work.kept) {
-                drop(todo);
-                return (WriteStatement::BackingOut(work), Advance::Went);
-            }
-            (WriteStatement::Changing { work, todo }, Advance::Went)
-        }
-        Err(_) => give_up(alone, before),
+    match settle(alloc, lists.lists().schemas(), rows, &part.stmt) {
+        Ok(Settled::Todo(todo)) => (WriteStatement::Changing { part, todo }, Advance::Went),
+        Ok(Settled::Refused { kept, given }) => (refuse(part, kept, given), Advance::Went),
+        Err(_) => give_up(part),
     }
 }
 
-fn is_refusal(reply: &Reply) -> bool
-    ensures { result ≡ is_refusal reply.now }
+/// What was made of the whole statement is to be taken back.
+pub fn refuse(part: Part, kept: Reply, given: Reply) -> WriteStatement
+    ensures { result ≡ WriteStatement.BackingOut (record { alone = part.alone; before = part.before; kept = kept; given = given }) }
 {
-    matches!(reply, Reply::Fail(_))
+    let work = Work {
+        alone: part.alone,
+        before: part.before,
+        kept,
+        given,
+    };
+    drop(part);
+    WriteStatement::BackingOut(work)
 }
 
-/// No memory was found, and nothing is changed yet.
-pub fn give_up(alone: bool, before: usize) -> (WriteStatement, Advance)
+/// No memory was found, or no room.
+pub fn give_up(part: Part) -> (WriteStatement, Advance)
+    ensures state { result.0 ≡ WriteStatement.BackingOut (given_up part.alone part.before) }
+    ensures answer { result.1 ≡ Advance.NoMemory }
+{
+    let (alone, before) = (part.alone, part.before);
+    drop(part);
+    give_up_at(alone, before)
+}
+
+/// No memory was found, where no part is at work.
+pub fn give_up_at(alone: bool, before: usize) -> (WriteStatement, Advance)
     ensures state { result.0 ≡ WriteStatement.BackingOut (given_up alone before) }
     ensures answer { result.1 ≡ Advance.NoMemory }
 {

@@ -1,6 +1,7 @@
 //! INSERT, UPDATE and DELETE as a machine: each step makes one step of what the lists keep under way for the session, or adds
 //! one entry, and steps of other sessions may come between. It takes the right to write, searches its table, asks the plain
-//! interpreter what it does to the rows that were found, and makes these changes, or takes back what it made.
+//! interpreter what it does to the rows that were found, and makes these changes, or takes back what it made. An INSERT does so
+//! tuple by tuple.
 #![tactic(auto)]
 
 mod answering;
@@ -10,7 +11,9 @@ mod ending;
 mod machine;
 mod making;
 mod opening;
+mod parting;
 mod searching;
 mod settling;
 
-pub use machine::{Search, Work, WriteStatement};
+pub use machine::{Part, Work, WriteStatement};
+pub use parting::an_insert_goes_tuple_by_tuple;

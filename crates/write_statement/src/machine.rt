@@ -17,7 +17,7 @@ use crate::making::{step_finishing, step_making, stop_making};
 use crate::opening::{step_fresh, step_locking};
 use crate::searching::step_searching;
 use inno_db::Change;
-use inno_types::{Reply, Stmt};
+use inno_types::{Literals, Reply, Stmt};
 use shared_lists::SharedLists;
 use sql_lists::{Advance, SqlLists};
 use std::alloc::Global;
@@ -36,21 +36,22 @@ pub enum WriteStatement {
         stmt: Stmt,
         alone: bool,
     },
-    Searching(Search),
-    /// It knows its reply and makes its changes, of which the next one stands last.
+    /// It searches its table for a part.
+    Searching(Part),
+    /// It makes the changes of a part, of which the next one stands last.
     Changing {
-        work: Work,
+        part: Part,
         todo: Vec<Change>,
     },
     /// It makes one, which the history doesn't tell yet, and by which it will hold so many rows more.
     Making {
-        work: Work,
+        part: Part,
         todo: Vec<Change>,
         rows: u64,
     },
     /// The history tells that change, and keys are yet to take it over.
     Finishing {
-        work: Work,
+        part: Part,
         todo: Vec<Change>,
     },
     /// It takes its changes back.
@@ -66,15 +67,17 @@ pub enum WriteStatement {
     },
 }
 
-/// A statement that searches its table. Its transaction had made so many changes before.
+/// A part of a statement: an INSERT has one for each of its tuples, any other statement is one. The tuples of parts that are
+/// yet to come stand in `later`, the next one last. Before the statement its transaction had made so many changes.
 #[derive(Drop)]
-pub struct Search {
+pub struct Part {
     pub stmt: Stmt,
+    pub later: Vec<Literals>,
     pub alone: bool,
     pub before: usize,
 }
 
-/// A statement whose reply is known. Its transaction had made so many changes before.
+/// A statement that was refused or given up. Its transaction had made so many changes before.
 #[derive(Drop)]
 pub struct Work {
     pub alone: bool,
@@ -151,9 +154,9 @@ impl WriteStatement {
         ensures lacks { result.1 ≡ Advance.NoMemory }
     {
         match self {
-            WriteStatement::Changing { work, todo } => lack_room(work, todo, session, lists),
-            WriteStatement::Making { work, todo, rows } => {
-                stop_making(work, todo, rows, session, lists)
+            WriteStatement::Changing { part, todo } => lack_room(part, todo, session, lists),
+            WriteStatement::Making { part, todo, rows } => {
+                stop_making(part, todo, rows, session, lists)
             }
             _ => unreachable!(),
         }
@@ -178,12 +181,14 @@ impl WriteStatement {
             WriteStatement::Locking { stmt, alone } => step_locking(
                 alloc, stmt, alone, session, lists,
             ),
-            WriteStatement::Searching(search) => step_searching(alloc, search, session, lists),
-            WriteStatement::Changing { work, todo } => step_changing(work, todo, session, lists),
-            WriteStatement::Making { work, todo, rows } => {
-                step_making(work, todo, rows, session, lists)
+            WriteStatement::Searching(part) => step_searching(alloc, part, session, lists),
+            WriteStatement::Changing { part, todo } => {
+                step_changing(alloc, part, todo, session, lists)
             }
-            WriteStatement::Finishing { work, todo } => step_finishing(work, todo, session, lists),
+            WriteStatement::Making { part, todo, rows } => {
+                step_making(part, todo, rows, session, lists)
+            }
+            WriteStatement::Finishing { part, todo } => step_finishing(part, todo, session, lists),
             WriteStatement::BackingOut(work) => step_backing(work, session, lists),
             WriteStatement::Unacked { .. } => unreachable!(),
             WriteStatement::Ending { kept, given } => step_ending(kept, given, session, lists),

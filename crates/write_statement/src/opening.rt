@@ -1,6 +1,6 @@
 //! A statement opens a transaction where none is open, takes the right to write, and begins to search its table.
 
-ghost use Rattle.std.specs.Prelude.{◌≡◌, ◌≢◌, ◌<◌, ◌≤◌, IfOk, [], length, Some, None, slice_get, option_copied};
+ghost use Rattle.std.specs.Prelude.{◌≡◌, ◌≢◌, ◌<◌, ◌≤◌, ◌+◌, ◌*◌, ℕ, IfOk, [], length, Some, None, slice_get, option_copied};
 ghost use Rattle.inno_db.proofs.Outcomes.{table_read};
 ghost use Rattle.inno_db.specs.declared.limits.TheConstants.{MOST_TABLES};
 ghost use Rattle.inno_types.specs.declared.value.Schema.{Schema};
@@ -10,14 +10,16 @@ ghost use Rattle.law_stored_rows.specs.Storable.{AreStorable};
 ghost use Rattle.shared_lists.specs.Tasks.{Idle};
 ghost use Rattle.shared_lists.specs.State.{task_of};
 ghost use Rattle.sql_lists.specs.Steps.{Steps};
-ghost use Rattle.sql_lists.specs.Going.{Nears};
-ghost use Rattle.write_statement.specs.Going.{to_go};
+ghost use Rattle.sql_lists.specs.Going.{Nears, left};
+ghost use Rattle.write_statement.specs.Going.{to_go, IsNearer};
 ghost use Rattle.sql_plan.specs.Planning.{IsPlanFor};
-ghost use Rattle.write_statement.specs.Running.{IsEarly, HasRight, IsRunning};
+ghost use Rattle.write_statement.specs.Parts.{of_part};
+ghost use Rattle.write_statement.specs.Running.{IsEarly, HasRight, IsChanging, IsRunning};
 ghost use Rattle.write_statement.specs.Settling.{IsTableNamed};
 
-use crate::answering::{answer, give_up};
-use crate::machine::{Search, WriteStatement};
+use crate::answering::{answer, give_up, give_up_at};
+use crate::machine::{Part, WriteStatement};
+use crate::parting::first_part;
 use inno_types::{Bytes, Listed, Rows, Schema, Stmt};
 use shared_lists::{Reading, SharedLists};
 use sql_lists::{Advance, SqlLists};
@@ -109,12 +111,12 @@ fn wait_for<L: SharedLists>(
         ),
         Err(_) => {
             drop(stmt);
-            give_up(alone, lists.lists().change_count(session))
+            give_up_at(alone, lists.lists().change_count(session))
         }
     }
 }
 
-/// The statement may write. Over a table that isn't there it answers at once.
+/// The statement may write, and begins with its first part.
 fn begin_search<L: SharedLists>(
     alloc: Global,
     stmt: Stmt,
@@ -130,13 +132,30 @@ fn begin_search<L: SharedLists>(
 {
     let tables = lists.lists();
     let before = tables.change_count(session);
-    match table_number(tables.schemas(), &stmt) {
-        Some(table) => search_table(alloc, table, stmt, alone, before, session, lists),
+    match first_part(alloc, tables.schemas(), stmt, alone, before) {
+        Ok(part) => search_part(alloc, part, session, lists),
+        Err(_) => give_up_at(alone, before),
+    }
+}
+
+/// Begins to search for a part. Over a table that isn't there it is answered at once.
+pub fn search_part<L: SharedLists>(
+    alloc: Global,
+    part: Part,
+    session: u32,
+    lists: &mut SqlLists<L>,
+) -> (WriteStatement, Advance)
+    requires joined { session < length lists.old.names }
+    requires changing { IsChanging lists.old.past lists.old.writer session part (of_part part) [] }
+    requires idle { task_of session lists.old ≡ Idle }
+    ensures steps { Steps IsRunning session lists.old lists.new result.0 result.1 }
+    ensures nears { (phases : ℕ) → 5 + 2 * length part.later.items < phases → (first second third : ℕ) → IsNearer (left phases first second third) session lists.new result.0 result.1 }
+{
+    match table_number(lists.lists().schemas(), &part.stmt) {
+        Some(table) => search_table(alloc, table, part, session, lists),
         None => {
             let rows = Rows::new(alloc);
-            let answered = answer(alloc, &stmt, alone, before, &rows, session, lists);
-            drop(stmt);
-            answered
+            answer(alloc, part, &rows, session, lists)
         }
     }
 }
@@ -145,41 +164,27 @@ fn begin_search<L: SharedLists>(
 fn search_table<L: SharedLists>(
     alloc: Global,
     table: u8,
-    stmt: Stmt,
-    alone: bool,
-    before: usize,
+    part: Part,
     session: u32,
     lists: &mut SqlLists<L>,
 ) -> (WriteStatement, Advance)
     requires joined { session < length lists.old.names }
-    requires running { IsRunning lists.old session (WriteStatement.Locking stmt alone) }
-    requires right { HasRight session lists.old.past lists.old.writer }
-    requires before_is { before ≡ length (own session lists.old.past) }
-    requires table_is { table_read (created lists.old.past) stmt ≡ Some table }
+    requires changing { IsChanging lists.old.past lists.old.writer session part (of_part part) [] }
+    requires idle { task_of session lists.old ≡ Idle }
+    requires table_is { table_read (created lists.old.past) part.stmt ≡ Some table }
     ensures steps { Steps IsRunning session lists.old lists.new result.0 result.1 }
-    ensures nears { Nears to_go session lists.old (WriteStatement.Locking stmt alone) lists.new result.0 result.1 }
+    ensures nears { (phases : ℕ) → 5 + 2 * length part.later.items < phases → (first second third : ℕ) → IsNearer (left phases first second third) session lists.new result.0 result.1 }
 {
-    let Ok(plan) = plan_in(alloc, lists.lists().schemas(), table, &stmt) else {
-        drop(stmt);
-        return give_up(alone, before);
+    let Ok(plan) = plan_in(alloc, lists.lists().schemas(), table, &part.stmt) else {
+        return give_up(part);
     };
     match lists.begin_search(session, table, plan, Reading::Newest) {
-        Ok(()) => {
-            let search = Search {
-                stmt,
-                alone,
-                before,
-            };
-            (WriteStatement::Searching(search), Advance::Went)
-        }
-        Err(_) => {
-            drop(stmt);
-            give_up(alone, before)
-        }
+        Ok(()) => (WriteStatement::Searching(part), Advance::Went),
+        Err(_) => give_up(part),
     }
 }
 
-/// By which index and range the statement searches this table.
+/// By which index and range a part searches this table.
 fn plan_in(
     alloc: Global,
     schemas: &Listed<Schema>,

@@ -1,10 +1,10 @@
-//! What a statement does to the rows that it found, by the plain interpreter.
+//! What a part of a statement does to the rows that were found, by the plain interpreter.
 
-ghost use Rattle.std.specs.Prelude.{◌≡◌, ◌≤◌, IfOk, length, reverse};
+ghost use Rattle.std.specs.Prelude.{◌≡◌, ◌≤◌, true, IfOk, length, reverse};
 ghost use Rattle.inno_db.specs.Database.{Database};
 ghost use Rattle.inno_db.specs.declared.limits.TheConstants.{MOST_TABLES};
 ghost use Rattle.plain_sql.specs.Finding.{IsReadFrom, IsOnRows};
-ghost use Rattle.write_statement.specs.Settling.{IsSettledBy, IsPlain};
+ghost use Rattle.write_statement.specs.Settling.{IsSettledBy, is_refusal};
 
 use inno_db::{Change, Outcome};
 use inno_types::{Listed, Reply, Rows, Schema, Stmt};
@@ -12,15 +12,14 @@ use plain_sql::plain_on_rows;
 use std::alloc::Global;
 use store_api::NoMemory;
 
-/// A reply twice, and changes of which the first stands last.
+/// It is refused, by a reply that is there twice; or it has these changes to make, of which the first stands last.
 #[derive(Drop)]
-pub struct Settled {
-    pub kept: Reply,
-    pub given: Reply,
-    pub todo: Vec<Change>,
+pub enum Settled {
+    Refused { kept: Reply, given: Reply },
+    Todo(Vec<Change>),
 }
 
-/// What the statement answers, and what it changes, over any database with these tables whose own table has these rows.
+/// What the part is answered, and what it changes, over any database with these tables whose own table has these rows.
 pub fn settle(
     alloc: Global,
     schemas: &Listed<Schema>,
@@ -32,24 +31,32 @@ pub fn settle(
     ensures { IfOk result (λ settled. (db : Database) → IsReadFrom schemas.now rows.now stmt.now db → IsSettledBy stmt.now db settled) }
 {
     let Outcome { reply, changes } = plain_on_rows(alloc, schemas, rows, stmt)?;
-    let given = plain_copy(&reply)?;
-    let mut todo = changes.into_vec();
-    todo.reverse();
-    Ok(Settled {
-        kept: reply,
-        given,
-        todo,
-    })
+    match reply {
+        Reply::Count(_) => {
+            let mut todo = changes.into_vec();
+            todo.reverse();
+            Ok(Settled::Todo(todo))
+        }
+        refused => {
+            drop(changes);
+            let given = copied(&refused)?;
+            Ok(Settled::Refused {
+                kept: refused,
+                given,
+            })
+        }
+    }
 }
 
-/// A copy of a count or a refusal. A statement that changes rows has no other reply.
-fn plain_copy(reply: &Reply) -> Result<Reply, NoMemory>
+/// A copy of a refusal. A statement that changes rows has no other reply but a count.
+fn copied(reply: &Reply) -> Result<Reply, NoMemory>
     ensures same { IfOk result (λ copy. copy ≡ reply.now) }
-    ensures plain { IfOk result IsPlain }
+    ensures refused { IfOk result (λ copy. is_refusal copy ≡ true) }
 {
     match reply {
-        Reply::Count(_) | Reply::Fail(_) => Ok(reply.copied()?),
-        Reply::Done
+        Reply::Fail(_) => Ok(reply.copied()?),
+        Reply::Count(_)
+        | Reply::Done
         | Reply::Rows(_)
         | Reply::RunLimit { .. }
         | Reply::NotSignalled { .. }

@@ -1,48 +1,34 @@
-use Rattle.std.proofs.Common.{subst, sym, ap, ◌∙◌, refl, inl}
+use Rattle.std.proofs.Common.{[], subst, sym, ap, ◌∙◌, refl, inl}
+use Rattle.shared_lists.specs.Tasks.{Idle}
 use Rattle.shared_lists.specs.State.{State}
-use Rattle.inno_db.specs.declared.outcome.Outcome.{Outcome}
 use Rattle.law_past_agreement.specs.Order.{created}
 use Rattle.plain_sql.specs.Finding.{IsReadFrom}
-use Rattle.sql_lists.proofs.Moving.{moves_none}
-use Rattle.write_statement.proofs.Found.{settled}
-use Rattle.write_statement.proofs.GivingUp.{refused}
-use Rattle.write_statement.proofs.Turning.{turns_none, early_given_up}
+use Rattle.write_statement.specs.Settling.{IsSettledBy}
+use Rattle.write_statement.specs.Parts.{of_part}
+use Rattle.write_statement.proofs.Answered.{todo_then, refused_then}
+use Rattle.write_statement.proofs.Turning.{turns_none, changing_given_up}
 use Rattle.write_statement.proofs.answering.answer.Goals as goal
 
-pub returns-then-is_refusal-clause-steps : goal.returns-then-is_refusal-clause-steps
-returns-then-is_refusal-clause-steps g c =
+pub returns-in-Ok-Todo-clause-steps : goal.returns-in-Ok-Todo-clause-steps
+returns-in-Ok-Todo-clause-steps g c =
     let enough = c.requires.enough in
     let tables = c.schemas.ensures ∙ ap (λ (st : State). created st.past) c.lists.ensures.same in
-    let is = c.in-Ok.ensures enough.db
-    (subst (λ schemas. IsReadFrom schemas c.args.rows.now c.args.stmt.now enough.db) (sym tables) enough.read) in (
-      moves_none c.args.session c.args.lists.now,
-      (
-        refused c.args.lists.now.past c.args.lists.now.writer c.args.session c.args.stmt.now
-            (record { alone = c.args.alone; before = c.args.before; kept = c.in-Ok.settled.kept; given = c.in-Ok.settled.given })
-            c.requires.early c.requires.right c.requires.before_is is.same (is.answer ∙ ap (λ (o : Outcome). o.reply) enough.same)
-            (sym c.if-is_refusal.ensures),
-        inl c.requires.idle,
-      ),
-      refl,
-    )
+    todo_then c.args.session c.args.lists.now c.args.part c.args.rows.now c.requires.changing c.requires.idle enough c.lists.ensures.tables
+    c.lists.ensures.fits c.lists.ensures.sound c.lists.ensures.ordered c.in-Ok-Todo.todo
+    (subst (IsSettledBy c.args.part.stmt enough.db) c.in-Ok-Todo.field-0-is
+    (c.in-Ok-Todo.ensures enough.db (subst (λ schemas. IsReadFrom schemas c.args.rows.now c.args.part.stmt enough.db) (sym tables) enough.read)))
 
-pub returns-else-is_refusal-clause-steps : goal.returns-else-is_refusal-clause-steps
-returns-else-is_refusal-clause-steps g c =
+pub returns-in-Ok-Refused-clause-steps : goal.returns-in-Ok-Refused-clause-steps
+returns-in-Ok-Refused-clause-steps g c =
     let enough = c.requires.enough in
     let tables = c.schemas.ensures ∙ ap (λ (st : State). created st.past) c.lists.ensures.same in
-    let is = c.in-Ok.ensures enough.db
-    (subst (λ schemas. IsReadFrom schemas c.args.rows.now c.args.stmt.now enough.db) (sym tables) enough.read) in (
-      moves_none c.args.session c.args.lists.now,
-      (
-        settled c.args.lists.now.past c.args.lists.now.writer c.args.session c.args.stmt.now c.args.alone c.args.before c.args.rows.now c.in-Ok.settled
-            c.requires.early c.requires.right c.requires.before_is enough is (sym c.if-is_refusal.ensures),
-        c.requires.idle,
-      ),
-      refl,
-    )
+    refused_then c.args.session c.args.lists.now c.args.part c.args.rows.now c.requires.changing c.requires.idle enough c.lists.ensures.tables
+    c.lists.ensures.fits c.lists.ensures.sound c.lists.ensures.ordered c.in-Ok-Refused.kept c.in-Ok-Refused.given c.refuse.result
+    (subst (IsSettledBy c.args.part.stmt enough.db) c.in-Ok-Refused.field-0-is
+    (c.in-Ok-Refused.ensures enough.db (subst (λ schemas. IsReadFrom schemas c.args.rows.now c.args.part.stmt enough.db) (sym tables) enough.read)))
+    c.refuse.ensures
 
 pub returns-in-Err-clause-steps : goal.returns-in-Err-clause-steps
 returns-in-Err-clause-steps g c =
-    early_given_up c.args.session c.args.lists.now c.args.lists.now c.args.stmt.now c.args.alone c.args.before c.give_up.result.0 c.give_up.result.1
-    c.requires.early c.requires.before_is (turns_none c.args.session c.args.lists.now c.requires.idle)
-    c.give_up.ensures.state c.give_up.ensures.answer
+    changing_given_up c.args.session c.args.lists.now c.args.lists.now Idle c.args.part (of_part c.args.part) [] c.give_up.result.0 c.give_up.result.1
+    c.requires.changing (turns_none c.args.session c.args.lists.now c.requires.idle) (inl refl) c.give_up.ensures.state c.give_up.ensures.answer

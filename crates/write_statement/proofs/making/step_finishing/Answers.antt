@@ -3,14 +3,14 @@ use Rattle.write_statement.proofs.making.step_finishing.Goals as goal
 
 pub returns-in-Went-clause-steps : goal.returns-in-Went-clause-steps
 returns-in-Went-clause-steps g c =
-    finishing_went c.args.session c.args.lists.now c.change.new.self c.args.work c.args.todo c.requires.running c.change.result c.in-Went.is
+    finishing_went c.args.session c.args.lists.now c.change.new.self c.args.part c.args.todo c.requires.running c.change.result c.in-Went.is
     c.change.ensures.changes
 
 pub returns-in-Done-clause-steps : goal.returns-in-Done-clause-steps
 returns-in-Done-clause-steps g c =
-    finishing_done c.args.session c.args.lists.now c.change.new.self c.args.work c.args.todo c.requires.running c.in-Done.ensures.changes.1
+    finishing_done c.args.session c.args.lists.now c.change.new.self c.args.part c.args.todo c.requires.running c.in-Done.ensures.changes.1
 
 pub returns-in-NoMemory-clause-steps : goal.returns-in-NoMemory-clause-steps
 returns-in-NoMemory-clause-steps g c =
-    finishing_given_up c.args.session c.args.lists.now c.change.new.self c.args.work c.args.todo.items c.give_up.result.0 c.give_up.result.1
+    finishing_given_up c.args.session c.args.lists.now c.change.new.self c.args.part c.args.todo.items c.give_up.result.0 c.give_up.result.1
     c.requires.running c.in-NoMemory.ensures.changes c.give_up.ensures.state c.give_up.ensures.answer

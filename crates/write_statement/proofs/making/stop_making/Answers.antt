@@ -13,6 +13,6 @@ returns-clause-steps g c =
     let s = c.args.session in
     let old = c.args.lists.now in
     let new = c.stop_change.new.self in
-    making_given_up s old new c.args.work c.args.todo.items c.args._rows c.give_up.result.0 c.give_up.result.1 c.requires.running
+    making_given_up s old new c.args.part c.args.todo.items c.args._rows c.give_up.result.0 c.give_up.result.1 c.requires.running
     (subst (λ (o : Option Change). Turns s (left_by o) old new) (sym c.requires.running.asked_is) c.stop_change.ensures.stops) c.give_up.ensures.state
     c.give_up.ensures.answer

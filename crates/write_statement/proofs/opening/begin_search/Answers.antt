@@ -1,23 +1,32 @@
-use Rattle.std.proofs.Common.{subst, sym, ap, ◌∙◌, arith}
-use Rattle.inno_db.proofs.Outcomes.{table_read}
+use Rattle.std.proofs.Common.{◌+◌, ◌*◌, length, subst, ap, ◌∙◌, arith}
+use Rattle.inno_model.specs.Past.{own}
 use Rattle.law_past_agreement.specs.Order.{created}
 use Rattle.shared_lists.specs.State.{State}
 use Rattle.write_statement.specs.declared.machine.WriteStatement.TheVariants.{Locking}
-use Rattle.write_statement.specs.Running.{AreEnough}
+use Rattle.write_statement.specs.Parts.{IsFirstPart, tuples_of}
 use Rattle.write_statement.proofs.Moving.{nears_of}
-use Rattle.write_statement.proofs.Found.{none_enough}
+use Rattle.write_statement.proofs.Found.{tables_now}
+use Rattle.write_statement.proofs.PartByPart.{starts}
+use Rattle.write_statement.proofs.Turning.{turns_none, early_given_up}
 use Rattle.write_statement.proofs.opening.begin_search.Goals as goal
 
-pub answer-answered-requires-clause-enough : goal.answer-answered-requires-clause-enough
-answer-answered-requires-clause-enough g c =
-    let none =
-    ap (λ schemas. table_read schemas c.args.stmt) (sym (c.schemas.ensures ∙ ap (λ (st : State). created st.past) c.lists-tables.ensures.same)) ∙
-    (sym c.table_number.ensures ∙ c.in-None.is) in
-    subst (λ rows. AreEnough c.args.session c.args.stmt rows c.args.lists.now.past) (sym c.new-rows.ensures)
-    (none_enough c.args.lists.now.past c.args.lists.now.writer c.args.session c.args.stmt c.requires.right c.requires.running.0.unchanged
-    c.lists-tables.ensures.tables none)
+pub search_part-requires-clause-changing : goal.search_part-requires-clause-changing
+search_part-requires-clause-changing g c =
+    starts c.args.lists.now.past c.args.lists.now.writer c.args.session c.args.stmt c.args.alone c.change_count-before.result c.in-Ok.part
+    c.requires.running.0 c.requires.right
+    (c.change_count-before.ensures ∙ ap (λ (st : State). length (own c.args.session st.past)) c.lists-tables.ensures.same)
+    (tables_now c.args.lists.now.past c.args.session c.lists-tables.ensures.tables)
+    (subst (λ schemas. IsFirstPart schemas c.args.stmt c.args.alone c.change_count-before.result c.in-Ok.part)
+    (c.schemas.ensures ∙ ap (λ (st : State). created st.past) c.lists-tables.ensures.same) c.in-Ok.ensures)
 
-pub returns-in-None-clause-nears : goal.returns-in-None-clause-nears
-returns-in-None-clause-nears g c =
-    nears_of c.args.session c.args.lists.now (Locking c.args.stmt c.args.alone) c.args.lists.now c.answer-answered.result.0 c.answer-answered.result.1
-    (c.answer-answered.ensures.nears 6 (omega arith) _ _ _)
+pub returns-in-Ok-clause-nears : goal.returns-in-Ok-clause-nears
+returns-in-Ok-clause-nears g c =
+    nears_of c.args.session c.args.lists.now (Locking c.args.stmt c.args.alone) c.search_part.new.lists c.search_part.result.0 c.search_part.result.1
+    (c.search_part.ensures.nears (6 + 2 * tuples_of c.args.stmt) (omega (arith, c.in-Ok.ensures.fewer)) _ _ _)
+
+pub returns-in-Err-clause-steps : goal.returns-in-Err-clause-steps
+returns-in-Err-clause-steps g c =
+    early_given_up c.args.session c.args.lists.now c.args.lists.now c.args.stmt c.args.alone c.change_count-before.result c.give_up_at.result.0
+    c.give_up_at.result.1 c.requires.running.0
+    (c.change_count-before.ensures ∙ ap (λ (st : State). length (own c.args.session st.past)) c.lists-tables.ensures.same)
+    (turns_none c.args.session c.args.lists.now c.requires.running.1) c.give_up_at.ensures.state c.give_up_at.ensures.answer

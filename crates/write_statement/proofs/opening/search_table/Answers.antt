@@ -1,9 +1,11 @@
-use Rattle.std.proofs.Common.{subst, sym, ap, ◌∙◌}
+use Rattle.std.proofs.Common.{[], subst, sym, ap, ◌∙◌, inl, refl}
 use Rattle.law_past_agreement.specs.Order.{created}
 use Rattle.law_stored_rows.specs.Storable.{AreStorable}
 use Rattle.law_found_rows.proofs.FittingChanges.{tables_storable}
+use Rattle.shared_lists.specs.Tasks.{Idle}
 use Rattle.shared_lists.specs.State.{State}
-use Rattle.write_statement.proofs.Turning.{turns_none, turns_stayed, early_given_up, begins_search}
+use Rattle.write_statement.specs.Parts.{of_part}
+use Rattle.write_statement.proofs.Turning.{turns_none, turns_stayed, changing_given_up, begins_search}
 use Rattle.write_statement.proofs.opening.search_table.Goals as goal
 
 pub plan_in-requires : goal.plan_in-requires
@@ -15,19 +17,18 @@ plan_in-requires g c =
 
 pub returns-in_default-clause-steps : goal.returns-in_default-clause-steps
 returns-in_default-clause-steps g c =
-    early_given_up c.args.session c.args.lists.now c.args.lists.now c.args.stmt c.args.alone c.args.before c.give_up.result.0 c.give_up.result.1
-    c.requires.running.0 c.requires.before_is (turns_none c.args.session c.args.lists.now c.requires.running.1)
-    c.give_up.ensures.state c.give_up.ensures.answer
+    changing_given_up c.args.session c.args.lists.now c.args.lists.now Idle c.args.part (of_part c.args.part) [] c.give_up.result.0 c.give_up.result.1
+    c.requires.changing (turns_none c.args.session c.args.lists.now c.requires.idle) (inl refl) c.give_up.ensures.state c.give_up.ensures.answer
 
 pub returns-in-Ok-begin_search-clause-steps : goal.returns-in-Ok-begin_search-clause-steps
 returns-in-Ok-begin_search-clause-steps g c =
-    begins_search c.args.session c.args.lists.now c.begin_search.new.self c.args.stmt c.args.alone c.args.before c.args.table c.in-Ok.plan
-    c.schemas.result.now c.requires.running.0 c.requires.right c.requires.before_is c.requires.table_is
+    begins_search c.args.session c.args.lists.now c.begin_search.new.self c.args.part c.args.table c.in-Ok.plan
+    c.schemas.result.now c.requires.changing c.requires.table_is
     (c.schemas.ensures ∙ ap (λ (st : State). created st.past) c.lists.ensures.same) c.in-Ok.ensures c.in-Ok-begin_search.ensures.ok
 
 pub returns-in-Err-clause-steps : goal.returns-in-Err-clause-steps
 returns-in-Err-clause-steps g c =
-    early_given_up c.args.session c.args.lists.now c.begin_search.new.self c.args.stmt c.args.alone c.args.before c.give_up-in-Err.result.0
-    c.give_up-in-Err.result.1 c.requires.running.0 c.requires.before_is
-    (turns_stayed c.args.session c.args.lists.now c.begin_search.new.self c.in-Err.ensures.err c.requires.running.1) c.give_up-in-Err.ensures.state
+    changing_given_up c.args.session c.args.lists.now c.begin_search.new.self Idle c.args.part (of_part c.args.part) [] c.give_up-in-Err.result.0
+    c.give_up-in-Err.result.1 c.requires.changing
+    (turns_stayed c.args.session c.args.lists.now c.begin_search.new.self c.in-Err.ensures.err c.requires.idle) (inl refl) c.give_up-in-Err.ensures.state
     c.give_up-in-Err.ensures.answer

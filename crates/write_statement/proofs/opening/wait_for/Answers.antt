@@ -22,6 +22,6 @@ returns-in-Ok-clause-steps g c =
 
 pub returns-in-Err-clause-steps : goal.returns-in-Err-clause-steps
 returns-in-Err-clause-steps g c =
-    early_given_up c.args.session c.args.lists.now c.args.lists.now c.args.stmt c.args.alone c.change_count.result c.give_up.result.0 c.give_up.result.1
+    early_given_up c.args.session c.args.lists.now c.args.lists.now c.args.stmt c.args.alone c.change_count.result c.give_up_at.result.0 c.give_up_at.result.1
     c.requires.running.0 (c.change_count.ensures ∙ ap (λ (st : State). length (own c.args.session st.past)) c.lists.ensures.same)
-    (turns_none c.args.session c.args.lists.now c.requires.running.1) c.give_up.ensures.state c.give_up.ensures.answer
+    (turns_none c.args.session c.args.lists.now c.requires.running.1) c.give_up_at.ensures.state c.give_up_at.ensures.answer

@@ -2,10 +2,10 @@ use Rattle.std.proofs.Common.{arith}
 use Rattle.write_statement.proofs.Found.{found_enough}
 use Rattle.write_statement.proofs.searching.answer_found.Goals as goal
 
-pub answer-answered-requires-clause-enough : goal.answer-answered-requires-clause-enough
-answer-answered-requires-clause-enough g c =
-    found_enough c.args.lists.now c.args.session c.args.search c.args.rows c.requires.found c.lists.ensures.tables c.lists.ensures.sound
+pub answer-requires-clause-enough : goal.answer-requires-clause-enough
+answer-requires-clause-enough g c =
+    found_enough c.args.lists.now c.args.session c.args.part c.args.rows c.requires.found c.lists.ensures.tables c.lists.ensures.sound
     c.lists.ensures.ordered c.lists.ensures.fits
 
 pub returns-clause-nears : goal.returns-clause-nears
-returns-clause-nears g c = c.answer-answered.ensures.nears 5 (omega arith)
+returns-clause-nears g c = c.answer.ensures.nears _ (omega arith)
