@@ -19,7 +19,7 @@ use Rattle.row_changes.specs.declared.entry_put.PutPhase.{PutPhase}
 use Rattle.row_changes.specs.declared.entry_put.PutPhase.TheVariants as puts
 use Rattle.row_changes.specs.declared.record_change.RecordChange.{RecordChange}
 use Rattle.row_changes.specs.declared.record_change.RecordStage.{RecordStage}
-use Rattle.row_changes.specs.declared.record_change.RecordStage.TheVariants.{Enter, Room, Find, Next, Insert, Replace}
+use Rattle.row_changes.specs.declared.record_change.RecordStage.TheVariants.{Enter, Room, Find, Insert, Replace}
 use Rattle.row_changes.specs.declared.keys_change.KeysChange.{KeysChange}
 use Rattle.row_changes.specs.declared.row_change.RowChange.{RowChange}
 use Rattle.row_changes.specs.declared.row_change.RowChange.TheVariants.{Record, Keys}
@@ -44,7 +44,6 @@ stage_kept : (stage : RecordStage) (schema : Schema) (edit : RowEdit) (key : Lis
 stage_kept Enter schema edit key session old new kept is = is
 stage_kept Room schema edit key session old new kept is = is
 stage_kept Find schema edit key session old new kept is = is
-stage_kept Next schema edit key session old new kept is = (is.0, is.1, told_pairs (λ pairs. is_some (value_of key pairs) ≡ false) old.pairs new.pairs kept is.2)
 stage_kept Insert schema edit key session old new kept is =
     (is.0, is.1, told_pairs (λ pairs. is_some (value_of key pairs) ≡ false) old.pairs new.pairs kept is.2)
 stage_kept (Replace before bytes) schema edit key session old new kept is = (
@@ -56,7 +55,6 @@ stage_kept (Replace before bytes) schema edit key session old new kept is = (
 phase_kept : (phase : PutPhase) (entry : List ℕ) (old new : Index) → AreKept old.pairs new.pairs → PutPhaseHolds phase entry old → PutPhaseHolds phase entry new
 phase_kept puts.Look entry old new kept is = is
 phase_kept puts.Unmark entry old new kept is = told_pairs (λ pairs. is_some (value_of entry pairs) ≡ true) old.pairs new.pairs kept is
-phase_kept puts.Next entry old new kept is = told_pairs (λ pairs. is_some (value_of entry pairs) ≡ false) old.pairs new.pairs kept is
 phase_kept puts.Insert entry old new kept is = told_pairs (λ pairs. is_some (value_of entry pairs) ≡ false) old.pairs new.pairs kept is
 
 some_kept : (P Q : EntryPut → Type 0) (put : Option EntryPut) → ((x : EntryPut) → P x → Q x) → IfSome put P → IfSome put Q

@@ -18,11 +18,12 @@ use Rattle.row_changes.specs.declared.record_change.RecordChange.{RecordChange}
 use Rattle.row_changes.specs.declared.entry_put.EntryPut.{EntryPut}
 use Rattle.row_changes.specs.declared.keys_change.KeysChange.{KeysChange}
 use Rattle.row_changes.specs.declared.key_entries.KeyEntries.{KeyEntries}
+use Rattle.row_changes.specs.declared.row_change.RowChange.{RowChange}
 use Rattle.row_changes.specs.declared.row_change.RowChange.TheVariants.{Record}
 use Rattle.row_changes.specs.Entering.{Enters}
 use Rattle.row_changes.specs.KeyEntries.{AreEntries}
 use Rattle.row_changes.specs.Keys.{IsChangingKeys}
-use Rattle.row_changes.specs.Rows.{IsChangingRow}
+use Rattle.row_changes.specs.Rows.{IsChangingRow, table_of}
 use Rattle.row_changes.specs.Awaited.{AwaitsAt, AwaitsIn, IsOfTable}
 
 -- who is awaited in an index was so before, or is this actor
@@ -205,6 +206,13 @@ keys_await chains actor old new change put is awaits =
     (subst (λ (k : ℕ). IsOfTable change.table old.schemas k) (sym number)
     (key_of_table change.table change.which old.schemas is.schema is.table.there (omega (arith, within)))) awaits
 
+-- the same of one whose entry is being put
+pub put_awaits : (chains : Chains) (actor : ℕ) (old new : WorldState) (change : KeysChange) (put : EntryPut) → change.put ≡ Some put
+    → IsChangingKeys chains old change → AwaitsAt actor put.index old new → AwaitsIn actor change.table old new
+put_awaits chains actor old new change put at is awaits =
+    let Holds : Option EntryPut → Type 0 = λ mine. IsChangingKeys chains old (record change { put = mine }) in
+    keys_await chains actor old new change put (subst Holds at is) awaits
+
 pub mark_awaits : (chains : Chains) (actor index : ℕ) (old new : WorldState) (change : KeysChange) (entries : KeyEntries)
     → (is : IsChangingKeys chains old change) → AreEntries is.schema change.which change.before change.after change.key entries
     → index ≡ key_index change.table entries.which → AwaitsAt actor index old new → AwaitsIn actor change.table old new
@@ -218,6 +226,13 @@ pub record_awaits : (chains : Chains) (s : ℕ) (old new : WorldState) (change :
     → IsChangingRow s chains old (Record change key after) → AwaitsAt s (clustered_index change.table) old new → AwaitsIn s change.table old new
 record_awaits chains s old new change key after is awaits =
     awaits_in s (clustered_index change.table) change.table old new (clustered_of_table change.table old.schemas is.0.schema is.0.table.there) awaits
+
+-- the same of a change that is at its record
+pub record_awaits_at : (chains : Chains) (s : ℕ) (old new : WorldState) (mine : RowChange) (change : RecordChange) (key : List ℕ) (after : Option (List Value))
+    → mine ≡ Record change key after → IsChangingRow s chains old mine → AwaitsAt s (clustered_index change.table) old new → AwaitsIn s (table_of mine) old new
+record_awaits_at chains s old new mine change key after at is awaits =
+    subst (λ (r : RowChange). IsChangingRow s chains old r → AwaitsIn s (table_of r) old new) (sym at)
+    (λ holds. record_awaits chains s old new change key after holds awaits) is
 
 -- a record that was put, and then the entry of the history
 pub entered_awaits : (s index : ℕ) (step : Index → Index → Type 0) (old mid new : WorldState) (change : Change) (rows : ℕ) (session : Session) (work : Work)

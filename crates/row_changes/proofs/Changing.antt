@@ -20,7 +20,7 @@ use Rattle.world.specs.Sessions.{with_room}
 use Rattle.txn_table.specs.Txns.{Txns, is_there, id_at}
 use Rattle.row_changes.specs.declared.record_change.RecordChange.{RecordChange}
 use Rattle.row_changes.specs.declared.record_change.RecordStage.{RecordStage}
-use Rattle.row_changes.specs.declared.record_change.RecordStage.TheVariants.{Enter, Room, Find, Next, Insert, Replace}
+use Rattle.row_changes.specs.declared.record_change.RecordStage.TheVariants.{Enter, Room, Find, Insert, Replace}
 use Rattle.store_api.specs.declared.answers.Version.{Version}
 use Rattle.row_codec.specs.Rows.{IsRecordOf}
 use Rattle.row_changes.specs.Coding.{Decodes}
@@ -33,7 +33,11 @@ use Rattle.row_changes.specs.declared.row_edit.RowEdit.TheVariants.{Put, Remove}
 use Rattle.row_changes.specs.Edits.{IsPut, FindsRow, HasNoRow, LacksRow}
 use Rattle.law_stored_rows.specs.Records.{IsCodeOf}
 use Rattle.std.proofs.Common.{cond, Bool, true, false}
+use Rattle.row_changes.specs.declared.record_change.RecordReached.{RecordReached}
 use Rattle.row_changes.specs.declared.record_change.RecordReached.TheVariants.{Went, Hindered}
+use Rattle.row_changes.specs.declared.record_change.RecordCame.{RecordCame}
+use Rattle.row_changes.specs.declared.record_change.RecordCame.TheVariants as record_came
+use Rattle.row_changes.specs.InPlace.{record_reached}
 use Rattle.store_api.specs.declared.moves.Move.{Move}
 use Rattle.store_api.specs.declared.moves.Move.TheVariants as moves
 use Rattle.row_changes.proofs.Sessions.{one_session, aside_of_stay, readied_alone, same_pairs, same_versions, set_here, set_other}
@@ -110,7 +114,6 @@ pub stage_kept : (stage : RecordStage) (schema : Schema) (edit : RowEdit) (key :
 stage_kept Enter schema edit key session old new kept holds = holds
 stage_kept Room schema edit key session old new kept holds = holds
 stage_kept Find schema edit key session old new kept holds = holds
-stage_kept Next schema edit key session old new kept holds = (holds.0, holds.1, told_kept _ old new kept holds.2)
 stage_kept Insert schema edit key session old new kept holds = (holds.0, holds.1, told_kept _ old new kept holds.2)
 stage_kept (Replace before bytes) schema edit key session old new kept holds =
     (holds.0, holds.1, record { there = told_kept _ old new kept holds.2.there; code_is = holds.2.code_is })
@@ -144,7 +147,7 @@ entered s old new change p at is =
     let after = record p.session { can_begin = true; can_change = true } in
     let aside = readied_alone s p.session after old p.has_work.session_is (record { setting = refl; work = refl; can_reply = refl; can_ack = refl }) in
     subst (λ state. GoesOnWithRecord s old state change (record change { stage = Room })) (sym is)
-    (goes_on s old (with_session s after old) change Room p aside refl (subst (λ stage. 4 < record_steps stage) (sym at) (omega arith)))
+    (goes_on s old (with_session s after old) change Room p aside refl (subst (λ stage. 3 < record_steps stage) (sym at) (omega arith)))
 
 -- what stays of all else
 pub same_rest : (old new : WorldState) (after : Session) (s : ℕ) → new.sessions ≡ slice_set old.sessions s after → new.indexes ≡ old.indexes
@@ -189,7 +192,7 @@ room_made s old new change p at ready =
     ready.later in
     let can_change = subst (λ stage. StageHolds stage p.schema change.edit change.key p.session (old.indexes (clustered_index change.table))) at p.stage in
     goes_on s old new change Find p aside (record { entry = can_change; leads = ready.leads; undo = omega arith })
-    (subst (λ stage. 3 < record_steps stage) (sym at) (omega arith))
+    (subst (λ stage. 2 < record_steps stage) (sym at) (omega arith))
 
 pub unchanged_stays : (old new : WorldState) → IsUnchanged old new → RowsStay old new
 unchanged_stays old new same =
@@ -259,14 +262,6 @@ same_rows state =
       later = store_stays state.paged;
     }
 
-pub awaited : (s : ℕ) (old new : WorldState) (change : RecordChange) (p : IsChangingRecord s old change) → change.stage ≡ Next → RowsStay old new
-    → GoesOnWithRecord s old new change (record change { stage = Insert })
-awaited s old new change p at stay =
-    let i = clustered_index change.table in
-    goes_on_after s old new change Insert p stay
-    (stage_kept Insert p.schema change.edit change.key p.session (old.indexes i) (new.indexes i) (stay.pairs i) (stage_at s old change Next p at))
-    (fewer_steps 1 change Next at (omega arith))
-
 -- where the key wasn't found
 pub not_there : (key : List ℕ) (old new : Index) → AreKept old.pairs new.pairs → Told (λ pairs. value_of key pairs ≡ None) old → IsThere false key new
 not_there key old new kept none =
@@ -279,9 +274,9 @@ pub missed : (s : ℕ) (old new : WorldState) (change : RecordChange) (edit : Ro
     → ChangesRecord s old new change (when_missed edit change)
 missed s old new change (Put row) p at edit_is stay none =
     let i = clustered_index change.table in
-    goes_on_after s old new change Next p stay
+    goes_on_after s old new change Insert p stay
     (stage_at s old change Find p at, subst IsPut (sym edit_is) (record {}), not_there change.key (old.indexes i) (new.indexes i) (stay.pairs i) none)
-    (fewer_steps 2 change Find at (omega arith))
+    (fewer_steps 1 change Find at (omega arith))
 missed s old new change (Remove value) p at edit_is stay none =
     let i = clustered_index change.table in
     let lacks : LacksRow (Remove value) p.schema change.key (old.indexes i) moves.End =
@@ -384,3 +379,7 @@ looked_up_none s old new change read p at c =
 pub lacks_memory : (s : ℕ) (state : WorldState) (change : RecordChange) → IsChangingRecord s state change
     → ChangesRecord s state state change (Hindered change moves.NoMemory)
 lacks_memory s state change p = hindered s state state change change moves.NoMemory p refl (same_rows state) (inl (record {}))
+
+-- A step that was made where the change lies, and went on, hands the same on.
+pub handed_on : (next stands : RecordChange) (came : RecordCame) → came ≡ record_came.Went → next ≡ stands → record_reached next came ≡ Went stands
+handed_on next stands came went is = ap (record_reached next) went ∙ ap (λ (change : RecordChange). let reached : RecordReached = Went change in reached) is

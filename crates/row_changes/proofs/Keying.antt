@@ -26,10 +26,14 @@ use Rattle.law_stored_rows.specs.Records.{shown}
 use Rattle.world.specs.State.{WorldState}
 use Rattle.row_changes.specs.declared.entry_put.EntryPut.{EntryPut}
 use Rattle.row_changes.specs.declared.entry_put.PutPhase.{PutPhase}
-use Rattle.row_changes.specs.declared.entry_put.PutPhase.TheVariants.{Look, Unmark, Next, Insert}
+use Rattle.row_changes.specs.declared.entry_put.PutPhase.TheVariants.{Look, Unmark, Insert}
 use Rattle.row_changes.specs.declared.keys_change.KeysChange.{KeysChange}
 use Rattle.row_changes.specs.declared.key_entries.KeyEntries.{KeyEntries}
-use Rattle.row_changes.specs.declared.reached.Reached.TheVariants.{Done, Hindered}
+use Rattle.row_changes.specs.declared.reached.Reached.{Reached}
+use Rattle.row_changes.specs.declared.reached.Reached.TheVariants.{Went, Done, Hindered}
+use Rattle.row_changes.specs.declared.reached.Came.{Came}
+use Rattle.row_changes.specs.declared.reached.Came.TheVariants as came
+use Rattle.row_changes.specs.InPlace.{reached_at}
 use Rattle.row_changes.specs.Pairs.{RowsStay, PutsPair, Hinders}
 use Rattle.row_changes.specs.Entries.{unmarked, marked, put_steps, GoesOnPutting, HindersEntry, PutsEntry}
 use Rattle.law_stored_rows.proofs.Pairs.{no_key}
@@ -233,7 +237,7 @@ fewer_next : (keys from which : ℕ) (put : Option EntryPut) → keys_steps (key
 fewer_next keys from which put is above within = omega (arith, is)
 
 fewer_put : (keys from which : ℕ) (put : Option EntryPut) → keys_steps (keys - from) put ≡ 4 * (keys - from) → from ≤ which → which < keys
-    → 4 * ((keys - which) - 1) + 3 < keys_steps (keys - from) put
+    → 4 * ((keys - which) - 1) + 2 < keys_steps (keys - from) put
 fewer_put keys from which put is above within = omega (arith, is)
 
 -- its row is one of the table's at the place
@@ -422,7 +426,6 @@ entering_on chains old new change put next p g =
 some_step : (phase : PutPhase) → 0 < put_steps phase
 some_step Look = omega arith
 some_step Unmark = omega arith
-some_step Next = omega arith
 some_step Insert = omega arith
 
 fewer_done : (keys from steps : ℕ) → from < keys → 0 < steps → 4 * (keys - (from + 1)) < 4 * ((keys - from) - 1) + steps
@@ -512,3 +515,33 @@ pub for_its_schema : (result : Result (Option KeyEntries) NoMemory) (P : Schema 
     → found ≡ Some schema → IfOk result (P schema) → IfOk result (λ r. (s : Schema) → found ≡ Some s → P s r)
 for_its_schema (Ok r) P found schema is holds = λ s also. subst (λ (x : Schema). P x r) (one_schema found schema s is also) holds
 for_its_schema (Err e) P found schema is holds = record {}
+
+-- A step that was made where the change lies, and went on, hands the same on.
+pub handed_on : (next stands : KeysChange) (how : Came) → how ≡ came.Went → next ≡ stands → reached_at next how ≡ Went stands
+handed_on next stands how went is = ap (reached_at next) went ∙ ap (λ (change : KeysChange). let reached : Reached KeysChange = Went change in reached) is
+
+-- the new row's entry has made a step where it lies
+module _ (actor : ℕ) (chains : Chains) (old new : WorldState) (change : KeysChange) (put next : EntryPut) (at : change.put ≡ Some put) where
+  pub put_went : PutsEntry actor old new put (Went next) → IsChangingKeys chains old change
+      → ChangesKeys actor chains old new change (Went (record change { put = Some next }))
+  put_went puts =
+      let Step : Option EntryPut → Type 0 =
+      λ mine. IsChangingKeys chains old (record change { put = mine })
+      → ChangesKeys actor chains old new (record change { put = mine }) (Went (record change { put = Some next })) in
+      subst Step (sym at) (λ p. entering_on chains old new change put next p puts)
+
+  pub put_done : PutsEntry actor old new put Done → IsChangingKeys chains old change
+      → ChangesKeys actor chains old new change (Went (record change { which = change.which + 1; put = None }))
+  put_done puts =
+      let Step : Option EntryPut → Type 0 =
+      λ mine. IsChangingKeys chains old (record change { put = mine })
+      → ChangesKeys actor chains old new (record change { put = mine }) (Went (record change { which = change.which + 1; put = None })) in
+      subst Step (sym at) (λ p. entered_key chains old new change put p puts)
+
+  pub put_waits : (why : Move) → PutsEntry actor old new put (Hindered next why) → IsChangingKeys chains old change
+      → ChangesKeys actor chains old new change (Hindered (record change { put = Some next }) why)
+  put_waits why puts =
+      let Step : Option EntryPut → Type 0 =
+      λ mine. IsChangingKeys chains old (record change { put = mine })
+      → ChangesKeys actor chains old new (record change { put = mine }) (Hindered (record change { put = Some next }) why) in
+      subst Step (sym at) (λ p. put_hindered actor chains old new change put next why p puts)

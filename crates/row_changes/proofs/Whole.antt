@@ -20,11 +20,12 @@ use Rattle.world.specs.State.{WorldState, Session, Work}
 use Rattle.world.specs.Indexes.{KeepsVersion}
 use Rattle.row_changes.specs.declared.record_change.RecordChange.{RecordChange}
 use Rattle.row_changes.specs.declared.record_change.RecordStage.{RecordStage}
-use Rattle.row_changes.specs.declared.record_change.RecordStage.TheVariants.{Enter, Room, Find, Next, Insert, Replace}
+use Rattle.row_changes.specs.declared.record_change.RecordStage.TheVariants.{Enter, Room, Find, Insert, Replace}
 use Rattle.row_changes.specs.declared.record_change.RecordReached.TheVariants as records
 use Rattle.row_changes.specs.declared.keys_change.KeysChange.{KeysChange}
 use Rattle.row_changes.specs.declared.row_change.RowChange.{RowChange}
 use Rattle.row_changes.specs.declared.row_change.RowChange.TheVariants.{Record, Keys}
+use Rattle.row_changes.specs.declared.reached.Reached.{Reached}
 use Rattle.row_changes.specs.declared.reached.Reached.TheVariants.{Went, Hindered}
 use Rattle.row_changes.specs.Asides.{StepsAside}
 use Rattle.row_changes.specs.Edits.{IsRowFor, IsKeyAt, version_by}
@@ -79,7 +80,6 @@ some_record_step : (stage : RecordStage) → 0 < record_steps stage
 some_record_step Enter = omega arith
 some_record_step Room = omega arith
 some_record_step Find = omega arith
-some_record_step Next = omega arith
 some_record_step Insert = omega arith
 some_record_step (Replace before bytes) = omega arith
 
@@ -282,3 +282,29 @@ record_hindered s chains old new change same key after why p h =
 pub keys_hindered : (s : ℕ) (chains : Chains) (old new : WorldState) (change same : KeysChange) (why : Move)
     → ChangesKeys s chains old new change (Hindered same why) → ChangesRow s chains old new (Keys change) (Hindered (Keys same) why)
 keys_hindered s chains old new change same why h = (ap (λ (c : KeysChange). let r : RowChange = Keys c in r) h.0, h.2, (h.1, h.3))
+
+-- ---- a step that is made where the change lies
+
+module _ (s : ℕ) (chains : Chains) (old new : WorldState) (mine : RowChange) (change : RecordChange) (key : List ℕ) (after : Option (List Value))
+    (at : mine ≡ Record change key after) (p : IsChangingRow s chains old mine) where
+  at_record : (reached : Reached RowChange)
+      → (IsChangingRow s chains old (Record change key after) → ChangesRow s chains old new (Record change key after) reached)
+      → ChangesRow s chains old new mine reached
+  at_record reached made =
+      subst (λ (r : RowChange). IsChangingRow s chains old r → ChangesRow s chains old new r reached) (sym at) made p
+
+  pub record_went : (next : RecordChange) → GoesOnWithRecord s old new change next → ChangesRow s chains old new mine (Went (Record next key after))
+  record_went next g = at_record (Went (Record next key after)) (λ is. record_on s chains old new change next key after is g)
+
+  pub record_recorded : (before : Option (List Value)) (keys : KeysChange)
+      → keys ≡ record { table = change.table; key = key; before = before; after = after; which = 0; put = None }
+      → ChangesRecord s old new change (records.Recorded before) → ChangesRow s chains old new mine (Went (Keys keys))
+  record_recorded before keys is h =
+      subst (λ (k : KeysChange). ChangesRow s chains old new mine (Went (Keys k))) (sym is)
+      (at_record (Went (Keys (record { table = change.table; key = key; before = before; after = after; which = 0; put = None })))
+      (λ holds. record_stands s chains old new change key before after holds h))
+
+  pub record_waits : (same : RecordChange) (why : Move) → ChangesRecord s old new change (records.Hindered same why)
+      → ChangesRow s chains old new mine (Hindered (Record same key after) why)
+  record_waits same why h =
+      at_record (Hindered (Record same key after) why) (λ is. record_hindered s chains old new change same key after why is h)

@@ -9,7 +9,7 @@ use Rattle.row_changes.specs.declared.reached.Reached.{Reached}
 use Rattle.row_changes.specs.declared.reached.Reached.TheVariants.{Went, Done, Hindered}
 use Rattle.row_changes.specs.declared.entry_put.EntryPut.{EntryPut}
 use Rattle.row_changes.specs.declared.entry_put.PutPhase.{PutPhase}
-use Rattle.row_changes.specs.declared.entry_put.PutPhase.TheVariants.{Look, Unmark, Next, Insert}
+use Rattle.row_changes.specs.declared.entry_put.PutPhase.TheVariants.{Look, Unmark, Insert}
 use Rattle.row_changes.specs.declared.entry_mark.EntryMark.{EntryMark}
 use Rattle.row_changes.specs.declared.entry_drop.EntryDrop.{EntryDrop}
 use Rattle.row_changes.specs.declared.entry_drop.DropPhase.{DropPhase}
@@ -30,7 +30,6 @@ IsThere there entry index = Told (λ pairs. is_some (value_of entry pairs) ≡ t
 abbrev pub PutPhaseHolds : PutPhase → List ℕ → Index → Type 0
 PutPhaseHolds Look entry index = Unit {0}
 PutPhaseHolds Unmark entry index = IsThere true entry index
-PutPhaseHolds Next entry index = IsThere false entry index
 PutPhaseHolds Insert entry index = IsThere false entry index
 
 pub record IsPutting (state : WorldState) (put : EntryPut) : Type 0 where
@@ -40,9 +39,8 @@ pub record IsPutting (state : WorldState) (put : EntryPut) : Type 0 where
 
 -- how many steps are left at most
 abbrev pub put_steps : PutPhase → ℕ
-put_steps Look = 3
+put_steps Look = 2
 put_steps Unmark = 1
-put_steps Next = 2
 put_steps Insert = 1
 
 -- the same entry, some steps nearer

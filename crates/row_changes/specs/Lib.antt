@@ -10,3 +10,4 @@ pub mod KeyEntries
 pub mod Keys
 pub mod Rows
 pub mod Awaited
+pub mod InPlace

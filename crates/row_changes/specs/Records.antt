@@ -21,7 +21,7 @@ use Rattle.world.specs.Indexes.{KeepsIf}
 use Rattle.world.specs.Undoing.{MakesRoom}
 use Rattle.row_changes.specs.declared.record_change.RecordChange.{RecordChange}
 use Rattle.row_changes.specs.declared.record_change.RecordStage.{RecordStage}
-use Rattle.row_changes.specs.declared.record_change.RecordStage.TheVariants.{Enter, Room, Find, Next, Insert, Replace}
+use Rattle.row_changes.specs.declared.record_change.RecordStage.TheVariants.{Enter, Room, Find, Insert, Replace}
 use Rattle.row_changes.specs.declared.record_change.RecordReached.{RecordReached}
 use Rattle.row_changes.specs.declared.record_change.RecordReached.TheVariants.{Went, Recorded, Hindered}
 use Rattle.row_changes.specs.declared.row_edit.RowEdit.{RowEdit}
@@ -62,7 +62,6 @@ abbrev pub StageHolds : RecordStage → Schema → RowEdit → List ℕ → Sess
 StageHolds Enter schema edit key session index = Unit {0}
 StageHolds Room schema edit key session index = session.can_change ≡ true
 StageHolds Find schema edit key session index = HasRoom session
-StageHolds Next schema edit key session index = HasRoom session × IsPut edit × IsThere false key index
 StageHolds Insert schema edit key session index = HasRoom session × IsPut edit × IsThere false key index
 StageHolds (Replace before bytes) schema edit key session index = HasRoom session × FindsRow edit before × IsFormer schema key bytes before index
 
@@ -79,10 +78,9 @@ pub record IsChangingRecord (s : ℕ) (state : WorldState) (change : RecordChang
 
 -- how many steps are left at most
 abbrev pub record_steps : RecordStage → ℕ
-record_steps Enter = 5
-record_steps Room = 4
-record_steps Find = 3
-record_steps Next = 2
+record_steps Enter = 4
+record_steps Room = 3
+record_steps Find = 2
 record_steps Insert = 1
 record_steps (Replace before bytes) = 1
 
@@ -218,7 +216,7 @@ ChangesRecord s old new change (Hindered same why) =
 
 -- the place has no record: a row may be put there, but none removed
 abbrev pub when_missed : RowEdit → RecordChange → RecordReached
-when_missed (Put row) change = Went (record change { stage = Next })
+when_missed (Put row) change = Went (record change { stage = Insert })
 when_missed (Remove value) change = Hindered change End
 
 -- the place has a record: a row may be put over it, and removed where it isn't marked

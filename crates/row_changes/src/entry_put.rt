@@ -3,11 +3,12 @@
 ghost use Rattle.std.specs.Prelude.{◌≡◌};
 ghost use Rattle.row_changes.specs.Entries.{IsPutting, PutsEntry};
 ghost use Rattle.row_changes.specs.Awaited.{AwaitsAt};
+ghost use Rattle.row_changes.specs.InPlace.{reached_at};
 
-use crate::reached::Reached;
+use crate::reached::Came;
 use inno_types::Bytes;
 use std::alloc::Global;
-use store_api::{MOST_BYTES_OF_KEY, MOST_BYTES_OF_VALUE, Move};
+use store_api::{MOST_BYTES_OF_VALUE, Move};
 use world::World;
 
 /// The value of an entry that is its newest row's.
@@ -20,8 +21,7 @@ pub enum PutPhase {
     Look,
     /// It is there, perhaps marked.
     Unmark,
-    /// It isn't there: keep others from changing keys.
-    Next,
+    /// It isn't there.
     Insert,
 }
 
@@ -45,49 +45,50 @@ impl EntryPut {
     }
 
     /// One step. It asks that nobody else changes the index's keys between the steps.
-    pub fn step<W: World>(self, alloc: Global, world: &mut W, actor: u32) -> Reached<EntryPut>
-        requires { IsPutting (W.state world.old) self }
-        ensures puts { PutsEntry actor (W.state world.old) (W.state world.new) self result }
-        ensures awaits { AwaitsAt actor self.index (W.state world.old) (W.state world.new) }
+    pub fn step<W: World>(&mut self, alloc: Global, world: &mut W, actor: u32) -> Came
+        requires { IsPutting (W.state world.old) self.old }
+        ensures puts { PutsEntry actor (W.state world.old) (W.state world.new) self.old (reached_at self.new result) }
+        ensures awaits { AwaitsAt actor self.old.index (W.state world.old) (W.state world.new) }
     {
         match self.phase {
             PutPhase::Look => self.look(alloc, world, actor),
             PutPhase::Unmark => self.unmark(alloc, world, actor),
-            PutPhase::Next => self.await_keys(alloc, world, actor),
             PutPhase::Insert => self.insert(alloc, world, actor),
         }
     }
 
-    fn look<W: World>(self, alloc: Global, world: &mut W, actor: u32) -> Reached<EntryPut>
-        requires putting { IsPutting (W.state world.old) self }
-        requires phase { self.phase ≡ PutPhase.Look }
-        ensures puts { PutsEntry actor (W.state world.old) (W.state world.new) self result }
-        ensures awaits { AwaitsAt actor self.index (W.state world.old) (W.state world.new) }
+    fn look<W: World>(&mut self, alloc: Global, world: &mut W, actor: u32) -> Came
+        requires putting { IsPutting (W.state world.old) self.old }
+        requires phase { self.old.phase ≡ PutPhase.Look }
+        ensures puts { PutsEntry actor (W.state world.old) (W.state world.new) self.old (reached_at self.new result) }
+        ensures awaits { AwaitsAt actor self.old.index (W.state world.old) (W.state world.new) }
     {
         let Ok(mut mark) = Vec::with_capacity(alloc, MOST_BYTES_OF_VALUE) else {
-            return Reached::Hindered(self, Move::NoMemory);
+            return Came::Hindered(Move::NoMemory);
         };
         match world.fetch(self.index, actor, &self.entry, &mut mark) {
             Move::Done => self.then(PutPhase::Unmark),
-            Move::End => self.then(PutPhase::Next),
-            hindrance => Reached::Hindered(self, hindrance),
+            Move::End => self.then(PutPhase::Insert),
+            hindrance => Came::Hindered(hindrance),
         }
     }
 
-    fn then(self, phase: PutPhase) -> Reached<EntryPut>
-        ensures { result ≡ Reached.Went (record self { phase = phase }) }
+    fn then(&mut self, phase: PutPhase) -> Came
+        ensures went { result ≡ Came.Went }
+        ensures then { self.new ≡ record self.old { phase = phase } }
     {
-        Reached::Went(EntryPut { phase, ..self })
+        self.phase = phase;
+        Came::Went
     }
 
-    fn unmark<W: World>(self, alloc: Global, world: &mut W, actor: u32) -> Reached<EntryPut>
-        requires putting { IsPutting (W.state world.old) self }
-        requires phase { self.phase ≡ PutPhase.Unmark }
-        ensures puts { PutsEntry actor (W.state world.old) (W.state world.new) self result }
-        ensures awaits { AwaitsAt actor self.index (W.state world.old) (W.state world.new) }
+    fn unmark<W: World>(&mut self, alloc: Global, world: &mut W, actor: u32) -> Came
+        requires putting { IsPutting (W.state world.old) self.old }
+        requires phase { self.old.phase ≡ PutPhase.Unmark }
+        ensures puts { PutsEntry actor (W.state world.old) (W.state world.new) self.old (reached_at self.new result) }
+        ensures awaits { AwaitsAt actor self.old.index (W.state world.old) (W.state world.new) }
     {
         let Ok(value) = vec![in alloc; UNMARKED] else {
-            return Reached::Hindered(self, Move::NoMemory);
+            return Came::Hindered(Move::NoMemory);
         };
         match world.replace(
             self.index,
@@ -96,34 +97,19 @@ impl EntryPut {
             &Bytes::from_vec(value),
             None,
         ) {
-            Move::Done => Reached::Done,
-            hindrance => Reached::Hindered(self, hindrance),
+            Move::Done => Came::Done,
+            hindrance => Came::Hindered(hindrance),
         }
     }
 
-    fn await_keys<W: World>(self, alloc: Global, world: &mut W, actor: u32) -> Reached<EntryPut>
-        requires putting { IsPutting (W.state world.old) self }
-        requires phase { self.phase ≡ PutPhase.Next }
-        ensures puts { PutsEntry actor (W.state world.old) (W.state world.new) self result }
-        ensures awaits { AwaitsAt actor self.index (W.state world.old) (W.state world.new) }
-    {
-        let Ok(mut next) = Vec::with_capacity(alloc, MOST_BYTES_OF_KEY) else {
-            return Reached::Hindered(self, Move::NoMemory);
-        };
-        match world.next_key(self.index, actor, &self.entry, &mut next) {
-            Move::Done | Move::End => self.then(PutPhase::Insert),
-            hindrance => Reached::Hindered(self, hindrance),
-        }
-    }
-
-    fn insert<W: World>(self, alloc: Global, world: &mut W, actor: u32) -> Reached<EntryPut>
-        requires putting { IsPutting (W.state world.old) self }
-        requires phase { self.phase ≡ PutPhase.Insert }
-        ensures puts { PutsEntry actor (W.state world.old) (W.state world.new) self result }
-        ensures awaits { AwaitsAt actor self.index (W.state world.old) (W.state world.new) }
+    fn insert<W: World>(&mut self, alloc: Global, world: &mut W, actor: u32) -> Came
+        requires putting { IsPutting (W.state world.old) self.old }
+        requires phase { self.old.phase ≡ PutPhase.Insert }
+        ensures puts { PutsEntry actor (W.state world.old) (W.state world.new) self.old (reached_at self.new result) }
+        ensures awaits { AwaitsAt actor self.old.index (W.state world.old) (W.state world.new) }
     {
         let Ok(value) = vec![in alloc; UNMARKED] else {
-            return Reached::Hindered(self, Move::NoMemory);
+            return Came::Hindered(Move::NoMemory);
         };
         match world.insert(
             self.index,
@@ -132,8 +118,8 @@ impl EntryPut {
             &Bytes::from_vec(value),
             None,
         ) {
-            Move::Done => Reached::Done,
-            hindrance => Reached::Hindered(self, hindrance),
+            Move::Done => Came::Done,
+            hindrance => Came::Hindered(hindrance),
         }
     }
 }

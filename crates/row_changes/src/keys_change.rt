@@ -8,11 +8,12 @@ ghost use Rattle.law_stored_rows.specs.Edits.{key_index};
 ghost use Rattle.row_changes.specs.KeyEntries.{StayBetween, AreEntries};
 ghost use Rattle.row_changes.specs.Awaited.{AwaitsIn};
 ghost use Rattle.row_changes.specs.Keys.{IsChangingKeys, ChangesKeys, keys_next};
+ghost use Rattle.row_changes.specs.InPlace.{reached_at};
 
 use crate::entry_mark::EntryMark;
 use crate::entry_put::EntryPut;
 use crate::key_entries::{KeyEntries, index_of_key, next_entries};
-use crate::reached::Reached;
+use crate::reached::{Came, Reached};
 use inno_types::{Bytes, Row};
 use std::alloc::Global;
 use store_api::{Move, NoMemory};
@@ -36,76 +37,52 @@ pub struct KeysChange {
 
 impl KeysChange {
     /// One step. It asks that nobody else changes rows between the steps.
-    pub fn step<W: World>(self, alloc: Global, world: &mut W, actor: u32) -> Reached<KeysChange>
+    pub fn step<W: World>(mut self, alloc: Global, world: &mut W, actor: u32) -> Reached<KeysChange>
         requires { (chains : Chains) × IsChangingKeys chains (W.state world.old) self }
         ensures changes { (chains : Chains) → IsChangingKeys chains (W.state world.old) self → ChangesKeys actor chains (W.state world.old) (W.state world.new) self result }
         ensures awaits { AwaitsIn actor self.table (W.state world.old) (W.state world.new) }
     {
-        let KeysChange {
-            table,
-            key,
-            before,
-            after,
-            which,
-            put,
-        } = self;
-        let change = KeysChange {
-            table,
-            key,
-            before,
-            after,
-            which,
-            put: None,
-        };
-        match put {
-            Some(put) => change.enter(put, alloc, world, actor),
-            None => change.pass(alloc, world, actor),
+        match self.advance(alloc, world, actor) {
+            Came::Went => Reached::Went(self),
+            Came::Done => {
+                drop(self);
+                Reached::Done
+            }
+            Came::Hindered(why) => Reached::Hindered(self, why),
         }
     }
 
-    /// Goes on with the new row's entry.
-    fn enter<W: World>(
-        self,
-        put: EntryPut,
-        alloc: Global,
-        world: &mut W,
-        actor: u32,
-    ) -> Reached<KeysChange>
-        requires { (chains : Chains) × IsChangingKeys chains (W.state world.old) (record self { put = Some put }) }
-        ensures changes { (chains : Chains) → IsChangingKeys chains (W.state world.old) (record self { put = Some put }) → ChangesKeys actor chains (W.state world.old) (W.state world.new) (record self { put = Some put }) result }
-        ensures awaits { AwaitsIn actor self.table (W.state world.old) (W.state world.new) }
+    /// One step, made where the change lies.
+    pub fn advance<W: World>(&mut self, alloc: Global, world: &mut W, actor: u32) -> Came
+        requires { (chains : Chains) × IsChangingKeys chains (W.state world.old) self.old }
+        ensures changes { (chains : Chains) → IsChangingKeys chains (W.state world.old) self.old → ChangesKeys actor chains (W.state world.old) (W.state world.new) self.old (reached_at self.new result) }
+        ensures awaits { AwaitsIn actor self.old.table (W.state world.old) (W.state world.new) }
     {
+        let Some(put) = &mut self.put else {
+            return self.pass(alloc, world, actor);
+        };
         match put.step(alloc, world, actor) {
-            Reached::Went(put) => Reached::Went(KeysChange {
-                put: Some(put),
-                ..self
-            }),
-            Reached::Done => Reached::Went(KeysChange {
-                which: self.which + 1,
-                put: None,
-                ..self
-            }),
-            Reached::Hindered(put, why) => Reached::Hindered(
-                KeysChange {
-                    put: Some(put),
-                    ..self
-                },
-                why,
-            ),
+            Came::Went => Came::Went,
+            Came::Done => {
+                self.which += 1;
+                self.put = None;
+                Came::Went
+            }
+            Came::Hindered(why) => Came::Hindered(why),
         }
     }
 
     /// Comes to the next key whose value doesn't stay.
-    fn pass<W: World>(self, alloc: Global, world: &mut W, actor: u32) -> Reached<KeysChange>
-        requires changing { (chains : Chains) × IsChangingKeys chains (W.state world.old) self }
-        requires none { self.put ≡ None }
-        ensures changes { (chains : Chains) → IsChangingKeys chains (W.state world.old) self → ChangesKeys actor chains (W.state world.old) (W.state world.new) self result }
-        ensures awaits { AwaitsIn actor self.table (W.state world.old) (W.state world.new) }
+    fn pass<W: World>(&mut self, alloc: Global, world: &mut W, actor: u32) -> Came
+        requires changing { (chains : Chains) × IsChangingKeys chains (W.state world.old) self.old }
+        requires none { self.old.put ≡ None }
+        ensures changes { (chains : Chains) → IsChangingKeys chains (W.state world.old) self.old → ChangesKeys actor chains (W.state world.old) (W.state world.new) self.old (reached_at self.new result) }
+        ensures awaits { AwaitsIn actor self.old.table (W.state world.old) (W.state world.new) }
     {
         match self.entries(alloc, world) {
             Ok(Some(entries)) => self.take_over(entries, alloc, world, actor),
-            Ok(None) => Reached::Done,
-            Err(NoMemory) => Reached::Hindered(self, Move::NoMemory),
+            Ok(None) => Came::Done,
+            Err(NoMemory) => Came::Hindered(Move::NoMemory),
         }
     }
 
@@ -129,66 +106,66 @@ impl KeysChange {
 
     /// Marks the old row's entry, if there is one.
     fn take_over<W: World>(
-        self,
+        &mut self,
         entries: KeyEntries,
         alloc: Global,
         world: &mut W,
         actor: u32,
-    ) -> Reached<KeysChange>
-        requires changing { (chains : Chains) × IsChangingKeys chains (W.state world.old) self }
-        requires none { self.put ≡ None }
-        requires entries { (schema : Schema) → slice_get (W.state world.old).schemas self.table ≡ Some schema → AreEntries schema self.which self.before self.after self.key entries }
-        ensures changes { (chains : Chains) → IsChangingKeys chains (W.state world.old) self → ChangesKeys actor chains (W.state world.old) (W.state world.new) self result }
-        ensures awaits { AwaitsIn actor self.table (W.state world.old) (W.state world.new) }
+    ) -> Came
+        requires changing { (chains : Chains) × IsChangingKeys chains (W.state world.old) self.old }
+        requires none { self.old.put ≡ None }
+        requires entries { (schema : Schema) → slice_get (W.state world.old).schemas self.old.table ≡ Some schema → AreEntries schema self.old.which self.old.before self.old.after self.old.key entries }
+        ensures changes { (chains : Chains) → IsChangingKeys chains (W.state world.old) self.old → ChangesKeys actor chains (W.state world.old) (W.state world.new) self.old (reached_at self.new result) }
+        ensures awaits { AwaitsIn actor self.old.table (W.state world.old) (W.state world.new) }
     {
         let KeyEntries { which, old, new } = entries;
         let index = index_of_key(self.table, which);
         match old {
             Some(entry) => self.mark(EntryMark { index, entry }, which, new, alloc, world, actor),
-            None => Reached::Went(self.next(index, which, new)),
+            None => self.next(index, which, new),
         }
     }
 
     fn mark<W: World>(
-        self,
+        &mut self,
         mark: EntryMark,
         which: usize,
         new: Option<Bytes>,
         alloc: Global,
         world: &mut W,
         actor: u32,
-    ) -> Reached<KeysChange>
-        requires changing { (chains : Chains) × IsChangingKeys chains (W.state world.old) self }
-        requires none { self.put ≡ None }
-        requires index { mark.index ≡ key_index self.table which }
-        requires entries { (schema : Schema) → slice_get (W.state world.old).schemas self.table ≡ Some schema → AreEntries schema self.which self.before self.after self.key (record { which = which; old = Some mark.entry; new = new }) }
-        ensures changes { (chains : Chains) → IsChangingKeys chains (W.state world.old) self → ChangesKeys actor chains (W.state world.old) (W.state world.new) self result }
-        ensures awaits { AwaitsIn actor self.table (W.state world.old) (W.state world.new) }
+    ) -> Came
+        requires changing { (chains : Chains) × IsChangingKeys chains (W.state world.old) self.old }
+        requires none { self.old.put ≡ None }
+        requires index { mark.index ≡ key_index self.old.table which }
+        requires entries { (schema : Schema) → slice_get (W.state world.old).schemas self.old.table ≡ Some schema → AreEntries schema self.old.which self.old.before self.old.after self.old.key (record { which = which; old = Some mark.entry; new = new }) }
+        ensures changes { (chains : Chains) → IsChangingKeys chains (W.state world.old) self.old → ChangesKeys actor chains (W.state world.old) (W.state world.new) self.old (reached_at self.new result) }
+        ensures awaits { AwaitsIn actor self.old.table (W.state world.old) (W.state world.new) }
     {
         let index = mark.index;
         match mark.step(alloc, world, actor) {
-            Reached::Done => Reached::Went(self.next(index, which, new)),
-            Reached::Hindered(_, why) => Reached::Hindered(self, why),
+            Reached::Done => self.next(index, which, new),
+            Reached::Hindered(_, why) => Came::Hindered(why),
             Reached::Went(_) => unreachable!(),
         }
     }
 
     /// The new row's entry comes next, or the next key where there is none.
-    fn next(self, index: u32, which: usize, entry: Option<Bytes>) -> KeysChange
+    fn next(&mut self, index: u32, which: usize, entry: Option<Bytes>) -> Came
         requires { which < 4 }
-        ensures { result ≡ keys_next self index which entry }
+        ensures went { result ≡ Came.Went }
+        ensures next { self.new ≡ keys_next self.old index which entry }
     {
         match entry {
-            Some(entry) => KeysChange {
-                which,
-                put: Some(EntryPut::new(index, entry)),
-                ..self
-            },
-            None => KeysChange {
-                which: which + 1,
-                put: None,
-                ..self
-            },
+            Some(entry) => {
+                self.which = which;
+                self.put = Some(EntryPut::new(index, entry));
+            }
+            None => {
+                self.which = which + 1;
+                self.put = None;
+            }
         }
+        Came::Went
     }
 }

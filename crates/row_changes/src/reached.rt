@@ -12,3 +12,12 @@ pub enum Reached<T> {
     /// the change is given up.
     Hindered(T, Move),
 }
+
+/// The same of a step that is made where the change lies.
+#[derive(Drop)]
+pub enum Came {
+    Went,
+    Done,
+    /// All is as it was, the change too.
+    Hindered(Move),
+}

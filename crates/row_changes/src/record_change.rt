@@ -8,13 +8,15 @@ ghost use Rattle.law_stored_rows.specs.Records.{row_shown};
 ghost use Rattle.row_changes.specs.Edits.{version_by};
 ghost use Rattle.row_changes.specs.Records.{IsChangingRecord, ChangesRecord, when_missed, when_found, row_found, undo_of_former};
 ghost use Rattle.row_changes.specs.Awaited.{AwaitsAt};
+ghost use Rattle.row_changes.specs.InPlace.{record_reached};
 
 use crate::coding::{coded, decoded, undo_of_former, undo_of_new, writer_of};
 use crate::entering::enter;
 use crate::row_edit::RowEdit;
-use inno_types::{Bytes, Row};
+use inno_types::{Bytes, Row, Value};
 use std::alloc::Global;
-use store_api::{MOST_BYTES_OF_KEY, MOST_BYTES_OF_VALUE, Move, NoMemory, Undo, Version};
+use std::mem;
+use store_api::{MOST_BYTES_OF_VALUE, Move, NoMemory, Undo, Version};
 use world::{World, index_number};
 
 /// The longest undo record: seven bytes, a key and a value.
@@ -29,8 +31,7 @@ pub enum RecordStage {
     Room,
     /// See whether the place has a record.
     Find,
-    /// It has none: keep others from changing keys.
-    Next,
+    /// It has none.
     Insert,
     /// It has this one, with these bytes.
     Replace { before: Version, bytes: Bytes },
@@ -55,18 +56,26 @@ pub enum RecordReached {
     Hindered(RecordChange, Move),
 }
 
+/// The same of a step that is made where the change lies.
+#[derive(Drop)]
+pub enum RecordCame {
+    Went,
+    Recorded(Option<Row>),
+    /// All is as it was, the change too.
+    Hindered(Move),
+}
+
 impl RecordChange {
     /// One step. It asks that nobody else changes rows between the steps.
-    pub fn step<W: World>(self, alloc: Global, world: &mut W, s: u32) -> RecordReached
-        requires { IsChangingRecord s (W.state world.old) self }
-        ensures changes { ChangesRecord s (W.state world.old) (W.state world.new) self result }
-        ensures awaits { AwaitsAt s (clustered_index self.table) (W.state world.old) (W.state world.new) }
+    pub fn step<W: World>(&mut self, alloc: Global, world: &mut W, s: u32) -> RecordCame
+        requires { IsChangingRecord s (W.state world.old) self.old }
+        ensures changes { ChangesRecord s (W.state world.old) (W.state world.new) self.old (record_reached self.new result) }
+        ensures awaits { AwaitsAt s (clustered_index self.old.table) (W.state world.old) (W.state world.new) }
     {
         match &self.stage {
             RecordStage::Enter => self.enter(world, s),
             RecordStage::Room => self.make_room(world, s),
             RecordStage::Find => self.find(alloc, world, s),
-            RecordStage::Next => self.await_keys(alloc, world, s),
             RecordStage::Insert => self.insert(alloc, world, s),
             RecordStage::Replace { .. } => self.replace(alloc, world, s),
         }
@@ -78,69 +87,71 @@ impl RecordChange {
         index_number(self.table, 0)
     }
 
-    fn then(self, stage: RecordStage) -> RecordReached
-        ensures { result ≡ RecordReached.Went (record self { stage = stage }) }
+    fn then(&mut self, stage: RecordStage) -> RecordCame
+        ensures went { result ≡ RecordCame.Went }
+        ensures then { self.new ≡ record self.old { stage = stage } }
     {
-        RecordReached::Went(RecordChange { stage, ..self })
+        self.stage = stage;
+        RecordCame::Went
     }
 
-    fn enter<W: World>(self, world: &mut W, s: u32) -> RecordReached
-        requires changing { IsChangingRecord s (W.state world.old) self }
-        requires stage { self.stage ≡ RecordStage.Enter }
-        ensures changes { ChangesRecord s (W.state world.old) (W.state world.new) self result }
-        ensures awaits { AwaitsAt s (clustered_index self.table) (W.state world.old) (W.state world.new) }
+    fn enter<W: World>(&mut self, world: &mut W, s: u32) -> RecordCame
+        requires changing { IsChangingRecord s (W.state world.old) self.old }
+        requires stage { self.old.stage ≡ RecordStage.Enter }
+        ensures changes { ChangesRecord s (W.state world.old) (W.state world.new) self.old (record_reached self.new result) }
+        ensures awaits { AwaitsAt s (clustered_index self.old.table) (W.state world.old) (W.state world.new) }
     {
         match world.event_room(s) {
             Ok(()) => self.then(RecordStage::Room),
-            Err(NoMemory) => RecordReached::Hindered(self, Move::NoMemory),
+            Err(NoMemory) => RecordCame::Hindered(Move::NoMemory),
         }
     }
 
-    fn make_room<W: World>(self, world: &mut W, s: u32) -> RecordReached
-        requires changing { IsChangingRecord s (W.state world.old) self }
-        requires stage { self.stage ≡ RecordStage.Room }
-        ensures changes { ChangesRecord s (W.state world.old) (W.state world.new) self result }
-        ensures awaits { AwaitsAt s (clustered_index self.table) (W.state world.old) (W.state world.new) }
+    fn make_room<W: World>(&mut self, world: &mut W, s: u32) -> RecordCame
+        requires changing { IsChangingRecord s (W.state world.old) self.old }
+        requires stage { self.old.stage ≡ RecordStage.Room }
+        ensures changes { ChangesRecord s (W.state world.old) (W.state world.new) self.old (record_reached self.new result) }
+        ensures awaits { AwaitsAt s (clustered_index self.old.table) (W.state world.old) (W.state world.new) }
     {
         match world.undo_room(s, MOST_UNDO_BYTES) {
             Move::Done => self.then(RecordStage::Find),
-            hindrance => RecordReached::Hindered(self, hindrance),
+            hindrance => RecordCame::Hindered(hindrance),
         }
     }
 
-    fn find<W: World>(self, alloc: Global, world: &mut W, s: u32) -> RecordReached
-        requires changing { IsChangingRecord s (W.state world.old) self }
-        requires stage { self.stage ≡ RecordStage.Find }
-        ensures changes { ChangesRecord s (W.state world.old) (W.state world.new) self result }
-        ensures awaits { AwaitsAt s (clustered_index self.table) (W.state world.old) (W.state world.new) }
+    fn find<W: World>(&mut self, alloc: Global, world: &mut W, s: u32) -> RecordCame
+        requires changing { IsChangingRecord s (W.state world.old) self.old }
+        requires stage { self.old.stage ≡ RecordStage.Find }
+        ensures changes { ChangesRecord s (W.state world.old) (W.state world.new) self.old (record_reached self.new result) }
+        ensures awaits { AwaitsAt s (clustered_index self.old.table) (W.state world.old) (W.state world.new) }
     {
         let Ok(mut value) = Vec::with_capacity(alloc, MOST_BYTES_OF_VALUE) else {
-            return RecordReached::Hindered(self, Move::NoMemory);
+            return RecordCame::Hindered(Move::NoMemory);
         };
         match world.fetch(self.index(), s, &self.key, &mut value) {
             Move::Done => match decoded(alloc, world, self.table, &self.key, &value) {
                 Ok(before) => self.found(before, Bytes::from_vec(value)),
-                Err(why) => RecordReached::Hindered(self, why),
+                Err(why) => RecordCame::Hindered(why),
             },
             Move::End => self.missed(),
-            hindrance => RecordReached::Hindered(self, hindrance),
+            hindrance => RecordCame::Hindered(hindrance),
         }
     }
 
-    fn missed(self) -> RecordReached
-        ensures { result ≡ when_missed self.edit self }
+    fn missed(&mut self) -> RecordCame
+        ensures { record_reached self.new result ≡ when_missed self.old.edit self.old }
     {
         match &self.edit {
-            RowEdit::Put(_) => self.then(RecordStage::Next),
-            RowEdit::Remove(_) => RecordReached::Hindered(self, Move::End),
+            RowEdit::Put(_) => self.then(RecordStage::Insert),
+            RowEdit::Remove(_) => RecordCame::Hindered(Move::End),
         }
     }
 
-    fn found(self, before: Version, bytes: Bytes) -> RecordReached
-        ensures { result ≡ when_found self.edit before bytes self }
+    fn found(&mut self, before: Version, bytes: Bytes) -> RecordCame
+        ensures { record_reached self.new result ≡ when_found self.old.edit before bytes self.old }
     {
         match &self.edit {
-            RowEdit::Remove(_) if before.marked => RecordReached::Hindered(self, Move::End),
+            RowEdit::Remove(_) if before.marked => RecordCame::Hindered(Move::End),
             RowEdit::Put(_) | RowEdit::Remove(_) => self.then(RecordStage::Replace {
                 before,
                 bytes,
@@ -148,70 +159,62 @@ impl RecordChange {
         }
     }
 
-    fn await_keys<W: World>(self, alloc: Global, world: &mut W, s: u32) -> RecordReached
-        requires changing { IsChangingRecord s (W.state world.old) self }
-        requires stage { self.stage ≡ RecordStage.Next }
-        ensures changes { ChangesRecord s (W.state world.old) (W.state world.new) self result }
-        ensures awaits { AwaitsAt s (clustered_index self.table) (W.state world.old) (W.state world.new) }
-    {
-        let Ok(mut next) = Vec::with_capacity(alloc, MOST_BYTES_OF_KEY) else {
-            return RecordReached::Hindered(self, Move::NoMemory);
-        };
-        match world.next_key(self.index(), s, &self.key, &mut next) {
-            Move::Done | Move::End => self.then(RecordStage::Insert),
-            hindrance => RecordReached::Hindered(self, hindrance),
-        }
-    }
-
-    fn insert<W: World>(self, alloc: Global, world: &mut W, s: u32) -> RecordReached
-        requires changing { IsChangingRecord s (W.state world.old) self }
-        requires stage { self.stage ≡ RecordStage.Insert }
-        ensures changes { ChangesRecord s (W.state world.old) (W.state world.new) self result }
-        ensures awaits { AwaitsAt s (clustered_index self.table) (W.state world.old) (W.state world.new) }
+    fn insert<W: World>(&mut self, alloc: Global, world: &mut W, s: u32) -> RecordCame
+        requires changing { IsChangingRecord s (W.state world.old) self.old }
+        requires stage { self.old.stage ≡ RecordStage.Insert }
+        ensures changes { ChangesRecord s (W.state world.old) (W.state world.new) self.old (record_reached self.new result) }
+        ensures awaits { AwaitsAt s (clustered_index self.old.table) (W.state world.old) (W.state world.new) }
     {
         let writer = writer_of(world, s);
         let Ok(version) = self.version(writer, 0) else {
-            return RecordReached::Hindered(self, Move::NoMemory);
+            return RecordCame::Hindered(Move::NoMemory);
         };
         let Ok(value) = coded(alloc, world, self.table, &version) else {
-            return RecordReached::Hindered(self, Move::NoMemory);
+            return RecordCame::Hindered(Move::NoMemory);
         };
         let Ok(undo) = undo_of_new(alloc, self.table, &self.key) else {
-            return RecordReached::Hindered(self, Move::NoMemory);
+            return RecordCame::Hindered(Move::NoMemory);
         };
         match world.insert(self.index(), s, &self.key, &value, Some(&undo)) {
             Move::Done => {
-                enter(world, s, self.table, self.edit);
-                RecordReached::Recorded(None)
+                enter(world, s, self.table, self.take_edit());
+                RecordCame::Recorded(None)
             }
-            hindrance => RecordReached::Hindered(self, hindrance),
+            hindrance => RecordCame::Hindered(hindrance),
         }
     }
 
-    fn replace<W: World>(self, alloc: Global, world: &mut W, s: u32) -> RecordReached
-        requires changing { IsChangingRecord s (W.state world.old) self }
-        requires stage { (before : Version) × (bytes : List ℕ) × (self.stage ≡ RecordStage.Replace before bytes) }
-        ensures changes { ChangesRecord s (W.state world.old) (W.state world.new) self result }
-        ensures awaits { AwaitsAt s (clustered_index self.table) (W.state world.old) (W.state world.new) }
+    fn replace<W: World>(&mut self, alloc: Global, world: &mut W, s: u32) -> RecordCame
+        requires changing { IsChangingRecord s (W.state world.old) self.old }
+        requires stage { (before : Version) × (bytes : List ℕ) × (self.old.stage ≡ RecordStage.Replace before bytes) }
+        ensures changes { ChangesRecord s (W.state world.old) (W.state world.new) self.old (record_reached self.new result) }
+        ensures awaits { AwaitsAt s (clustered_index self.old.table) (W.state world.old) (W.state world.new) }
     {
         let Ok((found, undo)) = former(self.table, &self.key, &self.stage) else {
-            return RecordReached::Hindered(self, Move::NoMemory);
+            return RecordCame::Hindered(Move::NoMemory);
         };
         let writer = writer_of(world, s);
         let pointer = world.next_pointer(s);
         let Ok(version) = self.version(writer, pointer) else {
-            return RecordReached::Hindered(self, Move::NoMemory);
+            return RecordCame::Hindered(Move::NoMemory);
         };
         let Ok(value) = coded(alloc, world, self.table, &version) else {
-            return RecordReached::Hindered(self, Move::NoMemory);
+            return RecordCame::Hindered(Move::NoMemory);
         };
         match world.replace(self.index(), s, &self.key, &value, Some(&undo)) {
             Move::Done => {
-                enter(world, s, self.table, self.edit);
-                RecordReached::Recorded(found)
+                enter(world, s, self.table, self.take_edit());
+                RecordCame::Recorded(found)
             }
-            hindrance => RecordReached::Hindered(self, hindrance),
+            hindrance => RecordCame::Hindered(hindrance),
         }
+    }
+
+    /// The row that the history is told of. The record stands, and nothing more is done with the edit.
+    fn take_edit(&mut self) -> RowEdit
+        ensures { result ≡ self.old.edit }
+    {
+        mem::replace(&mut self.edit, RowEdit::Remove(Value::Null))
     }
 
     /// The version that becomes the newest. What is removed was found.
@@ -223,11 +226,7 @@ impl RecordChange {
             (RowEdit::Remove(_), RecordStage::Replace { before, .. }) => (&before.row, true),
             (
                 RowEdit::Remove(_),
-                RecordStage::Enter
-                | RecordStage::Room
-                | RecordStage::Find
-                | RecordStage::Next
-                | RecordStage::Insert,
+                RecordStage::Enter | RecordStage::Room | RecordStage::Find | RecordStage::Insert,
             ) => return Err(NoMemory),
         };
         Ok(Version {
@@ -248,11 +247,9 @@ fn former(table: u8, key: &Bytes, stage: &RecordStage) -> Result<(Option<Row>, U
             shown_row(before)?,
             undo_of_former(table, key, bytes)?,
         )),
-        RecordStage::Enter
-        | RecordStage::Room
-        | RecordStage::Find
-        | RecordStage::Next
-        | RecordStage::Insert => Err(NoMemory),
+        RecordStage::Enter | RecordStage::Room | RecordStage::Find | RecordStage::Insert => Err(
+            NoMemory,
+        ),
     }
 }
 

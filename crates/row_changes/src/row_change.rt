@@ -1,16 +1,18 @@
 //! The whole change of a row: its record and the history's entry first, and then the keys of its table.
 
-ghost use Rattle.std.specs.Prelude.{◌≡◌, IfOk};
+ghost use Rattle.std.specs.Prelude.{◌≡◌, None, IfOk};
 ghost use Rattle.row_versions.specs.Chains.{Chains};
 ghost use Rattle.row_changes.specs.Awaited.{AwaitsIn};
+ghost use Rattle.row_changes.specs.InPlace.{reached_at};
 ghost use Rattle.row_changes.specs.Rows.{IsChangingRow, ChangesRow, row_after, table_of};
 
 use crate::keys_change::KeysChange;
-use crate::reached::Reached;
-use crate::record_change::{RecordChange, RecordReached, RecordStage};
+use crate::reached::{Came, Reached};
+use crate::record_change::{RecordCame, RecordChange, RecordStage};
 use crate::row_edit::RowEdit;
 use inno_types::{Bytes, Row};
 use std::alloc::Global;
+use std::mem;
 use store_api::NoMemory;
 use world::World;
 
@@ -39,14 +41,41 @@ impl RowChange {
     }
 
     /// One step. It asks that nobody else changes rows between the steps.
-    pub fn step<W: World>(self, alloc: Global, world: &mut W, s: u32) -> Reached<RowChange>
+    pub fn step<W: World>(mut self, alloc: Global, world: &mut W, s: u32) -> Reached<RowChange>
         requires { (chains : Chains) × IsChangingRow s chains (W.state world.old) self }
         ensures changes { (chains : Chains) → IsChangingRow s chains (W.state world.old) self → ChangesRow s chains (W.state world.old) (W.state world.new) self result }
         ensures awaits { AwaitsIn s (table_of self) (W.state world.old) (W.state world.new) }
     {
+        match self.advance(alloc, world, s) {
+            Came::Went => Reached::Went(self),
+            Came::Done => {
+                drop(self);
+                Reached::Done
+            }
+            Came::Hindered(why) => Reached::Hindered(self, why),
+        }
+    }
+
+    /// One step, made where the change lies.
+    pub fn advance<W: World>(&mut self, alloc: Global, world: &mut W, s: u32) -> Came
+        requires { (chains : Chains) × IsChangingRow s chains (W.state world.old) self.old }
+        ensures changes { (chains : Chains) → IsChangingRow s chains (W.state world.old) self.old → ChangesRow s chains (W.state world.old) (W.state world.new) self.old (reached_at self.new result) }
+        ensures awaits { AwaitsIn s (table_of self.old) (W.state world.old) (W.state world.new) }
+    {
         match self {
-            RowChange::Record(change, key, after) => record(change, key, after, alloc, world, s),
-            RowChange::Keys(change) => keys(change, alloc, world, s),
+            RowChange::Record(change, key, after) => {
+                let table = change.table;
+                match change.step(alloc, world, s) {
+                    RecordCame::Went => Came::Went,
+                    RecordCame::Recorded(before) => {
+                        let next = keys_of(alloc, table, key, before, after);
+                        drop(mem::replace(self, RowChange::Keys(next)));
+                        Came::Went
+                    }
+                    RecordCame::Hindered(why) => Came::Hindered(why),
+                }
+            }
+            RowChange::Keys(change) => change.advance(alloc, world, s),
         }
     }
 }
@@ -61,43 +90,22 @@ fn row_after(edit: &RowEdit) -> Result<Option<Row>, NoMemory>
     }
 }
 
-fn record<W: World>(
-    change: RecordChange,
-    key: Bytes,
-    after: Option<Row>,
+/// The keys come next, which take over the key and the row.
+fn keys_of(
     alloc: Global,
-    world: &mut W,
-    s: u32,
-) -> Reached<RowChange>
-    requires { (chains : Chains) × IsChangingRow s chains (W.state world.old) (RowChange.Record change key after) }
-    ensures changes { (chains : Chains) → IsChangingRow s chains (W.state world.old) (RowChange.Record change key after) → ChangesRow s chains (W.state world.old) (W.state world.new) (RowChange.Record change key after) result }
-    ensures awaits { AwaitsIn s change.table (W.state world.old) (W.state world.new) }
+    table: u8,
+    key: &mut Bytes,
+    before: Option<Row>,
+    after: &mut Option<Row>,
+) -> KeysChange
+    ensures { result ≡ record { table = table; key = key.old; before = before; after = after.old; which = 0; put = None } }
 {
-    let table = change.table;
-    match change.step(alloc, world, s) {
-        RecordReached::Went(change) => Reached::Went(RowChange::Record(change, key, after)),
-        RecordReached::Recorded(before) => Reached::Went(RowChange::Keys(KeysChange {
-            table,
-            key,
-            before,
-            after,
-            which: 0,
-            put: None,
-        })),
-        RecordReached::Hindered(change, why) => {
-            Reached::Hindered(RowChange::Record(change, key, after), why)
-        }
-    }
-}
-
-fn keys<W: World>(change: KeysChange, alloc: Global, world: &mut W, s: u32) -> Reached<RowChange>
-    requires { (chains : Chains) × IsChangingRow s chains (W.state world.old) (RowChange.Keys change) }
-    ensures changes { (chains : Chains) → IsChangingRow s chains (W.state world.old) (RowChange.Keys change) → ChangesRow s chains (W.state world.old) (W.state world.new) (RowChange.Keys change) result }
-    ensures awaits { AwaitsIn s change.table (W.state world.old) (W.state world.new) }
-{
-    match change.step(alloc, world, s) {
-        Reached::Went(change) => Reached::Went(RowChange::Keys(change)),
-        Reached::Done => Reached::Done,
-        Reached::Hindered(change, why) => Reached::Hindered(RowChange::Keys(change), why),
+    KeysChange {
+        table,
+        key: mem::replace(key, Bytes::new(alloc)),
+        before,
+        after: mem::replace(after, None),
+        which: 0,
+        put: None,
     }
 }

@@ -9,4 +9,4 @@ take_over-requires-clause-entries g c = λ schema there.
 abbrev pub returns-in-Ok-None-clause-changes : goal.returns-in-Ok-None-clause-changes
 returns-in-Ok-None-clause-changes g c = λ chains p.
     let found = rw c.in-Ok-None.field-0-is at c.in-Ok-None.ensures in
-    all_passed c.args.actor chains _ c.args.self p c.requires.none (found p.schema p.table.there)
+    all_passed c.args.actor chains _ c.args.self.now p c.requires.none (found p.schema p.table.there)

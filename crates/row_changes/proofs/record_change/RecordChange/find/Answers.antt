@@ -8,7 +8,7 @@ use Rattle.row_changes.proofs.Changing.{looked_up, looked_up_none, not_decoded, 
 
 abbrev pub returns-in-End-clause-changes : goal.returns-in-End-clause-changes
 returns-in-End-clause-changes g c =
-    subst (ChangesRecord c.args.s (g.W.World.state c.args.world.now) (g.W.World.state c.fetch.new.self) c.args.self) (sym c.missed.ensures)
+    subst (ChangesRecord c.args.s (g.W.World.state c.args.world.now) (g.W.World.state c.fetch.new.self) c.args.self.now) (sym c.missed.ensures)
     (looked_up_none _ _ _ _ c.fetch.new.into.items c.requires.changing c.requires.stage (rw c.index.ensures at (rw c.in-End.is at c.fetch.ensures.answer)))
 
 abbrev pub returns-in_default-fetch-clause-changes : goal.returns-in_default-fetch-clause-changes
@@ -23,12 +23,12 @@ returns-in-Ok-decoded-clause-changes g c =
     let decoded = rw c.in-Ok-decoded.is at c.decoded.ensures in
     let next =
     looked_up _ _ _ _ _ c.fetch.new.into.items c.requires.changing c.requires.stage (rw c.index.ensures at (rw c.in-Done.is at c.fetch.ensures.answer))
-    (λ schema there. subst (λ value. Decodes schema c.args.self.key value (Ok c.in-Ok-decoded.before)) c.deref.ensures.value (decoded schema there)) in
-    subst (ChangesRecord c.args.s (g.W.World.state c.args.world.now) (g.W.World.state c.fetch.new.self) c.args.self) (sym c.found.ensures)
+    (λ schema there. subst (λ value. Decodes schema c.args.self.now.key value (Ok c.in-Ok-decoded.before)) c.deref.ensures.value (decoded schema there)) in
+    subst (ChangesRecord c.args.s (g.W.World.state c.args.world.now) (g.W.World.state c.fetch.new.self) c.args.self.now) (sym c.found.ensures)
     (rw c.from_vec.ensures next)
 
 abbrev pub returns-in-Err-clause-changes : goal.returns-in-Err-clause-changes
 returns-in-Err-clause-changes g c =
     let decoded = rw c.in-Err.is at c.decoded.ensures in
     not_decoded _ _ _ _ _ c.fetch.new.into.items c.requires.changing (rw c.index.ensures at (rw c.in-Done.is at c.fetch.ensures.answer))
-    (λ schema there. subst (λ value. Decodes schema c.args.self.key value (Err c.in-Err.why)) c.deref.ensures.value (decoded schema there))
+    (λ schema there. subst (λ value. Decodes schema c.args.self.now.key value (Err c.in-Err.why)) c.deref.ensures.value (decoded schema there))

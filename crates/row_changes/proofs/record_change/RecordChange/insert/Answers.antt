@@ -35,10 +35,10 @@ returns-in-Done-clause-changes g c =
     let value =
     value_of_row p.schema _ _ _ _ _ _ _ _ _ (c.in-Ok-coded.ensures p.schema p.table.there) c.in-Ok.ensures (found_first _ c.requires.stage)
     (c.writer_of-writer.ensures p.session p.work p.has_work) refl in
-    inserted _ _ _ _ _ p _ _ c.requires.stage value c.in-Ok-undo_of_new.ensures (rw c.index.ensures at (rw c.in-Done.is at c.insert.ensures)) c.enter.ensures
+    inserted _ _ _ _ _ p _ _ c.requires.stage value c.in-Ok-undo_of_new.ensures (rw c.index.ensures at (rw c.in-Done.is at c.insert.ensures)) (rw c.take_edit.ensures at c.enter.ensures)
 
-abbrev pub returns-in_default-insert-clause-changes : goal.returns-in_default-insert-clause-changes
-returns-in_default-insert-clause-changes g c =
+abbrev pub returns-clause-changes : goal.returns-clause-changes
+returns-clause-changes g c =
     let p = c.requires.changing in
     insert_hindered _ _ _ _ p _ _ _ c.requires.stage (rw c.index.ensures at c.insert.ensures) c.in_default-insert.not-Done
 
@@ -47,7 +47,7 @@ returns-in-Done-clause-awaits g c =
     let p = c.requires.changing in
     let may = may_enter _ _ _ _ _ p (stage_at _ _ _ Insert p c.requires.stage).0 (inserted_logs _ _ _ _ _ _ _ (rw c.in-Done.is at c.insert.ensures)) in
     let call = (rw c.index.ensures at c.insert.ensures).index_is in
-    let index = clustered_index c.args.self.table in
+    let index = clustered_index c.args.self.now.table in
     let old = g.W.World.state c.args.world.now in
     let mid = g.W.World.state c.insert.new.self in
-    entered_awaits c.args.s index _ old mid _ _ _ may.0 may.1 call (insert_with_here (Some c.in-Ok-undo_of_new.undo) c.args.s c.args.self.key _ (old.indexes index) (mid.indexes index) c.insert.result call.here) (c.enter.ensures may.0 may.1 may.2)
+    entered_awaits c.args.s index _ old mid _ _ _ may.0 may.1 call (insert_with_here (Some c.in-Ok-undo_of_new.undo) c.args.s c.args.self.now.key _ (old.indexes index) (mid.indexes index) c.insert.result call.here) ((rw c.take_edit.ensures at c.enter.ensures) may.0 may.1 may.2)

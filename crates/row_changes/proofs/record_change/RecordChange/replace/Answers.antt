@@ -39,17 +39,17 @@ returns-in-Done-clause-changes g c =
     (c.writer_of-writer.ensures p.session p.work p.has_work) (c.next_pointer-pointer.ensures p.session p.has_work.session_is) in
     let pointer_is = c.next_pointer-pointer.ensures p.session p.has_work.session_is in
     let small : p.session.next_pointer < 2 ^ 64 = omega (arith, pointer_is) in
-    replaced _ _ _ _ _ p _ _ _ _ _ at value told.1 told.0 small (rw c.index.ensures at (rw c.in-Done.is at c.replace.ensures)) c.enter.ensures
+    replaced _ _ _ _ _ p _ _ _ _ _ at value told.1 told.0 small (rw c.index.ensures at (rw c.in-Done.is at c.replace.ensures)) (rw c.take_edit.ensures at c.enter.ensures)
 
 abbrev pub returns-in_default-replace-clause-changes : goal.returns-in_default-replace-clause-changes
 returns-in_default-replace-clause-changes g c =
     replace_hindered _ _ _ _ c.requires.changing _ _ _ _ _ c.requires.stage.2 (rw c.index.ensures at c.replace.ensures) c.in_default-replace.not-Done
 
 abbrev pub returns-in_default-coded-clause-changes : goal.returns-in_default-coded-clause-changes
-returns-in_default-coded-clause-changes g c = lacks_memory c.args.s _ c.args.self c.requires.changing
+returns-in_default-coded-clause-changes g c = lacks_memory c.args.s _ c.args.self.now c.requires.changing
 
 abbrev pub returns-in_default-clause-changes : goal.returns-in_default-clause-changes
-returns-in_default-clause-changes g c = lacks_memory c.args.s _ c.args.self c.requires.changing
+returns-in_default-clause-changes g c = lacks_memory c.args.s _ c.args.self.now c.requires.changing
 
 abbrev pub next_pointer-pointer-requires : goal.next_pointer-pointer-requires
 next_pointer-pointer-requires g c =
@@ -57,13 +57,13 @@ next_pointer-pointer-requires g c =
     slice_get_within _ c.args.s p.session p.has_work.session_is
 
 abbrev pub returns-in_default-version-clause-changes : goal.returns-in_default-version-clause-changes
-returns-in_default-version-clause-changes g c = lacks_memory c.args.s _ c.args.self c.requires.changing
+returns-in_default-version-clause-changes g c = lacks_memory c.args.s _ c.args.self.now c.requires.changing
 
 pub returns-in-Done-clause-awaits : goal.returns-in-Done-clause-awaits
 returns-in-Done-clause-awaits g c =
     let may = may_enter_over _ _ _ _ _ c.requires.changing _ _ c.requires.stage.2 (replaced_logs _ _ _ _ _ _ _ (rw c.in-Done.is at c.replace.ensures)) in
     let call = (rw c.index.ensures at c.replace.ensures).index_is in
-    let index = clustered_index c.args.self.table in
+    let index = clustered_index c.args.self.now.table in
     let old = g.W.World.state c.args.world.now in
     let mid = g.W.World.state c.replace.new.self in
-    entered_awaits c.args.s index _ old mid _ _ _ may.0 may.1 call (replace_with_here (Some c.in-Ok.undo) c.args.s c.args.self.key _ (old.indexes index) (mid.indexes index) c.replace.result call.here) (c.enter.ensures may.0 may.1 may.2)
+    entered_awaits c.args.s index _ old mid _ _ _ may.0 may.1 call (replace_with_here (Some c.in-Ok.undo) c.args.s c.args.self.now.key _ (old.indexes index) (mid.indexes index) c.replace.result call.here) ((rw c.take_edit.ensures at c.enter.ensures) may.0 may.1 may.2)
