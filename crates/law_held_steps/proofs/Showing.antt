@@ -139,7 +139,7 @@ few_keys : (found : Option Schema) → ((schema : Schema) → found ≡ Some sch
 few_keys None storable = omega arith
 few_keys (Some schema) storable = let is = storable schema refl in let few = is.few in omega arith
 
-few_steps : (keys : ℕ) → keys ≤ 4 → 4 * keys + 5 < 2 ^ 70
+few_steps : (keys : ℕ) → keys ≤ 4 → 4 * keys + 4 < 2 ^ 70
 few_steps keys few = omega arith
 
 same_lists : (state : WorldState) → LeavesLists state state
