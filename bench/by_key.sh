@@ -6,17 +6,8 @@ source "$(dirname "$0")/common.sh"
 small="${1:-1000}"
 large="${2:-100000}"
 count="${3:-1000}"
-# A table of so many rows, put in INSERTs of 50; even keys, so that odd ones are free.
-load() {
-    echo 'CREATE TABLE t (id BIGINT, a BIGINT, PRIMARY KEY (id), KEY ka (a));'
-    echo '@session s'
-    awk -v n="$1" 'BEGIN {
-        for (i = 0; i < n; i++) {
-            if (i % 50 == 0) printf "INSERT INTO t VALUES "
-            printf "(%d,%d)%s", 2 * i, i, (i % 50 == 49 || i == n - 1) ? ";\n" : ","
-        }
-    }'
-}
+# Even keys, so that odd ones are free.
+load() { load_script "$1" 2 1000000007; }
 
 # So many statements of a kind, at keys that are spread over a table of so many rows.
 statements() {

@@ -36,3 +36,15 @@ timed_script() {
         exit 1
     fi
 }
+
+# A table and so many rows, in INSERTs of 50: row i has the key i * STEP modulo MODULUS. Use: load_script ROWS STEP MODULUS
+load_script() {
+    echo 'CREATE TABLE t (id BIGINT, a BIGINT, PRIMARY KEY (id), KEY ka (a));'
+    echo '@session s'
+    awk -v n="$1" -v step="$2" -v modulus="$3" 'BEGIN {
+        for (i = 0; i < n; i++) {
+            if (i % 50 == 0) printf "INSERT INTO t VALUES "
+            printf "(%d,%d)%s", i * step % modulus, i, (i % 50 == 49 || i == n - 1) ? ";\n" : ","
+        }
+    }'
+}

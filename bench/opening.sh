@@ -5,21 +5,9 @@ set -euo pipefail
 source "$(dirname "$0")/common.sh"
 rows="${1:-25000}"
 
-# A load of so many rows, in INSERTs of 50 that commit themselves.
-load() {
-    echo 'CREATE TABLE t (id BIGINT, a BIGINT, PRIMARY KEY (id), KEY ka (a));'
-    echo '@session s'
-    awk -v n="$1" 'BEGIN {
-        for (i = 0; i < n; i++) {
-            if (i % 50 == 0) printf "INSERT INTO t VALUES "
-            printf "(%d,%d)%s", i * 7919 % 1000003, i, (i % 50 == 49 || i == n - 1) ? ";\n" : ","
-        }
-    }'
-}
-
 # Milliseconds of `innod check` over a database of so many rows.
 opening() {
-    load "$1" >"$work/load.sql"
+    load_script "$1" 7919 1000003 >"$work/load.sql"
     play "$work/load.sql" >"$work/loaded"
     timed "$innod" check "$work/file"
 }
