@@ -5,6 +5,7 @@ ghost use Rattle.entries.specs.Pairs.{AreSound};
 ghost use Rattle.entries.specs.Index.{Index, Told, GoesOn, HasKeyWidth, HasValueWidth};
 ghost use Rattle.entries.specs.Calls.{is_done, Seeks, Follows, Fetches, NextKeys, Inserts, Replaces, Removes, Tidies, Leaves};
 
+use crate::buffers::PairBuffers;
 use inno_types::Bytes;
 use store_api::Move;
 
@@ -13,14 +14,15 @@ pub trait Entries {
     /// The pairs, each actor's place, and who is awaited.
     ghost index: { Self → Index };
 
-    /// Gives the first pair at or above the key, or answers `End`. The pair is the actor's place from now on.
-    fn seek(&mut self, actor: u32, from: &Bytes) -> Move
+    /// Gives the first pair at or above the key, in the memory of the buffers, or answers `End`. The pair is the actor's
+    /// place from now on.
+    fn seek(&mut self, actor: u32, from: &Bytes, buffers: &mut PairBuffers) -> Move
         ensures answer { Seeks actor from.now (index self.old) (index self.new) result }
         ensures sound { Told AreSound (index self.new) }
         ensures later { GoesOn (index self.old).paged (index self.new).paged };
 
-    /// Gives the first pair above the actor's place, or answers `End`.
-    fn following(&mut self, actor: u32) -> Move
+    /// Gives the first pair above the actor's place, in the memory of the buffers, or answers `End`.
+    fn following(&mut self, actor: u32, buffers: &mut PairBuffers) -> Move
         requires { IsSome ((index self.old).place actor) }
         ensures answer { Follows actor (index self.old) (index self.new) result }
         ensures sound { Told AreSound (index self.new) }

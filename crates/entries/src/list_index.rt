@@ -1,11 +1,13 @@
 //! An index in memory: an ordered map, the place of each actor, and who is awaited.
 
-ghost use Rattle.std.specs.Prelude.{◌≡◌, IfOk, IsOk, MatchOption, MatchResult};
+ghost use Rattle.std.specs.Prelude.{◌≡◌, IfOk, IsOk, MatchOption, MatchResult, option_map};
+ghost use Rattle.std.specs.Map.Iter.{deref_pair};
 ghost use Rattle.entries.specs.Pairs.{AreSound, IsShort};
 ghost use Rattle.entries.specs.Index.{IsAsBefore, IsFree, IsHeld};
 ghost use Rattle.entries.specs.Calls.{next_of, Gives, Seeks, Follows, Inserts};
 ghost use Rattle.entries.specs.Lists.{shown, empty_index};
 
+use crate::buffers::PairBuffers;
 use crate::index::Entries;
 use crate::pairs::SortedPairs;
 use inno_types::Bytes;
@@ -20,6 +22,8 @@ pub struct ListIndex {
     pairs: SortedPairs,
     /// The pair that each actor was given last.
     places: BTreeMap<u32, (Bytes, Bytes)>,
+    /// Of a place that was given up last.
+    spare: PairBuffers,
     /// The actor that has called `next_key` and has since neither inserted nor removed.
     awaited: Option<u32>,
 }
@@ -34,6 +38,7 @@ impl ListIndex {
             alloc,
             pairs: SortedPairs::new(alloc),
             places: BTreeMap::new(alloc),
+            spare: PairBuffers::new(alloc),
             awaited: None,
         })
     }
@@ -55,34 +60,40 @@ impl ListIndex {
         match found {
             None => Ok(Move::End),
             Some((key, value)) => {
-                let place = (key.copied()?, value.copied()?);
-                self.places.insert(actor, place)?;
+                let place = self
+                    .spare
+                    .filled(self.alloc, key.as_slice(), value.as_slice())?;
+                if let Some(before) = self.places.insert(actor, place)? {
+                    self.spare.keep(before);
+                }
                 Ok(Move::At(key, value))
             }
         }
     }
 
-    fn try_seek(&mut self, actor: u32, from: &Bytes) -> Result<Move, AllocError>
+    fn try_seek(
+        &mut self,
+        actor: u32,
+        from: &Bytes,
+        buffers: &mut PairBuffers,
+    ) -> Result<Move, AllocError>
         ensures { MatchResult result (λ answer. Seeks actor from.now (shown self.old) (shown self.new) answer) (λ _. IsAsBefore (shown self.old) (shown self.new)) }
     {
-        let found = self.pairs.first_from(from)?;
+        let found = copied(self.alloc, self.pairs.first_from(from), buffers)?;
         self.give(actor, found)
     }
 
-    /// A copy of the pair behind the actor's place, if there is one.
-    fn found_after(&self, actor: u32) -> Result<Option<(Bytes, Bytes)>, AllocError>
-        ensures { IfOk result (λ found. found ≡ next_of ((shown self.now).place actor) self.now.pairs) }
+    /// The pair behind the actor's place, if there is one.
+    fn found_after(&self, actor: u32) -> Option<(&Bytes, &Bytes)>
+        ensures { option_map deref_pair result ≡ next_of ((shown self.now).place actor) self.now.pairs }
     {
-        match self.places.get(&actor) {
-            Some(place) => self.pairs.first_after(&place.0),
-            None => Ok(None),
-        }
+        self.pairs.first_after(&self.places.get(&actor)?.0)
     }
 
-    fn try_following(&mut self, actor: u32) -> Result<Move, AllocError>
+    fn try_following(&mut self, actor: u32, buffers: &mut PairBuffers) -> Result<Move, AllocError>
         ensures { MatchResult result (λ answer. Follows actor (shown self.old) (shown self.new) answer) (λ _. IsAsBefore (shown self.old) (shown self.new)) }
     {
-        let found = self.found_after(actor)?;
+        let found = copied(self.alloc, self.found_after(actor), buffers)?;
         self.give(actor, found)
     }
 
@@ -114,14 +125,15 @@ impl Entries for ListIndex {
 
     ghost index = { shown };
 
-    fn seek(&mut self, actor: u32, from: &Bytes) -> Move {
+    fn seek(&mut self, actor: u32, from: &Bytes, buffers: &mut PairBuffers) -> Move {
         self.pairs.are_sound();
-        self.try_seek(actor, from).unwrap_or(Move::NoMemory)
+        self.try_seek(actor, from, buffers)
+            .unwrap_or(Move::NoMemory)
     }
 
-    fn following(&mut self, actor: u32) -> Move {
+    fn following(&mut self, actor: u32, buffers: &mut PairBuffers) -> Move {
         self.pairs.are_sound();
-        self.try_following(actor).unwrap_or(Move::NoMemory)
+        self.try_following(actor, buffers).unwrap_or(Move::NoMemory)
     }
 
     fn fetch(&mut self, _actor: u32, key: &Bytes, into: &mut Vec<u8>) -> Move {
@@ -179,5 +191,19 @@ impl Entries for ListIndex {
     fn leave(&mut self, actor: u32) {
         let _ = self.places.remove(&actor);
         self.awaited = self.other_awaited(actor);
+    }
+}
+
+/// A copy of a pair that was found, in the memory of the buffers.
+fn copied(
+    alloc: Global,
+    found: Option<(&Bytes, &Bytes)>,
+    buffers: &mut PairBuffers,
+) -> Result<Option<(Bytes, Bytes)>, AllocError>
+    ensures { IfOk result (λ copy. copy ≡ option_map deref_pair found.entry) }
+{
+    match found {
+        Some((key, value)) => Ok(Some(buffers.filled(alloc, key.as_slice(), value.as_slice())?)),
+        None => Ok(None),
     }
 }

@@ -60,18 +60,18 @@ impl SortedPairs {
         pairs.next()
     }
 
-    /// A copy of the first pair at or above the key, if there is one.
-    pub(crate) fn first_from(&self, key: &Bytes) -> Result<Option<(Bytes, Bytes)>, AllocError>
-        ensures found { IfOk result (λ pair. pair ≡ first_from key.now self.now) }
+    /// The first pair at or above the key, if there is one.
+    pub(crate) fn first_from(&self, key: &Bytes) -> Option<(&Bytes, &Bytes)>
+        ensures found { option_map deref_pair result ≡ first_from key.now self.now }
     {
-        copied(self.first(Bound::Included(key)))
+        self.first(Bound::Included(key))
     }
 
-    /// A copy of the first pair above the key, if there is one.
-    pub(crate) fn first_after(&self, key: &Bytes) -> Result<Option<(Bytes, Bytes)>, AllocError>
-        ensures found { IfOk result (λ pair. pair ≡ first_after key.now self.now) }
+    /// The first pair above the key, if there is one.
+    pub(crate) fn first_after(&self, key: &Bytes) -> Option<(&Bytes, &Bytes)>
+        ensures found { option_map deref_pair result ≡ first_after key.now self.now }
     {
-        copied(self.first(Bound::Excluded(key)))
+        self.first(Bound::Excluded(key))
     }
 
     /// Puts the key's value into `into`, and answers whether the key is there.
@@ -207,16 +207,6 @@ fn put_new(
             gap.insert(value);
             Ok(None)
         }
-    }
-}
-
-/// A copy of a pair that was found.
-fn copied(found: Option<(&Bytes, &Bytes)>) -> Result<Option<(Bytes, Bytes)>, AllocError>
-    ensures { IfOk result (λ copy. copy ≡ option_map deref_pair found.entry) }
-{
-    match found {
-        Some((key, value)) => Ok(Some((key.copied()?, value.copied()?))),
-        None => Ok(None),
     }
 }
 

@@ -5,7 +5,7 @@ ghost use Rattle.std.specs.Prelude.{◌≡◌, ◌+◌, ◌<◌, ◌^◌, true};
 ghost use Rattle.world_parts.specs.Owed.{bit};
 
 use crate::list_world::ListWorld;
-use entries::Entries;
+use entries::{Entries, PairBuffers};
 use inno_db::Change;
 use inno_model::Event;
 use inno_types::{Bytes, Ids, Level, Row, Schema, Value};
@@ -30,12 +30,12 @@ impl World for ListWorld {
 
     ghost state = { world_of };
 
-    fn seek(&mut self, index: u32, actor: u32, from: &Bytes) -> Move {
-        self.indexes[index as usize].seek(actor, from)
+    fn seek(&mut self, index: u32, actor: u32, from: &Bytes, buffers: &mut PairBuffers) -> Move {
+        self.indexes[index as usize].seek(actor, from, buffers)
     }
 
-    fn following(&mut self, index: u32, actor: u32) -> Move {
-        self.indexes[index as usize].following(actor)
+    fn following(&mut self, index: u32, actor: u32, buffers: &mut PairBuffers) -> Move {
+        self.indexes[index as usize].following(actor, buffers)
     }
 
     fn fetch(&mut self, index: u32, actor: u32, key: &Bytes, into: &mut Vec<u8>) -> Move {

@@ -6,12 +6,13 @@ ghost use Rattle.row_search.specs.Searches.{IsSearching};
 ghost use Rattle.row_search.specs.Tables.{HoldsTable};
 ghost use Rattle.row_search.specs.Steps.{Searches};
 
-use crate::bounds::{copy_of, first_bytes, primary_of, side_of};
+use crate::bounds::{first_bytes, primary_of, side_of};
 use crate::found::FoundRow;
 use crate::phase::Phase;
 use crate::search::{Reached, RowSearch};
 use crate::side::Side;
 use crate::sight::Sight;
+use entries::{Buffer, PairBuffers};
 use inno_types::{Bytes, Range, Schema};
 use std::alloc::Global;
 use store_api::{MOST_BYTES_OF_VALUE, Move};
@@ -26,6 +27,10 @@ pub struct Scan {
     pub range: Range,
     pub sight: Sight,
     pub rows: Vec<FoundRow>,
+    /// The memory of the pair that was visited last, which the next one takes.
+    pub pair: PairBuffers,
+    /// The memory of the primary key at which a record was fetched last.
+    pub primary: Buffer,
 }
 
 impl Scan {
@@ -42,11 +47,15 @@ impl Scan {
     }
 
     /// What comes next where this pair was found.
-    fn given(&self, key: Bytes, value: Bytes) -> Phase
-        ensures { IsGivenPhase self.now key value result }
+    fn given(&mut self, key: Bytes, value: Bytes) -> Phase
+        ensures next { IsGivenPhase self.old key value result }
+        ensures same { self.new ≡ self.old }
     {
         match side_of(&self.range, key.as_slice()) {
-            Side::Before => Phase::Follow,
+            Side::Before => {
+                self.pair.keep((key, value));
+                Phase::Follow
+            }
             Side::Within => {
                 if self.which == 0 {
                     Phase::Look {
@@ -54,6 +63,7 @@ impl Scan {
                         bytes: value,
                     }
                 } else {
+                    self.pair.value.keep(value);
                     Phase::Fetch { entry: key }
                 }
             }
@@ -62,7 +72,7 @@ impl Scan {
     }
 
     pub(crate) fn seek<W: World>(
-        self,
+        mut self,
         alloc: Global,
         world: &mut W,
         actor: u32,
@@ -77,6 +87,7 @@ impl Scan {
             index_number(self.table, self.which),
             actor,
             first_bytes(&self.range.low, &none),
+            &mut self.pair,
         );
         match found {
             Move::At(key, value) => {
@@ -88,12 +99,12 @@ impl Scan {
         }
     }
 
-    pub(crate) fn follow<W: World>(self, world: &mut W, actor: u32, schema: &Schema) -> Reached
+    pub(crate) fn follow<W: World>(mut self, world: &mut W, actor: u32, schema: &Schema) -> Reached
         requires searching { IsSearching actor schema.now (W.state world.old) (record { scan = self; phase = Phase.Follow }) }
         requires table { HoldsTable schema.now self.table (W.state world.old) }
         ensures { Searches actor schema.now (W.state world.old) (W.state world.new) (record { scan = self; phase = Phase.Follow }) result }
     {
-        match world.following(index_number(self.table, self.which), actor) {
+        match world.following(index_number(self.table, self.which), actor, &mut self.pair) {
             Move::At(key, value) => {
                 let next = self.given(key, value);
                 self.then(next)
@@ -104,7 +115,7 @@ impl Scan {
     }
 
     pub(crate) fn fetch<W: World>(
-        self,
+        mut self,
         alloc: Global,
         world: &mut W,
         actor: u32,
@@ -115,18 +126,26 @@ impl Scan {
         requires table { HoldsTable schema.now self.table (W.state world.old) }
         ensures { Searches actor schema.now (W.state world.old) (W.state world.new) (record { scan = self; phase = Phase.Fetch entry }) result }
     {
-        let Ok(key) = copy_of(alloc, primary_of(schema, entry.as_slice())) else {
+        let Ok(key) = self
+            .primary
+            .filled(alloc, primary_of(schema, entry.as_slice()))
+        else {
             return self.hindered(Phase::Fetch { entry }, Move::NoMemory);
         };
-        let Ok(mut bytes) = Vec::with_capacity(alloc, MOST_BYTES_OF_VALUE) else {
+        let Ok(mut bytes) = self.pair.value.with_room(alloc, MOST_BYTES_OF_VALUE) else {
             return self.hindered(Phase::Fetch { entry }, Move::NoMemory);
         };
-        match world.fetch(index_number(self.table, 0), actor, &key, &mut bytes) {
+        let found = world.fetch(index_number(self.table, 0), actor, &key, &mut bytes);
+        self.primary.keep(key);
+        match found {
             Move::Done => self.then(Phase::Look {
                 entry,
                 bytes: Bytes::from_vec(bytes),
             }),
-            Move::End => self.then(Phase::Follow),
+            Move::End => {
+                self.pair.keep((entry, Bytes::from_vec(bytes)));
+                self.then(Phase::Follow)
+            }
             hindrance => self.hindered(Phase::Fetch { entry }, hindrance),
         }
     }

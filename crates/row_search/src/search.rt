@@ -14,6 +14,7 @@ use crate::found::FoundRow;
 use crate::phase::Phase;
 use crate::scan::Scan;
 use crate::sight::Sight;
+use entries::{Buffer, PairBuffers};
 use inno_types::Schema;
 use sql_plan::Plan;
 use std::alloc::Global;
@@ -43,7 +44,7 @@ pub enum Reached {
 impl RowSearch {
     /// Before the first pair of a plan's range. A range that is empty has none.
     pub fn new(alloc: Global, table: u8, plan: Plan, sight: Sight) -> RowSearch
-        ensures search { result.scan ≡ record { table = table; which = plan.which; range = plan.range; sight = sight; rows = result.scan.rows } }
+        ensures search { result.scan ≡ record { table = table; which = plan.which; range = plan.range; sight = sight; rows = result.scan.rows; pair = result.scan.pair; primary = result.scan.primary } }
         ensures phase { result.phase ≡ (if plan.range.empty then Phase.Leave else Phase.Seek) }
         ensures finds { BeginsWithNothing result }
         ensures begins { MayBegin result }
@@ -59,6 +60,8 @@ impl RowSearch {
             range: plan.range,
             sight,
             rows: Vec::new(alloc),
+            pair: PairBuffers::new(alloc),
+            primary: Buffer::new(alloc),
         };
         RowSearch { scan, phase }
     }

@@ -32,8 +32,9 @@ fn move_of(why: ChainBad) -> Move
 
 impl Scan {
     /// What comes next at an entry where this version is the newest that was not passed over.
-    fn after(&self, entry: Bytes, version: Version) -> Phase
-        ensures { result ≡ phase_after self.now.sight entry version }
+    fn after(&mut self, entry: Bytes, version: Version) -> Phase
+        ensures next { result ≡ phase_after self.old.sight entry version }
+        ensures same { self.new ≡ self.old }
     {
         if !self.sight.sees(version.writer) {
             return Phase::Walk {
@@ -42,6 +43,7 @@ impl Scan {
             };
         }
         if version.marked {
+            self.pair.key.keep(entry);
             Phase::Follow
         } else {
             Phase::Keep {
@@ -52,7 +54,7 @@ impl Scan {
     }
 
     pub(crate) fn look<W: World>(
-        self,
+        mut self,
         alloc: Global,
         world: &mut W,
         actor: u32,
@@ -66,6 +68,7 @@ impl Scan {
         let key = primary_of(schema, entry.as_slice());
         match decode(alloc, schema, key, bytes.as_slice()) {
             Ok(version) => {
+                self.pair.value.keep(bytes);
                 let next = self.after(entry, version);
                 self.then(next)
             }
@@ -78,7 +81,7 @@ impl Scan {
     }
 
     pub(crate) fn walk<W: World>(
-        self,
+        mut self,
         world: &mut W,
         actor: u32,
         schema: &Schema,
@@ -93,7 +96,10 @@ impl Scan {
                 let next = self.after(entry, version);
                 self.then(next)
             }
-            Ok(None) => self.then(Phase::Follow),
+            Ok(None) => {
+                self.pair.key.keep(entry);
+                self.then(Phase::Follow)
+            }
             Err(why) => self.hindered(Phase::Walk { entry, pointer }, move_of(why)),
         }
     }
@@ -117,10 +123,14 @@ impl Scan {
             return self.hindered(Phase::Keep { entry, row }, Move::NoMemory);
         };
         if !is_own {
+            self.pair.key.keep(entry);
             return self.then(Phase::Follow);
         }
         match self.rows.push(FoundRow { key, row }) {
-            Ok(()) => self.then(Phase::Follow),
+            Ok(()) => {
+                self.pair.key.keep(entry);
+                self.then(Phase::Follow)
+            }
             Err(full) => self.hindered(
                 Phase::Keep {
                     entry,

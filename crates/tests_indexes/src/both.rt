@@ -5,7 +5,7 @@ ghost use Rattle.std.specs.Prelude.{◌≡◌, ◌<◌, ◌≤◌, length, IfOk,
 ghost use Rattle.tests_indexes.specs.Wide.{AreWide};
 
 use btree::Tree;
-use entries::{Entries, ListIndex};
+use entries::{Entries, ListIndex, PairBuffers};
 use inno_types::Bytes;
 use mtr::ListedPages;
 use std::alloc::{AllocError, Global};
@@ -170,14 +170,14 @@ impl Calls {
 }
 
 /// A change between the two calls of a walk.
-fn walk<E: Entries>(index: &mut E, calls: &Calls) -> Answers
+fn walk<E: Entries>(index: &mut E, calls: &Calls, buffers: &mut PairBuffers) -> Answers
     requires width { AreWide (E.index index.old) }
     ensures width { AreWide (E.index index.new) }
 {
-    match index.seek(calls.actor, &calls.key) {
+    match index.seek(calls.actor, &calls.key, buffers) {
         Move::At(key, value) => {
             let second = make_change(index, calls.other, calls.change, &calls.key, &calls.value);
-            let third = index.following(calls.actor);
+            let third = index.following(calls.actor, buffers);
             Answers {
                 first: Move::At(key, value),
                 second,
@@ -210,14 +210,19 @@ fn keep_off<E: Entries>(index: &mut E, calls: &Calls, into: &mut Vec<u8>) -> Ans
 }
 
 /// Makes the calls.
-fn make<E: Entries>(index: &mut E, calls: &Calls, into: &mut Vec<u8>) -> Answers
+fn make<E: Entries>(
+    index: &mut E,
+    calls: &Calls,
+    into: &mut Vec<u8>,
+    buffers: &mut PairBuffers,
+) -> Answers
     requires width { AreWide (E.index index.old) }
     requires room { 1024 ≤ vec_capacity into.old }
     ensures width { AreWide (E.index index.new) }
     ensures room { vec_capacity into.old ≤ vec_capacity into.new }
 {
     match calls.kind {
-        Kind::AmidAWalk => walk(index, calls),
+        Kind::AmidAWalk => walk(index, calls, buffers),
         Kind::KeptOff => keep_off(index, calls, into),
         Kind::Alone => Answers {
             first: make_change(index, calls.actor, calls.change, &calls.key, &calls.value),
@@ -289,12 +294,13 @@ fn play(alloc: Global, list: &mut ListIndex, tree: &mut TreeUse<ListedPages>) ->
     ensures tree { AreWide (⟦<TreeUse<ListedPages> as Entries>⟧.index tree.new) }
 {
     let mut chance = Chance { state: 11 };
+    let mut buffers = PairBuffers::new(alloc);
     let mut of_list = Vec::with_capacity(alloc, 1024)?;
     let mut of_tree = Vec::with_capacity(alloc, 1024)?;
     for number in 0..CALLS {
         let calls = Calls::by_chance(alloc, number, &mut chance)?;
-        let listed = make(list, &calls, &mut of_list);
-        let found = make(tree, &calls, &mut of_tree);
+        let listed = make(list, &calls, &mut of_list, &mut buffers);
+        let found = make(tree, &calls, &mut of_tree, &mut buffers);
         let alike = same(&listed.first, &found.first)
             && same(&listed.second, &found.second)
             && same(&listed.third, &found.third)

@@ -2,7 +2,7 @@
 
 ghost use Rattle.std.specs.Prelude.{◌≡◌, length, IfOk};
 
-use entries::{Entries, ListIndex};
+use entries::{Entries, ListIndex, PairBuffers};
 use inno_types::Bytes;
 use std::alloc::{AllocError, Global};
 use std::process::Abort;
@@ -120,10 +120,11 @@ fn two_from(
     actor: u32,
     from: u8,
 ) -> Result<(Seen, Seen), AllocError> {
-    match index.seek(actor, &bytes(alloc, from, 1)?) {
+    let mut buffers = PairBuffers::new(alloc);
+    match index.seek(actor, &bytes(alloc, from, 1)?, &mut buffers) {
         Move::At(key, value) => {
             let pair = Seen::At(first(key.as_slice()), first(value.as_slice()));
-            Ok((pair, shown_as(&index.following(actor), &[])))
+            Ok((pair, shown_as(&index.following(actor, &mut buffers), &[])))
         }
         answer => Ok((shown_as(&answer, &[]), Seen::Other)),
     }

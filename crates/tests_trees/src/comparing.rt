@@ -4,7 +4,7 @@ ghost use Rattle.std.specs.Prelude.{◌≡◌, ◌<◌, [], IfOk};
 
 use crate::loose_pages::LoosePages;
 use btree::{Tree, following, seek};
-use entries::{Entries, ListIndex};
+use entries::{Entries, ListIndex, PairBuffers};
 use inno_types::Bytes;
 use std::alloc::{AllocError, Global};
 use std::test::Fail;
@@ -78,7 +78,8 @@ fn in_list(
     list: &mut ListIndex,
     key: &[u8],
 ) -> Result<Option<(u8, u8)>, AllocError> {
-    match list.seek(1, &Bytes::from_vec(Vec::from_slice(alloc, key)?)) {
+    let from = Bytes::from_vec(Vec::from_slice(alloc, key)?);
+    match list.seek(1, &from, &mut PairBuffers::new(alloc)) {
         Move::At(key, value) => Ok(Some((last(key.as_slice()), last(value.as_slice())))),
         _ => Ok(None),
     }

@@ -9,6 +9,7 @@ use crate::changes::{add_pair, put_value, take_pair, tidy_leaf};
 use crate::reading::{Row, copy_into, find_row, follow_row, lacks_key, read_next, seek_row};
 use btree::Tree;
 use btree_insert::Outcome;
+use entries::PairBuffers;
 use inno_types::Bytes;
 use mtr::Resident;
 use std::alloc::{AllocError, Global};
@@ -64,33 +65,35 @@ impl<M: Resident + Drop> TreePages<M> {
         let _ = &self.m;
     }
 
-    /// A copy of the first pair at or above the key, if there is one.
+    /// A copy of the first pair at or above the key, if there is one, in the memory of the buffers.
     pub(crate) fn first_from(
         &mut self,
         alloc: Global,
         key: &Bytes,
+        buffers: &mut PairBuffers,
     ) -> Result<Option<(Bytes, Bytes)>, AllocError>
         ensures found { IfOk result (λ pair. pair ≡ first_from key.now self.old.pairs) }
         ensures same { self.new ≡ self.old }
     {
         if seek_row(&mut self.m, self.tree, key.as_slice(), &mut self.row) {
-            Ok(Some(self.row.copied(alloc)?))
+            Ok(Some(self.row.copied(alloc, buffers)?))
         } else {
             Ok(None)
         }
     }
 
-    /// A copy of the first pair above the key, if there is one.
+    /// A copy of the first pair above the key, if there is one, in the memory of the buffers.
     pub(crate) fn first_after(
         &mut self,
         alloc: Global,
         key: &Bytes,
+        buffers: &mut PairBuffers,
     ) -> Result<Option<(Bytes, Bytes)>, AllocError>
         ensures found { IfOk result (λ pair. pair ≡ first_after key.now self.old.pairs) }
         ensures same { self.new ≡ self.old }
     {
         if follow_row(&mut self.m, self.tree, key.as_slice(), &mut self.row) {
-            Ok(Some(self.row.copied(alloc)?))
+            Ok(Some(self.row.copied(alloc, buffers)?))
         } else {
             Ok(None)
         }

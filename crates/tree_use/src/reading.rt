@@ -9,6 +9,7 @@ ghost use Rattle.btree.specs.Walks.{IsRow, IsNextKey};
 ghost use Rattle.tree_use.specs.Stored.{HasWidths, IsAtRest, IsStill};
 
 use btree::{Tree, following, leaf_of, next_key, seek};
+use entries::PairBuffers;
 use inno_types::Bytes;
 use mtr::Resident;
 use std::alloc::{AllocError, Global};
@@ -22,13 +23,15 @@ pub struct Row {
 }
 
 impl Row {
-    /// The row in vectors of its own.
-    pub fn copied(&self, alloc: Global) -> Result<(Bytes, Bytes), AllocError>
+    /// A copy of the row, in the memory of the buffers.
+    pub fn copied(
+        &self,
+        alloc: Global,
+        buffers: &mut PairBuffers,
+    ) -> Result<(Bytes, Bytes), AllocError>
         ensures { IfOk result (λ pair. pair ≡ (self.now.key.items, self.now.value.items)) }
     {
-        let key = Bytes::from_vec(Vec::from_slice(alloc, self.key.as_slice())?);
-        let value = Bytes::from_vec(Vec::from_slice(alloc, self.value.as_slice())?);
-        Ok((key, value))
+        buffers.filled(alloc, self.key.as_slice(), self.value.as_slice())
     }
 }
 

@@ -13,7 +13,7 @@ ghost use Rattle.tree_use.specs.Beginning.{HoldsNewTree};
 use crate::beginning::is_new_tree;
 use crate::pages::TreePages;
 use btree::Tree;
-use entries::Entries;
+use entries::{Entries, PairBuffers};
 use inno_types::Bytes;
 use mtr::Resident;
 use std::alloc::{AllocError, Global};
@@ -27,6 +27,8 @@ pub struct TreeUse<M: Resident + Drop> {
     pages: TreePages<M>,
     /// The pair that each actor was given last.
     places: BTreeMap<u32, (Bytes, Bytes)>,
+    /// Of a place that was given up last.
+    spare: PairBuffers,
     /// The actor that has called `next_key` and has since neither inserted nor removed.
     awaited: Option<u32>,
     /// The actor that has removed the last key, if its leaf wasn't tidied since.
@@ -45,6 +47,7 @@ impl<M: Resident + Drop> TreeUse<M> {
             alloc,
             pages: TreePages::new(alloc, tree, m)?,
             places: BTreeMap::new(alloc),
+            spare: PairBuffers::new(alloc),
             awaited: None,
             tidies: None,
         })
@@ -88,41 +91,54 @@ impl<M: Resident + Drop> TreeUse<M> {
         match found {
             None => Ok(Move::End),
             Some((key, value)) => {
-                let place = (key.copied()?, value.copied()?);
-                self.places.insert(actor, place)?;
+                let place = self
+                    .spare
+                    .filled(self.alloc, key.as_slice(), value.as_slice())?;
+                if let Some(before) = self.places.insert(actor, place)? {
+                    self.spare.keep(before);
+                }
                 Ok(Move::At(key, value))
             }
         }
     }
 
-    fn try_seek(&mut self, actor: u32, from: &Bytes) -> Result<Move, AllocError>
+    fn try_seek(
+        &mut self,
+        actor: u32,
+        from: &Bytes,
+        buffers: &mut PairBuffers,
+    ) -> Result<Move, AllocError>
         ensures answer { MatchResult result (λ answer. Seeks actor from.now (⟦<TreeUse<M> as Entries>⟧.index self.old)
             (⟦<TreeUse<M> as Entries>⟧.index self.new) answer)
             (λ _. IsAsBefore (⟦<TreeUse<M> as Entries>⟧.index self.old) (⟦<TreeUse<M> as Entries>⟧.index self.new)) }
         ensures same { self.new.pages ≡ self.old.pages }
     {
-        let found = self.pages.first_from(self.alloc, from)?;
+        let found = self.pages.first_from(self.alloc, from, buffers)?;
         self.give(actor, found)
     }
 
     /// A copy of the pair behind the actor's place, if there is one.
-    fn found_after(&mut self, actor: u32) -> Result<Option<(Bytes, Bytes)>, AllocError>
+    fn found_after(
+        &mut self,
+        actor: u32,
+        buffers: &mut PairBuffers,
+    ) -> Result<Option<(Bytes, Bytes)>, AllocError>
         ensures found { IfOk result (λ found. found ≡ next_of (get nat_cmp self.old.places actor) self.old.pages.pairs) }
         ensures same { self.new ≡ self.old }
     {
         match self.places.get(&actor) {
-            Some(place) => self.pages.first_after(self.alloc, &place.0),
+            Some(place) => self.pages.first_after(self.alloc, &place.0, buffers),
             None => Ok(None),
         }
     }
 
-    fn try_following(&mut self, actor: u32) -> Result<Move, AllocError>
+    fn try_following(&mut self, actor: u32, buffers: &mut PairBuffers) -> Result<Move, AllocError>
         ensures answer { MatchResult result (λ answer. Follows actor (⟦<TreeUse<M> as Entries>⟧.index self.old)
             (⟦<TreeUse<M> as Entries>⟧.index self.new) answer)
             (λ _. IsAsBefore (⟦<TreeUse<M> as Entries>⟧.index self.old) (⟦<TreeUse<M> as Entries>⟧.index self.new)) }
         ensures same { self.new.pages ≡ self.old.pages }
     {
-        let found = self.found_after(actor)?;
+        let found = self.found_after(actor, buffers)?;
         self.give(actor, found)
     }
 }
@@ -134,14 +150,15 @@ impl<M: Resident + Drop> Entries for TreeUse<M> {
 
     ghost index = { λ t. index_of t.pages (get nat_cmp t.places) t.awaited };
 
-    fn seek(&mut self, actor: u32, from: &Bytes) -> Move {
+    fn seek(&mut self, actor: u32, from: &Bytes, buffers: &mut PairBuffers) -> Move {
         self.pages.are_sound();
-        self.try_seek(actor, from).unwrap_or(Move::NoMemory)
+        self.try_seek(actor, from, buffers)
+            .unwrap_or(Move::NoMemory)
     }
 
-    fn following(&mut self, actor: u32) -> Move {
+    fn following(&mut self, actor: u32, buffers: &mut PairBuffers) -> Move {
         self.pages.are_sound();
-        self.try_following(actor).unwrap_or(Move::NoMemory)
+        self.try_following(actor, buffers).unwrap_or(Move::NoMemory)
     }
 
     fn fetch(&mut self, _actor: u32, key: &Bytes, into: &mut Vec<u8>) -> Move {

@@ -14,6 +14,7 @@ ghost use Rattle.world.specs.Sessions.{IsShown, begun, identified, with_save, ba
 ghost use Rattle.world.specs.Endings.{Commits, RollsBack, FreesLog};
 
 use crate::undo_room::UndoRoom;
+use entries::PairBuffers;
 use inno_types::{Bytes, Ids, Level, Row, Schema, Value};
 use row_versions::ChainBad;
 use store_api::{Move, NoMemory, Standing, Undo, Version, Visit};
@@ -25,13 +26,14 @@ pub trait World {
 
     // ---- indexes
 
-    /// Gives the first pair at or above the key, or answers `End`. The pair is the actor's place from now on.
-    fn seek(&mut self, index: u32, actor: u32, from: &Bytes) -> Move
+    /// Gives the first pair at or above the key, in the memory of the buffers, or answers `End`. The pair is the actor's
+    /// place from now on.
+    fn seek(&mut self, index: u32, actor: u32, from: &Bytes, buffers: &mut PairBuffers) -> Move
         requires { IsIndex (state self.old).schemas index }
         ensures { Calls index (λ before after. Seeks actor from.now before after result) (state self.old) (state self.new) };
 
-    /// Gives the first pair above the actor's place, or answers `End`.
-    fn following(&mut self, index: u32, actor: u32) -> Move
+    /// Gives the first pair above the actor's place, in the memory of the buffers, or answers `End`.
+    fn following(&mut self, index: u32, actor: u32, buffers: &mut PairBuffers) -> Move
         requires index { IsIndex (state self.old).schemas index }
         requires place { IsSome (((state self.old).indexes index).place actor) }
         ensures { Calls index (λ before after. Follows actor before after result) (state self.old) (state self.new) };

@@ -4,7 +4,9 @@ use Rattle.store_api.specs.declared.moves.Move.TheVariants.{At, End}
 use Rattle.entries.specs.Index.{Index}
 use Rattle.entries.specs.Calls.{Follows}
 use Rattle.world.specs.State.{index_of}
+use Rattle.row_search.specs.declared.scan.Scan.{Scan}
 use Rattle.row_search.specs.declared.search.Reached.{Reached}
+use Rattle.row_search.specs.declared.search.Reached.TheVariants.{Went}
 use Rattle.row_search.specs.declared.phase.Phase.TheVariants.{Follow}
 use Rattle.row_search.specs.Steps.{Searches}
 use Rattle.row_search.proofs.Worlds.{recast}
@@ -17,10 +19,12 @@ returns-in-At g c =
     let new = g.W.World.state c.following.new.self in
     let scan = c.args.self in
     subst (λ (r : Reached). Searches c.args.actor c.args.schema.now old new (record { scan = scan; phase = Follow }) r) (sym c.then.ensures)
+    (subst (λ (s : Scan). Searches c.args.actor c.args.schema.now old new (record { scan = scan; phase = Follow })
+    (Went (record { scan = s; phase = c.given-next.result }))) (sym c.given-next.ensures.same)
     (follow_at c.args.actor c.args.schema.now old new scan c.requires.searching c.requires.table c.in-At.key c.in-At.value
     (recast (λ (a : Move) (before after : Index). Follows c.args.actor before after a) c.index_number.result (index_of scan.table scan.which)
     c.following.result (At c.in-At.key c.in-At.value) old new c.index_number.ensures c.in-At.is c.following.ensures) c.given-next.result
-    c.given-next.ensures)
+    c.given-next.ensures.next))
 
 pub returns-in-End : goal.returns-in-End
 returns-in-End g c =

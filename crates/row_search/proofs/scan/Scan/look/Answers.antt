@@ -1,4 +1,5 @@
 use Rattle.std.proofs.Common.{sym, ap, subst, refl, ◌≡◌, ◌∙◌, ℕ, List}
+use Rattle.row_search.specs.declared.scan.Scan.{Scan}
 use Rattle.row_search.specs.declared.search.Reached.{Reached}
 use Rattle.row_search.specs.declared.search.Reached.TheVariants.{Went}
 use Rattle.row_search.specs.declared.phase.Phase.{Phase}
@@ -25,9 +26,11 @@ returns-in-Ok g c =
     (subst (λ (key : List ℕ). IsRecordOf schema version key c.as_slice-2.result.now) key_is c.in-Ok.ensures.found) in
     subst (λ (r : Reached). Searches c.args.actor c.args.schema.now state state (record { scan = scan; phase = Look c.args.entry c.args.bytes }) r)
     (sym c.then.ensures)
+    (subst (λ (s : Scan). Searches c.args.actor c.args.schema.now state state (record { scan = scan; phase = Look c.args.entry c.args.bytes })
+    (Went (record { scan = s; phase = c.after-next.result }))) (sym c.after-next.ensures.same)
     (subst (λ (p : Phase). Searches c.args.actor c.args.schema.now state state (record { scan = scan; phase = Look c.args.entry c.args.bytes })
-    (Went (record { scan = scan; phase = p }))) (sym c.after-next.ensures)
-    (look_goes c.args.actor c.args.schema.now state scan c.args.entry c.args.bytes c.in-Ok.version c.requires record_is c.in-Ok.ensures.range))
+    (Went (record { scan = scan; phase = p }))) (sym c.after-next.ensures.next)
+    (look_goes c.args.actor c.args.schema.now state scan c.args.entry c.args.bytes c.in-Ok.version c.requires record_is c.in-Ok.ensures.range)))
 
 pub returns-in-Err-NoMemory : goal.returns-in-Err-NoMemory
 returns-in-Err-NoMemory g c =

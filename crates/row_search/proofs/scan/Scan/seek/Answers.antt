@@ -4,7 +4,9 @@ use Rattle.store_api.specs.declared.moves.Move.TheVariants.{At, End}
 use Rattle.entries.specs.Index.{Index}
 use Rattle.entries.specs.Calls.{Seeks}
 use Rattle.world.specs.State.{index_of}
+use Rattle.row_search.specs.declared.scan.Scan.{Scan}
 use Rattle.row_search.specs.declared.search.Reached.{Reached}
+use Rattle.row_search.specs.declared.search.Reached.TheVariants.{Went}
 use Rattle.row_search.specs.declared.phase.Phase.TheVariants.{Seek}
 use Rattle.row_search.specs.Ranges.{bound_bytes}
 use Rattle.row_search.specs.Steps.{Searches}
@@ -19,11 +21,13 @@ returns-in-At g c =
     let new = g.W.World.state c.seek-found.new.self in
     let scan = c.args.self in
     subst (λ (r : Reached). Searches c.args.actor c.args.schema.now old new (record { scan = scan; phase = Seek }) r) (sym c.then.ensures)
+    (subst (λ (s : Scan). Searches c.args.actor c.args.schema.now old new (record { scan = scan; phase = Seek })
+    (Went (record { scan = s; phase = c.given-next.result }))) (sym c.given-next.ensures.same)
     (seek_at c.args.actor c.args.schema.now old new scan c.requires.searching c.requires.table c.in-At.key c.in-At.value
     (recast (λ (a : Move) (before after : Index). Seeks c.args.actor (bound_bytes scan.range.low) before after a) c.index_number.result
     (index_of scan.table scan.which) c.seek-found.result (At c.in-At.key c.in-At.value) old new c.index_number.ensures c.in-At.is
     (subst (λ (from : List ℕ). Calls c.index_number.result (λ before after. Seeks c.args.actor from before after c.seek-found.result) old new)
-    c.first_bytes.ensures c.seek-found.ensures)) c.given-next.result c.given-next.ensures)
+    c.first_bytes.ensures c.seek-found.ensures)) c.given-next.result c.given-next.ensures.next))
 
 pub returns-in-End : goal.returns-in-End
 returns-in-End g c =

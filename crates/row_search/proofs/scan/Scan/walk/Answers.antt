@@ -3,6 +3,7 @@ use Rattle.store_api.specs.declared.answers.Version.{Version as Coded}
 use Rattle.store_api.specs.declared.moves.Move.{Move}
 use Rattle.row_versions.specs.Calls.{ShowsVersion}
 use Rattle.row_search.specs.Visits.{move_for}
+use Rattle.row_search.specs.declared.scan.Scan.{Scan}
 use Rattle.row_search.specs.declared.search.Reached.{Reached}
 use Rattle.row_search.specs.declared.search.Reached.TheVariants.{Went, Hindered}
 use Rattle.row_search.specs.declared.phase.Phase.{Phase}
@@ -24,9 +25,11 @@ returns-in-Ok-Some g c =
     let shows : ShowsVersion c.args.pointer old.versions new.versions (Ok (Some c.in-Ok-Some.version))
     = subst (λ (v : Option Coded). ShowsVersion c.args.pointer old.versions new.versions (Ok v)) c.in-Ok-Some.field-0-is c.in-Ok-Some.ensures.answer in
     subst (λ (r : Reached). Searches c.args.actor schema old new (record { scan = scan; phase = Walk c.args.entry c.args.pointer }) r) (sym c.then.ensures)
+    (subst (λ (s : Scan). Searches c.args.actor schema old new (record { scan = scan; phase = Walk c.args.entry c.args.pointer })
+    (Went (record { scan = s; phase = c.after-next.result }))) (sym c.after-next.ensures.same)
     (subst (λ (p : Phase). Searches c.args.actor schema old new (record { scan = scan; phase = Walk c.args.entry c.args.pointer })
-    (Went (record { scan = scan; phase = p }))) (sym c.after-next.ensures)
-    (walk_goes c.args.actor schema old new scan c.args.entry c.args.pointer c.requires c.in-Ok-Some.ensures.rest c.in-Ok-Some.version shows.0 shows.1))
+    (Went (record { scan = scan; phase = p }))) (sym c.after-next.ensures.next)
+    (walk_goes c.args.actor schema old new scan c.args.entry c.args.pointer c.requires c.in-Ok-Some.ensures.rest c.in-Ok-Some.version shows.0 shows.1)))
 
 pub returns-in-Ok-None : goal.returns-in-Ok-None
 returns-in-Ok-None g c =
