@@ -1,2 +1,3 @@
+pub mod MoreTables
 pub mod Rows
 pub mod Writing

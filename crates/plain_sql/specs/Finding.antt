@@ -1,5 +1,5 @@
 -- What is answered on a table that was found, or was not.
-use Rattle.std.specs.Prelude.{◌≡◌, ℕ, List, Option, Some, None}
+use Rattle.std.specs.Prelude.{◌≡◌, ℕ, List, Option, Some, None, slice_get}
 use Rattle.inno_types.specs.declared.value.Value.{Value}
 use Rattle.inno_types.specs.declared.value.Schema.{Schema}
 use Rattle.inno_types.specs.declared.stmt.Stmt.{Stmt}
@@ -7,6 +7,7 @@ use Rattle.inno_types.specs.declared.stmt.Stmt.TheVariants.{CreateTable, Select,
 use Rattle.inno_types.specs.declared.reply.Reply.TheVariants.{Done}
 use Rattle.inno_db.specs.declared.outcome.Outcome.{Outcome}
 use Rattle.inno_db.specs.Database.{Database, rows_of}
+use Rattle.inno_db.specs.Refusals.{refusal}
 use Rattle.inno_db.specs.Outcome.{answered, select_answer, insert_answer, update_answer, delete_answer}
 use Rattle.inno_db.proofs.Outcomes.{table_read}
 use Rattle.plain_sql.specs.declared.interpreter.Found.{Found}
@@ -39,3 +40,11 @@ IsOnRows other = Unit {0}
 pub record IsReadFrom (schemas : List Schema) (rows : List (List Value)) (stmt : Stmt) (db : Database) : Type 0 where
   pub tables : db.schemas ≡ schemas
   pub each : (n : ℕ) → table_read db.schemas stmt ≡ Some n → rows_of n db ≡ rows
+
+-- In the database the statement reads the table of this number, which has this schema and these rows, and neither its text nor
+-- the tables refuse it.
+pub record IsOnTable (table : ℕ) (schema : Schema) (rows : List (List Value)) (stmt : Stmt) (db : Database) : Type 0 where
+  pub unrefused : refusal db.schemas stmt ≡ None
+  pub number : table_read db.schemas stmt ≡ Some table
+  pub there : slice_get db.schemas table ≡ Some schema
+  pub each : rows_of table db ≡ rows

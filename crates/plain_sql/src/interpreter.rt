@@ -7,7 +7,7 @@ ghost use Rattle.inno_db.proofs.Outcomes.{table_read};
 ghost use Rattle.inno_types.specs.declared.value.Value.{Value};
 ghost use Rattle.inno_types.specs.declared.value.Schema.{Schema};
 ghost use Rattle.inno_db.specs.declared.outcome.Outcome.{Outcome};
-ghost use Rattle.plain_sql.specs.Finding.{on_found, answer_on, IsTableOf, IsReadFrom, IsOnRows};
+ghost use Rattle.plain_sql.specs.Finding.{on_found, answer_on, IsTableOf, IsReadFrom, IsOnRows, IsOnTable};
 ghost use Rattle.inno_db.specs.Outcome.{answered, counted, on_number, created, creation, select_answer, insert_answer, update_answer, delete_answer, answer_to, outcome};
 
 use crate::changes::{delete, insert, update};
@@ -269,6 +269,25 @@ pub fn plain_on_rows(
         return Ok(answer(alloc, Reply::Fail(error)));
     }
     Ok(run_on(alloc, find_in(schemas, rows, stmt), stmt)?)
+}
+
+/// What a statement on rows does that is known not to be refused, where its table is known by number and schema, and has these
+/// rows. Neither is looked up or tested again.
+pub fn plain_on_table(
+    alloc: Global,
+    table: u8,
+    schema: &Schema,
+    rows: &Rows,
+    stmt: &Stmt,
+) -> Result<Outcome, NoMemory>
+    ensures { IfOk result (λ answer. (db : Database) → IsOnTable table schema.now rows.now stmt.now db → answer ≡ outcome stmt.now db) }
+{
+    let found = Found {
+        number: table,
+        schema,
+        rows,
+    };
+    Ok(run_on(alloc, Some(found), stmt)?)
 }
 
 /// What a statement answers over a database, and what it changes there. The database stays as it is.

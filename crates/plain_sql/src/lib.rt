@@ -4,6 +4,8 @@
 
 mod changes;
 mod interpreter;
+mod laws;
 mod selection;
 
-pub use interpreter::{plain, plain_on_rows};
+pub use interpreter::{plain, plain_on_rows, plain_on_table};
+pub use laws::more_tables_refuse_no_more;

@@ -9,11 +9,12 @@ use Rattle.inno_types.specs.declared.reply.Item.{Item}
 use Rattle.inno_types.specs.declared.reply.Item.TheVariants.{Sql}
 use Rattle.inno_types.specs.declared.reply.SqlError.{SqlError}
 use Rattle.inno_types.specs.declared.reply.Reply.TheVariants as replies
+use Rattle.inno_db.specs.Refusals.{refusal}
 use Rattle.inno_model.specs.declared.event.Event.{Event}
 use Rattle.inno_model.specs.declared.event.Event.TheVariants as events
 use Rattle.inno_types.specs.declared.reply.SqlError.TheVariants as errors
 use Rattle.std.specs.List.{list_any}
-use Rattle.inno_model.specs.Past.{is_of, under_way, before_item, of_item, did, own, commits_txn, rolls_back_txn, begins_txn, awaits_ack}
+use Rattle.inno_model.specs.Past.{level, is_of, under_way, before_item, of_item, did, own, commits_txn, rolls_back_txn, begins_txn, awaits_ack}
 use Rattle.inno_model.specs.Moments.{starts, Sometime}
 use Rattle.inno_model.proofs.Untouched.{untouched}
 use Rattle.sql_history.specs.Waiting.{is_victim}
@@ -21,13 +22,23 @@ use Rattle.sql_lists.proofs.Staying.{at_work, point_now}
 use Rattle.sql_grammar.specs.Grammar.{Spells}
 use Rattle.sql_history.specs.Items.{Asks, is_over, point, before_turn, own_before}
 use Rattle.sql_history.specs.Settings.{Setting, HasSet, next_level}
-use Rattle.sql_history.specs.Statements.{refused_at_once}
+use Rattle.sql_history.specs.Statements.{session_refusal, refused_at_once, first_of, schemas_now}
 use Rattle.sql_history.specs.Legal.{Takes}
 use Rattle.sql_lists.specs.Kept.{MayReply}
 use Rattle.sql_lists.specs.Steps.{IsTaken}
 use Rattle.read_statement.specs.Running.{IsTakenWith}
 use Rattle.statement.specs.declared.under_way.Look.TheVariants as looks
 use Rattle.statement.specs.Running.{HasOnlyStarted, LooksAs}
+
+-- what nothing refuses at once is not refused by its text and the tables
+later_none : (first later : Option SqlError) → first_of first later ≡ None → later ≡ None
+later_none None later none = none
+later_none (Some error) later none = cc
+
+pub unrefused : (s : ℕ) (setting : Setting) (statement : Stmt) (past : List Event) → refused_at_once s setting statement past ≡ None
+    → refusal (schemas_now s past) statement ≡ None
+unrefused s setting statement past none =
+    later_none (session_refusal s (level s past) setting statement) (refusal (schemas_now s past) statement) none
 
 tells : (b : Bool) → (b ≡ true) ⊎ (b ≡ false)
 tells true = inl refl

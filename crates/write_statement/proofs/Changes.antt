@@ -12,6 +12,7 @@ use Rattle.inno_db.specs.declared.change.Change.{Change}
 use Rattle.inno_db.specs.declared.change.Change.TheVariants.{Create, Put, Remove}
 use Rattle.inno_db.specs.Database.{Database, Place}
 use Rattle.inno_db.specs.Outcome.{outcome}
+use Rattle.inno_db.proofs.Outcomes.{table_read}
 use Rattle.inno_db.specs.Changes.{Spares, apply}
 use Rattle.inno_db.specs.declared.outcome.Outcome.{Outcome}
 use Rattle.inno_model.specs.declared.event.Event.{Event}
@@ -178,6 +179,7 @@ module _ (past : List Event) (writer : Option ℕ) (s : ℕ) (part : Part) (next
           tables = no_table_more s change past of-row ∙ r.tables;
           writes = r.writes;
           cut = subst (λ (schemas : List Schema). IsCut schemas part.stmt (behind part)) (sym (no_table_more s change past of-row)) r.cut;
+          table_is = ap (λ schemas. table_read schemas part.stmt) (no_table_more s change past of-row) ∙ r.table_is;
           made = r.made ++ change ∷ [];
           own_is = made_own;
           goes = subst (λ (changes : List Change). GoesOnWith r.statement (base s past) changes next) told_next r.goes;

@@ -244,9 +244,6 @@ module _ (db : Database) (n : ℕ) (schema : Schema) (plan : Plan) (there : slic
 same_number : (a b : ℕ) → Some a ≡ Some b → a ≡ b
 same_number a b is = cc
 
-never : {P : Type 0} (n : ℕ) (o : Option ℕ) → o ≡ None → o ≡ Some n → P
-never n o none some = cc
-
 pub found_enough : (state : State) (s : ℕ) (part : Part) (rows : List (List Value)) → IsFound state s part rows → AreStanding state.past
     → IsOrdered state.past → IsInOrder state.past → FitsThen state.past → AreEnough s part.stmt rows state.past
 found_enough state s part rows r stands ordered in-order fits =
@@ -256,32 +253,18 @@ found_enough state s part rows r stands ordered in-order fits =
     let db = current s past in
     let tables = tables_now past s stands in
     let coded = current_coded past s (reverse changing.made) fits ordered in-order changing.own_is changing.tables in
-    let there : slice_get db.schemas read.table ≡ Some read.schema = ap (λ schemas. slice_get schemas read.table) (sym tables) ∙ read.there in
-    let at : table_read db.schemas part.stmt ≡ Some read.table = ap (λ schemas. table_read schemas part.stmt) (sym tables) ∙ read.table_is in
-    let fit = fitting_rows_fit db read.table read.schema coded.fitting coded.numbers there in
-    let known = same_outcome db read.table read.schema read.plan there fit part.stmt changing.writes read.enough at in
+    let there : slice_get db.schemas part.table ≡ Some read.schema = ap (λ schemas. slice_get schemas part.table) (sym tables) ∙ read.there in
+    let at : table_read db.schemas part.stmt ≡ Some part.table = ap (λ schemas. table_read schemas part.stmt) (sym tables) ∙ changing.table_is in
+    let fit = fitting_rows_fit db part.table read.schema coded.fitting coded.numbers there in
+    let known = same_outcome db part.table read.schema read.plan there fit part.stmt changing.writes read.enough at in
     let passes : List Value → Bool = λ row. is_within read.plan.range (index_key read.schema read.plan.which row) in
-    let rows-there : rows_of read.table (record db { rows = known.0 }) ≡ rows = known.1 ∙
-    (ap (filter passes) (sym (rows_are past s stands in-order read.table)) ∙ sym (r.found read.schema read.there)) in
+    let rows-there : rows_of part.table (record db { rows = known.0 }) ≡ rows = known.1 ∙
+    (ap (filter passes) (sym (rows_are past s stands in-order part.table)) ∙ sym (r.found read.schema read.there)) in
     record {
       db = record db { rows = known.0 };
       read = record {
         tables = sym tables;
-        each = λ n is. subst (λ m. rows_of m (record db { rows = known.0 }) ≡ rows) (same_number read.table n (sym at ∙ is)) rows-there;
+        each = λ n is. subst (λ m. rows_of m (record db { rows = known.0 }) ≡ rows) (same_number part.table n (sym at ∙ is)) rows-there;
       };
       same = known.2;
-    }
-
--- a table that isn't there has no rows
-pub none_enough : (past : List Event) (s : ℕ) (statement : Stmt) → AreStanding past → table_read (created past) statement ≡ None
-    → AreEnough s statement [] past
-none_enough past s statement stands none =
-    let tables = tables_now past s stands in
-    record {
-      db = current s past;
-      read = record {
-        tables = sym tables;
-        each = λ n is. never n (table_read (current s past).schemas statement) (ap (λ schemas. table_read schemas statement) (sym tables) ∙ none) is;
-      };
-      same = refl;
     }

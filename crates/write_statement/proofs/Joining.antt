@@ -24,7 +24,7 @@ use Rattle.shared_lists.specs.State.{State, Adds}
 use Rattle.sql_lists.specs.Steps.{IsTaken, Moves}
 use Rattle.sql_lists.specs.Kept.{MayReply}
 use Rattle.sql_lists.proofs.Staying.{at_work, point_now}
-use Rattle.write_statement.specs.Running.{HasOpened, InTxn, IsEarly}
+use Rattle.write_statement.specs.Running.{HasOpened, InTxn, IsUnrefused, IsEarly}
 use Rattle.write_statement.proofs.Writing.{of_writing}
 use Rattle.sql_lists.proofs.Moving.{moves_adds}
 
@@ -122,8 +122,8 @@ acked_none s h none = ap awaits_ack none
 
 -- ---- in the transaction that was open
 
-pub joined : (s : ℕ) (statement : Stmt) (h : List Event) → IsWriting statement → IsTaken s statement h → IsOpen s h → IsEarly s statement false h
-joined s statement h writes taken is-open =
+pub joined : (s : ℕ) (statement : Stmt) (h : List Event) → IsWriting statement → IsTaken s statement h → IsUnrefused statement h → IsOpen s h → IsEarly s statement false h
+joined s statement h writes taken unrefused is-open =
     let none = taken.nothing in
     let turn = turn_nothing s h none in
     let had = ap (own s) turn.1 in
@@ -147,6 +147,7 @@ joined s statement h writes taken is-open =
       };
       goes_on = record { not_over = ap (list_any closes) turn.0; not_undone = did_none undoes s h none };
       unchanged = own_nothing s h none ∙ sym had;
+      unrefused = unrefused;
     }
 
 -- ---- in one that it opens
@@ -169,7 +170,7 @@ may_begin s statement h x l writes taken held closed level-is =
     }
 
 module _ (s n : ℕ) (l : Level) (statement : Stmt) (h : List Event) (x : Setting) (writes : IsWriting statement) (taken : IsTaken s statement h)
-    (held : HasSet Spells s h x) (closed : IsClosed s h) (none : own s h ≡ []) where
+    (unrefused : IsUnrefused statement h) (held : HasSet Spells s h x) (closed : IsClosed s h) (none : own s h ≡ []) where
   abbrev begun : List Event
   begun = events.Begin s n l ∷ h
 
@@ -223,6 +224,7 @@ module _ (s n : ℕ) (l : Level) (statement : Stmt) (h : List Event) (x : Settin
                   entries;
             };
         unchanged = nothing_own ∙ sym had;
+        unrefused = unrefused;
       }
 
 -- ---- where none can be opened
@@ -255,10 +257,11 @@ unopened_ends s statement h taken =
     }
 
 pub opened : (s n : ℕ) (l : Level) (statement : Stmt) (alone : Bool) (x : Setting) (old new : State) → IsWriting statement → IsTaken s statement old.past
-    → HasSet Spells s old.past x → IsClosed s old.past → own s old.past ≡ [] → x.autocommit ≡ alone → Adds (events.Begin s n l) s old new
+    → IsUnrefused statement old.past → HasSet Spells s old.past x → IsClosed s old.past → own s old.past ≡ [] → x.autocommit ≡ alone
+    → Adds (events.Begin s n l) s old new
     → Moves s old new × IsEarly s statement alone new.past × (started s new.past ≡ started s old.past)
-opened s n l statement alone x old new writes taken held closed none is adds = (
+opened s n l statement alone x old new writes taken unrefused held closed none is adds = (
   moves_adds s (events.Begin s n l) old new (grind (arith, nat_tests)) refl (λ changes. absurd (false≢true changes)) adds,
-  subst (IsEarly s statement alone) (sym adds.past_is) (opened_early s n l statement old.past x writes taken held closed none alone is),
+  subst (IsEarly s statement alone) (sym adds.past_is) (opened_early s n l statement old.past x writes taken unrefused held closed none alone is),
   ap (started s) adds.past_is,
 )

@@ -9,6 +9,7 @@ use Rattle.inno_db.specs.Database.{Database}
 use Rattle.inno_db.specs.declared.outcome.Outcome.{Outcome}
 use Rattle.inno_db.specs.Outcome.{outcome}
 use Rattle.inno_db.specs.declared.change.Change.{Change}
+use Rattle.inno_db.specs.declared.change.Change.TheVariants as changes
 use Rattle.inno_db.proofs.Outcomes.{table_read}
 use Rattle.inno_model.specs.declared.event.Event.{Event}
 use Rattle.inno_model.specs.declared.event.Event.TheVariants as events
@@ -19,7 +20,7 @@ use Rattle.sql_grammar.specs.Grammar.{Spells}
 use Rattle.sql_history.specs.Items.{is_over, own_before, base, point, HasMade, undoes}
 use Rattle.sql_history.specs.Settings.{Setting, HasSet}
 use Rattle.sql_history.specs.Statements.{refused_at_once}
-use Rattle.sql_history.specs.Legal.{Takes}
+use Rattle.sql_history.specs.Legal.{Takes, IsWriting}
 use Rattle.sql_history.specs.Waiting.{is_victim}
 use Rattle.shared_lists.specs.Tasks.{Idle, is_changing, asked, MayTakeBack}
 use Rattle.shared_lists.specs.State.{State, task_of}
@@ -32,7 +33,9 @@ use Rattle.write_statement.specs.declared.machine.Work.{Work}
 use Rattle.write_statement.specs.declared.machine.WriteStatement.{WriteStatement}
 use Rattle.write_statement.specs.declared.machine.WriteStatement.TheVariants as machine
 use Rattle.write_statement.specs.Parts.{IsCut, GoesOnWith, behind, of_part, of_rest}
-use Rattle.write_statement.specs.Running.{Joins, HasOpened, InTxn, IsWorking, GoesOn, IsEarly, IsChanging, HasReply, HasRight, IsReading, IsMaking, IsFinishing, MovesOn, IsBackingOut, MayGoBack, MayAnswer, EndsTxn, IsClosing, IsRunning}
+use Rattle.write_statement.specs.Running.{Joins, HasOpened, InTxn, IsWorking, GoesOn, IsUnrefused, IsEarly, IsChanging, HasReply, HasRight, IsReading, IsMaking, IsFinishing, MovesOn, IsBackingOut, MayGoBack, MayAnswer, EndsTxn, IsClosing, IsRunning}
+use Rattle.plain_sql.proofs.MoreTables.{more_tables}
+use Rattle.write_statement.proofs.Writing.{reads_rows}
 use Rattle.write_statement.proofs.Replies.{reply_stays, reply_goes_on}
 use Rattle.write_statement.proofs.Ends.{rolls_back_on, txn_ends_on}
 
@@ -44,6 +47,16 @@ no_table_more : (e : Event) (h : List Event) (t : ℕ) → IsNoOthers t e → ch
 no_table_more (events.Opened db) h t mine spares = cc
 no_table_more (events.Changed u change) h t mine spares = cc
 no_table_more e h t mine spares = refl
+
+-- a table more at most
+unrefused_then : (e : Event) (h : List Event) (t : ℕ) → IsNoOthers t e → (statement : Stmt) → IsWriting statement → IsUnrefused statement h
+    → IsUnrefused statement (e ∷ h)
+unrefused_then (events.Opened db) h t mine statement writes none = (let opened = mine in cc)
+unrefused_then (events.Changed u (changes.Create schema)) h t mine statement writes none =
+    more_tables (created h) (schema ∷ []) statement (reads_rows statement writes) none
+unrefused_then (events.Changed u (changes.Put table row)) h t mine statement writes none = none
+unrefused_then (events.Changed u (changes.Remove table key)) h t mine statement writes none = none
+unrefused_then e h t mine statement writes none = none
 
 module _ (old new : State) (t s : ℕ) (differ : t ≢ s) (adding : AddingOne t old new) (keeps : old.writer ≡ Some s → new.writer ≡ Some s)
     (task-is : task_of s new ≡ task_of s old) where
@@ -106,6 +119,15 @@ module _ (old new : State) (t s : ℕ) (differ : t ≢ s) (adding : AddingOne t 
     tables_are : created new.past ≡ created old.past
     tables_are = elim adding [ inl same ↦ ap created same | inr a ↦ ap created a.2 ∙ no_table_more a.0 old.past t a.1 (spares a.0 a.3) ]
 
+  -- ---- what refused it not
+
+  unrefused_on : (statement : Stmt) → IsWriting statement → IsUnrefused statement old.past → IsUnrefused statement new.past
+  unrefused_on statement writes none =
+      elim adding [
+        | inl same ↦ subst (IsUnrefused statement) (sym same) none
+        | inr a ↦ subst (IsUnrefused statement) (sym a.2) (unrefused_then a.0 old.past t a.1 statement writes none)
+      ]
+
   -- ---- its transaction
 
   abbrev takes_on : (statement : Stmt) → Takes Spells s statement old.past → Takes Spells s statement new.past
@@ -162,7 +184,12 @@ module _ (old new : State) (t s : ℕ) (differ : t ≢ s) (adding : AddingOne t 
 
   early_on : (statement : Stmt) (alone : Bool) → IsEarly s statement alone old.past → IsEarly s statement alone new.past
   early_on statement alone e =
-      record { working = working_on statement alone e.working; goes_on = goes_on e.goes_on; unchanged = own_is ∙ (e.unchanged ∙ sym had_is) }
+      record {
+        working = working_on statement alone e.working;
+        goes_on = goes_on e.goes_on;
+        unchanged = own_is ∙ (e.unchanged ∙ sym had_is);
+        unrefused = unrefused_on statement e.working.writes e.unrefused;
+      }
 
   -- ---- its states
 
@@ -179,6 +206,7 @@ module _ (old new : State) (t s : ℕ) (differ : t ≢ s) (adding : AddingOne t 
         tables = tables_are r.right ∙ (r.tables ∙ ap (λ (db : Database). db.schemas) (sym same));
         writes = r.writes;
         cut = subst (λ (schemas : List Schema). IsCut schemas part.stmt (behind part)) (sym (tables_are r.right)) r.cut;
+        table_is = ap (λ schemas. table_read schemas part.stmt) (tables_are r.right) ∙ r.table_is;
         made = r.made;
         own_is = own_is ∙ (r.own_is ∙ ap (λ changes. reverse r.made ++ changes) (sym had_is));
         goes = subst (λ (db : Database). GoesOnWith r.statement db (r.made ++ reverse todo) next) (sym same) r.goes;
@@ -189,10 +217,8 @@ module _ (old new : State) (t s : ℕ) (differ : t ≢ s) (adding : AddingOne t 
       let tables = tables_are r.changing.right in
       record {
         changing = changing_on part (of_part part) [] r.changing;
-        table = r.table;
-        table_is = ap (λ schemas. table_read schemas part.stmt) tables ∙ r.table_is;
         schema = r.schema;
-        there = ap (λ schemas. slice_get schemas r.table) tables ∙ r.there;
+        there = ap (λ schemas. slice_get schemas part.table) tables ∙ r.there;
         plan = r.plan;
         enough = r.enough;
       }
@@ -309,7 +335,7 @@ module _ (old new : State) (t s : ℕ) (differ : t ≢ s) (adding : AddingOne t 
 
   -- all that the machine knows
   running_on : (m : WriteStatement) → IsRunning old s m → IsRunning new s m
-  running_on (machine.Fresh statement) r = (taken_on statement r.0, r.1, task-is ∙ r.2)
+  running_on (machine.Fresh statement) r = (taken_on statement r.0, r.1, task-is ∙ r.2, unrefused_on statement r.1 r.3)
   running_on machine.Unopened r = (record { statement = r.0.statement; taken = taken_on r.0.statement r.0.taken }, task-is ∙ r.1)
   running_on (machine.Locking statement alone) r = (early_on statement alone r.0, task-is ∙ r.1)
   running_on (machine.Searching part) r = record { reading = reading_on part r.reading; task_is = task-is ∙ r.task_is }

@@ -1,8 +1,8 @@
 -- The parts of a statement: what comes first, what is done with one of them, and what comes next.
-use Rattle.std.proofs.Common.{◌≡◌, ℕ, ◌+◌, Bool, true, false, Option, Some, None, List, [], ◌∷◌, ◌++◌, length, reverse, refl, sym, ap, subst, ◌∙◌, arith}
+use Rattle.std.proofs.Common.{◌≡◌, ℕ, ◌+◌, Bool, true, Option, Some, None, List, [], ◌∷◌, ◌++◌, length, reverse, refl, sym, ap, subst, ◌∙◌, arith}
 use Rattle.std.proofs.lemmas.Bool.{false≢true}
-use Rattle.std.proofs.lemmas.List.{append-nil, append_assoc, length-append, length-reverse, reverse-append}
-use Rattle.std.specs.Prelude.{slice_get, nat_lt, is_none, ◌&&◌}
+use Rattle.std.proofs.lemmas.List.{append-nil, append_assoc, length-append, reverse-append}
+use Rattle.std.specs.Prelude.{slice_get}
 use Rattle.inno_types.specs.declared.value.Value.{Value}
 use Rattle.inno_types.specs.declared.value.Schema.{Schema}
 use Rattle.inno_types.specs.declared.stmt.Literal.{Literal}
@@ -19,6 +19,7 @@ use Rattle.inno_db.specs.Names.{table_place}
 use Rattle.inno_db.specs.Refusals.{refusal}
 use Rattle.inno_db.specs.Outcome.{outcome, answer_to, unless_refused, counted, count_unless, on_rows, on_number, on_schema, insert_answer, update_answer, delete_answer, deleted, matching}
 use Rattle.inno_db.proofs.Keys.{IsKeyed}
+use Rattle.inno_db.proofs.Outcomes.{table_read}
 use Rattle.inno_db.proofs.Applying.{apply-append}
 use Rattle.inno_model.specs.declared.event.Event.{Event}
 use Rattle.inno_model.specs.Past.{own, commits, committed, opening, changed, current}
@@ -27,7 +28,7 @@ use Rattle.sql_history.specs.Items.{own_before, base}
 use Rattle.sql_history.specs.Legal.{IsWriting}
 use Rattle.write_statement.specs.Following.{counted_on, followed, followed_by}
 use Rattle.write_statement.specs.Settling.{is_count, is_refusal}
-use Rattle.write_statement.specs.Parts.{has_parts, with_tuple, left_of, rest_of, IsCut, behind, of_part, of_rest, GoesOnWith, IsFirstPart}
+use Rattle.write_statement.specs.Parts.{with_tuple, left_of, rest_of, IsCut, behind, of_part, of_rest, GoesOnWith, IsFirstPart}
 use Rattle.write_statement.specs.declared.machine.Part.{Part}
 use Rattle.write_statement.specs.Running.{IsWorking, IsEarly, HasRight, IsChanging, IsMade}
 use Rattle.write_statement.proofs.Writing.{of_writing}
@@ -75,6 +76,12 @@ counts_changes db statement writes =
     ]
 
 -- ---- a part and what comes behind it
+
+-- where the whole isn't refused, the part isn't
+pub part_unrefused : (schemas : List Schema) (statement : Stmt) (later : List (List Literal)) → IsCut schemas statement later → refusal schemas statement ≡ None
+part_unrefused schemas statement [] cut = cut.1
+part_unrefused schemas (stmt.Insert table names (tuple ∷ [])) (next ∷ later) cut = (parts_unrefused names tuple (next ∷ later) schemas table cut).0
+part_unrefused schemas other (next ∷ later) cut = absurd cut
 
 followed_refused : (reply : Reply) (first rest : Outcome) → is_refusal reply ≡ true → followed reply first rest ≡ first
 followed_refused (replies.Fail error) first rest is = refl
@@ -205,6 +212,7 @@ module _ (past : List Event) (writer : Option ℕ) (s : ℕ) (part : Part) (r : 
         tables = r.tables;
         writes = r.writes;
         cut = r.cut;
+        table_is = r.table_is;
         made = r.made;
         own_is = r.own_is;
         goes =
@@ -213,60 +221,6 @@ module _ (past : List Event) (writer : Option ℕ) (s : ℕ) (part : Part) (r : 
       }
 
 -- ---- the first part
-
-and_right : (a b : Bool) → (a && b) ≡ true → b ≡ true
-and_right true b is = is
-and_right false b is = cc
-
-none_of : {A : Type 0} (o : Option A) → is_none o ≡ true → o ≡ None
-none_of None is = refl
-none_of (Some x) is = absurd (false≢true is)
-
-cut_of : (schemas : List Schema) (table : List ℕ) (names : Option (List (List ℕ))) (tuple : List Literal) (later : List (List Literal))
-    → refusal schemas (stmt.Insert table names (tuple ∷ later)) ≡ None → IsCut schemas (stmt.Insert table names (tuple ∷ [])) later
-cut_of schemas table names tuple [] none = refl
-cut_of schemas table names tuple (next ∷ later) none = none
-
-all_left : (table : List ℕ) (names : Option (List (List ℕ))) (tuple : List Literal) (later : List (List Literal))
-    → left_of (stmt.Insert table names (tuple ∷ [])) later ≡ stmt.Insert table names (tuple ∷ later)
-all_left table names tuple [] = refl
-all_left table names tuple (next ∷ later) = refl
-
--- the tuple that stands last is the first one
-pub first_is : (schemas : List Schema) (table : List ℕ) (names : Option (List (List ℕ))) (tuple : List Literal) (all : List (List Literal)) (part : Part)
-    → all ≡ part.later.items ++ tuple ∷ [] → part.stmt ≡ stmt.Insert table names (tuple ∷ [])
-    → has_parts schemas (stmt.Insert table names (reverse all)) ≡ true
-    → IsFirstPart schemas (stmt.Insert table names (reverse all)) part.alone part.before part
-first_is schemas table names tuple all part is stmt-is parts =
-    let first : reverse all ≡ tuple ∷ behind part = ap reverse is ∙ reverse-append part.later.items (tuple ∷ []) in
-    let none : refusal schemas (stmt.Insert table names (tuple ∷ behind part)) ≡ None =
-    subst (λ (tuples : List (List Literal)). refusal schemas (stmt.Insert table names tuples) ≡ None) first
-    (none_of (refusal schemas (stmt.Insert table names (reverse all)))
-    (and_right (nat_lt 1 (length (reverse all))) (is_none (refusal schemas (stmt.Insert table names (reverse all)))) parts)) in
-    record {
-      alone_is = refl;
-      before_is = refl;
-      left =
-          ap (λ (st : Stmt). left_of st (behind part)) stmt-is
-          ∙ (all_left table names tuple (behind part) ∙ ap (stmt.Insert table names) (sym first));
-      cut =
-          subst (λ (st : Stmt). IsCut schemas st (behind part)) (sym stmt-is) (cut_of schemas table names tuple (behind part) none);
-      fewer = omega (arith, ap length first, length-reverse part.later.items);
-    }
-
--- one that has no other parts is whole
-pub whole_is_first : (schemas : List Schema) (statement : Stmt) (part : Part) → part.stmt ≡ statement → part.later.items ≡ []
-    → has_parts schemas statement ≡ false → IsFirstPart schemas statement part.alone part.before part
-whole_is_first schemas statement part stmt-is none parts =
-    let behind-none : behind part ≡ [] = ap reverse none in
-    record {
-      alone_is = refl;
-      before_is = refl;
-      left = ap (left_of part.stmt) behind-none ∙ stmt-is;
-      cut =
-          subst (IsCut schemas part.stmt) (sym behind-none) (subst (λ (st : Stmt). has_parts schemas st ≡ false) (sym stmt-is) parts);
-      fewer = omega (arith, ap length none);
-    }
 
 zero_more : (reply : Reply) → reply ≡ counted_on 0 reply
 zero_more (replies.Count n) = (let same : n ≡ 0 + n = omega arith in ap replies.Count same)
@@ -278,10 +232,16 @@ cut_writes schemas statement [] cut writes = writes
 cut_writes schemas (stmt.Insert table names (tuple ∷ [])) (next ∷ later) cut writes = tt
 cut_writes schemas other (next ∷ later) cut writes = absurd cut
 
-pub starts : (past : List Event) (writer : Option ℕ) (s : ℕ) (statement : Stmt) (alone : Bool) (before : ℕ) (part : Part) → IsEarly s statement alone past
-    → HasRight s past writer → before ≡ length (own s past) → created past ≡ (current s past).schemas
-    → IsFirstPart (created past) statement alone before part → IsChanging past writer s part (of_part part) []
-starts past writer s statement alone before part early right before-is tables first =
+left_table : (schemas : List Schema) (statement : Stmt) (later : List (List Literal)) → table_read schemas (left_of statement later) ≡ table_read schemas statement
+left_table schemas statement [] = refl
+left_table schemas (stmt.Insert table names tuples) (next ∷ later) = refl
+left_table schemas other (next ∷ later) = refl
+
+pub starts : (past : List Event) (writer : Option ℕ) (s : ℕ) (statement : Stmt) (table : ℕ) (alone : Bool) (before : ℕ) (part : Part)
+    → IsEarly s statement alone past → HasRight s past writer → before ≡ length (own s past) → created past ≡ (current s past).schemas
+    → table_read (created past) statement ≡ Some table → IsFirstPart (created past) statement table alone before part
+    → IsChanging past writer s part (of_part part) []
+starts past writer s statement table alone before part early right before-is tables table-is first =
     record {
       statement = statement;
       working = subst (λ own. IsWorking s statement own past) (sym first.alone_is) early.working;
@@ -291,6 +251,9 @@ starts past writer s statement alone before part early right before-is tables fi
       tables = tables ∙ ap (λ (changes : List Change). (changed (opening past) (changes ++ committed (commits past) past)).schemas) early.unchanged;
       writes = cut_writes (created past) part.stmt (behind part) first.cut (subst IsWriting (sym first.left) early.working.writes);
       cut = first.cut;
+      table_is =
+          sym (left_table (created past) part.stmt (behind part))
+          ∙ (ap (table_read (created past)) first.left ∙ (table-is ∙ ap Some (sym first.table_is)));
       made = [];
       own_is = early.unchanged;
       goes =
@@ -302,9 +265,13 @@ starts past writer s statement alone before part early right before-is tables fi
 
 next_cut : (schemas : List Schema) (statement : Stmt) (tuple : List Literal) (later : List (List Literal)) → IsCut schemas statement (tuple ∷ later)
     → IsCut schemas (with_tuple tuple statement) later
-next_cut schemas (stmt.Insert table names (before ∷ [])) tuple [] cut = refl
+next_cut schemas (stmt.Insert table names (before ∷ [])) tuple [] cut = (refl, (parts_unrefused names before (tuple ∷ []) schemas table cut).1)
 next_cut schemas (stmt.Insert table names (before ∷ [])) tuple (next ∷ later) cut = (parts_unrefused names before (tuple ∷ next ∷ later) schemas table cut).1
 next_cut schemas other tuple later cut = absurd cut
+
+next_table : (schemas : List Schema) (statement : Stmt) (tuple : List Literal) → table_read schemas (with_tuple tuple statement) ≡ table_read schemas statement
+next_table schemas (stmt.Insert table names tuples) tuple = refl
+next_table schemas other tuple = refl
 
 next_writes : (statement : Stmt) (tuple : List Literal) → IsWriting statement → IsWriting (with_tuple tuple statement)
 next_writes statement tuple =
@@ -319,8 +286,8 @@ next_goes schemas whole db made other tuple later cut goes = absurd cut
 
 module _ (past : List Event) (writer : Option ℕ) (s : ℕ) (part : Part) (r : IsChanging past writer s part (of_rest part) []) where
   pub goes_next : (tuple : List Literal) (after : Part) → behind part ≡ tuple ∷ behind after → after.stmt ≡ with_tuple tuple part.stmt
-      → after.alone ≡ part.alone → after.before ≡ part.before → IsChanging past writer s after (of_part after) []
-  goes_next tuple after is stmt-is alone-is before-is =
+      → after.table ≡ part.table → after.alone ≡ part.alone → after.before ≡ part.before → IsChanging past writer s after (of_part after) []
+  goes_next tuple after is stmt-is same-table alone-is before-is =
       let cut = subst (IsCut (created past) part.stmt) is r.cut in
       record {
         statement = r.statement;
@@ -333,6 +300,9 @@ module _ (past : List Event) (writer : Option ℕ) (s : ℕ) (part : Part) (r : 
         cut =
             subst (λ (st : Stmt). IsCut (created past) st (behind after)) (sym stmt-is)
             (next_cut (created past) part.stmt tuple (behind after) cut);
+        table_is =
+            ap (table_read (created past)) stmt-is
+            ∙ (next_table (created past) part.stmt tuple ∙ (r.table_is ∙ ap Some (sym same-table)));
         made = r.made;
         own_is = r.own_is;
         goes =

@@ -5,7 +5,6 @@ use Rattle.std.specs.declared.alloc.Global.{Global}
 use Rattle.inno_types.specs.declared.value.Value.{Value}
 use Rattle.inno_types.specs.declared.value.Schema.{Schema}
 use Rattle.inno_types.specs.declared.stmt.Stmt.{Stmt}
-use Rattle.inno_db.proofs.Outcomes.{table_read}
 use Rattle.inno_db.specs.Database.{Database}
 use Rattle.inno_db.specs.declared.outcome.Outcome.{Outcome}
 use Rattle.inno_db.specs.declared.change.Change.{Change}
@@ -97,19 +96,16 @@ begun s old new part todo change rows r of-row rows-are turns under-way asked-is
 
 -- ---- the search
 
-pub begins_search : (s : ℕ) (old new : State) (part : Part) (table : ℕ) (plan : Plan) (schemas : List Schema)
-    → IsChanging old.past old.writer s part (of_part part) [] → table_read (created old.past) part.stmt ≡ Some table → schemas ≡ created old.past
-    → IsPlanFor schemas table part.stmt plan → Turns s (Searching table plan Newest) old new
+pub begins_search : (s : ℕ) (old new : State) (part : Part) (plan : Plan) (schemas : List Schema) → IsChanging old.past old.writer s part (of_part part) []
+    → schemas ≡ created old.past → IsPlanFor schemas part.table part.stmt plan → Turns s (Searching part.table plan Newest) old new
     → Steps IsRunning s old new (machine.Searching part) advance.Went
-begins_search s old new part table plan schemas changing table-is tables p turns =
-    let here : IsSearching old.past old.writer (Searching table plan Newest) s part =
+begins_search s old new part plan schemas changing tables p turns =
+    let here : IsSearching old.past old.writer (Searching part.table plan Newest) s part =
     record {
       reading = record {
         changing = changing;
-        table = table;
-        table_is = table-is;
         schema = p.schema;
-        there = ap (λ known. slice_get known table) (sym tables) ∙ p.there;
+        there = ap (λ known. slice_get known part.table) (sym tables) ∙ p.there;
         plan = plan;
         enough = p.enough;
       };
@@ -119,7 +115,7 @@ begins_search s old new part table plan schemas changing table-is tables p turns
     subst (λ h. IsSearching h new.writer (task_of s new) s part) (sym turns.past_is)
     (subst (λ w. IsSearching old.past w (task_of s new) s part) (sym turns.writer_is)
     (subst (λ task. IsSearching old.past old.writer task s part) (sym turns.task_is) here)) in
-    (moves_turns s (Searching table plan Newest) old new turns, there, ap (started s) turns.past_is)
+    (moves_turns s (Searching part.table plan Newest) old new turns, there, ap (started s) turns.past_is)
 
 pub search_went : (s : ℕ) (old new : State) (part : Part) → IsSearching old.past old.writer (task_of s old) s part → Stays s old new
     → Steps IsRunning s old new (machine.Searching part) advance.Went
@@ -131,15 +127,15 @@ search_went s old new part r stays = (
 
 -- what is known of a search, by its answer
 pub searches_as : (s : ℕ) (old new : State) (part : Part) (answer other : Searched) → (r : IsSearching old.past old.writer (task_of s old) s part)
-    → answer ≡ other → Searches r.reading.table r.reading.plan Newest s old new answer → Searches r.reading.table r.reading.plan Newest s old new other
-searches_as s old new part answer other r is searches = subst (Searches r.reading.table r.reading.plan Newest s old new) is searches
+    → answer ≡ other → Searches part.table r.reading.plan Newest s old new answer → Searches part.table r.reading.plan Newest s old new other
+searches_as s old new part answer other r is searches = subst (Searches part.table r.reading.plan Newest s old new) is searches
 
 -- its rows
 abbrev HasFound : (s : ℕ) (part : Part) (rows : List (List Value)) (past : List Event) (writer : Option ℕ) → Type 0
-HasFound s part rows past writer = (reading : IsReading past writer s part) × AreRowsSeen reading.table reading.plan past s (commits past) rows
+HasFound s part rows past writer = (reading : IsReading past writer s part) × AreRowsSeen part.table reading.plan past s (commits past) rows
 
 pub search_found : (s : ℕ) (old new : State) (part : Part) (rows : List (List Value)) (r : IsSearching old.past old.writer (task_of s old) s part)
-    → Searches r.reading.table r.reading.plan Newest s old new (searched.Found rows) → IsFound new s part rows
+    → Searches part.table r.reading.plan Newest s old new (searched.Found rows) → IsFound new s part rows
 search_found s old new part rows r searches =
     let turns = searches.0 in
     let there : HasFound s part rows new.past new.writer =

@@ -15,6 +15,7 @@ use Rattle.inno_db.specs.Outcome.{outcome}
 use Rattle.inno_db.specs.Changes.{place_of}
 use Rattle.inno_model.specs.Past.{IsOpen}
 use Rattle.inno_model.specs.declared.event.Event.{Event}
+use Rattle.plain_sql.specs.Finding.{IsOnRows}
 use Rattle.sql_history.specs.Items.{base}
 use Rattle.sql_history.specs.Settings.{Setting}
 use Rattle.sql_history.specs.Statements.{Sight, is_on_rows, locking_sight}
@@ -33,6 +34,9 @@ of_writing P insert update delete other writes = absurd writes
 
 pub on_rows : (statement : Stmt) → IsWriting statement → is_on_rows statement ≡ true
 on_rows = of_writing (λ statement. is_on_rows statement ≡ true) (λ table columns tuples. refl) (λ table sets condition. refl) (λ table condition. refl)
+
+pub reads_rows : (statement : Stmt) → IsWriting statement → IsOnRows statement
+reads_rows = of_writing IsOnRows (λ table columns tuples. tt) (λ table sets condition. tt) (λ table condition. tt)
 
 -- ---- the latest rows
 

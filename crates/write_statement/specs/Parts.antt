@@ -1,5 +1,5 @@
 -- The parts of a statement. An INSERT has one for each of its tuples, any other statement has one.
-use Rattle.std.specs.Prelude.{◌≡◌, ℕ, ◌≤◌, nat_lt, Bool, false, ◌&&◌, None, is_none, List, [], ◌∷◌, ◌++◌, length, reverse}
+use Rattle.std.specs.Prelude.{◌≡◌, ℕ, ◌≤◌, nat_lt, Bool, false, None, List, [], ◌∷◌, ◌++◌, length, reverse}
 use Rattle.inno_types.specs.declared.value.Schema.{Schema}
 use Rattle.inno_types.specs.declared.stmt.Literal.{Literal}
 use Rattle.inno_types.specs.declared.stmt.Stmt.{Stmt}
@@ -17,10 +17,10 @@ abbrev pub tuples_of : Stmt → ℕ
 tuples_of (stmt.Insert table columns tuples) = length tuples
 tuples_of other = 0
 
--- an INSERT of several tuples that its text and the tables don't refuse
-abbrev pub has_parts : List Schema → Stmt → Bool
-has_parts schemas (stmt.Insert table columns tuples) = nat_lt 1 (length tuples) && is_none (refusal schemas (stmt.Insert table columns tuples))
-has_parts schemas other = false
+-- an INSERT of several tuples
+abbrev pub has_parts : Stmt → Bool
+has_parts (stmt.Insert table columns tuples) = nat_lt 1 (length tuples)
+has_parts other = false
 
 -- an INSERT with this tuple alone
 abbrev pub with_tuple : List Literal → Stmt → Stmt
@@ -43,9 +43,10 @@ rest_of statement [] = nothing_left
 rest_of (stmt.Insert table columns tuples) (tuple ∷ later) = outcome (stmt.Insert table columns (tuple ∷ later))
 rest_of other (tuple ∷ later) = nothing_left
 
--- Where tuples come behind a part, it is an INSERT of one tuple. With them its text and the tables don't refuse it.
+-- Where tuples come behind a part, it is an INSERT of one tuple, and no part is one of several. With what comes behind it its text and
+-- the tables don't refuse it.
 abbrev pub IsCut : List Schema → Stmt → List (List Literal) → Type 0
-IsCut schemas statement [] = has_parts schemas statement ≡ false
+IsCut schemas statement [] = (has_parts statement ≡ false) × (refusal schemas statement ≡ None)
 IsCut schemas (stmt.Insert table columns (tuple ∷ [])) (next ∷ later) = refusal schemas (stmt.Insert table columns (tuple ∷ next ∷ later)) ≡ None
 IsCut schemas other (next ∷ later) = ⊥
 
@@ -61,7 +62,8 @@ of_part part = outcome (left_of part.stmt (behind part))
 abbrev pub of_rest : Part → Database → Outcome
 of_rest part = rest_of part.stmt (behind part)
 
-pub record IsFirstPart (schemas : List Schema) (statement : Stmt) (alone : Bool) (before : ℕ) (part : Part) : Type 0 where
+pub record IsFirstPart (schemas : List Schema) (statement : Stmt) (table : ℕ) (alone : Bool) (before : ℕ) (part : Part) : Type 0 where
+  pub table_is : part.table ≡ table
   pub alone_is : part.alone ≡ alone
   pub before_is : part.before ≡ before
   pub left : left_of part.stmt (behind part) ≡ statement

@@ -10,6 +10,7 @@ use Rattle.inno_db.specs.declared.change.Change.{Change}
 use Rattle.inno_db.specs.declared.outcome.Outcome.{Outcome}
 use Rattle.inno_db.specs.Database.{Database}
 use Rattle.inno_db.specs.Outcome.{outcome}
+use Rattle.inno_db.specs.Refusals.{refusal}
 use Rattle.inno_db.proofs.Outcomes.{table_read}
 use Rattle.inno_model.specs.declared.event.Event.{Event}
 use Rattle.inno_model.specs.declared.event.Event.TheVariants.{Changed}
@@ -73,11 +74,16 @@ pub record GoesOn (s : ℕ) (past : List Event) : Type 0 where
   pub not_over : is_over s past ≡ false
   pub not_undone : did undoes s past ≡ false
 
+-- Its text and the tables that are there don't refuse it, nor do they with tables that come later.
+abbrev pub IsUnrefused : Stmt → List Event → Type 0
+IsUnrefused statement past = refusal (created past) statement ≡ None
+
 -- It has changed nothing yet.
 pub record IsEarly (s : ℕ) (statement : Stmt) (alone : Bool) (past : List Event) : Type 0 where
   pub working : IsWorking s statement alone past
   pub goes_on : GoesOn s past
   pub unchanged : own s past ≡ own_before s past
+  pub unrefused : IsUnrefused statement past
 
 -- the session alone may write, and no other one has changes
 pub record HasRight (s : ℕ) (past : List Event) (writer : Option ℕ) : Type 0 where
@@ -96,30 +102,29 @@ pub record IsChanging (past : List Event) (writer : Option ℕ) (s : ℕ) (part 
   pub tables : created past ≡ (base s past).schemas
   pub writes : IsWriting part.stmt
   pub cut : IsCut (created past) part.stmt (behind part)
+  pub table_is : table_read (created past) part.stmt ≡ Some part.table
   -- the changes that are made, and what comes behind those that are not
   pub made : List Change
   pub own_is : own s past ≡ reverse made ++ own_before s past
   pub goes : GoesOnWith statement (base s past) (made ++ reverse todo) next
 
--- The table of its part is there, and the plan of its search leaves out no row that the part's outcome depends on.
+-- The plan of its search leaves out no row of its table that the part's outcome depends on.
 pub record IsReading (past : List Event) (writer : Option ℕ) (s : ℕ) (part : Part) : Type 0 where
   pub changing : IsChanging past writer s part (of_part part) []
-  pub table : ℕ
-  pub table_is : table_read (created past) part.stmt ≡ Some table
   pub schema : Schema
-  pub there : slice_get (created past) table ≡ Some schema
+  pub there : slice_get (created past) part.table ≡ Some schema
   pub plan : Plan
   pub enough : HoldsMatches schema part.stmt plan
 
 pub record IsSearching (past : List Event) (writer : Option ℕ) (task : Task) (s : ℕ) (part : Part) : Type 0 where
   pub reading : IsReading past writer s part
-  pub task_is : task ≡ Searching reading.table reading.plan Newest
+  pub task_is : task ≡ Searching part.table reading.plan Newest
 
 -- its search is over, with these rows
 pub record IsFound (state : State) (s : ℕ) (part : Part) (rows : List (List Value)) : Type 0 where
   pub reading : IsReading state.past state.writer s part
   pub idle : task_of s state ≡ Idle
-  pub found : AreRowsSeen reading.table reading.plan state.past s (commits state.past) rows
+  pub found : AreRowsSeen part.table reading.plan state.past s (commits state.past) rows
 
 -- These rows of its table are enough for a part: over some database where the table has them, it has the outcome that it has
 -- over the latest rows with those that the session has changed.
@@ -243,7 +248,7 @@ acked (machine.Unacked kept given) = machine.Ending kept given
 acked other = other
 
 abbrev pub IsRunning : State → ℕ → WriteStatement → Type 0
-IsRunning state s (machine.Fresh stmt) = IsTaken s stmt state.past × IsWriting stmt × (task_of s state ≡ Idle)
+IsRunning state s (machine.Fresh stmt) = IsTaken s stmt state.past × IsWriting stmt × (task_of s state ≡ Idle) × IsUnrefused stmt state.past
 IsRunning state s machine.Unopened = IsUnopened s state.past × (task_of s state ≡ Idle)
 IsRunning state s (machine.Locking stmt alone) = IsEarly s stmt alone state.past × (task_of s state ≡ Idle)
 IsRunning state s (machine.Searching part) = IsSearching state.past state.writer (task_of s state) s part

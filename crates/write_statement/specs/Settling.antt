@@ -1,7 +1,6 @@
 -- What is settled of a statement over the rows of its table.
-use Rattle.std.specs.Prelude.{◌≡◌, ℕ, Bool, true, false, List, Option, Some, None, reverse}
+use Rattle.std.specs.Prelude.{◌≡◌, Bool, true, false, reverse}
 use Rattle.inno_types.specs.declared.stmt.Stmt.{Stmt}
-use Rattle.inno_types.specs.declared.stmt.Stmt.TheVariants as stmt
 use Rattle.inno_types.specs.declared.reply.Reply.{Reply}
 use Rattle.inno_types.specs.declared.reply.Reply.TheVariants as replies
 use Rattle.inno_db.specs.Database.{Database}
@@ -23,11 +22,3 @@ IsSettledBy statement db (settled.Refused kept given) =
     (given ≡ kept) × (is_refusal kept ≡ true) × (kept ≡ (outcome statement db).reply)
 IsSettledBy statement db (settled.Todo todo) =
     (is_count (outcome statement db).reply ≡ true) × ((outcome statement db).changes ≡ reverse todo.items)
-
--- the name of the table whose rows the statement reads
-abbrev pub IsTableNamed : Stmt → Option (List ℕ) → Type 0
-IsTableNamed (stmt.Select selected table condition lock) name = name ≡ Some table
-IsTableNamed (stmt.Insert table columns tuples) name = name ≡ Some table
-IsTableNamed (stmt.Update table sets condition) name = name ≡ Some table
-IsTableNamed (stmt.Delete table condition) name = name ≡ Some table
-IsTableNamed other name = name ≡ None

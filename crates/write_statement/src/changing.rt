@@ -139,6 +139,7 @@ fn made_all<L: SharedLists>(
     let Part {
         stmt,
         mut later,
+        table,
         alone,
         before,
     } = part;
@@ -151,6 +152,7 @@ fn made_all<L: SharedLists>(
             let part = Part {
                 stmt,
                 later,
+                table,
                 alone,
                 before,
             };

@@ -3,7 +3,9 @@
 ghost use Rattle.std.specs.Prelude.{◌≡◌, ◌<◌, ℕ, length, true, false, None};
 ghost use Rattle.shared_lists.specs.Tasks.{Idle, asked};
 ghost use Rattle.shared_lists.specs.State.{State, task_of};
+ghost use Rattle.inno_db.specs.Refusals.{refusal};
 ghost use Rattle.sql_history.specs.Legal.{IsWriting};
+ghost use Rattle.sql_history.specs.Statements.{schemas_now};
 ghost use Rattle.sql_lists.specs.Kept.{OwesAck};
 ghost use Rattle.sql_lists.specs.Steps.{Steps, IsTaken, StaysRunning, GoesOnAcked};
 ghost use Rattle.sql_lists.specs.Going.{Nears, NearsAcked};
@@ -68,11 +70,13 @@ pub enum WriteStatement {
 }
 
 /// A part of a statement: an INSERT has one for each of its tuples, any other statement is one. The tuples of parts that are
-/// yet to come stand in `later`, the next one last. Before the statement its transaction had made so many changes.
+/// yet to come stand in `later`, the next one last. All are of the table of this number. Before the statement its transaction had
+/// made so many changes.
 #[derive(Drop)]
 pub struct Part {
     pub stmt: Stmt,
     pub later: Vec<Literals>,
+    pub table: u8,
     pub alone: bool,
     pub before: usize,
 }
@@ -101,13 +105,16 @@ impl Work {
 }
 
 impl WriteStatement {
-    /// A statement that nothing refused at once.
+    /// A statement that nothing refused at once. Later steps rest on that, and test it no more.
     pub fn new<L: SharedLists>(stmt: Stmt, session: u32, lists: &SqlLists<L>) -> Self
         requires taken { IsTaken session stmt lists.now.past }
         requires writes { IsWriting stmt }
+        requires unrefused { refusal (schemas_now session lists.now.past) stmt ≡ None }
         requires idle { task_of session lists.now ≡ Idle }
         ensures { IsRunning lists.now session result }
     {
+        // that the session's tables are all that were made follows from what the lists say of their history
+        let _ = lists.lists();
         WriteStatement::Fresh { stmt }
     }
 

@@ -1,11 +1,12 @@
 //! A statement opens a transaction where none is open, takes the right to write, and begins to search its table.
 
-ghost use Rattle.std.specs.Prelude.{◌≡◌, ◌≢◌, ◌<◌, ◌≤◌, ◌+◌, ◌*◌, ℕ, IfOk, [], length, Some, None, slice_get, option_copied};
+ghost use Rattle.std.specs.Prelude.{◌≡◌, ◌≢◌, ◌<◌, ◌≤◌, ◌+◌, ◌*◌, ℕ, IfOk, [], length, Some, None};
+ghost use Rattle.inno_db.specs.Refusals.{refusal};
+ghost use Rattle.sql_history.specs.Legal.{IsWriting};
 ghost use Rattle.inno_db.proofs.Outcomes.{table_read};
 ghost use Rattle.inno_db.specs.declared.limits.TheConstants.{MOST_TABLES};
 ghost use Rattle.inno_types.specs.declared.value.Schema.{Schema};
 ghost use Rattle.inno_model.specs.Past.{own, IsOpen, IsClosed};
-ghost use Rattle.law_past_agreement.specs.Order.{created};
 ghost use Rattle.law_stored_rows.specs.Storable.{AreStorable};
 ghost use Rattle.shared_lists.specs.Tasks.{Idle};
 ghost use Rattle.shared_lists.specs.State.{task_of};
@@ -14,13 +15,12 @@ ghost use Rattle.sql_lists.specs.Going.{Nears, left};
 ghost use Rattle.write_statement.specs.Going.{to_go, IsNearer};
 ghost use Rattle.sql_plan.specs.Planning.{IsPlanFor};
 ghost use Rattle.write_statement.specs.Parts.{of_part};
-ghost use Rattle.write_statement.specs.Running.{IsEarly, HasRight, IsChanging, IsRunning};
-ghost use Rattle.write_statement.specs.Settling.{IsTableNamed};
+ghost use Rattle.write_statement.specs.Running.{HasRight, IsChanging, IsRunning};
 
-use crate::answering::{answer, give_up, give_up_at};
+use crate::answering::{give_up, give_up_at};
 use crate::machine::{Part, WriteStatement};
 use crate::parting::first_part;
-use inno_types::{Bytes, Listed, Rows, Schema, Stmt};
+use inno_types::{Listed, Schema, Stmt};
 use shared_lists::{Reading, SharedLists};
 use sql_lists::{Advance, SqlLists};
 use sql_plan::{Plan, plan_for};
@@ -132,13 +132,14 @@ fn begin_search<L: SharedLists>(
 {
     let tables = lists.lists();
     let before = tables.change_count(session);
-    match first_part(alloc, tables.schemas(), stmt, alone, before) {
+    let table = table_number(tables.schemas(), &stmt);
+    match first_part(alloc, stmt, table, alone, before) {
         Ok(part) => search_part(alloc, part, session, lists),
         Err(_) => give_up_at(alone, before),
     }
 }
 
-/// Begins to search for a part. Over a table that isn't there it is answered at once.
+/// Begins to search for a part.
 pub fn search_part<L: SharedLists>(
     alloc: Global,
     part: Part,
@@ -151,34 +152,10 @@ pub fn search_part<L: SharedLists>(
     ensures steps { Steps IsRunning session lists.old lists.new result.0 result.1 }
     ensures nears { (phases : ℕ) → 5 + 2 * length part.later.items < phases → (first second third : ℕ) → IsNearer (left phases first second third) session lists.new result.0 result.1 }
 {
-    match table_number(lists.lists().schemas(), &part.stmt) {
-        Some(table) => search_table(alloc, table, part, session, lists),
-        None => {
-            let rows = Rows::new(alloc);
-            answer(alloc, part, &rows, session, lists)
-        }
-    }
-}
-
-/// Begins to search the table of this number.
-fn search_table<L: SharedLists>(
-    alloc: Global,
-    table: u8,
-    part: Part,
-    session: u32,
-    lists: &mut SqlLists<L>,
-) -> (WriteStatement, Advance)
-    requires joined { session < length lists.old.names }
-    requires changing { IsChanging lists.old.past lists.old.writer session part (of_part part) [] }
-    requires idle { task_of session lists.old ≡ Idle }
-    requires table_is { table_read (created lists.old.past) part.stmt ≡ Some table }
-    ensures steps { Steps IsRunning session lists.old lists.new result.0 result.1 }
-    ensures nears { (phases : ℕ) → 5 + 2 * length part.later.items < phases → (first second third : ℕ) → IsNearer (left phases first second third) session lists.new result.0 result.1 }
-{
-    let Ok(plan) = plan_in(alloc, lists.lists().schemas(), table, &part.stmt) else {
+    let Ok(plan) = plan_in(alloc, lists.lists().schemas(), part.table, &part.stmt) else {
         return give_up(part);
     };
-    match lists.begin_search(session, table, plan, Reading::Newest) {
+    match lists.begin_search(session, part.table, plan, Reading::Newest) {
         Ok(()) => (WriteStatement::Searching(part), Advance::Went),
         Err(_) => give_up(part),
     }
@@ -200,31 +177,20 @@ fn plan_in(
     }
 }
 
-/// The table of a statement, by number.
-fn table_number(schemas: &Listed<Schema>, stmt: &Stmt) -> Option<u8>
-    requires { length schemas.now ≤ MOST_TABLES }
-    ensures { result ≡ table_read schemas.now stmt.now }
-{
-    let place = place_of_table(schemas, table_of(stmt)?)?;
-    Some(place as u8)
-}
-
-/// The name of the table that a statement reads.
-fn table_of(stmt: &Stmt) -> Option<&Bytes>
-    ensures { IsTableNamed stmt.now (option_copied result) }
+/// The table of a statement that isn't refused, by number.
+fn table_number(schemas: &Listed<Schema>, stmt: &Stmt) -> u8
+    requires few { length schemas.now ≤ MOST_TABLES }
+    requires writes { IsWriting stmt.now }
+    requires unrefused { refusal schemas.now stmt.now ≡ None }
+    ensures { table_read schemas.now stmt.now ≡ Some result }
 {
     match stmt {
-        Stmt::Select { table, .. }
-        | Stmt::Insert { table, .. }
-        | Stmt::Update { table, .. }
-        | Stmt::Delete { table, .. } => Some(table),
-        Stmt::CreateTable { .. }
-        | Stmt::Begin { .. }
-        | Stmt::Commit
-        | Stmt::Rollback
-        | Stmt::RollbackTo { .. }
-        | Stmt::Savepoint { .. }
-        | Stmt::SetAutocommit(_)
-        | Stmt::SetLevel { .. } => None,
+        Stmt::Insert { table, .. } | Stmt::Update { table, .. } | Stmt::Delete { table, .. } => {
+            match place_of_table(schemas, table) {
+                Some(place) => place as u8,
+                None => unreachable!(),
+            }
+        }
+        _ => unreachable!(),
     }
 }

@@ -14,8 +14,7 @@ ghost use Rattle.write_statement.specs.Following.{followed_by};
 ghost use Rattle.write_statement.specs.Parts.{IsFirstPart, has_parts, with_tuple};
 
 use crate::machine::Part;
-use inno_types::{Bytes, Listed, Literals, Names, Schema, Stmt, Tuples};
-use sql_refusals::refuse;
+use inno_types::{Bytes, Literals, Names, Stmt, Tuples};
 use std::alloc::Global;
 use store_api::NoMemory;
 
@@ -27,48 +26,46 @@ pub fn an_insert_goes_tuple_by_tuple()
     ensures refusals { (table : List ℕ) (names : Option (List (List ℕ))) (tuple : List Literal) (tuples : List (List Literal)) (schemas : List Schema) → refusal schemas (Insert table names (tuple ∷ tuples)) ≡ None → (refusal schemas (Insert table names (tuple ∷ [])) ≡ None) × (refusal schemas (Insert table names tuples) ≡ None) }
 {}
 
-/// The first part of a statement. One that its text and the tables refuse stays whole, so that it is answered as a whole.
+/// The first part of a statement of this table that its text and the tables don't refuse.
 pub fn first_part(
     alloc: Global,
-    schemas: &Listed<Schema>,
     stmt: Stmt,
+    table: u8,
     alone: bool,
     before: usize,
 ) -> Result<Part, NoMemory>
-    ensures { IfOk result (IsFirstPart schemas.now stmt alone before) }
+    ensures { (schemas : List Schema) → refusal schemas stmt ≡ None → IfOk result (IsFirstPart schemas stmt table alone before) }
 {
-    match has_parts(alloc, schemas, &stmt) {
-        Ok(true) => cut(alloc, stmt, alone, before),
-        Ok(false) => Ok(Part {
-            stmt,
-            later: Vec::new(alloc),
-            alone,
-            before,
-        }),
-        Err(_) => {
-            drop(stmt);
-            Err(NoMemory)
-        }
+    if has_parts(&stmt) {
+        return cut(alloc, stmt, table, alone, before);
     }
+    Ok(Part {
+        stmt,
+        later: Vec::new(alloc),
+        table,
+        alone,
+        before,
+    })
 }
 
 /// Takes an INSERT of several tuples apart.
-fn cut(alloc: Global, stmt: Stmt, alone: bool, before: usize) -> Result<Part, NoMemory>
-    ensures { (schemas : List Schema) → has_parts schemas stmt ≡ true → IfOk result (IsFirstPart schemas stmt alone before) }
+fn cut(alloc: Global, stmt: Stmt, table: u8, alone: bool, before: usize) -> Result<Part, NoMemory>
+    ensures { (schemas : List Schema) → has_parts stmt ≡ true → refusal schemas stmt ≡ None → IfOk result (IsFirstPart schemas stmt table alone before) }
 {
     match stmt {
         Stmt::Insert {
-            table,
+            table: name,
             columns,
             tuples,
         } => {
             let mut later = tuples.into_vec();
             later.reverse();
-            cut_off(alloc, table, columns, later, alone, before)
+            cut_off(alloc, name, columns, later, table, alone, before)
         }
         stmt => Ok(Part {
             stmt,
             later: Vec::new(alloc),
+            table,
             alone,
             before,
         }),
@@ -78,19 +75,20 @@ fn cut(alloc: Global, stmt: Stmt, alone: bool, before: usize) -> Result<Part, No
 /// An INSERT's part of the tuple that stands last.
 fn cut_off(
     alloc: Global,
-    table: Bytes,
+    name: Bytes,
     columns: Option<Names>,
     mut later: Vec<Literals>,
+    table: u8,
     alone: bool,
     before: usize,
 ) -> Result<Part, NoMemory>
-    ensures { (schemas : List Schema) → has_parts schemas (Insert table columns (reverse later.items)) ≡ true → IfOk result (IsFirstPart schemas (Insert table columns (reverse later.items)) alone before) }
+    ensures { (schemas : List Schema) → has_parts (Insert name columns (reverse later.items)) ≡ true → refusal schemas (Insert name columns (reverse later.items)) ≡ None → IfOk result (IsFirstPart schemas (Insert name columns (reverse later.items)) table alone before) }
 {
     let tuples = Vec::new(alloc);
     let stmt = match later.pop() {
-        Some(tuple) => of_tuple(table, columns, tuples, tuple)?,
+        Some(tuple) => of_tuple(name, columns, tuples, tuple)?,
         None => Stmt::Insert {
-            table,
+            table: name,
             columns,
             tuples: Tuples::from_vec(tuples),
         },
@@ -98,21 +96,19 @@ fn cut_off(
     Ok(Part {
         stmt,
         later,
+        table,
         alone,
         before,
     })
 }
 
-/// Whether the statement is an INSERT of several tuples that its text and the tables don't refuse.
-fn has_parts(alloc: Global, schemas: &Listed<Schema>, stmt: &Stmt) -> Result<bool, NoMemory>
-    ensures { IfOk result (λ cut. cut ≡ has_parts schemas.now stmt.now) }
+/// Whether the statement is an INSERT of several tuples.
+fn has_parts(stmt: &Stmt) -> bool
+    ensures { result ≡ has_parts stmt.now }
 {
     match stmt {
-        Stmt::Insert { tuples, .. } if tuples.len() > 1 => {
-            let refused = refuse(alloc, schemas, stmt)?;
-            Ok(refused.is_none())
-        }
-        _ => Ok(false),
+        Stmt::Insert { tuples, .. } => tuples.len() > 1,
+        _ => false,
     }
 }
 

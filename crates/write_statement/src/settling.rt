@@ -1,14 +1,16 @@
 //! What a part of a statement does to the rows that were found, by the plain interpreter.
 
-ghost use Rattle.std.specs.Prelude.{◌≡◌, ◌≤◌, true, IfOk, length, reverse};
+ghost use Rattle.std.specs.Prelude.{◌≡◌, None, Some, true, IfOk, reverse};
 ghost use Rattle.inno_db.specs.Database.{Database};
-ghost use Rattle.inno_db.specs.declared.limits.TheConstants.{MOST_TABLES};
-ghost use Rattle.plain_sql.specs.Finding.{IsReadFrom, IsOnRows};
+ghost use Rattle.inno_db.specs.Outcome.{outcome};
+ghost use Rattle.inno_db.specs.Refusals.{refusal};
+ghost use Rattle.inno_db.proofs.Outcomes.{table_read};
+ghost use Rattle.plain_sql.specs.Finding.{IsReadFrom};
 ghost use Rattle.write_statement.specs.Settling.{IsSettledBy, is_refusal};
 
 use inno_db::{Change, Outcome};
 use inno_types::{Listed, Reply, Rows, Schema, Stmt};
-use plain_sql::plain_on_rows;
+use plain_sql::plain_on_table;
 use std::alloc::Global;
 use store_api::NoMemory;
 
@@ -19,18 +21,20 @@ pub enum Settled {
     Todo(Vec<Change>),
 }
 
-/// What the part is answered, and what it changes, over any database with these tables whose own table has these rows.
+/// What the part is answered, and what it changes, over any database with these tables whose own table has these rows. It is
+/// known that its text and the tables don't refuse it, and which table is its own.
 pub fn settle(
     alloc: Global,
     schemas: &Listed<Schema>,
+    table: u8,
     rows: &Rows,
     stmt: &Stmt,
 ) -> Result<Settled, NoMemory>
-    requires few { length schemas.now ≤ MOST_TABLES }
-    requires on_rows { IsOnRows stmt.now }
+    requires unrefused { refusal schemas.now stmt.now ≡ None }
+    requires table_is { table_read schemas.now stmt.now ≡ Some table }
     ensures { IfOk result (λ settled. (db : Database) → IsReadFrom schemas.now rows.now stmt.now db → IsSettledBy stmt.now db settled) }
 {
-    let Outcome { reply, changes } = plain_on_rows(alloc, schemas, rows, stmt)?;
+    let Outcome { reply, changes } = outcome_on(alloc, schemas, table, rows, stmt)?;
     match reply {
         Reply::Count(_) => {
             let mut todo = changes.into_vec();
@@ -45,6 +49,24 @@ pub fn settle(
                 given,
             })
         }
+    }
+}
+
+/// Its outcome over such a database.
+fn outcome_on(
+    alloc: Global,
+    schemas: &Listed<Schema>,
+    table: u8,
+    rows: &Rows,
+    stmt: &Stmt,
+) -> Result<Outcome, NoMemory>
+    requires unrefused { refusal schemas.now stmt.now ≡ None }
+    requires table_is { table_read schemas.now stmt.now ≡ Some table }
+    ensures { IfOk result (λ answer. (db : Database) → IsReadFrom schemas.now rows.now stmt.now db → answer ≡ outcome stmt.now db) }
+{
+    match schemas.as_slice().get(usize::from(table)) {
+        Some(schema) => plain_on_table(alloc, table, schema, rows, stmt),
+        None => Err(NoMemory),
     }
 }
 

@@ -1,4 +1,4 @@
-use Rattle.statement.proofs.Looking.{taken_with}
+use Rattle.statement.proofs.Looking.{taken_with, unrefused}
 use Rattle.statement.proofs.under_way.begin.Goals as goal
 
 pub new-requires-clause-taken : goal.new-requires-clause-taken
@@ -15,6 +15,10 @@ pub new-requires-in-Write-clause-taken : goal.new-requires-in-Write-clause-taken
 new-requires-in-Write-clause-taken g c =
     (taken_with c.args.session c.requires.running.0 c.args.stmt c.args.lists.now.past c.requires.running.1 c.requires.running.2 c.args.autocommit
     c.args.level c.requires.ready).taken
+
+pub new-requires-in-Write-clause-unrefused : goal.new-requires-in-Write-clause-unrefused
+new-requires-in-Write-clause-unrefused g c =
+    unrefused c.args.session c.requires.ready.0 c.args.stmt c.args.lists.now.past c.requires.ready.2
 
 pub new-requires-in-Transaction-clause-taken : goal.new-requires-in-Transaction-clause-taken
 new-requires-in-Transaction-clause-taken g c =

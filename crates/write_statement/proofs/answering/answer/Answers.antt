@@ -1,13 +1,29 @@
-use Rattle.std.proofs.Common.{[], subst, sym, ap, ◌∙◌, refl, inl}
+use Rattle.std.proofs.Common.{◌≡◌, None, List, [], subst, sym, ap, ◌∙◌, refl, inl}
+use Rattle.inno_types.specs.declared.value.Schema.{Schema}
+use Rattle.inno_db.specs.Refusals.{refusal}
+use Rattle.inno_db.proofs.Outcomes.{table_read}
 use Rattle.shared_lists.specs.Tasks.{Idle}
 use Rattle.shared_lists.specs.State.{State}
 use Rattle.law_past_agreement.specs.Order.{created}
 use Rattle.plain_sql.specs.Finding.{IsReadFrom}
 use Rattle.write_statement.specs.Settling.{IsSettledBy}
-use Rattle.write_statement.specs.Parts.{of_part}
+use Rattle.write_statement.specs.Parts.{of_part, behind}
+use Rattle.write_statement.proofs.PartByPart.{part_unrefused}
 use Rattle.write_statement.proofs.Answered.{todo_then, refused_then}
 use Rattle.write_statement.proofs.Turning.{turns_none, changing_given_up}
 use Rattle.write_statement.proofs.answering.answer.Goals as goal
+
+pub settle-requires-clause-unrefused : goal.settle-requires-clause-unrefused
+settle-requires-clause-unrefused g c =
+    let r = c.requires.changing in
+    subst (λ (schemas : List Schema). refusal schemas c.args.part.stmt ≡ None)
+    (sym (c.schemas.ensures ∙ ap (λ (st : State). created st.past) c.lists.ensures.same))
+    (part_unrefused (created c.args.lists.now.past) c.args.part.stmt (behind c.args.part) r.cut)
+
+pub settle-requires-clause-table_is : goal.settle-requires-clause-table_is
+settle-requires-clause-table_is g c =
+    ap (λ schemas. table_read schemas c.args.part.stmt) (c.schemas.ensures ∙ ap (λ (st : State). created st.past) c.lists.ensures.same)
+    ∙ c.requires.changing.table_is
 
 pub returns-in-Ok-Todo-clause-steps : goal.returns-in-Ok-Todo-clause-steps
 returns-in-Ok-Todo-clause-steps g c =

@@ -13,8 +13,8 @@ returns-in_default-clause-nears g c = c.finish.ensures.nears (length c.args.part
 pub search_part-requires-clause-changing : goal.search_part-requires-clause-changing
 search_part-requires-clause-changing g c =
     goes_next c.args.lists.now.past c.args.lists.now.writer c.args.session c.args.part c.requires.changing c.in-Some.tuple
-    (record { stmt = c.in-Ok.stmt; later = c.pop.new.self; alone = c.args.part.alone; before = c.args.part.before })
-    (ap reverse c.in-Some.ensures.items ∙ reverse-append c.pop.new.self.items (c.in-Some.tuple ∷ [])) c.in-Ok.ensures refl refl
+    (record { stmt = c.in-Ok.stmt; later = c.pop.new.self; table = c.args.part.table; alone = c.args.part.alone; before = c.args.part.before })
+    (ap reverse c.in-Some.ensures.items ∙ reverse-append c.pop.new.self.items (c.in-Some.tuple ∷ [])) c.in-Ok.ensures refl refl refl
 
 pub returns-in-Ok-clause-nears : goal.returns-in-Ok-clause-nears
 returns-in-Ok-clause-nears g c =

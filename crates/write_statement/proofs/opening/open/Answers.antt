@@ -16,7 +16,7 @@ returns-in-Ok-clause-steps g c =
     let r = c.requires.running in
     let steps =
     opened c.args.session _ c.next_level-level.result c.args.stmt c.autocommit-alone.result c.setting-setting.result.now c.args.lists.now
-    c.begin.new.self r.1 r.0 c.setting-setting.ensures c.requires.closed c.requires.none (sym c.autocommit-alone.ensures) c.in-Ok.ensures.ok in
+    c.begin.new.self r.1 r.0 r.3 c.setting-setting.ensures c.requires.closed c.requires.none (sym c.autocommit-alone.ensures) c.in-Ok.ensures.ok in
     (steps.0, (steps.1, c.in-Ok.ensures.ok.task_is ∙ r.2), steps.2)
 
 pub returns-in-Err-clause-steps : goal.returns-in-Err-clause-steps

@@ -1,18 +1,33 @@
-use Rattle.std.proofs.Common.{subst, sym, ap, ◌∙◌, arith}
-use Rattle.inno_db.proofs.Outcomes.{table_read}
+use Rattle.std.proofs.Common.{[], subst, sym, ap, ◌∙◌, inl, refl}
 use Rattle.law_past_agreement.specs.Order.{created}
+use Rattle.law_stored_rows.specs.Storable.{AreStorable}
+use Rattle.law_found_rows.proofs.FittingChanges.{tables_storable}
+use Rattle.shared_lists.specs.Tasks.{Idle}
 use Rattle.shared_lists.specs.State.{State}
-use Rattle.write_statement.specs.Running.{AreEnough}
-use Rattle.write_statement.proofs.Found.{none_enough}
+use Rattle.write_statement.specs.Parts.{of_part}
+use Rattle.write_statement.proofs.Turning.{turns_none, turns_stayed, changing_given_up, begins_search}
 use Rattle.write_statement.proofs.opening.search_part.Goals as goal
 
-pub answer-requires-clause-enough : goal.answer-requires-clause-enough
-answer-requires-clause-enough g c =
-    let none =
-    ap (λ schemas. table_read schemas c.args.part.stmt) (sym (c.schemas.ensures ∙ ap (λ (st : State). created st.past) c.lists.ensures.same)) ∙
-    (sym c.table_number.ensures ∙ c.in-None.is) in
-    subst (λ rows. AreEnough c.args.session c.args.part.stmt rows c.args.lists.now.past) (sym c.new-rows.ensures)
-    (none_enough c.args.lists.now.past c.args.session c.args.part.stmt c.lists.ensures.tables none)
+pub plan_in-requires : goal.plan_in-requires
+plan_in-requires g c =
+    record {
+      storable = subst AreStorable (sym (c.schemas.ensures ∙ ap (λ (st : State). created st.past) c.lists.ensures.same))
+          (tables_storable c.args.lists.now.past c.lists.ensures.fits);
+    }
 
-pub returns-in-None-clause-nears : goal.returns-in-None-clause-nears
-returns-in-None-clause-nears g c = λ phases lt. c.answer.ensures.nears phases (omega (arith, lt))
+pub returns-in_default-clause-steps : goal.returns-in_default-clause-steps
+returns-in_default-clause-steps g c =
+    changing_given_up c.args.session c.args.lists.now c.args.lists.now Idle c.args.part (of_part c.args.part) [] c.give_up.result.0 c.give_up.result.1
+    c.requires.changing (turns_none c.args.session c.args.lists.now c.requires.idle) (inl refl) c.give_up.ensures.state c.give_up.ensures.answer
+
+pub returns-in-Ok-begin_search-clause-steps : goal.returns-in-Ok-begin_search-clause-steps
+returns-in-Ok-begin_search-clause-steps g c =
+    begins_search c.args.session c.args.lists.now c.begin_search.new.self c.args.part c.in-Ok.plan c.schemas.result.now c.requires.changing
+    (c.schemas.ensures ∙ ap (λ (st : State). created st.past) c.lists.ensures.same) c.in-Ok.ensures c.in-Ok-begin_search.ensures.ok
+
+pub returns-in-Err-clause-steps : goal.returns-in-Err-clause-steps
+returns-in-Err-clause-steps g c =
+    changing_given_up c.args.session c.args.lists.now c.begin_search.new.self Idle c.args.part (of_part c.args.part) [] c.give_up-in-Err.result.0
+    c.give_up-in-Err.result.1 c.requires.changing
+    (turns_stayed c.args.session c.args.lists.now c.begin_search.new.self c.in-Err.ensures.err c.requires.idle) (inl refl) c.give_up-in-Err.ensures.state
+    c.give_up-in-Err.ensures.answer

@@ -13,7 +13,7 @@ returns-then-is_some-clause-steps g c =
     ap (λ (st : State). is_some (level c.args.session st.past)) (sym c.lists.ensures.same) ∙
     (ap is_some (sym c.level.ensures.level) ∙ sym c.if-is_some.ensures) in (
       moves_none c.args.session c.args.lists.now,
-      (joined c.args.session c.args.stmt c.args.lists.now.past c.requires.running.1 c.requires.running.0 is-open, c.requires.running.2),
+      (joined c.args.session c.args.stmt c.args.lists.now.past c.requires.running.1 c.requires.running.0 c.requires.running.3 is-open, c.requires.running.2),
       refl,
     )
 

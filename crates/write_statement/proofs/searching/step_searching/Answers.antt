@@ -17,7 +17,7 @@ answer_found-requires g c =
     record {
       found = search_found c.args.session c.args.lists.now c.search.new.self c.args.part c.in-Found.rows r
           (searches_as c.args.session c.args.lists.now c.search.new.self c.args.part c.search.result (Found c.in-Found.rows) r c.in-Found.is
-          (c.search.ensures.searches r.reading.table r.reading.plan Newest r.task_is));
+          (c.search.ensures.searches c.args.part.table r.reading.plan Newest r.task_is));
     }
 
 pub returns-in-Went-clause-steps : goal.returns-in-Went-clause-steps
@@ -25,7 +25,7 @@ returns-in-Went-clause-steps g c =
     let r = c.requires.running in
     search_went c.args.session c.args.lists.now c.search.new.self c.args.part r
     (searches_as c.args.session c.args.lists.now c.search.new.self c.args.part c.search.result Went r c.in-Went.is
-    (c.search.ensures.searches r.reading.table r.reading.plan Newest r.task_is))
+    (c.search.ensures.searches c.args.part.table r.reading.plan Newest r.task_is))
 
 pub returns-in-Went-clause-nears : goal.returns-in-Went-clause-nears
 returns-in-Went-clause-nears g c = search_nears _ c.args.session c.args.lists.now c.search.new.self (c.search.ensures.nears c.in-Went.is)
@@ -40,7 +40,7 @@ returns-in-Found-clause-steps g c =
     let r = c.requires.running in
     let turns =
     (searches_as c.args.session c.args.lists.now c.search.new.self c.args.part c.search.result (Found c.in-Found.rows) r c.in-Found.is
-    (c.search.ensures.searches r.reading.table r.reading.plan Newest r.task_is)).0 in
+    (c.search.ensures.searches c.args.part.table r.reading.plan Newest r.task_is)).0 in
     steps_on IsRunning c.args.session c.args.lists.now c.search.new.self c.answer_found.new.lists c.answer_found.result.0 c.answer_found.result.1
     (moves_turns c.args.session Idle c.args.lists.now c.search.new.self turns) turns.past_is
     (idle_asks_no_more c.args.session c.args.lists.now c.search.new.self (ap asked turns.task_is)) (turns.writer_is ∙ r.reading.changing.right.locked)
@@ -51,6 +51,6 @@ returns-in-NoMemory-clause-steps g c =
     let r = c.requires.running in
     let turns =
     searches_as c.args.session c.args.lists.now c.search.new.self c.args.part c.search.result NoMemory r c.in-NoMemory.is
-    (c.search.ensures.searches r.reading.table r.reading.plan Newest r.task_is) in
+    (c.search.ensures.searches c.args.part.table r.reading.plan Newest r.task_is) in
     changing_given_up c.args.session c.args.lists.now c.search.new.self Idle c.args.part (of_part c.args.part) [] c.give_up.result.0 c.give_up.result.1
     r.reading.changing turns (inl refl) c.give_up.ensures.state c.give_up.ensures.answer
