@@ -1,5 +1,5 @@
 -- How recovery goes on along a log: group after group, and back over the blocks of what was cut off.
-use Rattle.std.proofs.Common.{◌≡◌, ◌⊎◌, inl, inr, ℕ, suc, ◌+◌, ◌-◌, ◌*◌, ◌<◌, ◌≤◌, Bool, true, false, Option, Some, None, List, [], ◌∷◌, ◌++◌, length, take, drop, refl, sym, ap, subst, ◌∙◌, arith, add-one, length-append, length-take}
+use Rattle.std.proofs.Common.{◌≡◌, inl, inr, ℕ, ◌+◌, ◌-◌, ◌<◌, ◌≤◌, Bool, true, false, Option, Some, None, List, [], ◌∷◌, ◌++◌, length, take, refl, sym, ap, subst, ◌∙◌, arith, add-one, length-append, length-take}
 use Rattle.std.specs.Prelude.{All, ◌||◌, IsTrue}
 use Rattle.std.specs.List.{list_any}
 use Rattle.std.proofs.lemmas.Bool.{cases_lt}
@@ -7,19 +7,19 @@ use Rattle.std.proofs.lemmas.List.{length_push, take_at}
 use Rattle.std.proofs.lemmas.List.Elements.{All-nil, All-cons, All-append}
 use Rattle.std.proofs.lemmas.List.Folds.{list_any-append}
 use Rattle.store_api.specs.declared.disk.Area.TheVariants.{Log}
-use Rattle.store_api.specs.Areas.{State, piece}
+use Rattle.store_api.specs.Areas.{piece}
 use Rattle.store_api.specs.Past.{Past, Ticks, Now}
 use Rattle.log_format.specs.declared.group.Group.{Group}
 use Rattle.log_format.specs.declared.reader.ReadBad.{ReadBad}
 use Rattle.log_format.specs.declared.reader.ReadBad.TheVariants as reading
 use Rattle.log_format.specs.Block.{payload_of, IsGood, payloads}
-use Rattle.log_format.specs.Scan.{stream_of, IsScan, EndsAt}
+use Rattle.log_format.specs.Scan.{stream_of, IsScan}
 use Rattle.log_format.specs.Given.{ReaderView, HasGiven, Reads, FailedRose}
 use Rattle.log_format.proofs.Behind.{payloads-front}
-use Rattle.law_logged_pages.specs.Applied.{is_of, names, with_group, page_after}
+use Rattle.law_logged_pages.specs.Applied.{names, with_group}
 use Rattle.page_recovery.specs.Looking.{Looks, LeavesState}
 use Rattle.page_recovery.specs.Pages.{BecomeBy}
-use Rattle.page_recovery.specs.Applying.{IsWithin, AreWithin, ArePast, NamesPast, AreBroughtOn}
+use Rattle.page_recovery.specs.Applying.{IsWithin, AreWithin, ArePast, AreBroughtOn}
 use Rattle.page_recovery.specs.Reading.{IsFollowed, EndsBefore}
 use Rattle.page_recovery.specs.Refused.{of_reading, IsFailed}
 use Rattle.page_recovery.proofs.Looking.{looks_goes, stays_goes}

@@ -1,4 +1,4 @@
-use Rattle.std.proofs.Common.{◌≡◌, ◌+◌, ◌≤◌, ℕ, List, arith, sym, ◌∙◌, ap, subst, refl, length}
+use Rattle.std.proofs.Common.{◌+◌, ◌≤◌, arith, ◌∙◌, subst, refl}
 use Rattle.std.specs.Prelude.{is_ok}
 use Rattle.log_format.specs.Given.{Gives}
 use Rattle.page_recovery.proofs.Looking.{looks_none, stays_join}

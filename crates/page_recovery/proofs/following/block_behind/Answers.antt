@@ -1,9 +1,5 @@
-use Rattle.std.proofs.Common.{◌≡◌, ◌+◌, ◌≤◌, ℕ, List, arith, sym, ◌∙◌, ap, subst, length}
+use Rattle.std.proofs.Common.{ℕ, arith, sym, subst}
 use Rattle.std.specs.Prelude.{is_ok}
-use Rattle.store_api.specs.Areas.{State}
-use Rattle.log_format.specs.declared.group.Group.{Group}
-use Rattle.log_format.specs.Given.{HasGiven}
-use Rattle.page_recovery.specs.Reading.{EndsBefore}
 use Rattle.page_recovery.proofs.Looking.{looks_none, stays_join}
 use Rattle.page_recovery.proofs.Followed.{looks_reads, stays_reads, WalksBack, back_from_the_end, behind_here, behind_nowhere, one_back, behind_within}
 use Rattle.page_recovery.proofs.following.block_behind.Goals as goal
