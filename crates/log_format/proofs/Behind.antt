@@ -44,7 +44,7 @@ module _ (run : ℕ) (area : List ℕ) (len : ℕ) where
     ]
 
 -- the payloads of fewer blocks are a front
-payloads-front : (n more : ℕ) (area : List ℕ) → take (length (payloads n area)) (payloads (n + more) area) ≡ payloads n area
+pub payloads-front : (n more : ℕ) (area : List ℕ) → take (length (payloads n area)) (payloads (n + more) area) ≡ payloads n area
 payloads-front n zero area =
     let same : n + 0 ≡ n = omega arith in
     ap (λ (m : ℕ). take (length (payloads n area)) (payloads m area)) same ∙ take_all (length (payloads n area)) (payloads n area) (omega arith)

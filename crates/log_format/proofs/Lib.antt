@@ -1,4 +1,4 @@
-mod Behind
+pub mod Behind
 pub mod Blocks
 pub mod Good
 pub mod Groups

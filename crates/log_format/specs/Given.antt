@@ -5,7 +5,7 @@ use Rattle.store_api.specs.Areas.{Looked, Within}
 use Rattle.store_api.specs.Causes.{Rose}
 use Rattle.store_api.specs.Past.{Past, Now, Goes}
 use Rattle.log_format.specs.declared.group.Group.{Group}
-use Rattle.log_format.specs.Group.{AreGroups}
+use Rattle.log_format.specs.Group.{IsGroup, AreGroups}
 use Rattle.log_format.specs.Block.{IsGood, payloads}
 use Rattle.log_format.specs.Scan.{stream_of, IsScan}
 use Rattle.log_format.specs.declared.reader.Next.{Next}
@@ -30,11 +30,17 @@ pub record HasGiven (first : ℕ) (area : List ℕ) (given : List Group) (r : Re
   pub ended : r.ended ≡ true → IsGood r.run r.block area → ⊥
 
 -- What was found is the next group; or there are no more, and those that were given are the scan of the area; or a piece was
--- read, which leaves all as it is if the area was the same.
+-- read. What was given stays so, if the area was the same.
 abbrev pub Gives : ℕ → List ℕ → List Group → Past → ReaderView → Next → Type 0
 Gives first area given past new (found.Group g) = HasGiven first area (given ++ g ∷ []) new
 Gives first area given past new found.More = Now (λ s. s.log.seen ≡ area → HasGiven first area given new) past
-Gives first area given past new found.End = IsScan new.run first area given
+Gives first area given past new found.End = HasGiven first area given new × IsScan new.run first area given
+
+-- a group that was found has a spelling
+abbrev pub IsFound : Next → Type 0
+IsFound (found.Group g) = IsGroup g
+IsFound found.More = Unit {0}
+IsFound found.End = Unit {0}
 
 -- one read of the log area, or no call
 abbrev pub Reads : Bool → Past → Past → Type 0

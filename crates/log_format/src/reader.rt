@@ -1,20 +1,24 @@
 //! The groups of a log area one after the other, read from the disk in pieces of 64 blocks: no more of the area stands in
 //! memory than a piece and the group that is under way. A mount asks here; nothing is written.
 
-ghost use Rattle.std.specs.Prelude.{◌≡◌, ◌+◌, ◌*◌, ◌≤◌, ◌⊎◌, [], ℕ, List, length, drop, true, IfOk, IfErr, OnOk, OnErr, is_ok};
+ghost use Rattle.std.specs.Prelude.{◌≡◌, ◌+◌, ◌*◌, ◌<◌, ◌≤◌, ◌⊎◌, [], ℕ, List, length, drop, true, IfOk, IfErr, OnOk, OnErr, is_ok};
+ghost use Rattle.store_api.specs.Areas.{piece};
+ghost use Rattle.store_api.specs.Causes.{HasCause};
 ghost use Rattle.store_api.specs.Past.{Past, Now};
 ghost use Rattle.log_format.specs.declared.group.Group.{Group as GroupValue};
+ghost use Rattle.log_format.specs.Block.{IsGood, payload_of};
 ghost use Rattle.log_format.specs.Scan.{HasWhole};
-ghost use Rattle.log_format.specs.Given.{HasGiven, Gives, Reads, IsNearer, FailedRose};
+ghost use Rattle.log_format.specs.Given.{HasGiven, Gives, IsFound, Reads, IsNearer, FailedRose};
 ghost use Rattle.log_format.specs.declared.reader.Next.TheVariants.{More as NextMore};
 ghost use Rattle.log_format.specs.declared.reader.ReadBad.TheVariants.{NoMemory as NoReadMemory};
 
+use crate::block::BLOCK;
 use crate::group::Group;
 use crate::pieces::{is_whole, put_payloads};
-use crate::scan::next_group;
+use crate::scan::{next_group, payload};
 use std::alloc::{AllocError, Global};
 use std::marker::Model;
-use store_api::{Area, Disk, NoMemory};
+use store_api::{Area, Disk, Failed, NoMemory};
 
 /// How many bytes are read at once.
 const PIECE: usize = 32_768;
@@ -133,6 +137,7 @@ impl Reader {
         ensures err { OnErr result (self.new ≡ self.old) }
         ensures nearer { IfOk result (λ found. found ≡ NextMore → IsNearer self.old self.new) }
         ensures reason { IfErr result (λ bad. bad ≡ NoReadMemory) }
+        ensures is { IfOk result IsFound }
         ensures gives { (first : ℕ) (area : List ℕ) (given : List GroupValue) (past : Past) → HasGiven first area given self.old
             → IfOk result (Gives first area given past self.new) }
     {
@@ -159,6 +164,9 @@ impl Reader {
         ensures later { (D.past disk.old).faults ≤ (D.past disk.new).faults }
         ensures cause { IfErr result (FailedRose (D.past disk.old).faults (D.past disk.new).faults) }
 
+        // A group is one that has a spelling, whatever the disk tells.
+        ensures is { IfOk result IsFound }
+
         // The groups that it has given are at each step the first ones of the area's scan, and all of them in the end.
         ensures gives { (first : ℕ) (area : List ℕ) (given : List GroupValue) → HasGiven first area given self.old
             → IfOk result (Gives first area given (D.past disk.old) self.new) }
@@ -168,5 +176,41 @@ impl Reader {
             return Ok(Next::More);
         }
         self.take_group(alloc)
+    }
+
+    /// The LSN behind those of the groups that were given.
+    pub fn next_lsn(&self) -> u64
+        ensures { result ≡ self.now.next }
+    {
+        self.next
+    }
+
+    /// How many blocks were read, all of them good.
+    pub fn blocks(&self) -> u64
+        ensures { result ≡ self.now.block }
+    {
+        self.block
+    }
+
+    /// How many bytes of their payloads stand behind the groups that were given.
+    pub fn left(&self) -> usize
+        ensures { result ≡ length self.now.rest }
+    {
+        self.stream.len() - self.at
+    }
+
+    /// How many bytes the payload of a block has that was read before. It calls the disk once. Whether the block is still good
+    /// is not looked at.
+    pub fn payload_len<D: Disk>(&self, disk: &mut D, number: u64) -> Result<usize, Failed>
+        requires { number < self.now.block }
+        ensures len { IfOk result (λ n. Now (λ s. IsGood self.now.run number s.log.seen → n ≡ length (payload_of (piece 512 number s.log.seen)))
+            (D.past disk.old)) }
+        ensures reads { Reads (is_ok result) (D.past disk.old) (D.past disk.new) }
+        ensures cause { HasCause (D.past disk.old).faults (D.past disk.new).faults result }
+    {
+        let _end = self.block;
+        let mut block = [0; BLOCK];
+        let _count = disk.read(Area::Log, 512 * number, &mut block)?;
+        Ok(payload(&block).len())
     }
 }

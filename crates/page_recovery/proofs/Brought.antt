@@ -16,7 +16,7 @@ use Rattle.law_logged_pages.specs.Keeping.{durable}
 use Rattle.law_logged_pages.proofs.Leading.{stage_leads_on}
 use Rattle.law_logged_pages.proofs.Spared.{stage_spares}
 use Rattle.page_recovery.specs.declared.bad.RecoverBad.{RecoverBad}
-use Rattle.page_recovery.specs.declared.bad.RecoverBad.TheVariants.{Failed, NoMemory, NoHeader, NoDatabase, Version, Capacity, PastTheEnd, LogFull}
+use Rattle.page_recovery.specs.declared.bad.RecoverBad.TheVariants.{Failed, NoMemory, NoHeader, NoDatabase, Version, Capacity, PastTheEnd}
 use Rattle.page_recovery.specs.declared.recovering.Recovered.{Recovered}
 use Rattle.page_recovery.specs.Pages.{page_of}
 use Rattle.page_recovery.specs.Leaving.{IsStill, IsFileRun, LeavesRun}
@@ -67,7 +67,6 @@ module _ (read other : ℕ → Option (List ℕ) → Type 0) (log same : List �
   cause_too (Version found) cause = other_too (Version found) cause
   cause_too (Capacity found) cause = other_too (Capacity found) cause
   cause_too (PastTheEnd page) cause = scan_too _ cause
-  cause_too LogFull cause = scan_too _ cause
 
 -- ---- page 0 of a run
 

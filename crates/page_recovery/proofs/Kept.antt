@@ -1,5 +1,5 @@
 -- What recovery leaves of the files at each moment, and what it knows of them once torn pages are put right.
-use Rattle.std.proofs.Common.{◌≡◌, ◌⊎◌, inl, inr, ⊎_elim, ℕ, ◌<◌, ◌≤◌, Option, Some, None, List, [], length, take, drop, refl, sym, ap, subst, ◌∙◌, arith}
+use Rattle.std.proofs.Common.{◌≡◌, inl, inr, ⊎_elim, ℕ, ◌<◌, ◌≤◌, Option, Some, None, List, [], length, take, drop, refl, sym, ap, subst, ◌∙◌, arith}
 use Rattle.std.specs.Prelude.{All, Contains, fold, max, slice_index, ◌*◌}
 use Rattle.std.proofs.lemmas.Bool.{cases_lt}
 use Rattle.store_api.specs.Areas.{Contents, State, Image, Write, MayLeave, IsImage, IsHonest, IsHonestArea, Misses, Puts, piece, end_of, seen_image}

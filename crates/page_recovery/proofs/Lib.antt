@@ -2,6 +2,7 @@ mod Applied
 mod Becoming
 mod Brought
 mod Done
+mod Followed
 mod GoingOn
 mod Instead
 mod Kept

@@ -1,22 +1,21 @@
 -- What is known of a disk of which page 0, the pages and the log were read.
-use Rattle.std.proofs.Common.{◌≡◌, inl, inr, ℕ, ◌+◌, ◌^◌, ◌<◌, ◌≤◌, Bool, true, false, Option, Some, None, List, length, refl, sym, ap, subst, ◌∙◌, arith}
-use Rattle.std.specs.Prelude.{Result, Ok, Err, IfOk, IfErr, IfSome, IfNone, MatchBool, slice_index_or, slice_set}
+use Rattle.std.proofs.Common.{◌≡◌, inl, inr, ℕ, ◌+◌, ◌<◌, ◌≤◌, Bool, true, false, Option, Some, None, List, length, refl, sym, ap, subst, ◌∙◌, arith}
+use Rattle.std.specs.Prelude.{Result, Ok, Err, IfOk, OnOk, IfSome, IfNone, MatchBool, slice_index_or, slice_set}
 use Rattle.std.proofs.lemmas.Bool.{cases_lt, cases_eq}
 use Rattle.std.proofs.lemmas.List.{get_or-set_same, get_or-set_other}
 use Rattle.store_api.specs.Areas.{State}
 use Rattle.store_api.specs.Past.{Past, Ticks, Now}
 use Rattle.stored_pages.specs.Reading.{IsGoodPage, place_of}
 use Rattle.page_recovery.specs.declared.bad.RecoverBad.{RecoverBad}
-use Rattle.page_recovery.specs.declared.bad.RecoverBad.TheVariants.{Failed, NoMemory, NoHeader, NoDatabase, Version, Capacity, PastTheEnd, LogFull}
+use Rattle.page_recovery.specs.declared.bad.RecoverBad.TheVariants.{Failed, NoMemory, NoHeader, NoDatabase, Version, Capacity, PastTheEnd}
 use Rattle.page_recovery.specs.Looking.{Looks, LeavesState, Since}
-use Rattle.page_recovery.specs.Reading.{StandsIn, AreStanding, IsTaken}
-use Rattle.log_format.specs.declared.scan.Found.{Found}
+use Rattle.page_recovery.specs.Reading.{StandsIn, AreStanding, IsTaken, IsFollowed, EndsBefore}
+use Rattle.log_format.specs.declared.group.Group.{Group}
 use Rattle.log_format.specs.Scan.{IsScan, EndsAt}
-use Rattle.law_logged_pages.specs.Applied.{page_after}
+use Rattle.log_format.specs.Given.{ReaderView, HasGiven}
 use Rattle.page_recovery.specs.declared.header.Header.{Header}
 use Rattle.page_recovery.specs.declared.recovering.Recovered.{Recovered}
-use Rattle.page_recovery.specs.Pages.{BecomeBy}
-use Rattle.page_recovery.specs.Applying.{AreWithin}
+use Rattle.page_recovery.specs.Applying.{AreWithin, NamesPast}
 use Rattle.page_recovery.specs.Refused.{IsOther, IsFailed}
 use Rattle.page_recovery.specs.Recovering.{SaysHeader, IsRead, IsRecovered, IsCause}
 use Rattle.page_recovery.proofs.Looking.{Since-looks}
@@ -45,7 +44,6 @@ other_cause read log page NoDatabase is other = (page, is, other)
 other_cause read log page (Version found) is other = (page, is, other)
 other_cause read log page (Capacity found) is other = (page, is, other)
 other_cause read log page (PastTheEnd past) is other = absurd other
-other_cause read log page LogFull is other = absurd other
 
 abbrev pub Cause : RecoverBad → State → Type 0
 Cause why s = IsCause (StandsIn s.pages.seen) s.log.seen why
@@ -96,7 +94,6 @@ failed_from a b now NoDatabase upto failed = absurd failed
 failed_from a b now (Version found) upto failed = absurd failed
 failed_from a b now (Capacity found) upto failed = absurd failed
 failed_from a b now (PastTheEnd page) upto failed = absurd failed
-failed_from a b now LogFull upto failed = absurd failed
 
 -- a call that has failed tells nothing of the files
 pub no_cause : (why : RecoverBad) (a now : ℕ) (old new : Past) → IsFailed a now why → Looks old new → Since (Cause why) old new
@@ -107,47 +104,51 @@ no_cause NoDatabase a now old new failed looks = absurd failed
 no_cause (Version found) a now old new failed looks = absurd failed
 no_cause (Capacity found) a now old new failed looks = absurd failed
 no_cause (PastTheEnd page) a now old new failed looks = absurd failed
-no_cause LogFull a now old new failed looks = absurd failed
 
-pub ok_since : {T E : Type 0} (r : Result T E) (P : State → T → Type 0) (old new : Past) → LeavesState old new
-    → ((s : State) → Ticks new.moment → new.state_at new.moment ≡ Some s → IfOk r (P s)) → IfOk r (λ x. Since (λ s. P s x) old new)
-ok_since (Ok x) P old new stays known = λ s ticks is. let from = stays s ticks is in (s, from.1, known s ticks is)
-ok_since (Err e) P old new stays known = tt
+-- what was read leads to an answer, once it is known
+pub ok_since_read : {T E : Type 0} (r : Result T E) (Known : State → Type 0) (P : State → T → Type 0) (p0 p1 p2 : Past) → LeavesState p0 p1
+    → OnOk r (LeavesState p1 p2) → Now Known p1 → IfOk r (λ x. Now (λ s. Known s → P s x) p2) → IfOk r (λ x. Since (λ s. P s x) p0 p2)
+ok_since_read (Ok x) Known P p0 p1 p2 before stays known told = λ s ticks is.
+    let then = stays s ticks is in
+    let first = before s then.0 then.1 in
+    (s, first.1, told s ticks is (known s then.0 then.1))
+ok_since_read (Err e) Known P p0 p1 p2 before stays known told = tt
 
-pub err_since : {T E : Type 0} (r : Result T E) (P : State → E → Type 0) (old new : Past) → LeavesState old new
-    → ((s : State) → Ticks new.moment → new.state_at new.moment ≡ Some s → IfErr r (P s)) → IfErr r (λ x. Since (λ s. P s x) old new)
-err_since (Ok x) P old new stays known = tt
-err_since (Err e) P old new stays known = λ s ticks is. let from = stays s ticks is in (s, from.1, known s ticks is)
+-- so it does to a cause
+pub since_known : (Known P : State → Type 0) (p0 p1 p2 : Past) → LeavesState p0 p1 → p1.moment ≤ p2.moment → Now Known p1
+    → Since (λ s. Known s → P s) p1 p2 → Since P p0 p2
+since_known Known P p0 p1 p2 stays later known since = λ s ticks is.
+    let from = since s ticks is in
+    let ticked : Ticks p1.moment = omega (arith, later, ticks) in
+    let first = stays from.0 ticked from.1 in
+    (from.0, first.1, from.2 (known from.0 ticked from.1))
 
--- ---- a group that no LSN is left behind, and the pages that were brought on
+-- ---- the pages that were brought on
 
-pub log_full : (area log : List ℕ) (header : Header) (pages : Slots) (found : Found) → IsRead area log header pages found
-    → 2 ^ 64 ≤ header.first + length found.groups → IsCause (StandsIn area) log LogFull
-log_full area log header pages found read full = record {
+-- the log changes a page that the file can't have
+pub past_the_end : (area log : List ℕ) (header : Header) (pages after : Slots) (r : ReaderView) (count page : ℕ) → IsRead area header pages
+    → length pages ≡ header.capacity → r.run ≡ header.run → IsFollowed header.first log pages after r count (Some page)
+    → IsCause (StandsIn area) log (PastTheEnd page)
+past_the_end area log header pages after r count page read capacity run_is followed = record {
   capacity = header.capacity;
   run = header.run;
   first = header.first;
-  groups = found.groups;
+  groups = followed.groups;
   header = read.says;
-  scan = read.groups.scan;
-  bad = full;
+  scan = subst (λ (n : ℕ). IsScan n header.first log followed.groups) run_is followed.scan;
+  bad = subst (λ (n : ℕ). NamesPast n page followed.groups) capacity followed.brought.0;
 }
 
-pub brought : (area log : List ℕ) (header : Header) (pages : Slots) (found : Found) (r : Recovered) → IsRead area log header pages found
-    → length pages ≡ header.capacity → BecomeBy (λ page bytes. page_after page found.groups bytes) pages r.pages → AreWithin (length pages) found.groups
-    → r.run ≡ header.run → r.first ≡ header.first → r.block ≡ found.blocks → r.count ≡ length found.groups → r.next ≡ header.first + length found.groups
-    → IsRecovered (StandsIn area) log r
-brought area log header pages found r read capacity became within run_is first_is block_is count_is next_is =
+pub brought : (area log : List ℕ) (header : Header) (pages : Slots) (reader : ReaderView) (r : Recovered) → IsRead area header pages
+    → length pages ≡ header.capacity → reader.run ≡ header.run → IsFollowed header.first log pages r.pages reader r.count None
+    → ((groups : List Group) → HasGiven header.first log groups reader → EndsBefore reader.run log groups r.block)
+    → r.run ≡ header.run → r.first ≡ header.first → r.next ≡ reader.next → IsRecovered (StandsIn area) log r
+brought area log header pages reader r read capacity reads followed behind run_is first_is next_is =
+    let groups = followed.groups in
+    let became = followed.brought.1 in
     let same : length r.pages ≡ header.capacity = became.count ∙ capacity in
-    let groups = found.groups in
-    let scan : IsScan r.run r.first log groups =
-    subst (λ (n : ℕ). IsScan n r.first log groups) (sym run_is) (subst (λ (n : ℕ). IsScan header.run n log groups) (sym first_is) read.groups.scan) in
-    let ends : IfSome r.block (λ n. EndsAt r.run n log groups) =
-    subst (λ (b : Option ℕ). IfSome b (λ n. EndsAt r.run n log groups)) (sym block_is)
-    (subst (λ (m : ℕ). IfSome found.blocks (λ n. EndsAt m n log groups)) (sym run_is) read.groups.ends) in
-    let none : IfNone r.block ((n : ℕ) → EndsAt r.run n log groups → ⊥) =
-    subst (λ (b : Option ℕ). IfNone b ((n : ℕ) → EndsAt r.run n log groups → ⊥)) (sym block_is)
-    (subst (λ (m : ℕ). IfNone found.blocks ((n : ℕ) → EndsAt m n log groups → ⊥)) (sym run_is) read.groups.none) in
+    let runs : reader.run ≡ r.run = reads ∙ sym run_is in
+    let ends = behind groups followed.given in
     let says : SaysHeader (StandsIn area) (length r.pages) r.run r.first =
     subst (λ (n : ℕ). SaysHeader (StandsIn area) n r.run r.first) (sym same)
     (subst (λ (n : ℕ). SaysHeader (StandsIn area) header.capacity n r.first) (sym run_is)
@@ -155,11 +156,12 @@ brought area log header pages found r read capacity became within run_is first_i
     record {
       groups = groups;
       header = says;
-      scan = scan;
-      ends = ends;
-      none = none;
-      count_is = count_is;
-      next_is = next_is ∙ ap (λ (n : ℕ). n + length groups) (sym first_is);
-      within = subst (λ (n : ℕ). AreWithin n groups) (sym became.count) within;
+      scan =
+          subst (λ (n : ℕ). IsScan n r.first log groups) runs (subst (λ (n : ℕ). IsScan reader.run n log groups) (sym first_is) followed.scan);
+      ends = subst (λ (m : ℕ). IfSome r.block (λ n. EndsAt m n log groups)) runs ends.ends;
+      none = subst (λ (m : ℕ). IfNone r.block ((n : ℕ) → EndsAt m n log groups → ⊥)) runs ends.none;
+      count_is = followed.count_is;
+      next_is = next_is ∙ followed.given.number ∙ ap (λ (n : ℕ). n + length groups) (sym first_is);
+      within = subst (λ (n : ℕ). AreWithin n groups) (sym became.count) followed.brought.0;
       pages = λ page below. (slice_index_or pages page None, read.standing.each page (omega (arith, below, same)), became.pages page);
     }

@@ -1,5 +1,5 @@
 -- What a record makes of a page, and which records and groups a file of so many pages may have.
-use Rattle.std.specs.Prelude.{ℕ, ◌<◌, ◌≤◌, ◌==◌, ◌&&◌, if◌then◌else◌, nat_lt, IsTrue, List, All}
+use Rattle.std.specs.Prelude.{◌≡◌, ℕ, ◌<◌, ◌≤◌, ◌==◌, ◌&&◌, if◌then◌else◌, nat_lt, IsTrue, Option, Some, None, List, length, All}
 use Rattle.std.specs.List.{list_any}
 use Rattle.stored_pages.specs.Words.{lsn_of}
 use Rattle.log_format.specs.declared.group.Group.{Group}
@@ -8,7 +8,8 @@ use Rattle.log_format.specs.declared.group.Record.TheVariants.{Put, Fresh, RowPu
 use Rattle.log_format.specs.Group.{IsRecord}
 use Rattle.mini_txn.specs.Edits.{edited_by, edited}
 use Rattle.mini_txn.specs.View.{stamped}
-use Rattle.law_logged_pages.specs.Applied.{is_of, names}
+use Rattle.law_logged_pages.specs.Applied.{is_of, names, page_after}
+use Rattle.page_recovery.specs.Pages.{BecomeBy}
 
 -- the record's edit, where the page is older than its group
 abbrev pub edited_below : ℕ → Record → ℕ → List ℕ → List ℕ
@@ -59,3 +60,8 @@ MayApplyAll count records = All (MayApply count) records
 
 abbrev pub AreWithin : ℕ → List Group → Type 0
 AreWithin count groups = All (λ g. All (IsWithin count) g.records) groups
+
+-- The pages after these groups; or some group has named that page, which isn't among them.
+abbrev pub AreBroughtOn : List (Option (List ℕ)) → List Group → Option ℕ → List (Option (List ℕ)) → Type 0
+AreBroughtOn start groups None pages = AreWithin (length start) groups × BecomeBy (λ page bytes. page_after page groups bytes) start pages
+AreBroughtOn start groups (Some page) pages = NamesPast (length start) page groups × (length pages ≡ length start)

@@ -1,10 +1,12 @@
 -- What recovery reads: page 0, which says the log's run, the pages that are good in their places, and the log's groups.
-use Rattle.std.specs.Prelude.{◌≡◌, ◌≢◌, ℕ, ◌<◌, ◌≤◌, Option, Some, None, IfSome, IfNone, List, slice_index_or}
+use Rattle.std.specs.Prelude.{◌≡◌, ◌≢◌, ℕ, ◌<◌, ◌≤◌, Option, Some, None, IfSome, IfNone, List, length, slice_index_or}
 use Rattle.stored_pages.specs.Words.{u32_at, u64_at}
-use Rattle.log_format.specs.declared.scan.Found.{Found}
+use Rattle.log_format.specs.declared.group.Group.{Group}
 use Rattle.log_format.specs.Scan.{IsScan, EndsAt}
+use Rattle.log_format.specs.Given.{ReaderView, HasGiven}
 use Rattle.stored_pages.specs.Reading.{IsGoodPage, place_of}
 use Rattle.law_crashes.specs.Header.{HasMagic, version_of}
+use Rattle.page_recovery.specs.Applying.{AreBroughtOn}
 
 -- page 0 of files that keep rows in pages: how many pages there may be, the log's run, and the LSN of its first group
 pub record IsFileHeader (capacity run first : ℕ) (page : List ℕ) : Type 0 where
@@ -31,8 +33,15 @@ pub record IsTaken (area : List ℕ) (page : ℕ) (old new : List (Option (List 
   pub here : slice_index_or old page None ≡ None → StandsIn area page (slice_index_or new page None)
   pub others : (other : ℕ) → other ≢ page → slice_index_or new other None ≡ slice_index_or old other None
 
--- The log has these groups, and they end before that block, or within one.
-pub record HasGroups (run first : ℕ) (log : List ℕ) (found : Found) : Type 0 where
-  pub scan : IsScan run first log found.groups
-  pub ends : IfSome found.blocks (λ n. EndsAt run n log found.groups)
-  pub none : IfNone found.blocks ((n : ℕ) → EndsAt run n log found.groups → ⊥)
+-- The reader has given all groups of the log, so many, and this has come of the pages.
+pub record IsFollowed (first : ℕ) (log : List ℕ) (start pages : List (Option (List ℕ))) (r : ReaderView) (count : ℕ) (past : Option ℕ) : Type 0 where
+  pub groups : List Group
+  pub given : HasGiven first log groups r
+  pub scan : IsScan r.run first log groups
+  pub count_is : count ≡ length groups
+  pub brought : AreBroughtOn start groups past pages
+
+-- The groups end before that block, or within one.
+pub record EndsBefore (run : ℕ) (log : List ℕ) (groups : List Group) (block : Option ℕ) : Type 0 where
+  pub ends : IfSome block (λ n. EndsAt run n log groups)
+  pub none : IfNone block ((n : ℕ) → EndsAt run n log groups → ⊥)

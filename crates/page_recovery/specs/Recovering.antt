@@ -1,5 +1,5 @@
 -- What recovery answers. `read` is how pages are read from the areas, and `log` what stands in the log.
-use Rattle.std.specs.Prelude.{◌≡◌, ℕ, ◌+◌, ◌^◌, ◌<◌, ◌≤◌, Option, Some, None, IfSome, IfNone, List, length}
+use Rattle.std.specs.Prelude.{◌≡◌, ℕ, ◌+◌, ◌<◌, ◌≤◌, Option, Some, None, IfSome, IfNone, List, length}
 use Rattle.store_api.specs.Causes.{Rose}
 use Rattle.log_format.specs.declared.group.Group.{Group}
 use Rattle.log_format.specs.Scan.{IsScan, EndsAt}
@@ -7,13 +7,12 @@ use Rattle.law_logged_pages.specs.Applied.{page_after, logical}
 use Rattle.law_logged_pages.specs.Stages.{SameButSum, or_zeros}
 use Rattle.law_logged_pages.specs.Keeping.{durable}
 use Rattle.page_recovery.specs.declared.recovering.Recovered.{Recovered}
-use Rattle.log_format.specs.declared.scan.Found.{Found}
 use Rattle.page_recovery.specs.declared.header.Header.{Header}
 use Rattle.page_recovery.specs.declared.bad.RecoverBad.{RecoverBad}
-use Rattle.page_recovery.specs.declared.bad.RecoverBad.TheVariants.{Failed, NoMemory, NoHeader, PastTheEnd, LogFull}
+use Rattle.page_recovery.specs.declared.bad.RecoverBad.TheVariants.{Failed, NoMemory, NoHeader, PastTheEnd}
 use Rattle.page_recovery.specs.Pages.{page_of}
 use Rattle.page_recovery.specs.Applying.{AreWithin, NamesPast}
-use Rattle.page_recovery.specs.Reading.{IsFileHeader, StandsIn, AreStanding, HasGroups}
+use Rattle.page_recovery.specs.Reading.{IsFileHeader, StandsIn, AreStanding}
 use Rattle.page_recovery.specs.Refused.{IsOther}
 
 -- page 0 is read, and says so
@@ -22,11 +21,10 @@ pub record SaysHeader (read : ℕ → Option (List ℕ) → Type 0) (capacity ru
   pub is_read : read 0 (Some page)
   pub header : IsFileHeader capacity run first page
 
--- What was read of the pages and the log.
-pub record IsRead (area log : List ℕ) (header : Header) (pages : List (Option (List ℕ))) (found : Found) : Type 0 where
+-- What was read of the pages.
+pub record IsRead (area : List ℕ) (header : Header) (pages : List (Option (List ℕ))) : Type 0 where
   pub says : SaysHeader (StandsIn area) header.capacity header.run header.first
   pub standing : AreStanding area header.capacity pages
-  pub groups : HasGroups header.run header.first log found
 
 -- The log has just these groups of the run that page 0 says. Each page, as it is read, was brought on by all of them.
 pub record IsRecovered (read : ℕ → Option (List ℕ) → Type 0) (log : List ℕ) (r : Recovered) : Type 0 where
@@ -63,18 +61,12 @@ IsCause read log Failed = Unit {0}
 IsCause read log NoMemory = Unit {0}
 IsCause read log NoHeader = read 0 None
 IsCause read log (PastTheEnd page) = HasScan read log (λ capacity first groups. NamesPast capacity page groups)
-IsCause read log LogFull = HasScan read log (λ capacity first groups. 2 ^ 64 ≤ first + length groups)
 IsCause read log other = HasOther read other
 
 -- the disk failed only where its count of faults has risen
 abbrev pub IsFault : ℕ → ℕ → RecoverBad → Type 0
 IsFault before now Failed = Rose before now
 IsFault before now why = Unit {0}
-
--- it isn't the disk
-abbrev pub IsNoFault : RecoverBad → Type 0
-IsNoFault Failed = ⊥
-IsNoFault why = Unit {0}
 
 -- ---- a run of groups
 

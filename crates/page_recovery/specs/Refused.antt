@@ -1,7 +1,9 @@
--- Why a repair gave up, and what is wrong with page 0.
+-- Why a repair or a read of the log gave up, and what is wrong with page 0.
 use Rattle.std.specs.Prelude.{◌≡◌, ◌≢◌, ◌⊎◌, ℕ, ◌<◌, List}
 use Rattle.store_api.specs.Causes.{Rose}
 use Rattle.stored_pages.specs.Words.{u32_at}
+use Rattle.log_format.specs.declared.reader.ReadBad.{ReadBad}
+use Rattle.log_format.specs.declared.reader.ReadBad.TheVariants as reading
 use Rattle.doublewrite.specs.declared.restoring.RepairBad.{RepairBad}
 use Rattle.doublewrite.specs.declared.restoring.RepairBad.TheVariants as repair
 use Rattle.law_crashes.specs.Header.{HasMagic, version_of}
@@ -18,6 +20,10 @@ IsOther page why = ⊥
 abbrev pub of_repair : RepairBad → RecoverBad
 of_repair repair.Failed = Failed
 of_repair repair.NoMemory = NoMemory
+
+abbrev pub of_reading : ReadBad → RecoverBad
+of_reading reading.Failed = Failed
+of_reading reading.NoMemory = NoMemory
 
 -- a call has failed, and said nothing of the files: the disk, whose count of faults has risen then, or memory
 abbrev pub IsFailed : ℕ → ℕ → RecoverBad → Type 0

@@ -1,11 +1,12 @@
 //! Groups of the log, applied to pages in memory, each one whole after the one before it.
 //! A page takes the records of a group only where its LSN is lower, and has the group's LSN then.
 
-ghost use Rattle.std.specs.Prelude.{◌<◌, length, All, IfSome, IfNone, OnOk};
+ghost use Rattle.std.specs.Prelude.{◌<◌, ◌++◌, ◌∷◌, [], ℕ, Option, List, length, All, IfOk, IfSome, IfNone, OnOk};
+ghost use Rattle.log_format.specs.declared.group.Group.{Group as GroupValue};
 ghost use Rattle.log_format.specs.Group.{IsGroup};
-ghost use Rattle.law_logged_pages.specs.Applied.{with_group, page_after};
+ghost use Rattle.law_logged_pages.specs.Applied.{with_group};
 ghost use Rattle.page_recovery.specs.Pages.{ArePages, BecomeBy};
-ghost use Rattle.page_recovery.specs.Applying.{IsWithin, AreWithin, MayApply, MayApplyAll, IsPast, ArePast, NamesPast, edited_below, edited_so_far};
+ghost use Rattle.page_recovery.specs.Applying.{IsWithin, AreBroughtOn, MayApply, MayApplyAll, IsPast, ArePast, edited_below, edited_so_far};
 ghost use Rattle.page_recovery.specs.Applying.{stamped_at, stamped_below, stamped_so_far};
 
 use crate::pages::Pages;
@@ -32,19 +33,6 @@ fn page_past_in(records: &[Record], count: u32) -> Option<u32>
 {
     for record in records {
         if let Some(page) = page_past(record, count) {
-            return Some(page);
-        }
-    }
-    None
-}
-
-/// A page that some group changes and that a file of so many pages can't have.
-pub fn first_past(groups: &[Group], count: u32) -> Option<u32>
-    ensures past { IfSome result (λ page. NamesPast count page groups.now) }
-    ensures within { IfNone result (AreWithin count groups.now) }
-{
-    for group in groups {
-        if let Some(page) = page_past_in(group.records.as_slice(), count) {
             return Some(page);
         }
     }
@@ -131,15 +119,24 @@ fn apply_group(alloc: Global, pages: &mut Pages, group: &Group) -> Result<(), No
     stamp_all(alloc, pages, group.records.as_slice(), group.lsn)
 }
 
-/// Applies groups, one after the other. After an error the pages are good for nothing.
-pub fn apply_groups(alloc: Global, pages: &mut Pages, groups: &[Group]) -> Result<(), NoMemory>
-    requires whole { ArePages pages.old }
-    requires are { All IsGroup groups.now }
-    requires within { AreWithin (length pages.old) groups.now }
-    ensures { OnOk result (BecomeBy (λ page bytes. page_after page groups.now bytes) pages.old pages.new) }
+/// Applies one group more, unless some page was named that the file can't have, by this group or before. Answers such a page.
+/// After an error the pages are good for nothing.
+pub fn apply_next(
+    alloc: Global,
+    pages: &mut Pages,
+    past: Option<u32>,
+    group: &Group,
+) -> Result<Option<u32>, NoMemory>
+    requires { IsGroup group.now }
+    ensures { IfOk result (λ now. (start : List (Option (List ℕ))) (groups : List GroupValue) → AreBroughtOn start groups past pages.old
+        → AreBroughtOn start (groups ++ group.now ∷ []) now pages.new) }
 {
-    for group in groups {
-        apply_group(alloc, pages, group)?;
+    if let Some(page) = past {
+        return Ok(Some(page));
     }
-    Ok(())
+    if let Some(page) = page_past_in(group.records.as_slice(), pages.count()) {
+        return Ok(Some(page));
+    }
+    apply_group(alloc, pages, group)?;
+    Ok(None)
 }

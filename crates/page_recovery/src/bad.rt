@@ -2,9 +2,10 @@
 
 ghost use Rattle.std.specs.Prelude.{◌≡◌};
 ghost use Rattle.page_recovery.specs.declared.bad.RecoverBad.TheVariants.{Failed as DiskFailed, NoMemory as LacksMemory};
-ghost use Rattle.page_recovery.specs.Refused.{of_repair};
+ghost use Rattle.page_recovery.specs.Refused.{of_repair, of_reading};
 
 use doublewrite::RepairBad;
+use log_format::ReadBad;
 use std::alloc::AllocError;
 use store_api::{Failed, NoMemory};
 
@@ -24,8 +25,6 @@ pub enum RecoverBad {
     Capacity { found: u32 },
     /// The log changes a page that the file can't have.
     PastTheEnd { page: u32 },
-    /// No LSN is left behind the log's groups.
-    LogFull,
 }
 
 impl From<Failed> for RecoverBad {
@@ -49,6 +48,17 @@ impl From<NoMemory> for RecoverBad {
 
     fn from(_: NoMemory) -> RecoverBad {
         RecoverBad::NoMemory
+    }
+}
+
+impl From<ReadBad> for RecoverBad {
+    ghost from_gives = { λ bad e. e ≡ of_reading bad };
+
+    fn from(bad: ReadBad) -> RecoverBad {
+        match bad {
+            ReadBad::Failed => RecoverBad::Failed,
+            ReadBad::NoMemory => RecoverBad::NoMemory,
+        }
     }
 }
 

@@ -4,6 +4,7 @@
 
 mod applying;
 mod bad;
+mod following;
 mod header;
 mod laws;
 mod pages;

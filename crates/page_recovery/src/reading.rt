@@ -1,20 +1,18 @@
-//! Reading what recovery needs: page 0, the pages that are good in their places, and the log.
+//! Reading page 0, and the pages that are good in their places.
 //! It runs once torn pages are put right, so that no copy matters. Nothing is written.
 
-ghost use Rattle.std.specs.Prelude.{◌≡◌, ◌≤◌, ◌<◌, ℕ, List, length, take, All, None, Some, IfOk, IfErr, OnOk, MatchBool};
+ghost use Rattle.std.specs.Prelude.{◌≡◌, ◌≤◌, ◌<◌, ℕ, List, length, take, None, Some, IfOk, IfErr, OnOk, MatchBool};
 ghost use Rattle.store_api.specs.Causes.{HasCause};
 ghost use Rattle.store_api.specs.Past.{Now};
-ghost use Rattle.log_format.specs.Group.{IsGroup};
 ghost use Rattle.stored_pages.specs.Reading.{place_of};
 ghost use Rattle.page_recovery.specs.Looking.{Looks, LeavesState, Since};
-ghost use Rattle.page_recovery.specs.Reading.{StandsIn, AreStanding, IsTaken, HasGroups};
+ghost use Rattle.page_recovery.specs.Reading.{StandsIn, AreStanding, IsTaken};
 ghost use Rattle.page_recovery.specs.Recovering.{SaysHeader, IsCause, IsFault};
 ghost use Rattle.page_recovery.specs.Refused.{IsFailed};
 
 use crate::bad::RecoverBad;
 use crate::header::{Header, header_of};
 use crate::pages::{PAGE, Pages};
-use log_format::{Found, scan_log};
 use std::alloc::Global;
 use store_api::{Area, Disk, Failed};
 use stored_pages::good_number;
@@ -117,24 +115,4 @@ pub fn read_pages<D: Disk>(alloc: Global, disk: &mut D, capacity: u32) -> Result
         read_page(alloc, disk, page, &mut pages)?;
     }
     Ok(pages)
-}
-
-/// The groups that a read of the log gives, and where the log goes on. The whole of it is read into memory.
-pub fn read_log<D: Disk>(
-    alloc: Global,
-    disk: &mut D,
-    run: u64,
-    first: u64,
-) -> Result<Found, RecoverBad>
-    ensures looks { Looks (D.past disk.old) (D.past disk.new) }
-    ensures same { OnOk result (LeavesState (D.past disk.old) (D.past disk.new)) }
-    ensures are { IfOk result (λ found. All IsGroup found.groups) }
-    ensures groups { IfOk result (λ found. Now (λ s. HasGroups run first s.log.seen found) (D.past disk.new)) }
-    ensures later { (D.past disk.old).faults ≤ (D.past disk.new).faults }
-    ensures failed { IfErr result (IsFailed (D.past disk.old).faults (D.past disk.new).faults) }
-{
-    let len = disk.len(Area::Log)?;
-    let mut area = vec![in alloc; 0; len as usize]?;
-    let count = disk.read(Area::Log, 0, &mut area)?;
-    Ok(scan_log(alloc, &area[..count], run, first)?)
 }

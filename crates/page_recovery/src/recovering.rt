@@ -1,25 +1,23 @@
 //! Recovery of files that keep rows in pages, as a whole: torn pages first, then the log.
 //! Nothing else may read or write the files meanwhile.
 
-ghost use Rattle.std.specs.Prelude.{◌≡◌, ◌+◌, ◌^◌, ◌≤◌, ℕ, List, length, All, IfOk, IfErr, OnOk};
+ghost use Rattle.std.specs.Prelude.{◌≡◌, ◌≤◌, ℕ, List, length, IfOk, IfErr, OnOk};
 ghost use Rattle.store_api.specs.Areas.{State, seen_image};
 ghost use Rattle.store_api.specs.Past.{Now, Meanwhile};
 ghost use Rattle.log_format.specs.declared.group.Group.{Group as GroupValue};
-ghost use Rattle.log_format.specs.Group.{IsGroup};
 ghost use Rattle.doublewrite.specs.Repairing.{IsRepaired, WasRead};
 ghost use Rattle.page_recovery.specs.Looking.{Looks, LeavesState, Since};
 ghost use Rattle.page_recovery.specs.Reading.{StandsIn};
 ghost use Rattle.page_recovery.specs.Leaving.{Is, IsStill, StillReads, IsFileRun, LeavesRun, LeavesSame};
-ghost use Rattle.page_recovery.specs.Recovering.{IsRead, IsRecovered, IsCause, IsFault, IsNoFault, HasAll};
-ghost use Rattle.page_recovery.specs.declared.bad.RecoverBad.TheVariants.{LogFull};
+ghost use Rattle.page_recovery.specs.Recovering.{IsRead, IsRecovered, IsCause, IsFault, HasAll};
 
-use crate::applying::{apply_groups, first_past};
 use crate::bad::{RecoverBad, from_repair};
+use crate::following::{apply_all, block_behind};
 use crate::header::Header;
 use crate::pages::Pages;
-use crate::reading::{read_header, read_log, read_pages};
+use crate::reading::{read_header, read_pages};
 use doublewrite::repair;
-use log_format::Found;
+use log_format::Reader;
 use std::alloc::Global;
 use store_api::Disk;
 
@@ -38,44 +36,34 @@ pub struct Recovered {
     pub pages: Pages,
 }
 
-/// The LSN after those of so many groups.
-fn lsn_after(first: u64, count: usize) -> Result<u64, RecoverBad>
-    ensures next { IfOk result (λ next. next ≡ first + count) }
-    ensures full { IfErr result (λ why. (why ≡ LogFull) × (2 ^ 64 ≤ first + count)) }
-{
-    match first.checked_add(count as u64) {
-        Some(next) => Ok(next),
-        None => Err(RecoverBad::LogFull),
-    }
-}
-
-/// Brings the pages that were read on by all groups.
-fn bring_on(
+/// Brings the pages that were read on by all groups of the log.
+fn bring_on<D: Disk>(
     alloc: Global,
+    disk: &mut D,
     header: Header,
     mut pages: Pages,
-    found: Found,
 ) -> Result<Recovered, RecoverBad>
     requires capacity { length pages ≡ header.capacity }
-    requires groups { All IsGroup found.groups }
-    ensures ok { (area log : List ℕ) → IsRead area log header pages found → IfOk result (IsRecovered (StandsIn area) log) }
-    ensures bad { (area log : List ℕ) → IsRead area log header pages found → IfErr result (IsCause (StandsIn area) log) }
-    ensures failed { IfErr result IsNoFault }
+    ensures looks { Looks (D.past disk.old) (D.past disk.new) }
+    ensures same { OnOk result (LeavesState (D.past disk.old) (D.past disk.new)) }
+    ensures read { IfOk result (λ r. Now (λ s. IsRead s.pages.seen header pages → IsRecovered (StandsIn s.pages.seen) s.log.seen r) (D.past disk.new)) }
+    ensures refused { IfErr result (λ why. Since (λ s. IsRead s.pages.seen header pages → IsCause (StandsIn s.pages.seen) s.log.seen why)
+        (D.past disk.old) (D.past disk.new)) }
+    ensures later { (D.past disk.old).faults ≤ (D.past disk.new).faults }
+    ensures failed { IfErr result (IsFault (D.past disk.old).faults (D.past disk.new).faults) }
 {
-    let Found { groups, blocks } = found;
-    if let Some(page) = first_past(groups.as_slice(), pages.count()) {
-        drop(groups);
-        drop(pages);
+    let mut reader = Reader::new(alloc, header.run, header.first)?;
+    let (count, past) = apply_all(alloc, disk, &mut reader, &mut pages)?;
+    if let Some(page) = past {
         return Err(RecoverBad::PastTheEnd { page });
     }
-    let next = lsn_after(header.first, groups.len())?;
-    apply_groups(alloc, &mut pages, groups.as_slice())?;
+    let block = block_behind(disk, &reader)?;
     Ok(Recovered {
         run: header.run,
         first: header.first,
-        count: groups.len(),
-        next,
-        block: blocks,
+        count,
+        next: reader.next_lsn(),
+        block,
         pages,
     })
 }
@@ -91,12 +79,11 @@ fn read_on<D: Disk>(alloc: Global, disk: &mut D) -> Result<Recovered, RecoverBad
 {
     let header = read_header(disk)?;
     let pages = read_pages(alloc, disk, header.capacity)?;
-    let found = read_log(alloc, disk, header.run, header.first)?;
-    bring_on(alloc, header, pages, found)
+    bring_on(alloc, disk, header, pages)
 }
 
 /// Puts torn pages right from their copies, and gives the pages after all whole groups of the log, the count of these groups
-/// and the next LSN. Pages in memory alone are changed by groups; of the files nothing is written but torn pages, and
+/// and the next LSN. The log is read in pieces. Pages in memory alone are changed by groups; of the files nothing is written but torn pages, and
 /// zeros over their copies. A recovery that was stopped may be made again.
 pub fn recover<D: Disk>(alloc: Global, disk: &mut D) -> Result<Recovered, RecoverBad>
     ensures later { (D.past disk.old).faults ≤ (D.past disk.new).faults }

@@ -4,4 +4,6 @@
 #[cfg(test)]
 mod checkpoints;
 #[cfg(test)]
+mod long_logs;
+#[cfg(test)]
 mod recovered_pages;

@@ -41,7 +41,7 @@ fn page_of(number: u32) -> [u8; 4096] {
 }
 
 /// The first pages are in their places, and synced.
-fn place_first(disk: &mut MemDisk) -> Result<(), Fail> {
+pub fn place_first(disk: &mut MemDisk) -> Result<(), Fail> {
     for number in 0..WRITTEN {
         disk.write(Area::Pages, 4096 * u64::from(number), &page_of(number))?;
     }

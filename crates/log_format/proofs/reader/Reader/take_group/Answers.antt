@@ -13,9 +13,11 @@ returns-in-None-clause-gives c = λ first area given past is.
     subst (λ (l : List ℕ). NoGroup i.next l) (from_on i.at c.deref.result.now ∙ ap (λ (l : List ℕ). drop i.at l) c.deref.ensures.value)
     (rw c.in-None.is at c.in_ok-next_group.ensures.none) in
     let settled : (i.ended ≡ true) ⊎ HasWhole (drop i.at i.stream.items) =
-    subst (λ (v : ReaderView). (v.ended ≡ true) ⊎ HasWhole v.rest) (sym c.self.view_is) c.requires in
-    subst (λ (v : ReaderView). IsScan v.run first area given) c.self.view_is
-    (all_given first area given r (subst (λ (v : ReaderView). HasGiven first area given v) (sym c.self.view_is) is) none settled)
+    subst (λ (v : ReaderView). (v.ended ≡ true) ⊎ HasWhole v.rest) (sym c.self.view_is) c.requires in (
+      is,
+      subst (λ (v : ReaderView). IsScan v.run first area given) c.self.view_is
+          (all_given first area given r (subst (λ (v : ReaderView). HasGiven first area given v) (sym c.self.view_is) is) none settled),
+    )
 
 pub returns-in-Some-checked_add-clause-gives : goal.returns-in-Some-checked_add-clause-gives
 returns-in-Some-checked_add-clause-gives c = λ first area given past is.
