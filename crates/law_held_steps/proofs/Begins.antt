@@ -44,7 +44,16 @@ columns_held state writer desks cuts undo room table schema held told there =
     columns_of held.chains rows.0 state table schema rows.1 there
 
 pub new_search : (table : ℕ) (plan : Plan) (sight : Sight) (search : RowSearch)
-    → search.scan ≡ record { table = table; which = plan.which; range = plan.range; sight = sight; rows = search.scan.rows } → BeginsWithNothing search
+    → search.scan ≡ record {
+      table = table;
+      which = plan.which;
+      range = plan.range;
+      sight = sight;
+      rows = search.scan.rows;
+      pair = search.scan.pair;
+      primary = search.scan.primary;
+    }
+    → BeginsWithNothing search
     → MayBegin search
     → IsNewSearch table plan sight search
 new_search table plan sight search is nothing may = record {

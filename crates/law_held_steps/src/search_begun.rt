@@ -24,7 +24,15 @@ ghost use Rattle.law_held_steps.specs.Begun.{IsNewSearch, IsBegun, HasView, View
 /// the newest rows where it may write. The tables are those that the past says, and have few keys.
 pub fn a_search_is_begun()
     ensures new { (table : ℕ) (plan : Plan) (sight : Sight) (search : RowSearch)
-        → search.scan ≡ record { table = table; which = plan.which; range = plan.range; sight = sight; rows = search.scan.rows }
+        → search.scan ≡ record {
+          table = table;
+          which = plan.which;
+          range = plan.range;
+          sight = sight;
+          rows = search.scan.rows;
+          pair = search.scan.pair;
+          primary = search.scan.primary;
+        }
         → BeginsWithNothing search → MayBegin search → IsNewSearch table plan sight search }
     ensures held { (s table : ℕ) (state : WorldState) (writer : Option ℕ) (desks : List Desk) (cuts : ℕ) (undo : UndoRoom) (room : WorkRoom)
         (plan : Plan) (sight : Sight) (schema : Schema) (on : TableSearch)
