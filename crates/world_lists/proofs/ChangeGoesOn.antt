@@ -1,5 +1,6 @@
 -- A step of a change, with the indexes that one leaves which was hindered.
-use Rattle.std.proofs.Common.{◌≡◌, ℕ, ◌+◌, ◌<◌, ◌^◌, false, List, length, Option, Some, refl, sym, ap, subst, ◌∙◌, arith}
+use Rattle.std.proofs.Common.{◌≡◌, ℕ, ◌+◌, ◌<◌, ◌^◌, false, true, List, length, Option, Some, refl, sym, ap, subst, ◌∙◌, arith}
+use Rattle.inno_types.specs.declared.value.Schema.{Schema}
 use Rattle.inno_model.specs.declared.event.Event.{Event}
 use Rattle.world.specs.State.{WorldState}
 use Rattle.world.specs.Told.{IsTold}
@@ -12,23 +13,24 @@ use Rattle.law_logged_changes.proofs.ReadersLeft.{left_told}
 use Rattle.undo_apply.specs.declared.work_room.WorkRoom.{WorkRoom}
 use Rattle.shared_lists.specs.declared.answers.Changed.{Changed}
 use Rattle.shared_lists.specs.State.{State, Lists, Turns, task_of}
-use Rattle.shared_lists.specs.Tasks.{Idle, asked, left_by}
+use Rattle.shared_lists.specs.Tasks.{Task, Idle, asked, left_by, is_changing}
 use Rattle.shared_lists.specs.declared.answers.Changed.TheVariants as answers
 use Rattle.inno_db.specs.declared.change.Change.{Change}
 use Rattle.shared_lists.specs.Steps.{Changes, rows_entered}
 use Rattle.desks.specs.declared.desk.Desk.{Desk}
 use Rattle.desks.specs.declared.desk.Doing.{Doing}
-use Rattle.desks.specs.declared.desk.Doing.TheVariants.{Nothing, Changing}
+use Rattle.desks.specs.declared.desk.Doing.TheVariants.{Nothing, Searching, Changing, Lagging, Undoing}
 use Rattle.desks.specs.Desks.{doing_at, with_doing}
-use Rattle.desks.specs.Shown.{lists_of}
+use Rattle.desks.specs.Shown.{lists_of, shown}
+use Rattle.desks.proofs.Showing.{task_is}
 use Rattle.desks.specs.Holding.{IsHeld}
 use Rattle.law_held_steps.specs.Leaving.{is_searching}
 use Rattle.law_held_steps.specs.Making.{doing_after, Comes, LeavesLists, MakesChange}
-use Rattle.law_held_steps.proofs.Desks.{doing_here, given_again, changes_at_a_desk}
+use Rattle.law_held_steps.proofs.Desks.{doing_here, changes_at_a_desk}
 use Rattle.law_held_steps.proofs.Left.{held_left}
 use Rattle.law_held_steps.proofs.Made.{change_made}
 use Rattle.law_held_steps.proofs.Showing.{went_shown, entered_shown, done_shown, given_up_shown, rows_shown, left_shown}
-use Rattle.world_lists.specs.Parts.{StepsChange, answer_for}
+use Rattle.world_lists.specs.Parts.{StepsChange, HasChange, answer_for}
 use Rattle.world.specs.Undoing.{read_into}
 use Rattle.row_changes.specs.Rows.{table_of}
 use Rattle.law_held_steps.proofs.Beside.{rows_of_writer}
@@ -148,17 +150,16 @@ module _ (s : ℕ) (desks : List Desk) (cuts : ℕ) (undo : UndoRoom) (room : Wo
       (subst (λ (now : Lists). ChangesIn s before now (answer_for change step.reached)) (sym (left_shown s (Some s) desks_then later step.mid new step.left none told))
       shows))
 
--- The session may write, and its desk is taken and given back.
+-- The session may write, and its desk has this to do now.
 module _ (s : ℕ) (writer : Option ℕ) (desks : List Desk) (cuts : ℕ) (undo : UndoRoom) (room : WorkRoom) (old new : WorldState)
     (change : RowChange) (doing : Doing) (answer : Changed) (step : StepsChange s change old new doing answer) (locked : writer ≡ Some s)
     (held : IsHeld old writer desks cuts undo room) (at : doing_at s desks ≡ Changing change) (was : IsTold old) (told : IsTold new)
-    (few : length new.past < 2 ^ 63) (taken later : List Desk) (takes : taken ≡ with_doing s Nothing desks)
-    (gives : later ≡ with_doing s doing taken) where
+    (few : length new.past < 2 ^ 63) (later : List Desk) (gives : later ≡ with_doing s doing desks) where
   held_mine : IsHeld old (Some s) desks cuts undo room
   held_mine = subst (λ (w : Option ℕ). IsHeld old w desks cuts undo room) locked held
 
   gives_all : with_doing s doing desks ≡ later
-  gives_all = sym (gives ∙ ap (with_doing s doing) takes ∙ given_again s Nothing doing desks)
+  gives_all = sym gives
 
   pub step_held : IsHeld new writer later cuts undo room
   step_held =
@@ -185,3 +186,27 @@ stopped s old new change asks turns = subst (λ (o : Option Change). Turns s (le
 
 pub none_entered : (new old : ℕ) → new ≡ old + 0 → new ≡ old
 none_entered new old same = omega (arith, same)
+
+-- ---- the change that is at a desk
+
+changing_shown : (schemas : List Schema) (left : ℕ) (doing : Doing) → is_changing (shown schemas left doing) ≡ true
+    → (change : RowChange) × (doing ≡ Changing change)
+changing_shown schemas left Nothing is = absurd (cc)
+changing_shown schemas left (Searching on) is = absurd (cc)
+changing_shown schemas left (Changing change) is = (change, refl)
+changing_shown schemas left Lagging is = absurd (cc)
+changing_shown schemas left Undoing is = absurd (cc)
+
+-- who shows that it changes a row has a change under way
+pub may_change : (s : ℕ) (writer : Option ℕ) (desks : List Desk) (cuts : ℕ) (undo : UndoRoom) (room : WorkRoom) (state : WorldState) (left : ℕ)
+    → writer ≡ Some s → IsHeld state writer desks cuts undo room → is_changing (task_of s (lists_of state writer desks left).state) ≡ true
+    → HasChange s state desks
+may_change s writer desks cuts undo room state left locked held task =
+    let found =
+    changing_shown state.schemas left (doing_at s desks)
+    (subst (λ (t : Task). is_changing t ≡ true) (task_is s left state writer desks) task) in (
+      found.0,
+      found.1,
+      held.chains,
+      (rows_of_writer s writer held.chains state desks (read_into undo) room (Changing found.0) locked found.1 held.rows).0,
+    )

@@ -11,21 +11,21 @@ use Rattle.world.specs.State.{WorldState}
 use Rattle.row_changes.specs.declared.row_change.RowChange.{RowChange}
 use Rattle.row_changes.specs.declared.row_change.RowChange.TheVariants.{Record, Keys}
 use Rattle.row_changes.specs.declared.reached.Reached.{Reached}
-use Rattle.row_changes.specs.declared.reached.Reached.TheVariants.{Done, Hindered}
+use Rattle.row_changes.specs.declared.reached.Reached.TheVariants.{Went, Done, Hindered}
 use Rattle.row_changes.specs.Records.{IsTable}
 use Rattle.row_changes.specs.Rows.{IsChangingRow, ChangesRow, table_of}
+use Rattle.shared_lists.specs.declared.answers.Changed.{Changed}
 use Rattle.shared_lists.specs.declared.answers.Changed.TheVariants as changed
 use Rattle.row_changes.proofs.Changing.{lacks_memory}
 use Rattle.shared_lists.specs.Tasks.{asked}
 use Rattle.shared_lists.specs.State.{task_of}
 use Rattle.desks.specs.declared.desk.Desk.{Desk}
-use Rattle.desks.specs.declared.desk.Doing.{Doing}
 use Rattle.desks.specs.declared.desk.Doing.TheVariants.{Nothing, Changing}
 use Rattle.desks.specs.Desks.{doing_at}
 use Rattle.desks.specs.Shown.{lists_of, shown}
 use Rattle.desks.proofs.Showing.{task_is}
 use Rattle.law_held_steps.specs.Making.{doing_after}
-use Rattle.world_lists.specs.Parts.{is_told, answer_for}
+use Rattle.world_lists.specs.Parts.{doing_now, is_told, answer_for}
 
 -- the table is there, and has few keys
 abbrev pub HasTable : ℕ → WorldState → Type 0
@@ -100,3 +100,14 @@ untold_as_asked s state writer desks left (Keys change) told at asks =
     absurd (
     let none = ap asked (task_is s left state writer desks ∙ ap (shown state.schemas left) at) in
     let clash = sym none ∙ asks in cc)
+
+-- ---- a change at a desk
+
+-- one that goes on lies there
+pub lies_there : (change next : RowChange) (answer : Changed) → answer ≡ answer_for change (Went next)
+    → doing_now change next answer ≡ doing_after change (Went next)
+lies_there (Record change key after) (Record next key' after') answer is =
+    ap (doing_now (Record change key after) (Record next key' after')) is
+lies_there (Record change key after) (Keys next) answer is = ap (doing_now (Record change key after) (Keys next)) is
+lies_there (Keys change) (Record next key after) answer is = ap (doing_now (Keys change) (Record next key after)) is
+lies_there (Keys change) (Keys next) answer is = ap (doing_now (Keys change) (Keys next)) is

@@ -12,7 +12,9 @@ use Rattle.row_changes.specs.Rows.{IsChangingRow, ChangesRow, table_of}
 use Rattle.shared_lists.specs.declared.answers.Changed.{Changed}
 use Rattle.shared_lists.specs.declared.answers.Changed.TheVariants.{Went, Entered, Done, NoMemory}
 use Rattle.desks.specs.declared.desk.Doing.{Doing}
-use Rattle.law_held_steps.specs.Making.{doing_after}
+use Rattle.desks.specs.declared.desk.Doing.TheVariants.{Nothing, Changing}
+use Rattle.desks.specs.Desks.{doing_at, with_doing}
+use Rattle.law_held_steps.specs.Making.{given_up, doing_after}
 use Rattle.shared_lists.specs.declared.answers.Undone.{Undone}
 use Rattle.shared_lists.specs.declared.answers.Undone.TheVariants as undone
 use Rattle.row_changes.specs.Awaited.{AwaitsIn}
@@ -51,6 +53,22 @@ pub record StepsChange (s : ℕ) (change : RowChange) (old new : WorldState) (do
   pub gone : LeavesIfOver s (table_of change) mid new reached
   pub doing_is : doing ≡ doing_after change reached
   pub answer_is : answer ≡ answer_for change reached
+
+-- what a desk has after a step with this answer: the change as it lies there now, or what is left of one that is over
+abbrev pub doing_now : RowChange → RowChange → Changed → Doing
+doing_now change next Went = Changing next
+doing_now change next Entered = Changing next
+doing_now change next Done = Nothing
+doing_now change next NoMemory = given_up change
+
+-- The session has a change at its desk that may make a step.
+abbrev pub HasChange : ℕ → WorldState → List Desk → Type 0
+HasChange s state desks = (change : RowChange) × (doing_at s desks ≡ Changing change) × (chains : Chains) × IsChangingRow s chains state change
+
+-- The change at the session's desk has made a step, and nothing else has changed at desks.
+abbrev pub StepsAtDesk : ℕ → WorldState → WorldState → List Desk → List Desk → Changed → Type 0
+StepsAtDesk s old new desks later answer = (change : RowChange) → doing_at s desks ≡ Changing change
+    → (doing : Doing) × StepsChange s change old new doing answer × (later ≡ with_doing s doing desks)
 
 -- The newest undo record of the session is gone, and the history tells that its change is taken back.
 pub record DropsNewest (s : ℕ) (old new : WorldState) : Type 0 where

@@ -3,7 +3,7 @@
 use crate::keys::key_of_edit;
 use crate::lists::{WorldLists, is_short};
 use crate::reading::{found_rows, is_quiet, newest_rows, own_sight, rows_of, taken_up};
-use crate::undoing::{drop_change, edit_of, is_undoing, step_change, take_newest_back};
+use crate::undoing::{change_at_desk, drop_change, edit_of, is_undoing, take_newest_back};
 use desks::{Desk, Doing, TableSearch, give_doing, take_doing};
 use inno_db::Change;
 use inno_model::History;
@@ -250,12 +250,7 @@ impl<W: EngineWorld> SharedLists for WorldLists<W> {
     }
 
     fn change(&mut self, session: u32) -> Changed {
-        let doing = take_doing(&mut self.desks, session);
-        let Doing::Changing(change) = doing else {
-            unreachable!()
-        };
-        let (doing, changed) = step_change(self.alloc, &mut self.world, session, change);
-        give_doing(&mut self.desks, session, doing);
+        let changed = change_at_desk(self.alloc, &mut self.world, &mut self.desks, session);
         is_short(&self.world);
         changed
     }

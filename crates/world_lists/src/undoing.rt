@@ -14,13 +14,14 @@ ghost use Rattle.desks.specs.Holding.{IsHeld};
 ghost use Rattle.law_held_steps.specs.Leaving.{LeavesIndexes, LeavesTable};
 ghost use Rattle.law_held_steps.specs.Making.{given_up};
 ghost use Rattle.law_held_steps.specs.SeenUndoing.{lists_held, TakesBackIn};
-ghost use Rattle.world_lists.specs.Parts.{StepsChange, DropsNewest, AwaitsAfter, is_told, answer_for};
+ghost use Rattle.row_changes.specs.declared.reached.Reached.TheVariants as reached;
+ghost use Rattle.world_lists.specs.Parts.{StepsChange, HasChange, StepsAtDesk, doing_now, DropsNewest, AwaitsAfter, is_told, answer_for};
 ghost use Rattle.world_lists.specs.Between.{AwaitsOnly};
 
 use crate::lists::is_short;
 use desks::{Desk, Doing, give_doing};
 use inno_db::Change;
-use row_changes::{Reached, RowChange, RowEdit};
+use row_changes::{Came, RowChange, RowEdit};
 use shared_lists::{Changed, Undone};
 use std::alloc::Global;
 use store_api::Move;
@@ -35,30 +36,52 @@ pub fn is_undoing(desks: &[Desk], session: u32) -> bool
     matches!(&desks[session as usize].doing, Doing::Undoing)
 }
 
+/// One step of the change that a session has under way, made where it lies.
+pub fn change_at_desk<W: EngineWorld>(
+    alloc: Global,
+    world: &mut W,
+    desks: &mut Vec<Desk>,
+    session: u32,
+) -> Changed
+    requires joined { session < length desks.old.items }
+    requires changing { HasChange session (W.state world.old) desks.old.items }
+    ensures { StepsAtDesk session (W.state world.old) (W.state world.new) desks.old.items desks.new.items result }
+{
+    let desk = &mut desks[session as usize];
+    let Doing::Changing(change) = &mut desk.doing else {
+        unreachable!()
+    };
+    let is_told = is_told(change);
+    let changed = step_change(alloc, world, session, change);
+    match changed {
+        Changed::Went | Changed::Entered => {}
+        Changed::Done => desk.doing = Doing::Nothing,
+        Changed::NoMemory => desk.doing = given_up(is_told),
+    }
+    changed
+}
+
 /// One step of a change. One that is over, or hindered, leaves the indexes of its table, and awaits no keys there.
-pub fn step_change<W: EngineWorld>(
+fn step_change<W: EngineWorld>(
     alloc: Global,
     world: &mut W,
     session: u32,
-    change: RowChange,
-) -> (Doing, Changed)
-    requires { (chains : Chains) × IsChangingRow session chains (W.state world.old) change }
-    ensures { StepsChange session change (W.state world.old) (W.state world.new) result.0 result.1 }
+    change: &mut RowChange,
+) -> Changed
+    requires { (chains : Chains) × IsChangingRow session chains (W.state world.old) change.old }
+    ensures { StepsChange session change.old (W.state world.old) (W.state world.new) (doing_now change.old change.new result) result }
 {
-    let is_told = is_told(&change);
-    let table = table_of(&change);
-    match change.step(alloc, world, session) {
-        Reached::Went(next) => {
-            let answer = answer_for(is_told, &next);
-            (Doing::Changing(next), answer)
-        }
-        Reached::Done => {
+    let is_told = is_told(change);
+    let table = table_of(change);
+    match change.advance(alloc, world, session) {
+        Came::Went => answer_for(is_told, change),
+        Came::Done => {
             leave_table(world, session, table);
-            (Doing::Nothing, Changed::Done)
+            Changed::Done
         }
-        Reached::Hindered(_same, _why) => {
+        Came::Hindered(_why) => {
             leave_table(world, session, table);
-            (given_up(is_told), Changed::NoMemory)
+            Changed::NoMemory
         }
     }
 }
@@ -84,7 +107,7 @@ fn is_told(change: &RowChange) -> bool
 
 /// How far a change came that went on: the history tells it from its keys on.
 fn answer_for(was_told: bool, next: &RowChange) -> Changed
-    ensures { (change : RowChange) → was_told ≡ is_told change → result ≡ answer_for change (Reached.Went next.now) }
+    ensures { (change : RowChange) → was_told ≡ is_told change → result ≡ answer_for change (reached.Went next.now) }
 {
     if was_told || !is_told(next) {
         Changed::Went

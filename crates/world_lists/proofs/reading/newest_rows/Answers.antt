@@ -84,3 +84,8 @@ reading-smaller g c =
     reading_nears c.requires.0 c.args.session c.args.table c.args.plan c.args.schema.now (g.W.World.state c.args.world.now)
     (g.W.World.state c.reading.world) (g.W.World.state c.step.new.world) c.reading.search c.in-Went.next
     (c.reading.invariant c.requires.0 c.requires.1) c.in-Went.ensures (g.met.W.EngineWorld.tells c.step.new.world).told
+
+-- the world tells each record as one of its table
+pub returns-in-Malformed-clause-moves : goal.returns-in-Malformed-clause-moves
+returns-in-Malformed-clause-moves g c =
+    absurd (c.in-Malformed.ensures.2 (g.met.W.EngineWorld.tells c.reading.world).told.versions)
