@@ -111,7 +111,8 @@ module _ (start : Slots) (begun : ReaderView) (old new : Past) (pages : Slots) (
     brought = on start so_far.groups so_far.brought;
   }
 
-  pub a_piece : ((first : ℕ) (area : List ℕ) (given : List Group) → HasGiven first area given r → Now (λ s. s.log.seen ≡ area → HasGiven first area given next) old)
+  pub a_piece : ((first : ℕ) (area : List ℕ) (given : List Group) → HasGiven first area given r
+      → Now (λ s. s.log.seen ≡ area → HasGiven first area given next) old)
       → SoFar start begun new pages next count named
   a_piece gives = record {
     groups = so_far.groups;
@@ -122,7 +123,8 @@ module _ (start : Slots) (begun : ReaderView) (old new : Past) (pages : Slots) (
     brought = so_far.brought;
   }
 
-  pub all_followed : ((first : ℕ) (area : List ℕ) (given : List Group) → HasGiven first area given r → HasGiven first area given next × IsScan next.run first area given)
+  pub all_followed : ((first : ℕ) (area : List ℕ) (given : List Group) → HasGiven first area given r
+      → HasGiven first area given next × IsScan next.run first area given)
       → (first : ℕ) → ((area : List ℕ) → HasGiven first area [] begun) → Now (λ s. IsFollowed first s.log.seen start pages next count named) new
   all_followed gives first begins = λ s ticks is.
       let then = stays s ticks is in
