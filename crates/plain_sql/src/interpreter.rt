@@ -1,13 +1,13 @@
 //! The plain interpreter itself: one statement over one database, which it only reads.
 
-ghost use Rattle.std.specs.Prelude.{◌≡◌, ◌≤◌, IfOk, ℕ, List, length, option_copied};
+ghost use Rattle.std.specs.Prelude.{◌≡◌, None, Some, IfOk, ℕ, List, option_copied};
 ghost use Rattle.inno_db.specs.Database.{Database};
-ghost use Rattle.inno_db.specs.declared.limits.TheConstants.{MOST_TABLES};
+ghost use Rattle.inno_db.specs.Refusals.{refusal};
 ghost use Rattle.inno_db.proofs.Outcomes.{table_read};
 ghost use Rattle.inno_types.specs.declared.value.Value.{Value};
 ghost use Rattle.inno_types.specs.declared.value.Schema.{Schema};
 ghost use Rattle.inno_db.specs.declared.outcome.Outcome.{Outcome};
-ghost use Rattle.plain_sql.specs.Finding.{on_found, answer_on, IsTableOf, IsReadFrom, IsOnRows, IsOnTable};
+ghost use Rattle.plain_sql.specs.Finding.{on_found, answer_on, IsTableOf, IsReadFrom, IsOnTable};
 ghost use Rattle.inno_db.specs.Outcome.{answered, counted, on_number, created, creation, select_answer, insert_answer, update_answer, delete_answer, answer_to, outcome};
 
 use crate::changes::{delete, insert, update};
@@ -116,20 +116,6 @@ fn find<'a>(db: &'a Db, stmt: &Stmt) -> Option<Found<'a>>
         number: place as u8,
         schema,
         rows: db.rows(place),
-    })
-}
-
-/// The same, where the rows of that table are known.
-fn find_in<'a>(schemas: &'a Listed<Schema>, rows: &'a Rows, stmt: &Stmt) -> Option<Found<'a>>
-    requires { length schemas.now ≤ MOST_TABLES }
-    ensures { (db : Database) (answer : ℕ → Schema → List (List Value) → Outcome) → IsReadFrom schemas.now rows.now stmt.now db → on_found result answer ≡ on_number db (table_read db.schemas stmt.now) answer }
-{
-    let place = place_of_table(schemas, table_of(stmt)?)?;
-    let schema = schemas.as_slice().get(place)?;
-    Some(Found {
-        number: place as u8,
-        schema,
-        rows,
     })
 }
 
@@ -253,27 +239,27 @@ fn run(alloc: Global, db: &Db, stmt: &Stmt) -> Result<Outcome, AllocError>
     run_on(alloc, find(db, stmt), stmt)
 }
 
-/// What a statement on rows answers, and what it changes, where the tables of its database are these and its own table
-/// has these rows. No more of a database is read.
+/// What a statement does with the rows of its table that is known not to be refused. The tables of its database are these, and
+/// its own, of this number, has these rows: nothing is looked up or tested again, and no more of a database is read.
 pub fn plain_on_rows(
     alloc: Global,
     schemas: &Listed<Schema>,
+    table: u8,
     rows: &Rows,
     stmt: &Stmt,
 ) -> Result<Outcome, NoMemory>
-    requires few { length schemas.now ≤ MOST_TABLES }
-    requires on_rows { IsOnRows stmt.now }
+    requires unrefused { refusal schemas.now stmt.now ≡ None }
+    requires table_is { table_read schemas.now stmt.now ≡ Some table }
     ensures { IfOk result (λ answer. (db : Database) → IsReadFrom schemas.now rows.now stmt.now db → answer ≡ outcome stmt.now db) }
 {
-    if let Some(error) = refuse(alloc, schemas, stmt)? {
-        return Ok(answer(alloc, Reply::Fail(error)));
+    match schemas.as_slice().get(usize::from(table)) {
+        Some(schema) => plain_on_table(alloc, table, schema, rows, stmt),
+        None => Err(NoMemory),
     }
-    Ok(run_on(alloc, find_in(schemas, rows, stmt), stmt)?)
 }
 
-/// What a statement on rows does that is known not to be refused, where its table is known by number and schema, and has these
-/// rows. Neither is looked up or tested again.
-pub fn plain_on_table(
+/// The same on a table of this number and schema.
+fn plain_on_table(
     alloc: Global,
     table: u8,
     schema: &Schema,

@@ -7,5 +7,5 @@ mod interpreter;
 mod laws;
 mod selection;
 
-pub use interpreter::{plain, plain_on_rows, plain_on_table};
+pub use interpreter::{plain, plain_on_rows};
 pub use laws::more_tables_refuse_no_more;

@@ -29,7 +29,7 @@ use Rattle.read_statement.specs.declared.machine.Asked.{Asked}
 use Rattle.read_statement.specs.declared.machine.ReadStatement.{ReadStatement}
 use Rattle.read_statement.specs.declared.machine.ReadStatement.TheVariants as machine
 use Rattle.read_statement.specs.Going.{to_go}
-use Rattle.read_statement.specs.Running.{IsTakenWith, IsOpening, IsIn, IsEarly, HasView, MayTakeView, IsFound, IsSettledBy, IsAnswered, IsClosing, IsFailing, HasClosed, is_rows, IsRunning, owes_ack, acked}
+use Rattle.read_statement.specs.Running.{IsTakenWith, IsUnrefused, IsOpening, IsIn, IsEarly, HasView, MayTakeView, IsFound, IsSettledBy, IsAnswered, IsClosing, IsFailing, HasClosed, is_rows, IsRunning, owes_ack, acked}
 use Rattle.read_statement.proofs.Items.{quiet_own, quiet_level, quiet_turn, none_closed, none_committed, none_rolled, none_undone, no_victim, turn_goes_on, takes_on, none_of}
 use Rattle.read_statement.proofs.Selects.{plain_taken, begins_by, commits_by, rolls_back_by, views_by, answers}
 use Rattle.read_statement.proofs.Ending.{is_alone_of}
@@ -38,8 +38,8 @@ use Rattle.read_statement.proofs.Staying.{settled_on, closing_on}
 -- ---- opening
 
 pub taken_opens : (s : ℕ) (h : List Event) (asked : Asked) → IsTakenWith asked.autocommit asked.level s asked.stmt h → is_select asked.stmt ≡ true
-    → IsOpening h s asked
-taken_opens s h asked taken select =
+    → IsUnrefused asked.stmt h → IsOpening h s asked
+taken_opens s h asked taken select unrefused =
     record {
       takes = taken.taken.takes;
       plain = plain_taken s asked.stmt h select taken.taken.takes;
@@ -47,6 +47,7 @@ taken_opens s h asked taken select =
       rows_alone = taken.taken.rows_alone;
       autocommit_is = taken.autocommit_is;
       level_is = taken.level_is;
+      unrefused = unrefused;
     }
 
 module _ (s : ℕ) (h : List Event) (asked : Asked) (opening : IsOpening h s asked) where
@@ -61,6 +62,7 @@ module _ (s : ℕ) (h : List Event) (asked : Asked) (opening : IsOpening h s ask
         before_is = quiet_own s h opening.nothing ∙ ap (own s) (sym (quiet_turn s h opening.nothing));
         in_txn = inl (quiet_level s h opening.nothing, rw opening.nothing refl);
         rows_alone = opening.rows_alone;
+        unrefused = opening.unrefused;
       }
 
   pub unseen : did takes_view s h ≡ false
@@ -106,6 +108,7 @@ module _ (s : ℕ) (h : List Event) (asked : Asked) (opening : IsOpening h s ask
           before_is = (let same : before_turn s (events.Begin s n l ∷ h) ≡ events.Begin s n l ∷ h = grind (arith, nat_tests) in ap (own s) (sym same));
           in_txn = in_begun asked.autocommit opening.autocommit_is;
           rows_alone = subst (AllByRecursion IsOfRow) (sym no_own) tt;
+          unrefused = opening.unrefused;
         }
 
     pub begun_open : IsOpen s (events.Begin s n l ∷ h)
@@ -184,6 +187,7 @@ viewed_early s h statement alone early =
       before_is = early.before_is;
       in_txn = viewed_in alone early.takes.setting.autocommit s h early.in_txn;
       rows_alone = early.rows_alone;
+      unrefused = early.unrefused;
     }
 
 viewed_has : (s : ℕ) (h : List Event) → MayTakeView s h → HasView (events.View s ∷ h) s

@@ -67,16 +67,16 @@ module _ (h : List Event) (s : ℕ) (standing : AreStanding h) where
       let v = f.view in
       let p = f.planned in
       let db = seen_by s v.number h in
-      let there : slice_get db.schemas f.table ≡ Some p.schema = subst (λ (l : List Schema). slice_get l f.table ≡ Some p.schema) tables p.there in
-      let fit : All (IsRowOf p.schema.columns) (rows_of f.table db) =
-      subst (All (IsRowOf p.schema.columns)) (sym (same_rows v.number f.table)) (rows_seen_fit h s v.number f.table p.schema fits ordered p.there) in
-      let are : found.rows ≡ rows_in_range f.plan p.schema (rows_of f.table db) =
-      f.rows p.schema p.there ∙ ap (rows_in_range f.plan p.schema) (sym (same_rows v.number f.table)) in
-      let reads : table_read db.schemas found.stmt ≡ Some f.table = subst (λ (l : List Schema). table_read l found.stmt ≡ Some f.table) tables p.table_is in
+      let there : slice_get db.schemas found.table ≡ Some p.schema = subst (λ (l : List Schema). slice_get l found.table ≡ Some p.schema) tables p.there in
+      let fit : All (IsRowOf p.schema.columns) (rows_of found.table db) =
+      subst (All (IsRowOf p.schema.columns)) (sym (same_rows v.number found.table)) (rows_seen_fit h s v.number found.table p.schema fits ordered p.there) in
+      let are : found.rows ≡ rows_in_range f.plan p.schema (rows_of found.table db) =
+      f.rows p.schema p.there ∙ ap (rows_in_range f.plan p.schema) (sym (same_rows v.number found.table)) in
+      let reads : table_read db.schemas found.stmt ≡ Some found.table = subst (λ (l : List Schema). table_read l found.stmt ≡ Some found.table) tables p.table_is in
       let answers_too : (other : Database) → IsReadFrom db.schemas found.rows found.stmt other → answer ≡ outcome found.stmt other =
       λ other from. answers other (subst (λ (l : List Schema). IsReadFrom l found.rows found.stmt other) (sym tables) from) in
       let is : answer ≡ outcome found.stmt db =
-      by_plan db f.table p.schema there p.indexable fit f.plan answer found.rows are found.stmt f.early.plain reads p.chosen answers_too in
+      by_plan db found.table p.schema there p.indexable fit f.plan answer found.rows are found.stmt f.early.plain reads p.chosen answers_too in
       record {
         found = record {
           l = v.l;

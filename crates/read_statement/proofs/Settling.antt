@@ -12,7 +12,7 @@ use Rattle.sql_plan.specs.declared.choice.Plan.{Plan}
 use Rattle.shared_lists.specs.declared.answers.Reading.TheVariants.{View}
 use Rattle.shared_lists.specs.Tasks.{Idle, Searching}
 use Rattle.shared_lists.specs.State.{State, Turns, task_of}
-use Rattle.shared_lists.specs.Steps.{AreFoundBy}
+use Rattle.shared_lists.specs.Steps.{AreFoundBy, AreRowsSeen}
 use Rattle.sql_lists.specs.Steps.{Moves}
 use Rattle.sql_lists.proofs.Moving.{moves_turns}
 use Rattle.read_statement.specs.declared.machine.Read.{Read}
@@ -51,50 +51,48 @@ module _ (h : List Event) (s : ℕ) (stmt : Stmt) (alone : Bool) (early : IsEarl
 
 -- ---- the search
 
-pub search_begins : (s table : ℕ) (plan : Plan) (old new : State) (read : Read) → IsEarly old.past s read.stmt read.alone → IsOpen s old.past
-    → HasView old.past s → IsPlanned (created old.past) read.stmt table plan
-    → Turns s (Searching table plan View) old new → Moves s old new × IsSearching new.past s (task_of s new) read × (started s new.past ≡ started s old.past)
-search_begins s table plan old new read early is-open view planned turns = (
-  moves_turns s (Searching table plan View) old new turns,
+pub search_begins : (s : ℕ) (plan : Plan) (old new : State) (read : Read) → IsEarly old.past s read.stmt read.alone → IsOpen s old.past
+    → HasView old.past s → IsPlanned (created old.past) read.stmt read.table plan
+    → Turns s (Searching read.table plan View) old new → Moves s old new × IsSearching new.past s (task_of s new) read × (started s new.past ≡ started s old.past)
+search_begins s plan old new read early is-open view planned turns = (
+  moves_turns s (Searching read.table plan View) old new turns,
   subst (λ h. IsSearching h s (task_of s new) read) (sym turns.past_is)
-      (record { early = early; is_open = is-open; view = view; table = table; plan = plan; planned = planned; task_is = turns.task_is }),
+      (record { early = early; is_open = is-open; view = view; plan = plan; planned = planned; task_is = turns.task_is }),
   ap (started s) turns.past_is,
 )
 
 -- it goes on, some steps fewer before it
-pub search_goes_on : (s : ℕ) (old new : State) (read later : Read) → later.stmt ≡ read.stmt → later.alone ≡ read.alone
-    → IsSearching old.past s (task_of s old) read → Turns s (task_of s old) old new
-    → Moves s old new × IsSearching new.past s (task_of s new) later × (started s new.past ≡ started s old.past)
-search_goes_on s old new read later same-stmt same-alone is turns = (
+pub search_goes_on : (s : ℕ) (old new : State) (read : Read) → IsSearching old.past s (task_of s old) read → Turns s (task_of s old) old new
+    → Moves s old new × IsSearching new.past s (task_of s new) read × (started s new.past ≡ started s old.past)
+search_goes_on s old new read is turns = (
   moves_turns s (task_of s old) old new turns,
-  subst (λ h. IsSearching h s (task_of s new) later) (sym turns.past_is) (record {
-    early = subst (λ st. IsEarly old.past s st later.alone) (sym same-stmt) (subst (IsEarly old.past s read.stmt) (sym same-alone) is.early);
+  subst (λ h. IsSearching h s (task_of s new) read) (sym turns.past_is) (record {
+    early = is.early;
     is_open = is.is_open;
     view = is.view;
-    table = is.table;
     plan = is.plan;
-    planned = subst (λ st. IsPlanned (created old.past) st is.table is.plan) (sym same-stmt) is.planned;
+    planned = is.planned;
     task_is = turns.task_is ∙ is.task_is;
   }),
   ap (started s) turns.past_is,
 )
 
-pub search_finds : (s : ℕ) (old new : State) (read : Read) (found : Found) → found.stmt ≡ read.stmt → found.alone ≡ read.alone → IsOrdered old.past
-    → (is : IsSearching old.past s (task_of s old) read) → Turns s Idle old new
-    → AreFoundBy View is.table is.plan old.past s found.rows → Moves s old new × (HasFound new.past s found × (task_of s new ≡ Idle)) ×
+pub search_finds : (s : ℕ) (old new : State) (read : Read) (found : Found) → found.stmt ≡ read.stmt → found.table ≡ read.table → found.alone ≡ read.alone
+    → IsOrdered old.past → (is : IsSearching old.past s (task_of s old) read) → Turns s Idle old new
+    → AreFoundBy View read.table is.plan old.past s found.rows → Moves s old new × (HasFound new.past s found × (task_of s new ≡ Idle)) ×
     (started s new.past ≡ started s old.past)
-search_finds s old new read found same-stmt same-alone ordered is turns rows = (
+search_finds s old new read found same-stmt same-table same-alone ordered is turns rows = (
   moves_turns s Idle old new turns,
   (
     subst (λ h. HasFound h s found) (sym turns.past_is) (record {
       early = subst (λ st. IsEarly old.past s st found.alone) (sym same-stmt) (subst (IsEarly old.past s read.stmt) (sym same-alone) is.early);
       is_open = is.is_open;
       view = is.view;
-      table = is.table;
       plan = is.plan;
-      planned = subst (λ st. IsPlanned (created old.past) st is.table is.plan) (sym same-stmt) is.planned;
+      planned = subst (λ st. IsPlanned (created old.past) st found.table is.plan) (sym same-stmt)
+          (subst (λ table. IsPlanned (created old.past) read.stmt table is.plan) (sym same-table) is.planned);
       tabled = seen_tabled old.past s is.view.number ordered;
-      rows = rows is.view.number is.view.view_is;
+      rows = subst (λ table. AreRowsSeen table is.plan old.past s is.view.number found.rows) (sym same-table) (rows is.view.number is.view.view_is);
     }),
     turns.task_is,
   ),

@@ -1,9 +1,13 @@
 -- An entry of another session leaves what a SELECT knows as it was.
-use Rattle.std.proofs.Common.{◌≡◌, ℕ, Bool, true, false, List, ◌∷◌, refl, sym, ap, subst, ◌∙◌, inl, inr}
+use Rattle.std.proofs.Common.{◌≡◌, ℕ, Bool, true, false, None, List, ◌∷◌, refl, sym, ap, subst, ◌∙◌, inl, inr}
 use Rattle.std.specs.Prelude.{is_some}
 use Rattle.inno_types.specs.declared.reply.Reply.{Reply}
 use Rattle.inno_types.specs.declared.reply.Reply.TheVariants as replies
 use Rattle.inno_types.specs.declared.stmt.Stmt.{Stmt}
+use Rattle.inno_types.specs.declared.value.Schema.{Schema}
+use Rattle.inno_db.specs.Refusals.{refusal}
+use Rattle.plain_sql.specs.Finding.{IsOnRows}
+use Rattle.plain_sql.proofs.MoreTables.{more_tables}
 use Rattle.inno_model.specs.declared.event.Event.{Event}
 use Rattle.inno_model.specs.Past.{is_of, of_item, did, begins_txn, takes_view, commits_txn, rolls_back_txn, level, own, awaits_ack}
 use Rattle.inno_model.specs.Moments.{starts}
@@ -26,10 +30,15 @@ use Rattle.read_statement.specs.declared.machine.Asked.{Asked}
 use Rattle.read_statement.specs.declared.machine.ReadStatement.{ReadStatement}
 use Rattle.read_statement.specs.declared.machine.ReadStatement.TheVariants as machine
 use Rattle.read_statement.specs.Planning.{IsPlanned}
-use Rattle.read_statement.specs.Running.{strays, IsOpening, IsIn, IsEarly, HasView, IsSearching, HasFound, IsSeen, IsTooMany, IsSettledBy, IsClosing, HasClosed, IsAt, IsRunning, is_rows}
+use Rattle.read_statement.specs.Running.{strays, IsUnrefused, IsOpening, IsIn, IsEarly, HasView, IsSearching, HasFound, IsSeen, IsTooMany, IsSettledBy, IsClosing, HasClosed, IsAt, IsRunning, is_rows}
 use Rattle.read_statement.proofs.Items.{takes_on}
+use Rattle.read_statement.proofs.Selects.{of_plain}
 use Rattle.read_statement.proofs.Tables.{grown, tabled_stays}
 use Rattle.read_statement.proofs.MoreTables.{planned_stays, rows_seen_stay}
+
+-- a plain SELECT reads rows
+on_rows : (stmt : Stmt) → is_plain_select stmt ≡ true → IsOnRows stmt
+on_rows = of_plain IsOnRows (λ selected table condition. tt)
 
 -- what stands behind a reply stays, and its point with it
 seen_on : (s : ℕ) (e : Event) (h before after : List Event) (stmt : Stmt) → did takes_view s (e ∷ h) ≡ did takes_view s h → after ≡ before
@@ -101,6 +110,11 @@ module _ (t s : ℕ) (e : Event) (h : List Event) (mine : IsNoOthers t e) (other
   rows_alone_on : HasRowsAlone s h → HasRowsAlone s (e ∷ h)
   rows_alone_on rows = subst (AllByRecursion IsOfRow) (sym same.own_is) rows
 
+  unrefused_on : (stmt : Stmt) → is_plain_select stmt ≡ true → IsUnrefused stmt h → IsUnrefused stmt (e ∷ h)
+  unrefused_on stmt plain none =
+      let more = grown t e h mine in
+      subst (λ (schemas : List Schema). refusal schemas stmt ≡ None) (sym more.1) (more_tables (created h) more.0 stmt (on_rows stmt plain) none)
+
   opening_on : (asked : Asked) → IsOpening h s asked → IsOpening (e ∷ h) s asked
   opening_on asked o =
       record {
@@ -110,6 +124,7 @@ module _ (t s : ℕ) (e : Event) (h : List Event) (mine : IsNoOthers t e) (other
         rows_alone = rows_alone_on o.rows_alone;
         autocommit_is = o.autocommit_is;
         level_is = o.level_is;
+        unrefused = unrefused_on asked.stmt o.plain o.unrefused;
       }
 
   in_on : (alone autocommit : Bool) → IsIn alone autocommit s h → IsIn alone autocommit s (e ∷ h)
@@ -128,6 +143,7 @@ module _ (t s : ℕ) (e : Event) (h : List Event) (mine : IsNoOthers t e) (other
             same.own_is ∙ (early.before_is ∙ sym (at_work e h s other).own_is);
         in_txn = in_on alone early.takes.setting.autocommit early.in_txn;
         rows_alone = rows_alone_on early.rows_alone;
+        unrefused = unrefused_on stmt early.plain early.unrefused;
       }
 
   abbrev view_on : HasView h s → HasView (e ∷ h) s
@@ -157,9 +173,8 @@ module _ (t s : ℕ) (e : Event) (h : List Event) (mine : IsNoOthers t e) (other
         early = early_on read.stmt read.alone is.early;
         is_open = open_on is.is_open;
         view = view_on is.view;
-        table = is.table;
         plan = is.plan;
-        planned = planned_on read.stmt is.table is.plan is.early.plain is.planned;
+        planned = planned_on read.stmt read.table is.plan is.early.plain is.planned;
         task_is = is.task_is;
       }
 
@@ -171,11 +186,10 @@ module _ (t s : ℕ) (e : Event) (h : List Event) (mine : IsNoOthers t e) (other
         early = early_on found.stmt found.alone f.early;
         is_open = open_on f.is_open;
         view = view_on f.view;
-        table = f.table;
         plan = f.plan;
-        planned = planned_on found.stmt f.table f.plan f.early.plain f.planned;
+        planned = planned_on found.stmt found.table f.plan f.early.plain f.planned;
         tabled = tabled_stays t s n e h mine same.own_is within f.tabled;
-        rows = rows_seen_stay t s n e h mine same.own_is within f.tabled f.table f.plan f.planned.schema found.rows f.planned.there f.rows;
+        rows = rows_seen_stay t s n e h mine same.own_is within f.tabled found.table f.plan f.planned.schema found.rows f.planned.there f.rows;
       }
 
   over_on : is_over s h ≡ true → is_over s (e ∷ h) ≡ true

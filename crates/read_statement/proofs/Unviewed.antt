@@ -55,33 +55,33 @@ module _ (h : List Event) (w : ℕ) (alone : (u : ℕ) → u ≢ w → own u h �
       (rows_before (opening h) (created h) [] changes parts (in-order w)))
 
   -- what a statement answers by the rows that were read is what it answers over it
-  module _ (stmt : Stmt) (plain : is_plain_select stmt ≡ true) (rows : List (List Value)) (read : AreRead h stmt rows) (in-order : IsInOrder h)
+  module _ (stmt : Stmt) (plain : is_plain_select stmt ≡ true) (table : ℕ) (rows : List (List Value)) (read : AreRead h stmt table rows) (in-order : IsInOrder h)
       (fits : FitsThen h) (answer : Outcome)
       (answers : (db : Database) → IsReadFrom (created h) rows stmt db → answer ≡ outcome stmt db) where
-    abbrev p : IsPlanned (created h) stmt read.table read.plan
+    abbrev p : IsPlanned (created h) stmt table read.plan
     p = read.planned
 
-    there : slice_get (newest h).schemas read.table ≡ Some p.schema
-    there = ap (λ (l : List Schema). slice_get l read.table) tables_now ∙ p.there
+    there : slice_get (newest h).schemas table ≡ Some p.schema
+    there = ap (λ (l : List Schema). slice_get l table) tables_now ∙ p.there
 
-    reads : table_read (newest h).schemas stmt ≡ Some read.table
+    reads : table_read (newest h).schemas stmt ≡ Some table
     reads = ap (λ (l : List Schema). table_read l stmt) tables_now ∙ p.table_is
 
-    fit : All (IsRowOf p.schema.columns) (rows_of read.table (newest h))
-    fit = subst (All (IsRowOf p.schema.columns)) (sym (rows_alike read.table in-order)) (rows_seen_fit h w (commits h) read.table p.schema fits ordered p.there)
+    fit : All (IsRowOf p.schema.columns) (rows_of table (newest h))
+    fit = subst (All (IsRowOf p.schema.columns)) (sym (rows_alike table in-order)) (rows_seen_fit h w (commits h) table p.schema fits ordered p.there)
 
     answers_now : (db : Database) → IsReadFrom (newest h).schemas rows stmt db → answer ≡ outcome stmt db
     answers_now db from = answers db (subst (λ (l : List Schema). IsReadFrom l rows stmt db) tables_now from)
 
-    are_by : (plan : Plan) → AreRowsSeen read.table plan h w (commits h) rows → rows ≡ rows_in_range plan p.schema (rows_of read.table (newest h))
-    are_by plan seen_rows = seen_rows p.schema p.there ∙ ap (rows_in_range plan p.schema) (sym (rows_alike read.table in-order))
+    are_by : (plan : Plan) → AreRowsSeen table plan h w (commits h) rows → rows ≡ rows_in_range plan p.schema (rows_of table (newest h))
+    are_by plan seen_rows = seen_rows p.schema p.there ∙ ap (rows_in_range plan p.schema) (sym (rows_alike table in-order))
 
     pub answer_now : answer ≡ outcome stmt (newest h)
     answer_now = elim (read.newest w alone) [
-      | inl ranged ↦ by_plan (newest h) read.table p.schema there p.indexable fit read.plan answer rows (are_by read.plan ranged) stmt plain reads p.chosen
+      | inl ranged ↦ by_plan (newest h) table p.schema there p.indexable fit read.plan answer rows (are_by read.plan ranged) stmt plain reads p.chosen
           answers_now
-      | inr all ↦ by_all (newest h) read.table p.schema there p.indexable fit read.plan answer stmt rows reads
-          (are_by whole_index all ∙ whole_range p.schema (rows_of read.table (newest h))) answers_now
+      | inr all ↦ by_all (newest h) table p.schema there p.indexable fit read.plan answer stmt rows reads
+          (are_by whole_index all ∙ whole_range p.schema (rows_of table (newest h))) answers_now
     ]
 
 loose_now : (s : ℕ) (e : Event) (h : List Event) → IsLooseReading s newest (IsQuiet s) (newest (e ∷ h)) (e ∷ h)
@@ -112,12 +112,12 @@ seen_now h s stmt answer some dirty is =
     }
 
 -- of what a call gives that may find no memory
-pub newest_outcome : {E : Type 0} (h : List Event) (w s : ℕ) (stmt : Stmt) (rows : List (List Value)) → ((u : ℕ) → u ≢ w → own u h ≡ []) → IsOrdered h
-    → AreStanding h → IsInOrder h → FitsThen h → level s h ≡ Some ReadUncommitted → is_plain_select stmt ≡ true → AreRead h stmt rows
+pub newest_outcome : {E : Type 0} (h : List Event) (w s : ℕ) (stmt : Stmt) (table : ℕ) (rows : List (List Value)) → ((u : ℕ) → u ≢ w → own u h ≡ []) → IsOrdered h
+    → AreStanding h → IsInOrder h → FitsThen h → level s h ≡ Some ReadUncommitted → is_plain_select stmt ≡ true → AreRead h stmt table rows
     → (schemas : List Schema) → schemas ≡ created h → (r : Result Outcome E) → IfOk r
     (λ answer. (db : Database) → IsReadFrom schemas rows stmt db → answer ≡ outcome stmt db) → IfOk r (λ answer. IsSeen h h s stmt answer.reply)
-newest_outcome h w s stmt rows alone ordered stands in-order fits dirty plain read schemas same (Err e) answers = answers
-newest_outcome h w s stmt rows alone ordered stands in-order fits dirty plain read schemas same (Ok answer) answers =
+newest_outcome h w s stmt table rows alone ordered stands in-order fits dirty plain read schemas same (Err e) answers = answers
+newest_outcome h w s stmt table rows alone ordered stands in-order fits dirty plain read schemas same (Ok answer) answers =
     seen_now h s stmt answer (has_past h s dirty) dirty
-    (answer_now h w alone ordered stands stmt plain rows read in-order fits answer
+    (answer_now h w alone ordered stands stmt plain table rows read in-order fits answer
     (λ db from. answers db (subst (λ (l : List Schema). IsReadFrom l rows stmt db) (sym same) from)))

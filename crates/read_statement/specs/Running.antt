@@ -1,5 +1,5 @@
 -- What holds of a SELECT between its steps.
-use Rattle.std.specs.Prelude.{◌≡◌, ◌≢◌, ◌⊎◌, ℕ, ◌+◌, ◌<◌, Bool, true, false, Some, List, [], length}
+use Rattle.std.specs.Prelude.{◌≡◌, ◌≢◌, ◌⊎◌, ℕ, ◌+◌, ◌<◌, Bool, true, false, Some, None, List, [], length}
 use Rattle.std.specs.List.{AllByRecursion}
 use Rattle.inno_types.specs.declared.lock.Level.{Level}
 use Rattle.inno_types.specs.declared.lock.Level.TheVariants.{RepeatableRead, Serializable}
@@ -9,6 +9,7 @@ use Rattle.inno_types.specs.declared.reply.Reply.{Reply}
 use Rattle.inno_types.specs.declared.reply.Reply.TheVariants as replies
 use Rattle.inno_db.specs.Database.{Database}
 use Rattle.inno_db.specs.Outcome.{outcome}
+use Rattle.inno_db.specs.Refusals.{refusal}
 use Rattle.inno_model.specs.declared.event.Event.{Event}
 use Rattle.inno_model.specs.declared.event.Event.TheVariants as events
 use Rattle.inno_model.specs.Past.{before_item, of_item, did, begins_txn, takes_view, commits_txn, rolls_back_txn, level, own, view_of, awaits_ack, IsOpen, IsClosed}
@@ -43,6 +44,10 @@ pub record IsTakenWith (autocommit : Bool) (l : Level) (s : ℕ) (stmt : Stmt) (
   pub autocommit_is : taken.takes.setting.autocommit ≡ autocommit
   pub level_is : next_level taken.takes.setting ≡ l
 
+-- Its text and the tables that are there don't refuse it, nor do they with tables that come later.
+abbrev pub IsUnrefused : Stmt → List Event → Type 0
+IsUnrefused stmt h = refusal (created h) stmt ≡ None
+
 -- A SELECT that has done nothing yet.
 pub record IsOpening (h : List Event) (s : ℕ) (asked : Asked) : Type 0 where
   pub takes : Takes Spells s asked.stmt h
@@ -51,6 +56,7 @@ pub record IsOpening (h : List Event) (s : ℕ) (asked : Asked) : Type 0 where
   pub rows_alone : HasRowsAlone s h
   pub autocommit_is : takes.setting.autocommit ≡ asked.autocommit
   pub level_is : next_level takes.setting ≡ asked.level
+  pub unrefused : IsUnrefused asked.stmt h
 
 -- ---- before the end of its transaction
 
@@ -76,6 +82,7 @@ pub record IsEarly (h : List Event) (s : ℕ) (stmt : Stmt) (alone : Bool) : Typ
   pub before_is : own s h ≡ own_before s h
   pub in_txn : IsIn alone takes.setting.autocommit s h
   pub rows_alone : HasRowsAlone s h
+  pub unrefused : IsUnrefused stmt h
 
 -- a consistent read at READ COMMITTED has taken a view of its own
 abbrev pub HasViewed : Level → ℕ → List Event → Type 0
@@ -95,25 +102,22 @@ pub record IsSearching (h : List Event) (s : ℕ) (task : Task) (read : Read) : 
   pub early : IsEarly h s read.stmt read.alone
   pub is_open : IsOpen s h
   pub view : HasView h s
-  pub table : ℕ
   pub plan : Plan
-  pub planned : IsPlanned (created h) read.stmt table plan
-  pub task_is : task ≡ Searching table plan View
+  pub planned : IsPlanned (created h) read.stmt read.table plan
+  pub task_is : task ≡ Searching read.table plan View
 
 -- It has the rows in its plan's range of what its view shows, where all changes are of tables that are there.
 pub record HasFound (h : List Event) (s : ℕ) (found : Found) : Type 0 where
   pub early : IsEarly h s found.stmt found.alone
   pub is_open : IsOpen s h
   pub view : HasView h s
-  pub table : ℕ
   pub plan : Plan
-  pub planned : IsPlanned (created h) found.stmt table plan
+  pub planned : IsPlanned (created h) found.stmt found.table plan
   pub tabled : AllByRecursion (IsTabled (length (created h))) (seen h s view.number)
-  pub rows : AreRowsSeen table plan h s view.number found.rows
+  pub rows : AreRowsSeen found.table plan h s view.number found.rows
 
 -- These are the newest rows of the statement's table that its plan asks for, or all of them.
-pub record AreRead (h : List Event) (stmt : Stmt) (rows : List (List Value)) : Type 0 where
-  pub table : ℕ
+pub record AreRead (h : List Event) (stmt : Stmt) (table : ℕ) (rows : List (List Value)) : Type 0 where
   pub plan : Plan
   pub planned : IsPlanned (created h) stmt table plan
   pub newest : (writer : ℕ) → ((other : ℕ) → other ≢ writer → own other h ≡ []) → AreNewestRows table plan h writer rows

@@ -81,7 +81,13 @@ fn outcome_by<L: SharedLists>(
     ensures { IfOk result (λ outcome. IsSeen lists.now.past lists.now.past session found.now.stmt outcome.reply) }
 {
     let _ = session;
-    plain_on_rows(alloc, lists.lists().schemas(), &found.rows, &found.stmt)
+    plain_on_rows(
+        alloc,
+        lists.lists().schemas(),
+        found.table,
+        &found.rows,
+        &found.stmt,
+    )
 }
 
 /// A SELECT answers rows or a refusal, and nothing else.

@@ -10,7 +10,7 @@ ghost use Rattle.shared_lists.specs.State.{Stays, task_of};
 ghost use Rattle.sql_lists.specs.Going.{Nears};
 ghost use Rattle.sql_lists.specs.Steps.{Steps};
 ghost use Rattle.read_statement.specs.Going.{to_go, NearsTo};
-ghost use Rattle.read_statement.specs.Running.{IsRunning, IsEarly, IsSeen, IsAnswered, AreRead, answers_rows};
+ghost use Rattle.read_statement.specs.Running.{IsRunning, IsEarly, IsSeen, IsAnswered, AreRead, IsUnrefused, answers_rows};
 
 use crate::answering::{Settled, only_answer, settle};
 use crate::closing::close;
@@ -40,12 +40,19 @@ pub fn step_dirty<L: SharedLists>(
     ensures nears { Nears to_go session lists.old (ReadStatement.Open stmt alone) lists.new result.0 result.1 }
 {
     match read_newest(alloc, &stmt, session, lists) {
-        Ok(rows) => answer_newest(alloc, stmt, alone, &rows, session, lists),
+        Ok(read) => answer_newest(alloc, stmt, alone, &read, session, lists),
         Err(_) => {
             drop(stmt);
             (ReadStatement::Failed { alone }, Advance::NoMemory)
         }
     }
+}
+
+/// The newest rows of a statement's table, by number.
+#[derive(Drop)]
+struct Newest {
+    table: u8,
+    rows: Rows,
 }
 
 /// The newest rows of the statement's table.
@@ -54,15 +61,16 @@ fn read_newest<L: SharedLists>(
     stmt: &Stmt,
     session: u32,
     lists: &mut SqlLists<L>,
-) -> Result<Rows, NoMemory>
+) -> Result<Newest, NoMemory>
     requires joined { session < length lists.old.names }
     requires plain { is_plain_select stmt.now ≡ true }
     requires idle { task_of session lists.old ≡ Idle }
     ensures same { Stays session lists.old lists.new }
-    ensures read { IfOk result (AreRead lists.old.past stmt.now) }
+    ensures read { IfOk result (λ read. AreRead lists.old.past stmt.now read.table read.rows) }
 {
     let Planned { table, plan } = plan_search(alloc, stmt, lists)?;
-    lists.read_newest(session, table, plan)
+    let rows = lists.read_newest(session, table, plan)?;
+    Ok(Newest { table, rows })
 }
 
 /// Answers by the rows that were read.
@@ -70,18 +78,18 @@ fn answer_newest<L: SharedLists>(
     alloc: Global,
     stmt: Stmt,
     alone: bool,
-    rows: &Rows,
+    read: &Newest,
     session: u32,
     lists: &mut SqlLists<L>,
 ) -> (ReadStatement, Advance)
     requires joined { session < length lists.old.names }
     requires running { IsRunning lists.old session (ReadStatement.Open stmt alone) }
     requires dirty { level session lists.old.past ≡ Some ReadUncommitted }
-    requires read { AreRead lists.old.past stmt rows.now }
+    requires read { AreRead lists.old.past stmt read.now.table read.now.rows }
     ensures steps { Steps IsRunning session lists.old lists.new result.0 result.1 }
     ensures nears { NearsTo 4 session lists.new result.0 result.1 }
 {
-    let settled = settle_newest(alloc, &stmt, alone, rows, session, lists);
+    let settled = settle_newest(alloc, &stmt, alone, read, session, lists);
     drop(stmt);
     match settled {
         Ok(settled) => close(alone, settled, session, lists),
@@ -94,18 +102,18 @@ fn settle_newest<L: SharedLists>(
     alloc: Global,
     stmt: &Stmt,
     alone: bool,
-    rows: &Rows,
+    read: &Newest,
     session: u32,
     lists: &SqlLists<L>,
 ) -> Result<Settled, NoMemory>
     requires early { IsEarly lists.now.past session stmt.now alone }
     requires is_open { IsOpen session lists.now.past }
     requires dirty { level session lists.now.past ≡ Some ReadUncommitted }
-    requires read { AreRead lists.now.past stmt.now rows.now }
+    requires read { AreRead lists.now.past stmt.now read.now.table read.now.rows }
     ensures answered { IfOk result (λ settled. IsAnswered lists.now.past session alone settled.kept settled.given) }
     ensures within { IfOk result (λ settled. IsWithin settled.kept lists.now.past) }
 {
-    let given = newest_reply(alloc, stmt, rows, session, lists)?;
+    let given = newest_reply(alloc, stmt, read, session, lists)?;
     settle(given, stmt, alone, session, lists)
 }
 
@@ -113,34 +121,36 @@ fn settle_newest<L: SharedLists>(
 fn newest_reply<L: SharedLists>(
     alloc: Global,
     stmt: &Stmt,
-    rows: &Rows,
+    read: &Newest,
     session: u32,
     lists: &SqlLists<L>,
 ) -> Result<Reply, NoMemory>
     requires plain { is_plain_select stmt.now ≡ true }
+    requires unrefused { IsUnrefused stmt.now lists.now.past }
     requires dirty { level session lists.now.past ≡ Some ReadUncommitted }
-    requires read { AreRead lists.now.past stmt.now rows.now }
+    requires read { AreRead lists.now.past stmt.now read.now.table read.now.rows }
     ensures seen { IfOk result (λ reply. IsSeen lists.now.past lists.now.past session stmt.now reply) }
     ensures kind { IfOk result (λ reply. answers_rows reply ≡ true) }
 {
-    let Outcome { reply, .. } = newest_outcome(alloc, stmt, rows, session, lists)?;
+    let Outcome { reply, .. } = newest_outcome(alloc, stmt, read, session, lists)?;
     only_answer(reply)
 }
 
 fn newest_outcome<L: SharedLists>(
     alloc: Global,
     stmt: &Stmt,
-    rows: &Rows,
+    read: &Newest,
     session: u32,
     lists: &SqlLists<L>,
 ) -> Result<Outcome, NoMemory>
     requires plain { is_plain_select stmt.now ≡ true }
+    requires unrefused { IsUnrefused stmt.now lists.now.past }
     requires dirty { level session lists.now.past ≡ Some ReadUncommitted }
-    requires read { AreRead lists.now.past stmt.now rows.now }
+    requires read { AreRead lists.now.past stmt.now read.now.table read.now.rows }
     ensures { IfOk result (λ outcome. IsSeen lists.now.past lists.now.past session stmt.now outcome.reply) }
 {
     let _writer = only_writer(session, lists);
-    plain_on_rows(alloc, lists.lists().schemas(), rows, stmt)
+    plain_on_rows(alloc, lists.lists().schemas(), read.table, &read.rows, stmt)
 }
 
 /// The session that alone may have changes.

@@ -1,8 +1,9 @@
 //! The states of a SELECT, and its step by each.
 
-ghost use Rattle.std.specs.Prelude.{◌≡◌, ◌<◌, ℕ, length, true, false};
+ghost use Rattle.std.specs.Prelude.{◌≡◌, ◌<◌, ℕ, length, true, false, None};
+ghost use Rattle.inno_db.specs.Refusals.{refusal};
 ghost use Rattle.sql_history.specs.Readings.{is_plain_select};
-ghost use Rattle.sql_history.specs.Statements.{is_select};
+ghost use Rattle.sql_history.specs.Statements.{is_select, schemas_now};
 ghost use Rattle.shared_lists.specs.Tasks.{Idle};
 ghost use Rattle.shared_lists.specs.State.{State, task_of};
 ghost use Rattle.sql_lists.specs.Going.{Nears, NearsAcked};
@@ -29,10 +30,11 @@ pub struct Asked {
     pub level: Level,
 }
 
-/// A SELECT whose search of its table is under way.
+/// A SELECT whose search of its table, by number, is under way.
 #[derive(Drop)]
 pub struct Read {
     pub stmt: Stmt,
+    pub table: u8,
     pub alone: bool,
 }
 
@@ -40,6 +42,7 @@ pub struct Read {
 #[derive(Drop)]
 pub struct Found {
     pub stmt: Stmt,
+    pub table: u8,
     pub alone: bool,
     pub rows: Rows,
 }
@@ -64,7 +67,7 @@ pub enum ReadStatement {
 }
 
 impl ReadStatement {
-    /// A SELECT that was taken with these settings of its session.
+    /// A SELECT that was taken with these settings of its session, and that nothing refused at once. Later steps rest on that.
     pub fn new<L: SharedLists>(
         stmt: Stmt,
         autocommit: bool,
@@ -75,6 +78,7 @@ impl ReadStatement {
         requires joined { session < length lists.now.names }
         requires select { is_select stmt ≡ true }
         requires taken { IsTakenWith autocommit level session stmt lists.now.past }
+        requires unrefused { refusal (schemas_now session lists.now.past) stmt ≡ None }
         requires idle { task_of session lists.now ≡ Idle }
         ensures { IsRunning lists.now session result }
     {
@@ -83,8 +87,9 @@ impl ReadStatement {
             autocommit,
             level,
         };
+        // that the session's tables are all that were made follows from what the lists say of their history
+        let _ = lists.lists();
         let _ = session;
-        let _ = lists;
         ReadStatement::Opening(asked)
     }
 

@@ -139,7 +139,7 @@ fn begin_search<L: SharedLists>(
     let Planned { table, plan } = planned;
     match lists.begin_search(session, table, plan, Reading::View) {
         Ok(()) => (
-            ReadStatement::Searching(Read { stmt, alone }),
+            ReadStatement::Searching(Read { stmt, table, alone }),
             Advance::Went,
         ),
         Err(_) => {

@@ -27,9 +27,14 @@ pub fn step_searching<L: SharedLists>(
     match lists.search(session) {
         Searched::Went => (ReadStatement::Searching(read), Advance::Went),
         Searched::Found(rows) => {
-            let Read { stmt, .. } = read;
+            let Read { stmt, table, .. } = read;
             (
-                ReadStatement::Found(Found { stmt, alone, rows }),
+                ReadStatement::Found(Found {
+                    stmt,
+                    table,
+                    alone,
+                    rows,
+                }),
                 Advance::Went,
             )
         }

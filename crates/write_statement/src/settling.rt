@@ -10,7 +10,7 @@ ghost use Rattle.write_statement.specs.Settling.{IsSettledBy, is_refusal};
 
 use inno_db::{Change, Outcome};
 use inno_types::{Listed, Reply, Rows, Schema, Stmt};
-use plain_sql::plain_on_table;
+use plain_sql::plain_on_rows;
 use std::alloc::Global;
 use store_api::NoMemory;
 
@@ -34,7 +34,7 @@ pub fn settle(
     requires table_is { table_read schemas.now stmt.now ≡ Some table }
     ensures { IfOk result (λ settled. (db : Database) → IsReadFrom schemas.now rows.now stmt.now db → IsSettledBy stmt.now db settled) }
 {
-    let Outcome { reply, changes } = outcome_on(alloc, schemas, table, rows, stmt)?;
+    let Outcome { reply, changes } = plain_on_rows(alloc, schemas, table, rows, stmt)?;
     match reply {
         Reply::Count(_) => {
             let mut todo = changes.into_vec();
@@ -49,24 +49,6 @@ pub fn settle(
                 given,
             })
         }
-    }
-}
-
-/// Its outcome over such a database.
-fn outcome_on(
-    alloc: Global,
-    schemas: &Listed<Schema>,
-    table: u8,
-    rows: &Rows,
-    stmt: &Stmt,
-) -> Result<Outcome, NoMemory>
-    requires unrefused { refusal schemas.now stmt.now ≡ None }
-    requires table_is { table_read schemas.now stmt.now ≡ Some table }
-    ensures { IfOk result (λ answer. (db : Database) → IsReadFrom schemas.now rows.now stmt.now db → answer ≡ outcome stmt.now db) }
-{
-    match schemas.as_slice().get(usize::from(table)) {
-        Some(schema) => plain_on_table(alloc, table, schema, rows, stmt),
-        None => Err(NoMemory),
     }
 }
 

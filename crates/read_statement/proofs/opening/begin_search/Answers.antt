@@ -13,7 +13,7 @@ begin_search-requires-clause-view g c = λ by-view. ap is_some c.requires.runnin
 pub returns-in-Ok-clause-steps : goal.returns-in-Ok-clause-steps
 returns-in-Ok-clause-steps g c =
     let r = c.requires.running in
-    search_begins c.args.session c.args.planned.table c.args.planned.plan c.args.lists.now c.begin_search.new.self _ r.0 r.1 r.2 c.requires.planned
+    search_begins c.args.session c.args.planned.plan c.args.lists.now c.begin_search.new.self _ r.0 r.1 r.2 c.requires.planned
     c.in-Ok.ensures.ok
 
 pub returns-in-Err-clause-steps : goal.returns-in-Err-clause-steps

@@ -16,6 +16,10 @@ new-requires-in-Write-clause-taken g c =
     (taken_with c.args.session c.requires.running.0 c.args.stmt c.args.lists.now.past c.requires.running.1 c.requires.running.2 c.args.autocommit
     c.args.level c.requires.ready).taken
 
+pub new-requires-in-Read-clause-unrefused : goal.new-requires-in-Read-clause-unrefused
+new-requires-in-Read-clause-unrefused g c =
+    unrefused c.args.session c.requires.ready.0 c.args.stmt c.args.lists.now.past c.requires.ready.2
+
 pub new-requires-in-Write-clause-unrefused : goal.new-requires-in-Write-clause-unrefused
 new-requires-in-Write-clause-unrefused g c =
     unrefused c.args.session c.requires.ready.0 c.args.stmt c.args.lists.now.past c.requires.ready.2
