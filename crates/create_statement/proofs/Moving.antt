@@ -33,7 +33,9 @@ use Rattle.create_statement.specs.Knowing.{IsAt, IsToBegin, IsEmptied, IsCommitt
 use Rattle.create_statement.specs.Running.{RunsBy, IsRunning, owes_ack, acked}
 use Rattle.create_statement.specs.Going.{to_go}
 use Rattle.create_statement.proofs.Tables.{tables_met, tables_begun}
-use Rattle.create_statement.proofs.Stepping.{HasOpened, rows_of_none, emptied_committed, emptied_closed, to_begin_committed, acks_now, committed_skipped, committed_made, acked_now, to_begin_acked, emptied_acked, committed_acked, opened_begun, at_begun, may_begin, may_create, may_commit_made, may_roll_back, opened_created, at_created, gives_up_closed, gives_up_rolled}
+use Rattle.create_statement.proofs.Stepping.{HasOpened, rows_of_none, emptied_committed, emptied_closed, to_begin_committed, acks_now, committed_skipped}
+use Rattle.create_statement.proofs.Stepping.{committed_made, acked_now, to_begin_acked, emptied_acked, committed_acked, opened_begun, at_begun, may_begin}
+use Rattle.create_statement.proofs.Stepping.{may_create, may_commit_made, may_roll_back, opened_created, at_created, gives_up_closed, gives_up_rolled}
 
 -- ---- by the answer
 

@@ -1,5 +1,6 @@
 -- How far the entries of a step have been taken over into the log.
-use Rattle.std.proofs.Common.{◌≡◌, ◌⊎◌, ℕ, suc, ◌+◌, ◌<◌, Bool, true, false, List, [], ◌∷◌, ◌++◌, length, take, drop, get_or, reverse, refl, sym, ap, ◌∙◌, inl, inr, arith}
+use Rattle.std.proofs.Common.{◌≡◌, ◌⊎◌, ℕ, suc, ◌+◌, ◌<◌, Bool, true, false, List, [], ◌∷◌, ◌++◌, length, take, drop, get_or, reverse, refl, sym, ap, ◌∙◌, inl}
+use Rattle.std.proofs.Common.{inr, arith}
 use Rattle.std.proofs.lemmas.Bool.{false≢true}
 use Rattle.std.proofs.lemmas.List.{reverse-append}
 use Rattle.std.proofs.Math.Seq.{drop-cons, take-add}
@@ -51,7 +52,8 @@ dropped i entries e within =
     let next : suc i ≡ i + 1 = omega arith in drop-cons entries i e within ∙ ap (λ n. get_or entries i e ∷ drop n entries) next
 
 -- one entry more was taken over
-pub reverse_more : (i : ℕ) (entries : List Event) (e : Event) → i < length entries → reverse (take (i + 1) entries) ≡ get_or entries i e ∷ reverse (take i entries)
+pub reverse_more : (i : ℕ) (entries : List Event) (e : Event) → i < length entries
+    → reverse (take (i + 1) entries) ≡ get_or entries i e ∷ reverse (take i entries)
 reverse_more i entries e within =
     ap reverse (take-add i 1 entries ∙ ap (λ rest. take i entries ++ take 1 rest) (drop-cons entries i e within))
     ∙ reverse-append (take i entries) (get_or entries i e ∷ [])

@@ -64,7 +64,8 @@ stood page b bytes settled good whole =
     (λ (late : 4096 * (page + 1) ≤ put.0.at). omega (arith, late, put.2.begins)) spares))
     whole
 
-module _ (batch : BatchView) (b s : State) (staged : IsStaged b batch s) (page : ℕ) (out : (other : List ℕ) → IsInBatch batch page other → ⊥) (bytes : List ℕ) where
+module _ (batch : BatchView) (b s : State) (staged : IsStaged b batch s) (page : ℕ) (out : (other : List ℕ) → IsInBatch batch page other
+    → ⊥) (bytes : List ℕ) where
   before : (other : List ℕ) → IsGoodPage page other → WasWhole s.pages (4096 * page) other → WasWhole b.pages (4096 * page) other
   before other is whole =
       ⊎_elim (λ (here : IsInBatch batch page other). absurd (out other here))
@@ -120,7 +121,11 @@ module _ (first : ℕ) (groups : List Group) (base : ℕ → List ℕ) (staged n
   placed_kept kept =
       afterwards (λ x. IsStagedHonestly x staged.batch) (λ x. IsStaged x next.batch) (AreKept groups base pool)
       (λ s. not_each_log (λ x. IsStaged x next.batch) s (λ x p. p.log_is)) old new (λ x b. AreKept groups base pool x)
-      (λ b ticks is. (b, (staged_now staged.batch (held b ticks is).pages.0 b (held b ticks is).pages.1.stands, (ready b ticks is).read_pages), kept b ticks is))
+      (λ b ticks is. (
+        b,
+        (staged_now staged.batch (held b ticks is).pages.0 b (held b ticks is).pages.1.stands, (ready b ticks is).read_pages),
+        kept b ticks is,
+      ))
       stay stands
 
 -- and those that became clean are home

@@ -12,7 +12,8 @@ use Rattle.inno_types.specs.declared.reply.Reply.TheVariants.{Rows}
 use Rattle.inno_types.specs.declared.stmt.Selected.{Selected}
 use Rattle.inno_types.specs.declared.stmt.Set.{Set}
 use Rattle.inno_types.specs.declared.stmt.Stmt.{Stmt}
-use Rattle.inno_types.specs.declared.stmt.Stmt.TheVariants.{CreateTable, Select, Insert, Update, Delete, Begin, Commit, Rollback, RollbackTo, Savepoint, SetAutocommit, SetLevel}
+use Rattle.inno_types.specs.declared.stmt.Stmt.TheVariants.{CreateTable, Select, Insert, Update, Delete, Begin, Commit, Rollback, RollbackTo, Savepoint}
+use Rattle.inno_types.specs.declared.stmt.Stmt.TheVariants.{SetAutocommit, SetLevel}
 use Rattle.inno_db.specs.declared.truth.Truth.{Truth}
 use Rattle.inno_db.specs.declared.truth.Truth.TheVariants.{True, False, Unknown}
 use Rattle.inno_db.specs.Conditions.{matches, truth_of, is_true}
@@ -20,7 +21,8 @@ use Rattle.inno_db.specs.Database.{Database, RowMap, rows_of}
 use Rattle.inno_db.specs.Names.{table_place}
 use Rattle.inno_db.specs.declared.outcome.Outcome.{Outcome}
 use Rattle.inno_db.specs.Refusals.{refusal}
-use Rattle.inno_db.specs.Outcome.{outcome, matching, unless_refused, on_rows, on_number, on_schema, select_answer, update_answer, delete_answer, answered, counted, updated, deleted, selected_of}
+use Rattle.inno_db.specs.Outcome.{outcome, matching, unless_refused, on_rows, on_number, on_schema, select_answer, update_answer, delete_answer, answered}
+use Rattle.inno_db.specs.Outcome.{counted, updated, deleted, selected_of}
 use Rattle.sql_plan.specs.declared.choice.Plan.{Plan}
 use Rattle.sql_plan.specs.Covers.{CoversMatches}
 use Rattle.inno_types.specs.Ranges.{is_from, is_up_to, is_within}

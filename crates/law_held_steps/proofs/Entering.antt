@@ -1,5 +1,6 @@
 -- An entry that changes no row leaves all that is held.
-use Rattle.std.proofs.Common.{◌≡◌, ◌≢◌, ℕ, ◌+◌, ◌<◌, ◌≤◌, ◌==◌, Bool, true, false, Option, Some, None, List, ◌∷◌, length, refl, sym, ap, subst, ◌∙◌, inl, inr, arith, ◌⊎◌}
+use Rattle.std.proofs.Common.{◌≡◌, ◌≢◌, ℕ, ◌+◌, ◌<◌, ◌≤◌, ◌==◌, Bool, true, false, Option, Some, None, List, ◌∷◌, length, refl, sym, ap, subst, ◌∙◌, inl, inr}
+use Rattle.std.proofs.Common.{arith, ◌⊎◌}
 use Rattle.std.specs.Prelude.{slice_get, is_some}
 use Rattle.std.proofs.lemmas.Bool.Decides.{nat_tests, eqb_tells}
 use Rattle.inno_model.specs.declared.event.Event.{Event}
@@ -46,7 +47,8 @@ leaves_rows old new same = record {
   pairs =
       λ index. subst (λ (indexes : ℕ → Index). AreKept (old.indexes index).pairs (indexes index).pairs) (sym same.indexes)
       (same_pairs (old.indexes index).pairs);
-  versions = subst (λ versions. Rattle.row_versions.specs.Versions.Stays old.versions versions) (sym same.versions) (record { told = λ h. h; kept = λ h. refl });
+  versions = subst (λ versions. Rattle.row_versions.specs.Versions.Stays old.versions versions) (sym same.versions)
+      (record { told = λ h. h; kept = λ h. refl });
 }
 
 -- ---- the past of the others
@@ -56,7 +58,8 @@ same_past h s = record { count = refl; item = refl; before = refl; entries = ref
 
 pub others_past : (t s : ℕ) (old new : List Event) → s ≢ t → AddsAtMostOne t old new → IsUntouched old new s
 others_past t s old new differ (inl same) = subst (λ h. IsUntouched old h s) (sym same) (same_past old s)
-others_past t s old new differ (inr adds) = subst (λ h. IsUntouched old h s) (sym adds.2) (untouched adds.0 old s (other_of adds.0 t s adds.1 (λ same. differ (sym same))))
+others_past t s old new differ (inr adds) =
+    subst (λ h. IsUntouched old h s) (sym adds.2) (untouched adds.0 old s (other_of adds.0 t s adds.1 (λ same. differ (sym same))))
 
 pub past_grows : (t : ℕ) (old new : List Event) → AddsAtMostOne t old new → length old ≤ length new
 past_grows t old new (inl same) = subst (λ (h : List Event). length old ≤ length h) (sym same) (omega arith)

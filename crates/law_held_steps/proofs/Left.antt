@@ -1,5 +1,6 @@
 -- Indexes that a session leaves.
-use Rattle.std.proofs.Common.{◌≡◌, ◌≢◌, ◌⊎◌, ⊎_elim, inl, ℕ, ◌<◌, ◌≤◌, Bool, true, false, List, ◌∷◌, length, Option, Some, None, refl, sym, ap, subst, ◌∙◌, ◌+◌, ◌^◌, arith}
+use Rattle.std.proofs.Common.{◌≡◌, ◌≢◌, ◌⊎◌, ⊎_elim, inl, ℕ, ◌<◌, ◌≤◌, Bool, true, false, List, ◌∷◌, length, Option, Some, None, refl, sym, ap, subst, ◌∙◌, ◌+◌}
+use Rattle.std.proofs.Common.{◌^◌, arith}
 use Rattle.std.specs.Prelude.{◌==◌, if◌then◌else◌, slice_get, option_map, is_some}
 use Rattle.std.proofs.lemmas.Bool.{cases_eq}
 use Rattle.std.proofs.lemmas.Bool.Decides.{eqb_tells}
@@ -86,7 +87,14 @@ one_left s index old new c = record {
 
 pub none_left : (s : ℕ) (state : WorldState) → LeavesIndexes s state state
 none_left s state =
-    record { pairs = λ i. same_pairs (state.indexes i).pairs; others = λ u i differs. refl; fewer = λ i by is. is; versions = same_versions state.versions; rest = refl; later = store_stays state.paged }
+    record {
+      pairs = λ i. same_pairs (state.indexes i).pairs;
+      others = λ u i differs. refl;
+      fewer = λ i by is. is;
+      versions = same_versions state.versions;
+      rest = refl;
+      later = store_stays state.paged;
+    }
 
 pub left_then : (s : ℕ) (old mid new : WorldState) → LeavesIndexes s old mid → LeavesIndexes s mid new → LeavesIndexes s old new
 left_then s old mid new first second = record {

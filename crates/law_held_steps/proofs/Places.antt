@@ -47,7 +47,14 @@ left_over s (Some holder) by is = kept (holder == s) is
 -- ---- which steps are such
 
 pub none_moves : (s : ℕ) (state : WorldState) → MovesPlaces s state state
-none_moves s state = record { pairs = λ index. kept_same _ _ refl; places = λ other index differs. refl; fewer = λ index by is. is; versions = stays_same state.versions; rest = refl; later = store_stays state.paged }
+none_moves s state = record {
+  pairs = λ index. kept_same _ _ refl;
+  places = λ other index differs. refl;
+  fewer = λ index by is. is;
+  versions = stays_same state.versions;
+  rest = refl;
+  later = store_stays state.paged;
+}
 
 pub moves_then : (s : ℕ) (old between new : WorldState) → MovesPlaces s old between → MovesPlaces s between new → MovesPlaces s old new
 moves_then s old between new first second = record {

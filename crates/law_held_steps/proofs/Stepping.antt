@@ -1,5 +1,6 @@
 -- A search that is under way goes on, ends or is given up.
-use Rattle.std.proofs.Common.{◌≡◌, ◌≢◌, inl, inr, ℕ, ◌<◌, ◌≤◌, Bool, true, false, List, [], length, map, Option, Some, refl, sym, ap, subst, ◌∙◌, slice_get, arith}
+use Rattle.std.proofs.Common.{◌≡◌, ◌≢◌, inl, inr, ℕ, ◌<◌, ◌≤◌, Bool, true, false, List, [], length, map, Option, Some, refl, sym, ap, subst, ◌∙◌, slice_get}
+use Rattle.std.proofs.Common.{arith}
 use Rattle.std.specs.Prelude.{◌==◌, ◌-◌, filter}
 use Rattle.std.proofs.lemmas.Bool.{cases_lt}
 use Rattle.std.proofs.lemmas.Bool.Decides.{nat_tests}
@@ -214,7 +215,8 @@ module _ (s : ℕ) (old : WorldState) (writer : Option ℕ) (desks : List Desk) 
                   which = on_now.0.searching.key;
                   since = omega arith;
                   finds =
-                      subst (λ (b : Bool). FindsSince b s new held.chains (record on { search = next; cuts = cuts })) (sym (same_number cuts cuts refl)) on_now.0;
+                      subst (λ (b : Bool). FindsSince b s new held.chains (record on { search = next; cuts = cuts }))
+                      (sym (same_number cuts cuts refl)) on_now.0;
                   sight = subst (SightHolds new writer s) (sym on_now.1.sight) (sight_on s old new writer search.scan.sight moves sight_taken);
                 }),
             moves,

@@ -1,5 +1,6 @@
 -- Transactions that open, take views, keep savepoints and end.
-use Rattle.std.proofs.Common.{◌≡◌, ◌≢◌, ⊎_elim, ℕ, ◌+◌, ◌<◌, ◌≤◌, ◌^◌, ◌==◌, eqb, Bool, true, false, cond, Option, Some, None, List, [], ◌∷◌, length, refl, sym, ap, subst, ◌∙◌, inl, inr, arith, ◌⊎◌, eq-eqb}
+use Rattle.std.proofs.Common.{◌≡◌, ◌≢◌, ⊎_elim, ℕ, ◌+◌, ◌<◌, ◌≤◌, ◌^◌, ◌==◌, eqb, Bool, true, false, cond, Option, Some, None, List, [], ◌∷◌, length, refl, sym}
+use Rattle.std.proofs.Common.{ap, subst, ◌∙◌, inl, inr, arith, ◌⊎◌, eq-eqb}
 use Rattle.std.specs.Prelude.{slice_get, slice_set, option_map}
 use Rattle.std.proofs.lemmas.Bool.Decides.{nat_tests, eqb_tells}
 use Rattle.std.proofs.lemmas.List.{length-map}
@@ -224,7 +225,8 @@ module _ (writer : Option ℕ) (cuts : ℕ) (undo : UndoRoom) (room : WorkRoom) 
         entered t writer (writer_without writer t) cuts undo room old new desks desks held rests
         (record {
           agrees =
-              committed_agrees held.chains writer old new t held.agrees (record { session = session; work = work; has_work = has_work; rest = refl; later = later })
+              committed_agrees held.chains writer old new t held.agrees
+              (record { session = session; work = work; has_work = has_work; rest = refl; later = later })
               few;
           adds = inr (Committed t, mine_commits, refl);
           told = record { pairs = told.pairs; versions = told.versions };
@@ -246,7 +248,8 @@ module _ (writer : Option ℕ) (cuts : ℕ) (undo : UndoRoom) (room : WorkRoom) 
         entered t writer (writer_without writer t) cuts undo room old new desks desks held rests
         (record {
           agrees =
-              rolled_back_agrees held.chains writer old new t held.agrees (record { session = session; work = work; has_work = has_work; rest = refl; later = later })
+              rolled_back_agrees held.chains writer old new t held.agrees
+              (record { session = session; work = work; has_work = has_work; rest = refl; later = later })
               none few;
           adds = inr (RolledBack t, mine_rolls, refl);
           told = record { pairs = told.pairs; versions = told.versions };

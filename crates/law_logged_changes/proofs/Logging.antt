@@ -1,5 +1,6 @@
 -- The step that puts a version logs it.
-use Rattle.std.proofs.Common.{◌≡◌, ◌≢◌, inl, inr, ⊎_elim, ℕ, ◌^◌, ◌<◌, true, false, List, [], ◌∷◌, Option, Some, None, refl, sym, ap, subst, ◌∙◌, arith, slice_get}
+use Rattle.std.proofs.Common.{◌≡◌, ◌≢◌, inl, inr, ⊎_elim, ℕ, ◌^◌, ◌<◌, true, false, List, [], ◌∷◌, Option, Some, None, refl, sym, ap, subst, ◌∙◌, arith}
+use Rattle.std.proofs.Common.{slice_get}
 use Rattle.std.specs.Prelude.{◌==◌, is_some}
 use Rattle.std.specs.List.{AllByRecursion}
 use Rattle.std.proofs.lemmas.Bool.{cases_eq, cond-true, cond-false, eq-eqb, ne_eqb}
@@ -32,7 +33,8 @@ use Rattle.row_changes.specs.declared.record_change.RecordChange.{RecordChange}
 use Rattle.row_changes.specs.declared.record_change.RecordReached.TheVariants as records
 use Rattle.row_changes.specs.declared.row_change.RowChange.TheVariants.{Record}
 use Rattle.row_changes.specs.Edits.{change_of, rows_put, version_by}
-use Rattle.row_changes.specs.Records.{IsTable, IsChangingRecord, Records, RecordsEdit, PutsFirst, PutsOver, PutsVersion, ChangesRecord, undo_of_new, undo_of_former, id_for}
+use Rattle.row_changes.specs.Records.{IsTable, IsChangingRecord, Records, RecordsEdit, PutsFirst, PutsOver, PutsVersion, ChangesRecord, undo_of_new}
+use Rattle.row_changes.specs.Records.{undo_of_former, id_for}
 use Rattle.row_changes.specs.Rows.{IsChangingRow, primary_of}
 use Rattle.row_changes.specs.Told.{HasRows}
 use Rattle.row_changes.proofs.Telling.{pairs_told, puts_pairs, tells}

@@ -20,7 +20,8 @@ use Rattle.sql_history.specs.Items.{Language, Asks, base, own_before, point, Has
 use Rattle.sql_history.specs.Settings.{Setting}
 use Rattle.sql_history.specs.Statements.{Sight}
 use Rattle.sql_history.specs.Answers.{MakesFor, Answers, BreaksOff}
-use Rattle.sql_history.specs.Legal.{IsLegal, MadeSome, AnswersRows, EndsCreate, EndsSavepoint, EndsAutocommit, EndsTaken, EndsAsked, EndsEarly, EndsItem, EndsSignal, EndsAwait, EndsBy, IsGivenUp, sight_in}
+use Rattle.sql_history.specs.Legal.{IsLegal, MadeSome, AnswersRows, EndsCreate, EndsSavepoint, EndsAutocommit, EndsTaken, EndsAsked, EndsEarly, EndsItem}
+use Rattle.sql_history.specs.Legal.{EndsSignal, EndsAwait, EndsBy, IsGivenUp, sight_in}
 use Rattle.law_histories.proofs.Entries.{closed_own, unbegun_before}
 use Rattle.law_histories.proofs.Items.{empty_own}
 use Rattle.law_logged_histories.proofs.Outcomes.{MakeOnly, DeclaresOnly, make_append, make_drop, make_turned, outcome_makes}

@@ -1,5 +1,6 @@
 -- Each entry keeps rows, transactions and sessions in agreement with the past.
-use Rattle.std.proofs.Common.{◌≡◌, ◌≢◌, ℕ, zero, suc, ◌+◌, ◌-◌, ◌<◌, ◌≤◌, ◌^◌, Bool, true, false, cond, eqb, Option, Some, None, List, [], ◌∷◌, ◌++◌, length, get_or, set, map, refl, sym, ap, subst, ◌∙◌, inl, inr, arith}
+use Rattle.std.proofs.Common.{◌≡◌, ◌≢◌, ℕ, zero, suc, ◌+◌, ◌-◌, ◌<◌, ◌≤◌, ◌^◌, Bool, true, false, cond, eqb, Option, Some, None, List, [], ◌∷◌, ◌++◌, length}
+use Rattle.std.proofs.Common.{get_or, set, map, refl, sym, ap, subst, ◌∙◌, inl, inr, arith}
 use Rattle.std.proofs.lemmas.Bool.Decides.{nat_tests, eqb_tells}
 use Rattle.std.proofs.lemmas.Bool.{false≢true}
 use Rattle.std.specs.Prelude.{is_some, is_none, ◌==◌}
@@ -22,13 +23,17 @@ use Rattle.read_view.specs.Sight.{Sight, is_seen}
 use Rattle.txn_table.specs.Txns.{Txns, ids_of as active_of, with_id as with_txn_id, without, is_there, id_at}
 use Rattle.row_versions.specs.declared.place.Place.{Place}
 use Rattle.row_versions.specs.declared.version.Version.{Version}
-use Rattle.row_versions.specs.Chains.{Chains, in_model, is_same_place, versions_at, first_seen, newest, older, sees, IsFirstFrom, IsNoneFrom, IsNext, IsLast, Pushes, Pops}
-use Rattle.law_past_agreement.specs.Slots.{Work, Slot, fresh, id_for, id_of_work, txn_of_work, places_of_work, with_view, with_id, with_place, without_place, but_first, first, GivesId, writer_without}
+use Rattle.row_versions.specs.Chains.{Chains, in_model, is_same_place, versions_at, first_seen, newest, older, sees, IsFirstFrom, IsNoneFrom, IsNext, IsLast}
+use Rattle.row_versions.specs.Chains.{Pushes, Pops}
+use Rattle.law_past_agreement.specs.Slots.{Work, Slot, fresh, id_for, id_of_work, txn_of_work, places_of_work, with_view, with_id, with_place, without_place}
+use Rattle.law_past_agreement.specs.Slots.{but_first, first, GivesId, writer_without}
 use Rattle.law_past_agreement.specs.Ids.{given, id_of, is_among, is_settled, opens}
 use Rattle.law_past_agreement.specs.Order.{created, is_creation, IsOfRow, IsTabled, IsUndoable, MayCome}
-use Rattle.law_past_agreement.specs.Rows.{place_in, is_place, is_at, row_of, row_at, row_opened, seen, IsNeeded, row_seen, IsUnseen, IsFirstSeen, IsNoneSeen, IsNextSeen, IsLastSeen, IsNewestSeen}
+use Rattle.law_past_agreement.specs.Rows.{place_in, is_place, is_at, row_of, row_at, row_opened, seen, IsNeeded, row_seen, IsUnseen, IsFirstSeen, IsNoneSeen}
+use Rattle.law_past_agreement.specs.Rows.{IsNextSeen, IsLastSeen, IsNewestSeen}
 use Rattle.law_past_agreement.specs.Changes.{TakesBack}
-use Rattle.law_past_agreement.specs.Agreement.{IsSettled, IsOpenedWith, IsWorkOf, WorkAgrees, SlotAgrees, IsViewOf, ViewAgrees, versions_of, AreVersions, WriterAgrees, owed_by, owed_by_all, IsAgreed}
+use Rattle.law_past_agreement.specs.Agreement.{IsSettled, IsOpenedWith, IsWorkOf, WorkAgrees, SlotAgrees, IsViewOf, ViewAgrees, versions_of, AreVersions}
+use Rattle.law_past_agreement.specs.Agreement.{WriterAgrees, owed_by, owed_by_all, IsAgreed}
 use Rattle.law_past_agreement.proofs.Ids.{AreIds, ids_of, given_few}
 use Rattle.law_past_agreement.proofs.Opens.{active_open, active_none, zero_inactive, opens_of, all_weaker}
 use Rattle.law_past_agreement.proofs.Standing.{work_kept, other_kept, other_id, view_agrees, view_agrees_changed, is_among_all}

@@ -5,7 +5,8 @@ use Rattle.std.specs.Prelude.{filter, ◌==◌}
 use Rattle.std.specs.Ordering.{is_eq, is_lt, eq_by_cmp, nat_cmp, ordering_then}
 use Rattle.std.specs.declared.cmp.Ordering.{Ordering}
 use Rattle.std.specs.declared.cmp.Ordering.TheVariants.{Less, Equal, Greater}
-use Rattle.std.specs.FinMap.{find, is_sorted, entries, entries_sorted, get-entries, IsAntisymmetric, nat_cmp-IsAntisymmetric, int_cmp-IsAntisymmetric, slice_cmp-IsAntisymmetric}
+use Rattle.std.specs.FinMap.{find, is_sorted, entries, entries_sorted, get-entries, IsAntisymmetric, nat_cmp-IsAntisymmetric, int_cmp-IsAntisymmetric}
+use Rattle.std.specs.FinMap.{slice_cmp-IsAntisymmetric}
 use Rattle.std.specs.FinMap.Entries.{below_all, same_entries}
 use Rattle.inno_types.specs.declared.value.Value.{Value}
 use Rattle.inno_types.specs.declared.value.Value.TheVariants.{Null, Int, Text}

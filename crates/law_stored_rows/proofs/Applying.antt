@@ -38,7 +38,8 @@ FitsTables-more schemas more (Remove table key) fits = there-more (λ schema. Is
 
 -- ---- one change
 
-last_storable : (schemas : List Schema) (made : Schema) (n : ℕ) (schema : Schema) → AreStorable schemas → IsStorable made → slice_get (schemas ++ made ∷ []) n ≡ Some schema → IsStorable schema
+last_storable : (schemas : List Schema) (made : Schema) (n : ℕ) (schema : Schema) → AreStorable schemas → IsStorable made
+    → slice_get (schemas ++ made ∷ []) n ≡ Some schema → IsStorable schema
 last_storable [] made zero schema all last is = let same : made ≡ schema = cc in subst IsStorable same last
 last_storable [] made (suc n) schema all last is = absurd (cc)
 last_storable (s ∷ schemas) made zero schema all last is = all zero schema is
@@ -51,28 +52,34 @@ made_fitting db made fitting storable = record {
 }
 
 -- what is found at a place after a row is put there, or elsewhere
-found_put : (P : List Value → Type 0) (here : Bool) (row found : List Value) (before : Option (List Value)) → (here ≡ true → P row) → (before ≡ Some found → P found) → cond here (Some row) before ≡ Some found → P found
+found_put : (P : List Value → Type 0) (here : Bool) (row found : List Value) (before : Option (List Value)) → (here ≡ true → P row)
+    → (before ≡ Some found → P found) → cond here (Some row) before ≡ Some found → P found
 found_put P true row found before put kept is = let same : row ≡ found = cc in subst P same (put refl)
 found_put P false row found before put kept is = kept is
 
-stands_at_its_key : (schemas : List Schema) (table : ℕ) (row : List Value) → IsSomeAnd (slice_get schemas table) (λ schema. FitsTable schema row) → FitsAt schemas (table, key_in schemas table row) row
+stands_at_its_key : (schemas : List Schema) (table : ℕ) (row : List Value) → IsSomeAnd (slice_get schemas table) (λ schema. FitsTable schema row)
+    → FitsAt schemas (table, key_in schemas table row) row
 stands_at_its_key schemas table row fits =
     let found = schema_at (λ schema. FitsTable schema row) (slice_get schemas table) fits in
-    subst (λ (o : Option Schema). IsSomeAnd o (λ schema. FitsTable schema row × (key_in schemas table row ≡ key_of schema row))) (sym found.1) (found.2, key_in-at schemas table found.0 row found.1)
+    subst (λ (o : Option Schema). IsSomeAnd o (λ schema. FitsTable schema row × (key_in schemas table row ≡ key_of schema row))) (sym found.1)
+    (found.2, key_in-at schemas table found.0 row found.1)
 
-put_fitting : (db : Database) (table : ℕ) (row : List Value) → AreFitting db → IsSomeAnd (slice_get db.schemas table) (λ schema. FitsTable schema row) → AreFitting (apply_one db (Put table row))
+put_fitting : (db : Database) (table : ℕ) (row : List Value) → AreFitting db → IsSomeAnd (slice_get db.schemas table) (λ schema. FitsTable schema row)
+    → AreFitting (apply_one db (Put table row))
 put_fitting db table row fitting fits =
     let at : Place = (table, key_in db.schemas table row) in
     record {
       tables = fitting.tables;
       rows = λ place found is.
           found_put (FitsAt db.schemas place) (eq_by_cmp place_cmp place at) row found (get db.rows place)
-          (λ here. subst (λ (p : Place). FitsAt db.schemas p row) (sym (place_cmp-IsAntisymmetric place at (eq_is (place_cmp place at) here))) (stands_at_its_key db.schemas table row fits))
+          (λ here. subst (λ (p : Place). FitsAt db.schemas p row) (sym (place_cmp-IsAntisymmetric place at (eq_is (place_cmp place at) here)))
+          (stands_at_its_key db.schemas table row fits))
           (fitting.rows place found)
           (sym (get-insert place_cmp_total db.rows at row place) ∙ is);
     }
 
-found_removed : (P : List Value → Type 0) (here : Bool) (found : List Value) (before : Option (List Value)) → (before ≡ Some found → P found) → cond here None before ≡ Some found → P found
+found_removed : (P : List Value → Type 0) (here : Bool) (found : List Value) (before : Option (List Value)) → (before ≡ Some found → P found)
+    → cond here None before ≡ Some found → P found
 found_removed P true found before kept is = absurd (cc)
 found_removed P false found before kept is = kept is
 
@@ -80,7 +87,8 @@ removed_fitting : (db : Database) (table : ℕ) (key : Value) → AreFitting db 
 removed_fitting db table key fitting = record {
   tables = fitting.tables;
   rows = λ place found is.
-      found_removed (FitsAt db.schemas place) (eq_by_cmp place_cmp place (table, key)) found (get db.rows place) (fitting.rows place found) (sym (get-remove place_cmp_total db.rows (table, key) place) ∙ is);
+      found_removed (FitsAt db.schemas place) (eq_by_cmp place_cmp place (table, key)) found (get db.rows place) (fitting.rows place found)
+      (sym (get-remove place_cmp_total db.rows (table, key) place) ∙ is);
 }
 
 pub AreFitting-apply_one : (db : Database) (change : Change) → AreFitting db → FitsTables db.schemas change → AreFitting (apply_one db change)
@@ -103,16 +111,19 @@ schemas-apply_one db (Remove table key) = sym (append-nil db.schemas)
 
 -- what fits a database still does after a change
 pub FitsTables-after : (db : Database) (made change : Change) → FitsTables db.schemas change → FitsTables (apply_one db made).schemas change
-FitsTables-after db made change fits = subst (λ (l : List Schema). FitsTables l change) (sym (schemas-apply_one db made)) (FitsTables-more db.schemas (tables_added made) change fits)
+FitsTables-after db made change fits =
+    subst (λ (l : List Schema). FitsTables l change) (sym (schemas-apply_one db made)) (FitsTables-more db.schemas (tables_added made) change fits)
 
 pub AreFitting-apply : (db : Database) (changes : List Change) → AreFitting db → All (FitsTables db.schemas) changes → AreFitting (apply db changes)
 AreFitting-apply db [] fitting all = fitting
 AreFitting-apply db (change ∷ changes) fitting all =
     let here = All-head (FitsTables db.schemas) change changes all in
-    let rest = All-weaker (FitsTables db.schemas) (FitsTables (apply_one db change).schemas) (FitsTables-after db change) changes (All-tail (FitsTables db.schemas) change changes all) in
+    let rest = All-weaker (FitsTables db.schemas) (FitsTables (apply_one db change).schemas) (FitsTables-after db change) changes
+    (All-tail (FitsTables db.schemas) change changes all) in
     AreFitting-apply (apply_one db change) changes (AreFitting-apply_one db change fitting here) rest
 
-pub FitsTables-changed : (db : Database) (earlier : List Change) (change : Change) → FitsTables db.schemas change → FitsTables (changed db earlier).schemas change
+pub FitsTables-changed : (db : Database) (earlier : List Change) (change : Change) → FitsTables db.schemas change
+    → FitsTables (changed db earlier).schemas change
 FitsTables-changed db [] change fits = fits
 FitsTables-changed db (made ∷ earlier) change fits = FitsTables-after (changed db earlier) made change (FitsTables-changed db earlier change fits)
 
@@ -136,5 +147,6 @@ stood_well schemas place row stood =
     subst (λ (l : List Schema). FitsAt l place row) (sym stood.tables)
     (there-more (λ schema. FitsTable schema row × (place.1 ≡ key_of schema row)) stood.db.schemas stood.more place.0 (stood.fitting.rows place row stood.there))
 
-pub AreFitting-mixed : (schemas : List Schema) (rows : RowMap) → AreStorable schemas → ((place : Place) (row : List Value) → get rows place ≡ Some row → StoodWell schemas place row) → AreFitting (record { schemas = schemas; rows = rows })
+pub AreFitting-mixed : (schemas : List Schema) (rows : RowMap) → AreStorable schemas
+    → ((place : Place) (row : List Value) → get rows place ≡ Some row → StoodWell schemas place row) → AreFitting (record { schemas = schemas; rows = rows })
 AreFitting-mixed schemas rows storable each = record { tables = storable; rows = λ place row is. stood_well schemas place row (each place row is) }

@@ -30,12 +30,14 @@ key_of_row schema row fits =
     (key_code k.column.kind (key_of schema row), record { column = k.column; primary = k.primary; present = k.of_kind; spelled = refl })
 
 -- it has a key, and both can be read again
-pub HasRecord : (schema : Schema) (version : Version) → FitsTable schema version.row → (key : List ℕ) × IsRecordOf schema version key (version_code schema version)
+pub HasRecord : (schema : Schema) (version : Version) → FitsTable schema version.row
+    → (key : List ℕ) × IsRecordOf schema version key (version_code schema version)
 HasRecord schema version fits =
     let key = key_of_row schema version.row fits in
     (key.0, record { fits = fits.columns; key_is = key.1; value_is = refl })
 
-length-key : (schema : Schema) (row : List Value) (key : List ℕ) (column : Column) → slice_get schema.columns schema.primary ≡ Some column → IsKeyOf schema row key → length key ≡ key_width column.kind
+length-key : (schema : Schema) (row : List Value) (key : List ℕ) (column : Column) → slice_get schema.columns schema.primary ≡ Some column
+    → IsKeyOf schema row key → length key ≡ key_width column.kind
 length-key schema row key column there is =
     ap length is.spelled ∙ length-key_code is.column.kind (key_of schema row) is.present
     ∙ ap (λ (c : Column). key_width c.kind) (same_column schema.columns schema.primary is.column column is.primary there)
@@ -48,7 +50,8 @@ short_value schema version key value storable is = omega (arith, ap length is.va
 
 -- ---- entries
 
-entry_on : (schema : Schema) (row : List Value) (primary : Kind) (key : Key) → FitsTable schema row → IsKeyOn schema.columns primary key → (bytes : List ℕ) × IsEntryOf schema key row bytes
+entry_on : (schema : Schema) (row : List Value) (primary : Kind) (key : Key) → FitsTable schema row → IsKeyOn schema.columns primary key
+    → (bytes : List ℕ) × IsEntryOf schema key row bytes
 entry_on schema row primary key fits on =
     let value = value_in key.column row in
     let front = key_of_row schema row fits in (
@@ -64,10 +67,12 @@ entry_on schema row primary key fits on =
     )
 
 -- the row has an entry in each secondary key
-pub HasEntries : (schema : Schema) (row : List Value) → IsStorable schema → FitsTable schema row → All (λ key. (bytes : List ℕ) × IsEntryOf schema key row bytes) schema.keys
+pub HasEntries : (schema : Schema) (row : List Value) → IsStorable schema → FitsTable schema row
+    → All (λ key. (bytes : List ℕ) × IsEntryOf schema key row bytes) schema.keys
 HasEntries schema row storable fits = λ k d below. entry_on schema row storable.column.kind (get_or schema.keys k d) fits (storable.keys k d below)
 
-short_entry_on : (schema : Schema) (key : Key) (row : List Value) (bytes : List ℕ) (storable : IsStorable schema) → IsKeyOn schema.columns storable.column.kind key → IsEntryOf schema key row bytes → length bytes ≤ 67
+short_entry_on : (schema : Schema) (key : Key) (row : List Value) (bytes : List ℕ) (storable : IsStorable schema)
+    → IsKeyOn schema.columns storable.column.kind key → IsEntryOf schema key row bytes → length bytes ≤ 67
 short_entry_on schema key row bytes storable on is =
     let width = ap length is.spelled ∙ length-entry_code is.column.kind (value_in key.column row) is.primary is.of_kind in
     let same = ap (λ (c : Column). key_width c.kind) (same_column schema.columns key.column is.column on.column is.there on.there) in
@@ -75,15 +80,19 @@ short_entry_on schema key row bytes storable on is =
     omega (arith, width, same, front, on.short)
 
 -- and no entry is longer than an index takes
-pub short_entries : (schema : Schema) → IsStorable schema → All (λ key. (row : List Value) (bytes : List ℕ) → IsEntryOf schema key row bytes → length bytes ≤ 67) schema.keys
+pub short_entries : (schema : Schema) → IsStorable schema
+    → All (λ key. (row : List Value) (bytes : List ℕ) → IsEntryOf schema key row bytes → length bytes ≤ 67) schema.keys
 short_entries schema storable = λ k d below row bytes is. short_entry_on schema (get_or schema.keys k d) row bytes storable (storable.keys k d below) is
 
 -- ---- what writers of keys and entries ask
 
-pub IsKeyFor-kind : (schema : Schema) (key : Value) (column : Column) → IsKeyFor schema key → slice_get schema.columns schema.primary ≡ Some column → IsOfKind column.kind key
-IsKeyFor-kind schema key column is there = subst (λ (c : Column). IsOfKind c.kind key) (same_column schema.columns schema.primary is.column column is.primary there) is.of_kind
+pub IsKeyFor-kind : (schema : Schema) (key : Value) (column : Column) → IsKeyFor schema key → slice_get schema.columns schema.primary ≡ Some column
+    → IsOfKind column.kind key
+IsKeyFor-kind schema key column is there =
+    subst (λ (c : Column). IsOfKind c.kind key) (same_column schema.columns schema.primary is.column column is.primary there) is.of_kind
 
-pub value_in-kind : (columns : List Column) (row : List Value) (place : ℕ) (column : Column) → IsRowOf columns row → slice_get columns place ≡ Some column → IsOfKindOrNull column.kind (value_in place row)
+pub value_in-kind : (columns : List Column) (row : List Value) (place : ℕ) (column : Column) → IsRowOf columns row
+    → slice_get columns place ≡ Some column → IsOfKindOrNull column.kind (value_in place row)
 value_in-kind columns row place column fits there = of_kind_or_null column (value_in place row) (value-fits columns row place column fits there)
 
 no_key : (kind : Kind) → IsOfKind kind Null → ⊥

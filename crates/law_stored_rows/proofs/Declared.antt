@@ -1,5 +1,6 @@
 -- What a CREATE TABLE declares can be stored.
-use Rattle.std.proofs.Common.{◌≡◌, ℕ, suc, ◌+◌, ◌<◌, ◌≤◌, List, [], ◌∷◌, length, take, drop, Bool, true, false, ◌&&◌, ◌||◌, not, Option, Some, None, refl, sym, ap, ◌∙◌, subst, arith, add-one}
+use Rattle.std.proofs.Common.{◌≡◌, ℕ, suc, ◌+◌, ◌<◌, ◌≤◌, List, [], ◌∷◌, length, take, drop, Bool, true, false, ◌&&◌, ◌||◌, not, Option, Some, None, refl, sym}
+use Rattle.std.proofs.Common.{ap, ◌∙◌, subst, arith, add-one}
 use Rattle.std.specs.Prelude.{All, slice_get, nat_le, sum_by, remove, unwrap_or, if◌then◌else◌}
 use Rattle.std.specs.List.{list_all}
 use Rattle.std.specs.Str.{str_eq_ignore_ascii_case}
@@ -18,7 +19,8 @@ use Rattle.inno_types.specs.declared.stmt.Definition.{Definition}
 use Rattle.inno_types.specs.declared.stmt.Definition.TheVariants as definition
 use Rattle.inno_db.specs.Names.{column_at, column_place}
 use Rattle.inno_db.specs.declared.limits.TheConstants.{MOST_COLUMNS, MOST_BYTES_OF_ROW}
-use Rattle.inno_db.specs.Declarations.{has_twins, is_sized, says_not_null, columns_of, primaries_of, key_columns_of, key_bytes, keys_of, row_bytes, is_short, is_indexable, are_good_columns, are_good_keys, schema_of, declared_by, schema_declared}
+use Rattle.inno_db.specs.Declarations.{has_twins, is_sized, says_not_null, columns_of, primaries_of, key_columns_of, key_bytes, keys_of, row_bytes, is_short}
+use Rattle.inno_db.specs.Declarations.{is_indexable, are_good_columns, are_good_keys, schema_of, declared_by, schema_declared}
 use Rattle.key_codec.specs.Keys.{key_width}
 use Rattle.law_stored_rows.specs.Storable.{record_width, IsKeyOn, IsStorable}
 
@@ -46,7 +48,8 @@ same_sum : (columns : List Column) → sum_by (λ (c : Column). key_bytes c.kind
 same_sum [] = refl
 same_sum (c ∷ cs) = omega (arith, same_width c.kind, same_sum cs, sum_by-cons (λ (c : Column). key_bytes c.kind + 1) c cs, sum_by-cons field_width c cs)
 
-others_sum : (columns : List Column) (place : ℕ) (column : Column) → place < length columns → sum_by field_width (remove columns place) ≤ sum_by field_width columns
+others_sum : (columns : List Column) (place : ℕ) (column : Column) → place < length columns
+    → sum_by field_width (remove columns place) ≤ sum_by field_width columns
 others_sum columns place column there = omega (
   arith,
   sum_by-append field_width (take place columns) (drop (suc place) columns),
@@ -72,7 +75,8 @@ no_null false false = refl
 
 all_hold_no_null : (primary : List ℕ) (definitions : List Definition) → list_all (holds_no_null primary) (columns_of primary definitions) ≡ true
 all_hold_no_null primary [] = refl
-all_hold_no_null primary (definition.Column name kind nullable is_primary ∷ rest) = and_from _ _ (no_null (says_not_null nullable) (str_eq_ignore_ascii_case name primary)) (all_hold_no_null primary rest)
+all_hold_no_null primary (definition.Column name kind nullable is_primary ∷ rest) =
+    and_from _ _ (no_null (says_not_null nullable) (str_eq_ignore_ascii_case name primary)) (all_hold_no_null primary rest)
 all_hold_no_null primary (definition.Primary column ∷ rest) = all_hold_no_null primary rest
 all_hold_no_null primary (definition.Key name column ∷ rest) = all_hold_no_null primary rest
 
@@ -98,40 +102,48 @@ found columns None h = absurd (cc)
 found columns (Some place) h = found_at columns place h
 
 -- the first column of a name has it
-has_name : (columns : List Column) (name : List ℕ) (place : ℕ) (column : Column) → column_place columns name ≡ Some place → slice_get columns place ≡ Some column → str_eq_ignore_ascii_case column.name name ≡ true
+has_name : (columns : List Column) (name : List ℕ) (place : ℕ) (column : Column) → column_place columns name ≡ Some place
+    → slice_get columns place ≡ Some column → str_eq_ignore_ascii_case column.name name ≡ true
 has_name columns name place column is there =
     let first = position-Some (λ c. str_eq_ignore_ascii_case c.name name) columns place column is in
     ap (λ (c : Column). str_eq_ignore_ascii_case c.name name) (sym (get_or_from_slice_get columns place column column there)) ∙ first.1
 
 -- a column that is there passes what all pass
-passes_at : (test : Column → Bool) (columns : List Column) (place : ℕ) (column : Column) → list_all test columns ≡ true → slice_get columns place ≡ Some column → test column ≡ true
+passes_at : (test : Column → Bool) (columns : List Column) (place : ℕ) (column : Column) → list_all test columns ≡ true
+    → slice_get columns place ≡ Some column → test column ≡ true
 passes_at test columns place column all there =
-    ap test (sym (get_or_from_slice_get columns place column column there)) ∙ AllPass-from_list_all test columns all place column (slice_get_within columns place column there)
+    ap test (sym (get_or_from_slice_get columns place column column there)) ∙
+    AllPass-from_list_all test columns all place column (slice_get_within columns place column there)
 
-takes_no_null : (columns : List Column) (primary : List ℕ) (place : ℕ) (column : Column) → list_all (holds_no_null primary) columns ≡ true → column_place columns primary ≡ Some place → slice_get columns place ≡ Some column → column.not_null ≡ true
+takes_no_null : (columns : List Column) (primary : List ℕ) (place : ℕ) (column : Column) → list_all (holds_no_null primary) columns ≡ true
+    → column_place columns primary ≡ Some place → slice_get columns place ≡ Some column → column.not_null ≡ true
 takes_no_null columns primary place column all is there =
-    not_null_if (str_eq_ignore_ascii_case column.name primary) column.not_null (passes_at (holds_no_null primary) columns place column all there) (has_name columns primary place column is there)
+    not_null_if (str_eq_ignore_ascii_case column.name primary) column.not_null (passes_at (holds_no_null primary) columns place column all there)
+    (has_name columns primary place column is there)
 
 -- ---- secondary keys
 
 abbrev can_be_indexed : List Column → List ℕ → Bool
 can_be_indexed columns name = is_indexable (column_at columns (column_place columns name))
 
-key_on : (columns : List Column) (primary : Kind) (key : Key) (place : Option ℕ) → key.column ≡ unwrap_or place 0 → key_width primary ≤ 33 → IsFound columns place → IsKeyOn columns primary key
+key_on : (columns : List Column) (primary : Kind) (key : Key) (place : Option ℕ) → key.column ≡ unwrap_or place 0 → key_width primary ≤ 33
+    → IsFound columns place → IsKeyOn columns primary key
 key_on columns primary key place is narrow f = record {
   column = f.column;
   there = ap (slice_get columns) is ∙ f.there;
   short = omega (arith, narrow, short_width f.column.kind f.short);
 }
 
-keys_on : (columns : List Column) (primary : Kind) (definitions : List Definition) → key_width primary ≤ 33 → list_all (can_be_indexed columns) (key_columns_of definitions) ≡ true → All (IsKeyOn columns primary) (keys_of columns definitions)
+keys_on : (columns : List Column) (primary : Kind) (definitions : List Definition) → key_width primary ≤ 33
+    → list_all (can_be_indexed columns) (key_columns_of definitions) ≡ true → All (IsKeyOn columns primary) (keys_of columns definitions)
 keys_on columns primary [] narrow all = All-nil (IsKeyOn columns primary)
 keys_on columns primary (definition.Column name kind nullable is_primary ∷ rest) narrow all = keys_on columns primary rest narrow all
 keys_on columns primary (definition.Primary column ∷ rest) narrow all = keys_on columns primary rest narrow all
 keys_on columns primary (definition.Key name column ∷ rest) narrow all =
     let here = both (can_be_indexed columns column) (list_all (can_be_indexed columns) (key_columns_of rest)) all in
     let others = keys_on columns primary rest narrow here.1 in
-    All-cons (IsKeyOn columns primary) _ (keys_of columns rest) (key_on columns primary _ (column_place columns column) refl narrow (found columns (column_place columns column) here.0)) others
+    All-cons (IsKeyOn columns primary) _ (keys_of columns rest)
+    (key_on columns primary _ (column_place columns column) refl narrow (found columns (column_place columns column) here.0)) others
 
 as_many_keys : (columns : List Column) (definitions : List Definition) → length (keys_of columns definitions) ≡ length (key_columns_of definitions)
 as_many_keys columns [] = refl
@@ -148,7 +160,8 @@ few_bytes columns sound =
     let rest = both (not (has_twins columns)) small apart.1 in
     at_most (row_bytes columns) 1000 (both (list_all (λ c. is_sized c.kind) columns) (nat_le (row_bytes columns) MOST_BYTES_OF_ROW) rest.1).1
 
-storable : (table primary : List ℕ) (definitions : List Definition) → are_good_columns (columns_of primary definitions) ≡ true → are_good_keys primary (columns_of primary definitions) definitions ≡ true
+storable : (table primary : List ℕ) (definitions : List Definition) → are_good_columns (columns_of primary definitions) ≡ true
+    → are_good_keys primary (columns_of primary definitions) definitions ≡ true
     → IsStorable (schema_of table primary (columns_of primary definitions) definitions)
 storable table primary definitions sound keyed =
     let columns = columns_of primary definitions in
@@ -164,14 +177,16 @@ storable table primary definitions sound keyed =
       short = narrow;
       few = omega (arith, at_most _ _ few.0, as_many_keys columns definitions);
       keys = keys_on columns f.column.kind definitions narrow indexed.1;
-      record_short = short_record (schema_of table primary columns definitions) f.column (few_bytes columns sound) (slice_get_within columns _ f.column f.there);
+      record_short = short_record (schema_of table primary columns definitions) f.column (few_bytes columns sound)
+          (slice_get_within columns _ f.column f.there);
     }
 
 if_some : (test : Bool) (made schema : Schema) → (if test then Some made else None) ≡ Some schema → (test ≡ true) × (made ≡ schema)
 if_some true made schema h = (refl, cc)
 if_some false made schema h = absurd (cc)
 
-by_one : (table : List ℕ) (definitions : List Definition) (primaries : List (List ℕ)) (schema : Schema) → declared_by table definitions primaries ≡ Some schema → IsStorable schema
+by_one : (table : List ℕ) (definitions : List Definition) (primaries : List (List ℕ)) (schema : Schema)
+    → declared_by table definitions primaries ≡ Some schema → IsStorable schema
 by_one table definitions [] schema h = absurd (cc)
 by_one table definitions (primary ∷ another ∷ more) schema h = absurd (cc)
 by_one table definitions (primary ∷ []) schema h =
@@ -180,5 +195,6 @@ by_one table definitions (primary ∷ []) schema h =
     let good = both (are_good_columns columns) (are_good_keys primary columns definitions) is.0 in
     subst IsStorable is.1 (storable table primary definitions good.0 good.1)
 
-pub declared-IsStorable : (table : List ℕ) (definitions : List Definition) (schema : Schema) → schema_declared table definitions ≡ Some schema → IsStorable schema
+pub declared-IsStorable : (table : List ℕ) (definitions : List Definition) (schema : Schema) → schema_declared table definitions ≡ Some schema
+    → IsStorable schema
 declared-IsStorable table definitions schema h = by_one table definitions (primaries_of definitions) schema h

@@ -18,7 +18,8 @@ use Rattle.law_stored_rows.proofs.Pairs.{same_or_not, rising_now, value_now, oth
 
 -- ---- the entries of one key after a change of one of them
 
-module _ (schema : Schema) (column : ℕ) (entries : List Pair) (was now : Value → List Version) (is : HasEntries schema column entries was) (here value : Value) (has : HasKey is.primary.kind here) (has_entry : HasEntry is.indexed.kind value)
+module _ (schema : Schema) (column : ℕ) (entries : List Pair) (was now : Value → List Version) (is : HasEntries schema column entries was)
+    (here value : Value) (has : HasKey is.primary.kind here) (has_entry : HasEntry is.indexed.kind value)
     (alike : TellAlikeBut value column (was here) (now here)) (elsewhere : (other : Value) → is_same_value here other ≡ false → now other ≡ was other) where
   abbrev entry_at : Value → Value → List ℕ
   entry_at key other = entry_code is.indexed.kind other (key_code is.primary.kind key)
@@ -26,26 +27,33 @@ module _ (schema : Schema) (column : ℕ) (entries : List Pair) (was now : Value
   abbrev edited : List Pair
   edited = with_value (entry_at here value) (entry_of column value (now here)) entries
 
-  each_after : (entry : List ℕ) → (entry ≡ entry_at here value) ⊎ (entry ≢ entry_at here value) → is_some (value_of entry edited) ≡ true → IsSomeEntry is.primary.kind is.indexed.kind entry
+  each_after : (entry : List ℕ) → (entry ≡ entry_at here value) ⊎ (entry ≢ entry_at here value) → is_some (value_of entry edited) ≡ true
+      → IsSomeEntry is.primary.kind is.indexed.kind entry
   each_after entry (inl same) there = (here, value, has, has_entry, same)
-  each_after entry (inr differ) there = is.each entry (ap is_some (sym (others_now (entry_at here value) (entry_of column value (now here)) entry entries differ)) ∙ there)
+  each_after entry (inr differ) there =
+      is.each entry (ap is_some (sym (others_now (entry_at here value) (entry_of column value (now here)) entry entries differ)) ∙ there)
 
   -- what another entry says of the place has not changed
-  said_after : (key other : Value) → entry_at key other ≢ entry_at here value → (t s : Bool) → is_same_value here key ≡ t → is_same_value value other ≡ s → entry_of column other (was key) ≡ entry_of column other (now key)
+  said_after : (key other : Value) → entry_at key other ≢ entry_at here value → (t s : Bool) → is_same_value here key ≡ t
+      → is_same_value value other ≡ s → entry_of column other (was key) ≡ entry_of column other (now key)
   said_after key other differ false s place_is value_is = ap (entry_of column other) (sym (elsewhere key place_is))
-  said_after key other differ true false place_is value_is = subst (λ (k : Value). entry_of column other (was k) ≡ entry_of column other (now k)) (same_value here key place_is) (alike other value_is)
+  said_after key other differ true false place_is value_is =
+      subst (λ (k : Value). entry_of column other (was k) ≡ entry_of column other (now k)) (same_value here key place_is) (alike other value_is)
   said_after key other differ true true place_is value_is =
       let one_place : key ≡ here = sym (same_value here key place_is) in
       let one_value : other ≡ value = sym (same_value value other value_is) in
       absurd (differ (λ i. entry_at (one_place i) (one_value i)))
 
-  mark_after : (key other : Value) → HasKey is.primary.kind key → HasEntry is.indexed.kind other → (entry_at key other ≡ entry_at here value) ⊎ (entry_at key other ≢ entry_at here value) → value_of (entry_at key other) edited ≡ entry_of column other (now key)
+  mark_after : (key other : Value) → HasKey is.primary.kind key → HasEntry is.indexed.kind other → (entry_at key other ≡ entry_at here value)
+      ⊎ (entry_at key other ≢ entry_at here value) → value_of (entry_at key other) edited ≡ entry_of column other (now key)
   mark_after key other has_too entry_too (inl same) =
-      let parts = same_entry is.indexed.kind other value (key_code is.primary.kind key) (key_code is.primary.kind here) entry_too.0 has_entry.0 entry_too.1 has_entry.1 same in
+      let parts = same_entry is.indexed.kind other value (key_code is.primary.kind key) (key_code is.primary.kind here) entry_too.0 has_entry.0
+      entry_too.1 has_entry.1 same in
       let key_is = one_key is.primary.kind key here has_too has parts.1 in
       let one_value : value ≡ other = sym parts.0 in
       let one_place : here ≡ key = sym key_is in
-      ap (λ (e : List ℕ). value_of e edited) same ∙ (value_now (entry_at here value) (entry_of column value (now here)) entries is.rising ∙ (λ i. entry_of column (one_value i) (now (one_place i))))
+      ap (λ (e : List ℕ). value_of e edited) same ∙
+      (value_now (entry_at here value) (entry_of column value (now here)) entries is.rising ∙ (λ i. entry_of column (one_value i) (now (one_place i))))
   mark_after key other has_too entry_too (inr differ) =
       others_now (entry_at here value) (entry_of column value (now here)) (entry_at key other) entries differ
       ∙ (is.marks key other has_too entry_too ∙ said_after key other differ (is_same_value here key) (is_same_value value other) refl refl)
@@ -62,7 +70,8 @@ module _ (schema : Schema) (column : ℕ) (entries : List Pair) (was now : Value
   }
 
 -- Entries are those of all rows that tell alike.
-pub entries_alike : (schema : Schema) (column : ℕ) (entries : List Pair) (was now : Value → List Version) → ((key : Value) → TellAlike column (was key) (now key)) → HasEntries schema column entries was → HasEntries schema column entries now
+pub entries_alike : (schema : Schema) (column : ℕ) (entries : List Pair) (was now : Value → List Version)
+    → ((key : Value) → TellAlike column (was key) (now key)) → HasEntries schema column entries was → HasEntries schema column entries now
 entries_alike schema column entries was now alike is = record {
   primary = is.primary;
   primary_is = is.primary_is;
@@ -76,7 +85,8 @@ entries_alike schema column entries was now alike is = record {
 -- ---- which entries a change of a row asks for
 
 -- a row with one value has no other
-other_value : (column : ℕ) (value other : Value) (row : Option (List Value)) → has_value column value row ≡ true → is_same_value value other ≡ false → has_value column other row ≡ false
+other_value : (column : ℕ) (value other : Value) (row : Option (List Value)) → has_value column value row ≡ true → is_same_value value other ≡ false
+    → has_value column other row ≡ false
 other_value column value other None has apart = absurd (true≢false (sym has))
 other_value column value other (Some row) has apart = apart_from value other (value_in column row) apart has
 
@@ -87,12 +97,14 @@ no_row column value row none = ap (has_value column value) none
 abbrev telling : Bool → Bool → Option (List ℕ)
 telling some first = cond some (Some (mark_code (not first) ∷ [])) None
 
-newest_has : (column : ℕ) (value : Value) (versions : List Version) → has_value column value (newest versions) ≡ true → list_any (λ version. has_value column value version.row) versions ≡ true
+newest_has : (column : ℕ) (value : Value) (versions : List Version) → has_value column value (newest versions) ≡ true
+    → list_any (λ version. has_value column value version.row) versions ≡ true
 newest_has column value [] has = absurd (true≢false (sym has))
 newest_has column value (version ∷ versions) has = rw has refl
 
 -- a version without the value is put in front of versions of which the newest hasn't it either
-hidden : (column : ℕ) (value : Value) (version : Version) (versions : List Version) → has_value column value version.row ≡ false → has_value column value (newest versions) ≡ false → entry_of column value versions ≡ entry_of column value (version ∷ versions)
+hidden : (column : ℕ) (value : Value) (version : Version) (versions : List Version) → has_value column value version.row ≡ false
+    → has_value column value (newest versions) ≡ false → entry_of column value versions ≡ entry_of column value (version ∷ versions)
 hidden column value version versions apart not_newest = rw (apart, not_newest) refl
 
 behind_alike : (first second any : Bool) → first ≡ second → telling (second || any) second ≡ telling (first || (second || any)) first
@@ -100,47 +112,65 @@ behind_alike first true any same = rw same refl
 behind_alike first false any same = rw same refl
 
 -- a version in front that has the value where the newest one has it
-pub same_tells : (column : ℕ) (value : Value) (version : Version) (versions : List Version) → has_value column value version.row ≡ has_value column value (newest versions) → entry_of column value versions ≡ entry_of column value (version ∷ versions)
+pub same_tells : (column : ℕ) (value : Value) (version : Version) (versions : List Version)
+    → has_value column value version.row ≡ has_value column value (newest versions)
+    → entry_of column value versions ≡ entry_of column value (version ∷ versions)
 same_tells column value version [] same = rw same refl
 same_tells column value version (first ∷ versions) same =
     behind_alike (has_value column value version.row) (has_value column value first.row) (list_any (λ v. has_value column value v.row) versions) same
 
 -- The newest row's entry is marked: as a version without a row in front would have it.
-pub marked : (column : ℕ) (value : Value) (gone : Version) (versions : List Version) → has_value column value (newest versions) ≡ true → gone.row ≡ None → TellAlikeBut value column versions (gone ∷ versions)
-marked column value gone versions has none other apart = hidden column other gone versions (no_row column other gone.row none) (other_value column value other (newest versions) has apart)
+pub marked : (column : ℕ) (value : Value) (gone : Version) (versions : List Version) → has_value column value (newest versions) ≡ true
+    → gone.row ≡ None → TellAlikeBut value column versions (gone ∷ versions)
+marked column value gone versions has none other apart =
+    hidden column other gone versions (no_row column other gone.row none) (other_value column value other (newest versions) has apart)
 
-pub is_marked : (column : ℕ) (value : Value) (gone : Version) (versions : List Version) → has_value column value (newest versions) ≡ true → gone.row ≡ None → entry_of column value (gone ∷ versions) ≡ Some (1 ∷ [])
+pub is_marked : (column : ℕ) (value : Value) (gone : Version) (versions : List Version) → has_value column value (newest versions) ≡ true
+    → gone.row ≡ None → entry_of column value (gone ∷ versions) ≡ Some (1 ∷ [])
 is_marked column value gone versions has none = rw (no_row column value gone.row none, newest_has column value versions has) refl
 
 -- The new row's entry is put where the newest version has no row.
-pub put : (column : ℕ) (value : Value) (version : Version) (versions : List Version) → has_value column value version.row ≡ true → newest versions ≡ None → TellAlikeBut value column versions (version ∷ versions)
-put column value version versions has none other apart = hidden column other version versions (other_value column value other version.row has apart) (no_row column other (newest versions) none)
+pub put : (column : ℕ) (value : Value) (version : Version) (versions : List Version) → has_value column value version.row ≡ true
+    → newest versions ≡ None → TellAlikeBut value column versions (version ∷ versions)
+put column value version versions has none other apart = hidden column other version versions (other_value column value other version.row has apart)
+    (no_row column other (newest versions) none)
 
-pub is_put : (column : ℕ) (value : Value) (version : Version) (versions : List Version) → has_value column value version.row ≡ true → entry_of column value (version ∷ versions) ≡ Some (0 ∷ [])
+pub is_put : (column : ℕ) (value : Value) (version : Version) (versions : List Version) → has_value column value version.row ≡ true
+    → entry_of column value (version ∷ versions) ≡ Some (0 ∷ [])
 is_put column value version versions has = rw has refl
 
-pub passed_over : (column : ℕ) (version gone : Version) (versions : List Version) → gone.row ≡ None → TellAlike column (version ∷ gone ∷ versions) (version ∷ versions)
+pub passed_over : (column : ℕ) (version gone : Version) (versions : List Version) → gone.row ≡ None
+    → TellAlike column (version ∷ gone ∷ versions) (version ∷ versions)
 passed_over column version gone versions none value = rw (no_row column value gone.row none) refl
 
 -- The newest row's entry is taken back: marked where an older version has the value, and removed where none has.
-pub taken : (column : ℕ) (value : Value) (version gone : Version) (versions : List Version) → has_value column value version.row ≡ true → gone.row ≡ None → TellAlikeBut value column (version ∷ versions) (gone ∷ versions)
-taken column value version gone versions has none other apart = rw (no_row column other gone.row none, other_value column value other version.row has apart) refl
+pub taken : (column : ℕ) (value : Value) (version gone : Version) (versions : List Version) → has_value column value version.row ≡ true
+    → gone.row ≡ None → TellAlikeBut value column (version ∷ versions) (gone ∷ versions)
+taken column value version gone versions has none other apart =
+    rw (no_row column other gone.row none, other_value column value other version.row has apart) refl
 
-pub is_taken : (column : ℕ) (value : Value) (gone : Version) (versions : List Version) → gone.row ≡ None → entry_of column value (gone ∷ versions) ≡ cond (list_any (λ version. has_value column value version.row) versions) (Some (1 ∷ [])) None
+pub is_taken : (column : ℕ) (value : Value) (gone : Version) (versions : List Version) → gone.row ≡ None
+    → entry_of column value (gone ∷ versions) ≡ cond (list_any (λ version. has_value column value version.row) versions) (Some (1 ∷ [])) None
 is_taken column value gone versions none = rw (no_row column value gone.row none) refl
 
 -- The entry of the row before is unmarked again.
-pub unmarked : (column : ℕ) (value : Value) (gone : Version) (versions : List Version) → has_value column value (newest versions) ≡ true → gone.row ≡ None → TellAlikeBut value column (gone ∷ versions) versions
+pub unmarked : (column : ℕ) (value : Value) (gone : Version) (versions : List Version) → has_value column value (newest versions) ≡ true
+    → gone.row ≡ None → TellAlikeBut value column (gone ∷ versions) versions
 unmarked column value gone versions has none other apart = sym (marked column value gone versions has none other apart)
 
-pub is_unmarked : (column : ℕ) (value : Value) (versions : List Version) → has_value column value (newest versions) ≡ true → entry_of column value versions ≡ Some (0 ∷ [])
+pub is_unmarked : (column : ℕ) (value : Value) (versions : List Version) → has_value column value (newest versions) ≡ true
+    → entry_of column value versions ≡ Some (0 ∷ [])
 is_unmarked column value versions has = rw (newest_has column value versions has, has) refl
 
-pub without_row : (column : ℕ) (gone : Version) (versions : List Version) → gone.row ≡ None → newest versions ≡ None → TellAlike column versions (gone ∷ versions)
-without_row column gone versions none nothing value = hidden column value gone versions (no_row column value gone.row none) (no_row column value (newest versions) nothing)
+pub without_row : (column : ℕ) (gone : Version) (versions : List Version) → gone.row ≡ None → newest versions ≡ None
+    → TellAlike column versions (gone ∷ versions)
+without_row column gone versions none nothing value =
+    hidden column value gone versions (no_row column value gone.row none) (no_row column value (newest versions) nothing)
 
 -- The new row has the value that the newest row has.
-pub value_again : (column : ℕ) (row : List Value) (version : Version) (versions : List Version) (new_row : List Value) → newest versions ≡ Some row → version.row ≡ Some new_row → value_in column row ≡ value_in column new_row
+pub value_again : (column : ℕ) (row : List Value) (version : Version) (versions : List Version) (new_row : List Value) → newest versions ≡ Some row
+    → version.row ≡ Some new_row → value_in column row ≡ value_in column new_row
     → TellAlike column versions (version ∷ versions)
 value_again column row version versions new_row first second same value =
-    same_tells column value version versions (ap (has_value column value) second ∙ (ap (is_same_value value) (sym same) ∙ ap (has_value column value) (sym first)))
+    same_tells column value version versions (ap (has_value column value) second ∙
+    (ap (is_same_value value) (sym same) ∙ ap (has_value column value) (sym first)))

@@ -24,7 +24,8 @@ all_storable zero schema is = let same : one_table ≡ schema = cc in subst IsSt
 all_storable (suc n) schema is = absurd (cc)
 
 pub it_fits : AreFitting with_one_row
-it_fits = AreFitting-apply_one without_rows (Put 0 one_row) (AreFitting-no_rows (one_table ∷ []) all_storable) (FitsTable-from_row one_table one_row storable (tt, (refl, tt)))
+it_fits = AreFitting-apply_one without_rows (Put 0 one_row) (AreFitting-no_rows (one_table ∷ []) all_storable)
+    (FitsTable-from_row one_table one_row storable (tt, (refl, tt)))
 
 pub has_row : get with_one_row.rows (0, Int (pos 1)) ≡ Some one_row
 has_row = get_put without_rows 0 one_row

@@ -56,7 +56,8 @@ fits_row (column ∷ columns) (value ∷ row) is = (fits_value column value is.0
 
 -- ---- one value of a row
 
-pub value-fits : (columns : List Column) (row : List Value) (place : ℕ) (column : Column) → IsRowOf columns row → slice_get columns place ≡ Some column → FitsColumn column (value_in place row)
+pub value-fits : (columns : List Column) (row : List Value) (place : ℕ) (column : Column) → IsRowOf columns row
+    → slice_get columns place ≡ Some column → FitsColumn column (value_in place row)
 value-fits [] row place column fits there = cc
 value-fits (c ∷ columns) [] place column fits there = absurd fits
 value-fits (c ∷ columns) (value ∷ row) zero column fits there = let same : c ≡ column = cc in subst (λ (k : Column). FitsColumn k value) same fits.0
@@ -84,6 +85,7 @@ FitsTable-from_row schema row storable fits = record {
   key = record {
     column = storable.column;
     primary = storable.primary;
-    of_kind = of_kind storable.column (key_of schema row) storable.not_null (value-fits schema.columns row schema.primary storable.column fits storable.primary);
+    of_kind = of_kind storable.column (key_of schema row) storable.not_null
+        (value-fits schema.columns row schema.primary storable.column fits storable.primary);
   };
 }

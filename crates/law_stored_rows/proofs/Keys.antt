@@ -25,12 +25,14 @@ use Rattle.law_stored_rows.proofs.Tables.{at, clustered_alike, few_of, entries_s
 
 -- ---- clustered indexes stay as they were
 
-pub rows_stay : (schemas : List Schema) (old new : ℕ → List Pair) (kept : ℕ → Option Kept) (chains : Chains) (table which : ℕ) (key : List ℕ) (found : Option (List ℕ)) → which < 4 → Puts old new (key_index table which) key found
+pub rows_stay : (schemas : List Schema) (old new : ℕ → List Pair) (kept : ℕ → Option Kept) (chains : Chains) (table which : ℕ) (key : List ℕ)
+    (found : Option (List ℕ)) → which < 4 → Puts old new (key_index table which) key found
     → AreClustered schemas old kept chains → AreClustered schemas new kept chains
 rows_stay schemas old new kept chains table which key found few puts is = record {
   tables = λ other schema there.
       clustered_alike schema kept (old (clustered_index other)) (new (clustered_index other)) (in_table other chains) (in_table other chains)
-      (at_others old new (key_index table which) key found (clustered_index other) puts (λ same. no_key other table which few (sym same))) (λ value. refl) (is.tables other schema there);
+      (at_others old new (key_index table which) key found (clustered_index other) puts (λ same. no_key other table which few (sym same)))
+      (λ value. refl) (is.tables other schema there);
   nowhere_else = is.nowhere_else;
 }
 
@@ -40,25 +42,33 @@ module _ (was now : Said) (place : Place) (which : ℕ) (versions : List Version
   pub now_says : now place.table which place.key ≡ versions
   now_says =
       says place.table which place.key
-      ∙ cond-true (which == which && is_same_place place place) versions (was place.table which place.key) (and_from (which == which) (is_same_place place place) (eq-eqb which which refl) (place_itself place))
+      ∙ cond-true (which == which && is_same_place place place) versions (was place.table which place.key)
+      (and_from (which == which) (is_same_place place place) (eq-eqb which which refl) (place_itself place))
 
   pub says_apart : (table key : ℕ) (value : Value) → is_same_place place (at table value) ≡ false → now table key value ≡ was table key value
   says_apart table key value apart =
-      says table key value ∙ cond-false (key == which && is_same_place place (at table value)) versions (was table key value) (and_right (key == which) (is_same_place place (at table value)) apart)
+      says table key value ∙
+      cond-false (key == which && is_same_place place (at table value)) versions (was table key value)
+      (and_right (key == which) (is_same_place place (at table value)) apart)
 
   pub others_say : (table key : ℕ) (value : Value) → key ≢ which → now table key value ≡ was table key value
   others_say table key value differ =
-      says table key value ∙ cond-false (key == which && is_same_place place (at table value)) versions (was table key value) (and_left (key == which) (is_same_place place (at table value)) (ne_eqb key which differ))
+      says table key value ∙
+      cond-false (key == which && is_same_place place (at table value)) versions (was table key value)
+      (and_left (key == which) (is_same_place place (at table value)) (ne_eqb key which differ))
 
   pub lag_says : (chains : Chains) → LagAt place chains was → LagAt place chains now
   lag_says chains lag table key value apart = says_apart table key value apart ∙ lag table key value apart
 
 -- ---- one entry of a key is changed
 
-module _ (schemas : List Schema) (old new : ℕ → List Pair) (kept : ℕ → Option Kept) (chains : Chains) (table : ℕ) (schema : Schema) (which : ℕ) (k : Key) (indexed : Column) (key bytes : List ℕ) (coded : Coded) (was now : Said) (versions : List Version)
-    (is : AreCodedAs schemas old kept chains was) (there : slice_get schemas table ≡ Some schema) (also : slice_get schema.keys which ≡ Some k) (indexed_is : slice_get schema.columns k.column ≡ Some indexed)
+module _ (schemas : List Schema) (old new : ℕ → List Pair) (kept : ℕ → Option Kept) (chains : Chains) (table : ℕ) (schema : Schema) (which : ℕ)
+    (k : Key) (indexed : Column) (key bytes : List ℕ) (coded : Coded) (was now : Said) (versions : List Version)
+    (is : AreCodedAs schemas old kept chains was) (there : slice_get schemas table ≡ Some schema) (also : slice_get schema.keys which ≡ Some k)
+    (indexed_is : slice_get schema.columns k.column ≡ Some indexed)
     (code : IsCodeOf schema key bytes coded) (alike : TellAlikeBut (value_in k.column coded.row) k.column (was table which (key_of schema coded.row)) versions)
-    (puts : Puts old new (key_index table which) (entry_code indexed.kind (value_in k.column coded.row) key) (entry_of k.column (value_in k.column coded.row) versions))
+    (puts : Puts old new (key_index table which) (entry_code indexed.kind (value_in k.column coded.row) key)
+    (entry_of k.column (value_in k.column coded.row) versions))
     (says : SaysNow was now (place_in table schema coded.row) which versions) where
   abbrev here : Value
   here = key_of schema coded.row
@@ -89,11 +99,13 @@ module _ (schemas : List Schema) (old new : ℕ → List Pair) (kept : ℕ → O
       let after = entries_after schema k.column pairs (was table which) (now table which) e here value both.0 has_entry told stays in
       let same_entry : entry_code e.indexed.kind value (key_code e.primary.kind here) ≡ entry = λ i. entry_code (one i).kind value (sym both.1 i) in
       let same_mark : entry_of k.column value (now table which here) ≡ entry_of k.column value versions = ap (entry_of k.column value) says_versions in
-      let same_pairs : with_value (entry_code e.indexed.kind value (key_code e.primary.kind here)) (entry_of k.column value (now table which here)) pairs ≡ new (key_index table which)
+      let same_pairs : with_value (entry_code e.indexed.kind value (key_code e.primary.kind here)) (entry_of k.column value (now table which here))
+      pairs ≡ new (key_index table which)
       = (λ i. with_value (same_entry i) (same_mark i) pairs) ∙ sym (at_index old new (key_index table which) entry (entry_of k.column value versions) puts) in
       subst (λ (p : List Pair). HasEntries schema k.column p (now table which)) same_pairs after
 
-  others_now : (other at_key : ℕ) (s : Schema) (c : Key) → slice_get schemas other ≡ Some s → slice_get s.keys at_key ≡ Some c → ((other ≡ table) → (at_key ≡ which) → ⊥)
+  others_now : (other at_key : ℕ) (s : Schema) (c : Key) → slice_get schemas other ≡ Some s → slice_get s.keys at_key ≡ Some c
+      → ((other ≡ table) → (at_key ≡ which) → ⊥)
       → ((v : Value) → now other at_key v ≡ was other at_key v) → HasEntries s c.column (new (key_index other at_key)) (now other at_key)
   others_now other at_key s c is_there is_key differ same =
       entries_same s c.column (old (key_index other at_key)) (new (key_index other at_key)) (was other at_key) (now other at_key)
@@ -101,12 +113,14 @@ module _ (schemas : List Schema) (old new : ℕ → List Pair) (kept : ℕ → O
       (λ e. let parts = other_key table other at_key which (few_of s at_key c (is.keyed.few other s is_there) is_key) few e in differ parts.0 parts.1))
       same (is.keyed.keys other at_key s c is_there is_key)
 
-  each_now : (other at_key : ℕ) (s : Schema) (c : Key) → slice_get schemas other ≡ Some s → slice_get s.keys at_key ≡ Some c → (other ≡ table) ⊎ (other ≢ table) → (at_key ≡ which) ⊎ (at_key ≢ which)
+  each_now : (other at_key : ℕ) (s : Schema) (c : Key) → slice_get schemas other ≡ Some s → slice_get s.keys at_key ≡ Some c
+      → (other ≡ table) ⊎ (other ≢ table) → (at_key ≡ which) ⊎ (at_key ≢ which)
       → HasEntries s c.column (new (key_index other at_key)) (now other at_key)
   each_now other at_key s c is_there is_key (inl same) (inl same_key) =
       let is_table : slice_get schemas table ≡ Some s = subst (λ (t : ℕ). slice_get schemas t ≡ Some s) same is_there in
       let one : schema ≡ s = cc (there, is_table) in
-      let is_which : slice_get schema.keys which ≡ Some c = subst (λ (w : ℕ). slice_get schema.keys w ≡ Some c) same_key (subst (λ (x : Schema). slice_get x.keys at_key ≡ Some c) (sym one) is_key) in
+      let is_which : slice_get schema.keys which ≡ Some c =
+      subst (λ (w : ℕ). slice_get schema.keys w ≡ Some c) same_key (subst (λ (x : Schema). slice_get x.keys at_key ≡ Some c) (sym one) is_key) in
       let one_key : k ≡ c = cc (also, is_which) in
       let At : Schema → Key → ℕ → ℕ → Type 0 = λ x y t w. HasEntries x y.column (new (key_index t w)) (now t w) in
       subst (λ (x : Schema). At x c other at_key) one
@@ -116,7 +130,8 @@ module _ (schemas : List Schema) (old new : ℕ → List Pair) (kept : ℕ → O
   each_now other at_key s c is_there is_key (inl same) (inr differ) =
       others_now other at_key s c is_there is_key (λ a b. differ b) (λ v. others_say was now (at table here) which versions says other at_key v differ)
   each_now other at_key s c is_there is_key (inr differ) which_is =
-      others_now other at_key s c is_there is_key (λ a b. differ a) (λ v. says_apart was now (at table here) which versions says other at_key v (in_other_table (at table here) (at other v) (λ e. differ (sym e))))
+      others_now other at_key s c is_there is_key (λ a b. differ a)
+      (λ v. says_apart was now (at table here) which versions says other at_key v (in_other_table (at table here) (at other v) (λ e. differ (sym e))))
 
   pub entry_changed : AreCodedAs schemas new kept chains now
   entry_changed = record {
@@ -130,25 +145,32 @@ module _ (schemas : List Schema) (old new : ℕ → List Pair) (kept : ℕ → O
 -- ---- how a change ends
 
 -- Each key may be said to say what tells alike.
-pub said_alike : (schemas : List Schema) (indexes : ℕ → List Pair) (kept : ℕ → Option Kept) (chains : Chains) (was now : Said) → AreCodedAs schemas indexes kept chains was
-    → ((table which : ℕ) (schema : Schema) (key : Key) → slice_get schemas table ≡ Some schema → slice_get schema.keys which ≡ Some key → (value : Value) → TellAlike key.column (was table which value) (now table which value))
+pub said_alike : (schemas : List Schema) (indexes : ℕ → List Pair) (kept : ℕ → Option Kept) (chains : Chains) (was now : Said)
+    → AreCodedAs schemas indexes kept chains was
+    → ((table which : ℕ) (schema : Schema) (key : Key) → slice_get schemas table ≡ Some schema → slice_get schema.keys which ≡ Some key
+    → (value : Value) → TellAlike key.column (was table which value) (now table which value))
     → AreCodedAs schemas indexes kept chains now
 said_alike schemas indexes kept chains was now is alike = record {
   clustered = is.clustered;
   keyed = record {
     few = is.keyed.few;
     keys = λ table which schema k there also.
-        entries_alike schema k.column (indexes (key_index table which)) (was table which) (now table which) (alike table which schema k there also) (is.keyed.keys table which schema k there also);
+        entries_alike schema k.column (indexes (key_index table which)) (was table which) (now table which) (alike table which schema k there also)
+        (is.keyed.keys table which schema k there also);
   };
 }
 
 -- Where keys lag at one place alone, and tell alike there, they say what is there.
-pub change_over : (schemas : List Schema) (indexes : ℕ → List Pair) (kept : ℕ → Option Kept) (chains : Chains) (place : Place) (said : Said) → AreCodedAs schemas indexes kept chains said → LagAt place chains said
-    → ((which : ℕ) (schema : Schema) (key : Key) → slice_get schemas place.table ≡ Some schema → slice_get schema.keys which ≡ Some key → TellAlike key.column (said place.table which place.key) (versions_at place chains))
+pub change_over : (schemas : List Schema) (indexes : ℕ → List Pair) (kept : ℕ → Option Kept) (chains : Chains) (place : Place) (said : Said)
+    → AreCodedAs schemas indexes kept chains said → LagAt place chains said
+    → ((which : ℕ) (schema : Schema) (key : Key) → slice_get schemas place.table ≡ Some schema → slice_get schema.keys which ≡ Some key
+    → TellAlike key.column (said place.table which place.key) (versions_at place chains))
     → AreCoded schemas indexes kept chains
 change_over schemas indexes kept chains place said is lag alike =
-    said_alike schemas indexes kept chains said (what_is_there chains) is (λ table which schema k there also value. tells table which schema k there also value (is_same_place place (at table value)) refl) where
-      tells : (table which : ℕ) (schema : Schema) (k : Key) → slice_get schemas table ≡ Some schema → slice_get schema.keys which ≡ Some k → (v : Value) (t : Bool) → is_same_place place (at table v) ≡ t
+    said_alike schemas indexes kept chains said (what_is_there chains) is (λ table which schema k there also value.
+    tells table which schema k there also value (is_same_place place (at table value)) refl) where
+      tells : (table which : ℕ) (schema : Schema) (k : Key) → slice_get schemas table ≡ Some schema → slice_get schema.keys which ≡ Some k
+          → (v : Value) (t : Bool) → is_same_place place (at table v) ≡ t
           → TellAlike k.column (said table which v) (in_table table chains v)
       tells table which schema k there also v true same =
           let Alike : Place → Type 0 = λ p. slice_get schemas p.table ≡ Some schema → TellAlike k.column (said p.table which p.key) (versions_at p chains) in

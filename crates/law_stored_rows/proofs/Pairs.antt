@@ -25,17 +25,21 @@ pub value_now : (key : List ℕ) (value : Option (List ℕ)) (pairs : List Pair)
 value_now key None pairs rising = value_gone key pairs rising
 value_now key (Some value) pairs rising = value_put key value pairs
 
-pub others_now : (key : List ℕ) (value : Option (List ℕ)) (other : List ℕ) (pairs : List Pair) → other ≢ key → value_of other (with_value key value pairs) ≡ value_of other pairs
+pub others_now : (key : List ℕ) (value : Option (List ℕ)) (other : List ℕ) (pairs : List Pair) → other ≢ key
+    → value_of other (with_value key value pairs) ≡ value_of other pairs
 others_now key None other pairs differ = others_stay_without key other pairs differ
 others_now key (Some value) other pairs differ = others_stay key value other pairs differ
 
 -- ---- one index of several
 
-pub at_index : (old new : ℕ → List Pair) (index : ℕ) (key : List ℕ) (value : Option (List ℕ)) → Puts old new index key value → new index ≡ with_value key value (old index)
+pub at_index : (old new : ℕ → List Pair) (index : ℕ) (key : List ℕ) (value : Option (List ℕ)) → Puts old new index key value
+    → new index ≡ with_value key value (old index)
 at_index old new index key value puts = puts index ∙ cond-true (index == index) (with_value key value (old index)) (old index) (eq-eqb index index refl)
 
-pub at_others : (old new : ℕ → List Pair) (index : ℕ) (key : List ℕ) (value : Option (List ℕ)) (other : ℕ) → Puts old new index key value → other ≢ index → new other ≡ old other
-at_others old new index key value other puts differ = puts other ∙ cond-false (other == index) (with_value key value (old index)) (old other) (ne_eqb other index differ)
+pub at_others : (old new : ℕ → List Pair) (index : ℕ) (key : List ℕ) (value : Option (List ℕ)) (other : ℕ) → Puts old new index key value
+    → other ≢ index → new other ≡ old other
+at_others old new index key value other puts differ = puts other ∙
+    cond-false (other == index) (with_value key value (old index)) (old other) (ne_eqb other index differ)
 
 pub other_rows : (table other : ℕ) → other ≢ table → clustered_index other ≢ clustered_index table
 other_rows table other differ same = differ (omega (arith, same))

@@ -64,11 +64,14 @@ apart low high below =
 abbrev pub IsFoundIn : List (Place × List Value) → Place × List Value → Type 0
 IsFoundIn es e = find place_cmp e.0 es ≡ Some e.1
 
-found_behind : (e : Place × List Value) (es fs : List (Place × List Value)) → T (below_all place_cmp e.0 fs) → AllByRecursion (IsFoundIn es) fs → AllByRecursion (IsFoundIn (e ∷ es)) fs
+found_behind : (e : Place × List Value) (es fs : List (Place × List Value)) → T (below_all place_cmp e.0 fs) → AllByRecursion (IsFoundIn es) fs
+    → AllByRecursion (IsFoundIn (e ∷ es)) fs
 found_behind e es [] below found = tt
 found_behind e es (f ∷ fs) below found =
-    let above = apart e.0 f.0 (first (is_lt (place_cmp e.0 f.0)) (below_all place_cmp e.0 fs) below) in
-    (ap (λ b. cond b (Some e.1) (find place_cmp f.0 es)) above ∙ found.0, found_behind e es fs (second (is_lt (place_cmp e.0 f.0)) (below_all place_cmp e.0 fs) below) found.1)
+    let above = apart e.0 f.0 (first (is_lt (place_cmp e.0 f.0)) (below_all place_cmp e.0 fs) below) in (
+      ap (λ b. cond b (Some e.1) (find place_cmp f.0 es)) above ∙ found.0,
+      found_behind e es fs (second (is_lt (place_cmp e.0 f.0)) (below_all place_cmp e.0 fs) below) found.1,
+    )
 
 pub all_found : (es : List (Place × List Value)) → T (is_sorted place_cmp es) → AllByRecursion (IsFoundIn es) es
 all_found [] rising = tt
@@ -101,7 +104,8 @@ module _ (db : Database) (fitting : AreFitting db) where
   pub AreFitting-IsKeyed : IsKeyed db
   AreFitting-IsKeyed = at_keys (entries db.rows) all_stand
 
-  fit_among : (n : ℕ) (schema : Schema) (es : List (Place × List Value)) → slice_get db.schemas n ≡ Some schema → AllByRecursion EntryStands es → AllByRecursion (FitsTable schema) (map (λ (e : Place × List Value). e.1) (filter (λ (e : Place × List Value). e.0.0 == n) es))
+  fit_among : (n : ℕ) (schema : Schema) (es : List (Place × List Value)) → slice_get db.schemas n ≡ Some schema → AllByRecursion EntryStands es
+      → AllByRecursion (FitsTable schema) (map (λ (e : Place × List Value). e.1) (filter (λ (e : Place × List Value). e.0.0 == n) es))
   fit_among n schema [] is all = tt
   fit_among n schema (e ∷ es) is all =
       let rest = fit_among n schema es is all.1 in

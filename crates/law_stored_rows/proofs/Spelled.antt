@@ -23,7 +23,8 @@ plain-Has64Bits : (digits : List ℕ) → LiteralHas64Bits (plain_number digits)
 unfolding plain_number
 plain-Has64Bits digits =
     let n = number_of digits in
-    elim (nat_lt n (2 ^ 63)) as (λ b. nat_lt n (2 ^ 63) ≡ b → LiteralHas64Bits (if b then literal.Int (pos n) else literal.TooBig)) [ true ↦ λ h. below n h | false ↦ λ h. tt ] refl
+    elim (nat_lt n (2 ^ 63)) as (λ b. nat_lt n (2 ^ 63) ≡ b → LiteralHas64Bits (if b then literal.Int (pos n) else literal.TooBig))
+    [ true ↦ λ h. below n h | false ↦ λ h. tt ] refl
 
 at_most : (n : ℕ) → nat_le n (2 ^ 63) ≡ true → FitsSigned w64 (neg_ℤ (pos n))
 at_most zero h = record { sfits = omega arith }
@@ -33,7 +34,8 @@ negative-Has64Bits : (digits : List ℕ) → LiteralHas64Bits (negative_number d
 unfolding negative_number
 negative-Has64Bits digits =
     let n = number_of digits in
-    elim (nat_le n (2 ^ 63)) as (λ b. nat_le n (2 ^ 63) ≡ b → LiteralHas64Bits (if b then literal.Int (neg_ℤ (pos n)) else literal.TooBig)) [ true ↦ λ h. at_most n h | false ↦ λ h. tt ] refl
+    elim (nat_le n (2 ^ 63)) as (λ b. nat_le n (2 ^ 63) ≡ b → LiteralHas64Bits (if b then literal.Int (neg_ℤ (pos n)) else literal.TooBig))
+    [ true ↦ λ h. at_most n h | false ↦ λ h. tt ] refl
 
 literal-Has64Bits : {xs ys : List Token} {l : Literal} → Lit xs l ys → LiteralHas64Bits l
 literal-Has64Bits (grammar.number {digits = digits}) = plain-Has64Bits digits
@@ -43,7 +45,8 @@ literal-Has64Bits grammar.null = tt
 
 -- ---- tuples and assignments
 
-commas-Has64Bits : {A : Type 0} (Item : List Token → A → List Token → Type 0) (P : A → Type 0) → ((xs ys : List Token) (a : A) → Item xs a ys → P a) → {xs ys : List Token} {as' : List A} → Commas Item xs as' ys → All P as'
+commas-Has64Bits : {A : Type 0} (Item : List Token → A → List Token → Type 0) (P : A → Type 0) → ((xs ys : List Token) (a : A) → Item xs a ys → P a)
+    → {xs ys : List Token} {as' : List A} → Commas Item xs as' ys → All P as'
 commas-Has64Bits Item P each (grammar.last {a = a} i) = All-cons P a [] (each _ _ a i) (All-nil P)
 commas-Has64Bits Item P each (grammar.more {a = a} {others = others} i c) = All-cons P a others (each _ _ a i) (commas-Has64Bits Item P each c)
 

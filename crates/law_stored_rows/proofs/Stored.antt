@@ -1,5 +1,6 @@
 -- The numbers that statements store have 64 bits.
-use Rattle.std.proofs.Common.{◌≡◌, ℕ, zero, suc, ◌+◌, ℤ, pos, negsuc, ◌+ℤ◌, ◌-ℤ◌, ◌*ℤ◌, neg_ℤ, true, false, List, [], ◌∷◌, Option, Some, None, Ok, Err, refl, subst, arith}
+use Rattle.std.proofs.Common.{◌≡◌, ℕ, zero, suc, ◌+◌, ℤ, pos, negsuc, ◌+ℤ◌, ◌-ℤ◌, ◌*ℤ◌, neg_ℤ, true, false, List, [], ◌∷◌, Option, Some, None, Ok, Err, refl}
+use Rattle.std.proofs.Common.{subst, arith}
 use Rattle.std.specs.Prelude.{slice_get, slice_set, slice_index_or, FitsSigned, All, if◌then◌else◌}
 use Rattle.std.specs.Int.{w64}
 use Rattle.std.proofs.lemmas.Bool.Decides.{nat_tests}
@@ -77,10 +78,12 @@ value_at-Has64Bits : (row : List Value) (place : Option ℕ) → All Has64Bits r
 value_at-Has64Bits row None all = tt
 value_at-Has64Bits row (Some place) all = at_or Has64Bits Null row place tt all
 
-expr-Has64Bits : (columns : List Column) (row : List Value) (e : Expr) (value : Value) → All Has64Bits row → ExprHas64Bits e → expr_value columns row e ≡ Ok value → Has64Bits value
+expr-Has64Bits : (columns : List Column) (row : List Value) (e : Expr) (value : Value) → All Has64Bits row → ExprHas64Bits e
+    → expr_value columns row e ≡ Ok value → Has64Bits value
 expr-Has64Bits columns row (expr.Literal l) value all fits h = given-Has64Bits l value fits h
 expr-Has64Bits columns row (expr.Column name) value all fits h = subst Has64Bits (ok_same h) (value_at-Has64Bits row (column_place columns name) all)
-expr-Has64Bits columns row (expr.Negate' p e) value all fits h = let a = and_then-ok (expr_value columns row e) negated value h in negated-Has64Bits a.0 value a.2
+expr-Has64Bits columns row (expr.Negate' p e) value all fits h = let a = and_then-ok (expr_value columns row e) negated value h in
+    negated-Has64Bits a.0 value a.2
 expr-Has64Bits columns row (expr.Add' p a q b) value all fits h = both-Has64Bits ◌+ℤ◌ (expr_value columns row a) (expr_value columns row b) value h
 expr-Has64Bits columns row (expr.Subtract' p a q b) value all fits h = both-Has64Bits ◌-ℤ◌ (expr_value columns row a) (expr_value columns row b) value h
 expr-Has64Bits columns row (expr.Multiply' p a q b) value all fits h = both-Has64Bits ◌*ℤ◌ (expr_value columns row a) (expr_value columns row b) value h
@@ -92,38 +95,45 @@ literal_at-Has64Bits tuple None all = tt
 literal_at-Has64Bits tuple (Some place) all = at_or LiteralHas64Bits literal.Null tuple place tt all
 
 -- the row of a tuple
-values_from-Has64Bits : (names : Option (List (List ℕ))) (tuple : List Literal) (place : ℕ) (columns : List Column) (row : List Value) → All LiteralHas64Bits tuple → values_from names tuple place columns ≡ Ok row → All Has64Bits row
+values_from-Has64Bits : (names : Option (List (List ℕ))) (tuple : List Literal) (place : ℕ) (columns : List Column) (row : List Value)
+    → All LiteralHas64Bits tuple → values_from names tuple place columns ≡ Ok row → All Has64Bits row
 values_from-Has64Bits names tuple place [] row all h = subst (All Has64Bits) (ok_same h) (All-nil Has64Bits)
 values_from-Has64Bits names tuple place (column ∷ columns) row all h =
     let l = literal_at tuple (place_in_tuple names place column) in
-    let a = and_then-ok (and_then (literal_given l) (stored column)) (λ value. and_then (values_from names tuple (place + 1) columns) (λ values. Ok (value ∷ values))) row h in
+    let a = and_then-ok (and_then (literal_given l) (stored column))
+    (λ value. and_then (values_from names tuple (place + 1) columns) (λ values. Ok (value ∷ values))) row h in
     let b = and_then-ok (literal_given l) (stored column) a.0 a.1 in
     let d = and_then-ok (values_from names tuple (place + 1) columns) (λ values. Ok (a.0 ∷ values)) row a.2 in
     let value = given-Has64Bits l b.0 (literal_at-Has64Bits tuple (place_in_tuple names place column) all) b.1 in
     let rest = values_from-Has64Bits names tuple (place + 1) columns d.0 all d.1 in
     subst (All Has64Bits) (ok_same d.2) (All-cons Has64Bits a.0 d.0 (subst Has64Bits (stored_same column b.0 a.0 b.2) value) rest)
 
-pub row_of_tuple-Has64Bits : (columns : List Column) (names : Option (List (List ℕ))) (tuple : List Literal) (row : List Value) → All LiteralHas64Bits tuple → row_of_tuple columns names tuple ≡ Ok row → All Has64Bits row
+pub row_of_tuple-Has64Bits : (columns : List Column) (names : Option (List (List ℕ))) (tuple : List Literal) (row : List Value)
+    → All LiteralHas64Bits tuple → row_of_tuple columns names tuple ≡ Ok row → All Has64Bits row
 row_of_tuple-Has64Bits columns names tuple row all h = values_from-Has64Bits names tuple 0 columns row all h
 
-put_in-Has64Bits : (column : Option Column) (place : ℕ) (row after : List Value) (value : Value) → All Has64Bits row → Has64Bits value → put_in column place row value ≡ Ok after → All Has64Bits after
+put_in-Has64Bits : (column : Option Column) (place : ℕ) (row after : List Value) (value : Value) → All Has64Bits row → Has64Bits value
+    → put_in column place row value ≡ Ok after → All Has64Bits after
 put_in-Has64Bits None place row after value all fits h = subst (All Has64Bits) (ok_same h) all
 put_in-Has64Bits (Some column) place row after value all fits h =
     let a = and_then-ok (stored column value) (λ v. Ok (slice_set row place v)) after h in
     subst (All Has64Bits) (ok_same a.2) (All-set Has64Bits row place a.0 (subst Has64Bits (stored_same column value a.0 a.1) fits) all)
 
-put_at-Has64Bits : (columns : List Column) (row after : List Value) (place : Option ℕ) (value : Value) → All Has64Bits row → Has64Bits value → put_at columns row place value ≡ Ok after → All Has64Bits after
+put_at-Has64Bits : (columns : List Column) (row after : List Value) (place : Option ℕ) (value : Value) → All Has64Bits row → Has64Bits value
+    → put_at columns row place value ≡ Ok after → All Has64Bits after
 put_at-Has64Bits columns row after None value all fits h = subst (All Has64Bits) (ok_same h) all
 put_at-Has64Bits columns row after (Some place) value all fits h = put_in-Has64Bits (slice_get columns place) place row after value all fits h
 
 -- a row after assignments
-pub all_assigned-Has64Bits : (columns : List Column) (row after : List Value) (sets : List Set) → All Has64Bits row → All (λ set. ExprHas64Bits set.value) sets → all_assigned columns row sets ≡ Ok after → All Has64Bits after
+pub all_assigned-Has64Bits : (columns : List Column) (row after : List Value) (sets : List Set) → All Has64Bits row
+    → All (λ set. ExprHas64Bits set.value) sets → all_assigned columns row sets ≡ Ok after → All Has64Bits after
 all_assigned-Has64Bits columns row after [] all fits h = subst (All Has64Bits) (ok_same h) all
 all_assigned-Has64Bits columns row after (set ∷ sets) all fits h =
     let a = and_then-ok (assigned columns row set) (λ r. all_assigned columns r sets) after h in
     let b = and_then-ok (expr_value columns row set.value) (put_at columns row (column_place columns set.column)) a.0 a.1 in
     let value = expr-Has64Bits columns row set.value b.0 all (All-head (λ (s : Set). ExprHas64Bits s.value) set sets fits) b.1 in
-    all_assigned-Has64Bits columns a.0 after sets (put_at-Has64Bits columns row a.0 (column_place columns set.column) b.0 all value b.2) (All-tail (λ (s : Set). ExprHas64Bits s.value) set sets fits) a.2
+    all_assigned-Has64Bits columns a.0 after sets (put_at-Has64Bits columns row a.0 (column_place columns set.column) b.0 all value b.2)
+    (All-tail (λ (s : Set). ExprHas64Bits s.value) set sets fits) a.2
 
 pub key_of-Has64Bits : (schema : Schema) (row : List Value) → All Has64Bits row → Has64Bits (key_of schema row)
 key_of-Has64Bits schema row all = at_or Has64Bits Null row schema.primary tt all

@@ -115,25 +115,30 @@ fits_or_null column Null fits = tt
 fits_or_null column (Int n) fits = fits
 fits_or_null column (Text text) fits = fits
 
-fits_in : (columns : List Column) (row : List Value) (at : ℕ) (column : Column) → IsRowOf columns row → slice_get columns at ≡ Some column → IsOfKindOrNull column.kind (value_in at row)
+fits_in : (columns : List Column) (row : List Value) (at : ℕ) (column : Column) → IsRowOf columns row → slice_get columns at ≡ Some column
+    → IsOfKindOrNull column.kind (value_in at row)
 fits_in [] row at column fits is = cc
 fits_in (first ∷ columns) [] at column fits is = absurd fits
 fits_in (first ∷ columns) (value ∷ row) zero column fits is = let same : first ≡ column = cc in rw (sym same) (fits_or_null first value fits.0)
 fits_in (first ∷ columns) (value ∷ row) (suc at) column fits is = fits_in columns row at column fits.1 is
 
 -- its value in a column has an entry
-pub entry_there : (schema : Schema) (key bytes : List ℕ) (coded : Coded) (at : ℕ) (column : Column) → IsCodeOf schema key bytes coded → slice_get schema.columns at ≡ Some column → HasEntry column.kind (value_in at coded.row)
-entry_there schema key bytes coded at column is there = (fits_in schema.columns coded.row at column is.record_is.fits there, bits_in coded.row at is.numbers.row)
+pub entry_there : (schema : Schema) (key bytes : List ℕ) (coded : Coded) (at : ℕ) (column : Column) → IsCodeOf schema key bytes coded
+    → slice_get schema.columns at ≡ Some column → HasEntry column.kind (value_in at coded.row)
+entry_there schema key bytes coded at column is there =
+    (fits_in schema.columns coded.row at column is.record_is.fits there, bits_in coded.row at is.numbers.row)
 
 -- its primary value has the key
-pub key_there : (schema : Schema) (key bytes : List ℕ) (coded : Coded) (primary : Column) → slice_get schema.columns schema.primary ≡ Some primary → IsCodeOf schema key bytes coded
+pub key_there : (schema : Schema) (key bytes : List ℕ) (coded : Coded) (primary : Column) → slice_get schema.columns schema.primary ≡ Some primary
+    → IsCodeOf schema key bytes coded
     → HasKey primary.kind (key_of schema coded.row) × (key ≡ key_code primary.kind (key_of schema coded.row))
 key_there schema key bytes coded primary is code =
     let one : code.record_is.key_is.column ≡ primary = cc (code.record_is.key_is.primary, is) in
     ((rw one at code.record_is.key_is.present, bits_in coded.row schema.primary code.numbers.row), rw one at code.record_is.key_is.spelled)
 
 -- Versions whose records have one key are of one place.
-pub one_place : (schema : Schema) (key bytes others : List ℕ) (coded other : Coded) → IsCodeOf schema key bytes coded → IsCodeOf schema key others other → key_of schema coded.row ≡ key_of schema other.row
+pub one_place : (schema : Schema) (key bytes others : List ℕ) (coded other : Coded) → IsCodeOf schema key bytes coded
+    → IsCodeOf schema key others other → key_of schema coded.row ≡ key_of schema other.row
 one_place schema key bytes others coded other code also =
     let primary = code.record_is.key_is.column in
     let a = key_there schema key bytes coded primary code.record_is.key_is.primary code in

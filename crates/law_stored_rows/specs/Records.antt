@@ -57,7 +57,8 @@ pub record IsClustered (schema : Schema) (kept : ℕ → Option Kept) (pairs : L
   pub primary_is : slice_get schema.columns schema.primary ≡ Some primary
   pub rising : AreRising pairs
   pub keys : (key : List ℕ) → is_some (value_of key pairs) ≡ true → IsSomeKey primary.kind key
-  pub records : (value : Value) → HasKey primary.kind value → IsRecordWith schema (key_code primary.kind value) kept (value_of (key_code primary.kind value) pairs) (versions_at value)
+  pub records : (value : Value) → HasKey primary.kind value
+      → IsRecordWith schema (key_code primary.kind value) kept (value_of (key_code primary.kind value) pairs) (versions_at value)
   pub nowhere_else : (value : Value) → versions_at value ≢ [] → HasKey primary.kind value
 
 -- whatever was kept is kept still

@@ -11,13 +11,15 @@ use Rattle.law_stored_rows.specs.Entries.{value_in}
 use Rattle.law_stored_rows.specs.Records.{IsCodeOf}
 
 -- At the key of this version, which these bytes are the record of, the table has this now.
-pub record PutsRecord (schemas : List Schema) (old new : ℕ → List Pair) (table : ℕ) (schema : Schema) (key bytes : List ℕ) (coded : Coded) (now : Option (List ℕ)) : Type 0 where
+pub record PutsRecord (schemas : List Schema) (old new : ℕ → List Pair) (table : ℕ) (schema : Schema) (key bytes : List ℕ) (coded : Coded)
+    (now : Option (List ℕ)) : Type 0 where
   pub there : slice_get schemas table ≡ Some schema
   pub code_is : IsCodeOf schema key bytes coded
   pub puts : Puts old new (clustered_index table) key now
 
 -- The table's key of this number is on this column, and the entry there of the version's row has this now.
-pub record PutsEntry (schemas : List Schema) (old new : ℕ → List Pair) (table : ℕ) (schema : Schema) (which column : ℕ) (coded : Coded) (now : Option (List ℕ)) : Type 0 where
+pub record PutsEntry (schemas : List Schema) (old new : ℕ → List Pair) (table : ℕ) (schema : Schema) (which column : ℕ) (coded : Coded)
+    (now : Option (List ℕ)) : Type 0 where
   pub there : slice_get schemas table ≡ Some schema
   pub key : Key
   pub key_is : slice_get schema.keys which ≡ Some key

@@ -32,7 +32,8 @@ pub record HasItsColumns (schema : Schema) : Type 0 where
 
 -- The clustered indexes hold the rows of all tables, and there are no other rows.
 pub record AreClustered (schemas : List Schema) (indexes : ℕ → List Pair) (kept : ℕ → Option Kept) (chains : Chains) : Type 0 where
-  pub tables : (table : ℕ) (schema : Schema) → slice_get schemas table ≡ Some schema → IsClustered schema kept (indexes (clustered_index table)) (in_table table chains)
+  pub tables : (table : ℕ) (schema : Schema) → slice_get schemas table ≡ Some schema
+      → IsClustered schema kept (indexes (clustered_index table)) (in_table table chains)
   pub nowhere_else : (table : ℕ) (value : Value) → slice_get schemas table ≡ None → in_table table chains value ≡ []
 
 -- what keys say of the versions at each value of the primary key: of which table, and which of its keys
@@ -67,7 +68,8 @@ AreCoded schemas indexes kept chains = AreCodedAs schemas indexes kept chains (w
 -- Of all places but this one the keys say what is there.
 abbrev pub LagAt : Place → Chains → Said → Type 0
 LagAt place chains said =
-    (table which : ℕ) (value : Value) → is_same_place place (record { table = table; key = value }) ≡ false → said table which value ≡ in_table table chains value
+    (table which : ℕ) (value : Value) → is_same_place place (record { table = table; key = value }) ≡ false
+    → said table which value ≡ in_table table chains value
 
 -- Each key says of the place all values that its versions but the newest have.
 abbrev pub TellsOfOlder : Place → Chains → Said → Type 0
@@ -79,4 +81,5 @@ TellsOfOlder place chains said =
 -- One key says something else of one place now.
 abbrev pub SaysNow : Said → Said → Place → ℕ → List Version → Type 0
 SaysNow old new place which versions =
-    (table key : ℕ) (value : Value) → new table key value ≡ (if key == which && is_same_place place (record { table = table; key = value }) then versions else old table key value)
+    (table key : ℕ) (value : Value)
+    → new table key value ≡ (if key == which && is_same_place place (record { table = table; key = value }) then versions else old table key value)

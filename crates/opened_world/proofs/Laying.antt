@@ -1,5 +1,6 @@
 -- A database grows together with the world that holds it.
-use Rattle.std.proofs.Common.{◌≡◌, ◌≢◌, ◌∙◌, ⊎_elim, sym, ap, subst, refl, ℕ, ◌+◌, ◌<◌, Bool, true, false, cond, List, [], ◌∷◌, ◌++◌, length, Option, None, Some, slice_get, arith}
+use Rattle.std.proofs.Common.{◌≡◌, ◌≢◌, ◌∙◌, ⊎_elim, sym, ap, subst, refl, ℕ, ◌+◌, ◌<◌, Bool, true, false, cond, List, [], ◌∷◌, ◌++◌, length, Option, None}
+use Rattle.std.proofs.Common.{Some, slice_get, arith}
 use Rattle.std.specs.Prelude.{IsSome, IsTrue, IsSomeAnd, is_some}
 use Rattle.std.specs.FinMap.{get, insert, get-empty, get-insert}
 use Rattle.inno_types.specs.declared.value.Value.{Value}
@@ -233,7 +234,8 @@ module _ (db : Database) (table : ℕ) (row : List Value) (schema : Schema) (old
   nobody_left : (over left : WorldState) → TakesKeysOver table key row mid over → LeavesIndexes 0 over left → LeavesTable 0 table over left → AwaitsNobody left
   nobody_left over left takes leaves gone index by is =
       ⊎_elim (λ was. nobody_mid index by was)
-      (λ mine. gone.gone index by (subst (λ (schemas : List Schema). IsOfTable table schemas index) (sym (ap (λ (s : WorldState). s.schemas) takes.rest)) mine.1)
+      (λ mine. gone.gone index by
+      (subst (λ (schemas : List Schema). IsOfTable table schemas index) (sym (ap (λ (s : WorldState). s.schemas) takes.rest)) mine.1)
       is mine.0)
       (takes.awaits.each index by (leaves.fewer index by is))
 
@@ -256,10 +258,14 @@ module _ (db : Database) (table : ℕ) (row : List Value) (schema : Schema) (old
         versions = versions_now;
         coded = has_rows_left between new leaves_rows chains (over.rows chains keys_changing);
         schemas = ap (λ (s : WorldState). s.schemas) leaves.rest ∙ (ap (λ (s : WorldState). s.schemas) over.rest ∙ (same_schemas ∙ laid.schemas));
-        names = ap (λ (s : WorldState). s.names) leaves.rest ∙ (ap (λ (s : WorldState). s.names) over.rest ∙ (ap (λ (s : WorldState). s.names) puts.inserts.beside.rest ∙ laid.names));
-        past = ap (λ (s : WorldState). s.past) leaves.rest ∙ (ap (λ (s : WorldState). s.past) over.rest ∙ (ap (λ (s : WorldState). s.past) puts.inserts.beside.rest ∙ laid.past));
-        txns = ap (λ (s : WorldState). s.txns) leaves.rest ∙ (ap (λ (s : WorldState). s.txns) over.rest ∙ (ap (λ (s : WorldState). s.txns) puts.inserts.beside.rest ∙ laid.txns));
-        sessions = ap (λ (s : WorldState). s.sessions) leaves.rest ∙ (ap (λ (s : WorldState). s.sessions) over.rest ∙ (ap (λ (s : WorldState). s.sessions) puts.inserts.beside.rest ∙ laid.sessions));
+        names = ap (λ (s : WorldState). s.names) leaves.rest ∙
+            (ap (λ (s : WorldState). s.names) over.rest ∙ (ap (λ (s : WorldState). s.names) puts.inserts.beside.rest ∙ laid.names));
+        past = ap (λ (s : WorldState). s.past) leaves.rest ∙
+            (ap (λ (s : WorldState). s.past) over.rest ∙ (ap (λ (s : WorldState). s.past) puts.inserts.beside.rest ∙ laid.past));
+        txns = ap (λ (s : WorldState). s.txns) leaves.rest ∙
+            (ap (λ (s : WorldState). s.txns) over.rest ∙ (ap (λ (s : WorldState). s.txns) puts.inserts.beside.rest ∙ laid.txns));
+        sessions = ap (λ (s : WorldState). s.sessions) leaves.rest ∙
+            (ap (λ (s : WorldState). s.sessions) over.rest ∙ (ap (λ (s : WorldState). s.sessions) puts.inserts.beside.rest ∙ laid.sessions));
         nobody = nobody_left between new over leaves gone;
       }
 

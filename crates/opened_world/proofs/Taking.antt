@@ -87,7 +87,8 @@ rests : (old mid new : WorldState) → mid ≡ record old { indexes = mid.indexe
 rests old mid new first next = next ∙ ap (λ (s : WorldState). record s { indexes = new.indexes; versions = new.versions; paged = new.paged }) first
 
 -- who is awaited after two steps
-awaits_twice : (table : ℕ) (old mid new : WorldState) → mid.schemas ≡ old.schemas → AwaitsIn 0 table old mid → AwaitsIn 0 table mid new → AwaitsIn 0 table old new
+awaits_twice : (table : ℕ) (old mid new : WorldState) → mid.schemas ≡ old.schemas → AwaitsIn 0 table old mid → AwaitsIn 0 table mid new
+    → AwaitsIn 0 table old new
 awaits_twice table old mid new same first next = record {
   each = λ i by is. ⊎_elim (λ was. first.each i by was)
       (λ mine. inr (mine.0, subst (λ (schemas : List Schema). IsOfTable table schemas i) same mine.1)) (next.each i by is);

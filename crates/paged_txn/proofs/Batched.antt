@@ -104,7 +104,8 @@ module _ (known : Bool) (pool new : PoolView) (log later : LogView) (past : Past
   commit_changed None changed = tt
   commit_changed (Some s) changed = λ k below. dirty_still (number_at s.batch k) (changed k below)
 
-  module _ (s : StagedView) (k : known ≡ true) (changed : AreChanged (Some s) pool) (under : IsUnderWay pool log past s) (j : ℕ) (below : j < s.batch.count) where
+  module _ (s : StagedView) (k : known ≡ true) (changed : AreChanged (Some s) pool) (under : IsUnderWay pool log past s) (j : ℕ)
+      (below : j < s.batch.count) where
     abbrev n : ℕ
     n = number_at s.batch j
 
@@ -209,7 +210,8 @@ module _ (pool mid new : PoolView) (past : Past) (dealt : List Entry) (records :
           body = λ k none was.
               let standing = (dirty_stands (slot_of new q) dirty_now).0 in
               let body : standing_in new past q ≡ body_of (bytes_of new q) =
-              ap (λ b. cond b (body_of (bytes_of new q)) (cond (can_be_read (length new.slots) q (place_in past q)) (body_of (place_in past q)) blank)) standing in
+              ap (λ b. cond b (body_of (bytes_of new q))
+              (cond (can_be_read (length new.slots) q (place_in past q)) (body_of (place_in past q)) blank)) standing in
               sym body ∙ commit_seen pool mid new past dealt records told lsn is places goes k q ∙ unedited q none was;
         })
   ]

@@ -18,7 +18,8 @@ use Rattle.mini_txn.specs.View.{body_of}
 use Rattle.buffer_pool.proofs.Orders.{last_where_passes}
 use Rattle.buffer_pool.proofs.SlotEdits.{idle_within}
 use Rattle.mini_txn.proofs.Keeping.{edit_here, moved_here}
-use Rattle.paged_txn.specs.View.{is_good, is_known, tells, faults_of, place_in, can_be_read, stands, standing_by, standing_in, fault_in, state_of, IsFrame, IsPaged}
+use Rattle.paged_txn.specs.View.{is_good, is_known, tells, faults_of, place_in, can_be_read, stands, standing_by, standing_in, fault_in, state_of, IsFrame}
+use Rattle.paged_txn.specs.View.{IsPaged}
 use Rattle.paged_txn.specs.Fixing.{Fixes}
 use Rattle.paged_txn.specs.Bringing.{Looks, IsHeld, IsLetIn, IsRefused, is_no_fault}
 use Rattle.paged_txn.proofs.Slots.{same_read, bare_stands, frame_less, frame_is}
@@ -40,7 +41,8 @@ module _ (told : Bool) (page : ℕ) (before : Past) (pool new : PoolView) (dealt
         was = λ k. k;
         tells_was = λ k. k;
         fixes = held_fixes (is_known told before) page before pool
-            (frame_is (is_known told before) page (place_in before page) (dealt page) false (slot_of pool page) (slot_of pool page) (sym unknown) refl (frames page))
+            (frame_is (is_known told before) page (place_in before page) (dealt page) false (slot_of pool page) (slot_of pool page) (sym unknown) refl
+            (frames page))
             held.there;
         stands_now = ap stands (edit_here pool.slots page fixed) ∙ fixed_stands (slot_of pool page) ∙ (frames page).written unknown held.there;
       })) where
@@ -62,7 +64,8 @@ module _ (told : Bool) (page : ℕ) (before : Past) (pool new : PoolView) (dealt
       λ k. read_is before page brought.bytes (known_tells told before (was k)) brought.read in
       let fixes : Fixes (is_known told now) page before now pool (moved brought.from page frame pool) =
       moved_fixes (is_known told now) page brought.from before now frame pool dealt places
-      (λ q. frame_less (is_known told before) (is_known told now) q (place_in before q) (place_in before q) (dealt q) (slot_of pool q) was (λ k. refl) (frames q))
+      (λ q. frame_less (is_known told before) (is_known told now) q (place_in before q) (place_in before q) (dealt q) (slot_of pool q) was (λ k. refl)
+      (frames q))
       brought.within brought.absent brought.from_is
       (record {
         fixes = refl;
@@ -119,7 +122,8 @@ and_all : (a : Bool) → (a && true) ≡ a
 and_all true = refl
 and_all false = refl
 
-pub record Refuses (told later : Bool) (page : ℕ) (before now : Past) (pool : PoolView) (dealt : List Entry) (records : List Record) (why : Visit) : Type 0 where
+pub record Refuses (told later : Bool) (page : ℕ) (before now : Past) (pool : PoolView) (dealt : List Entry) (records : List Record)
+    (why : Visit) : Type 0 where
   pub was : is_known later now ≡ true → is_known told before ≡ true
   pub places : is_known later now ≡ true → (q : ℕ) → place_in now q ≡ place_in before q
   pub paged : IsPaged pool now dealt records later
@@ -184,11 +188,16 @@ module _ (told : Bool) (page : ℕ) (before now : Past) (pool : PoolView) (dealt
           places = λ k q. refl;
           paged = is;
           looks = looked_looks pool before before dealt records told told is (λ k. k) (λ k q. refl) (λ k fine. k) (omega arith);
-          explains = (refused.0, λ k. absent_fault refused.2.absent (past_end page (length pool.slots) (place_in before page) none.0) ∙ ap Some (sym refused.1));
+          explains = (
+            refused.0,
+            λ k. absent_fault refused.2.absent (past_end page (length pool.slots) (place_in before page) none.0) ∙
+                ap Some (sym refused.1),
+          );
         })
         go (inr read) =
             let tells_was = told_before true before now read.0 in
-            let was : is_known told now ≡ true → is_known told before ≡ true = λ k. known_by told before (known_told told now k) (tells_was (known_tells told now k)) in
+            let was : is_known told now ≡ true → is_known told before ≡ true =
+            λ k. known_by told before (known_told told now k) (tells_was (known_tells told now k)) in
             let on = look_on told tells_was was (λ k q. same_places true before now read.0 refl (known_tells told now k) q)
             (λ k fine. stays_known told before now later_faults k fine) in
             record {
@@ -200,6 +209,7 @@ module _ (told : Bool) (page : ℕ) (before now : Past) (pool : PoolView) (dealt
                 refused.0,
                 λ k.
                     let bad : is_good page (place_in before page) ≡ false = refused_is before page (known_tells told before k) read.1 in
-                    absent_fault refused.2.absent (ap (λ b. nat_lt page (length pool.slots) && b) bad ∙ and_none (nat_lt page (length pool.slots))) ∙ ap Some (sym refused.1),
+                    absent_fault refused.2.absent (ap (λ b. nat_lt page (length pool.slots) && b) bad ∙ and_none (nat_lt page (length pool.slots))) ∙
+                    ap Some (sym refused.1),
               );
             }

@@ -136,7 +136,8 @@ module _ (pool mid new : PoolView) (past : Past) (dealt : List Entry) (records :
         ∙ ap (λ o. option_map_or body_of o (standing_in pool past q)) same.0
     go (inr stamped) =
         let standing = (stamped_is q lsn (slot_of mid q) stamped).0 in
-        ap (λ b. cond b (body_of (bytes_in (slot_of mid q))) (cond (can_be_read (length pool.slots) q (place_in past q)) (body_of (place_in past q)) blank)) standing
+        ap (λ b. cond b (body_of (bytes_in (slot_of mid q)))
+        (cond (can_be_read (length pool.slots) q (place_in past q)) (body_of (place_in past q)) blank)) standing
         ∙ sym (one_stands mid q standing) ∙ places.seen (is.counted k).framed q
         ∙ seen_is pool past dealt q (stamped_readable k q standing)
 

@@ -40,7 +40,8 @@ use Rattle.paged_txn.proofs.Dirty.{dirty_stands, stands_clean}
 -- ---- after a step that failed
 
 -- whatever the disk tells now, nothing is said of it
-pub untold_paged : (pool new : PoolView) (past now : Past) (dealt : List Entry) (records : List Record) (told later : Bool) → IsPaged pool past dealt records told
+pub untold_paged : (pool new : PoolView) (past now : Past) (dealt : List Entry) (records : List Record) (told later : Bool)
+    → IsPaged pool past dealt records told
     → HasSamePages pool new → later ≡ false → IsPaged new now dealt records later
 untold_paged pool new past now dealt records told later is same none =
     let never : is_known later now ≡ true → ⊥ = λ k.
@@ -164,7 +165,8 @@ module _ (pool new : PoolView) (past now : Past) (told : Bool) (log later : LogV
     go true there =
         ap (λ t. cond t (body_of (bytes_of new q)) (cond (can_be_read (length new.slots) q (place_in now q)) (body_of (place_in now q)) blank))
         (same.standing q ∙ there) ∙ ap body_of (same.bytes q)
-        ∙ sym (ap (λ t. cond t (body_of (bytes_of pool q)) (cond (can_be_read (length pool.slots) q (place_in past q)) (body_of (place_in past q)) blank)) there)
+        ∙ sym (ap (λ t. cond t (body_of (bytes_of pool q))
+        (cond (can_be_read (length pool.slots) q (place_in past q)) (body_of (place_in past q)) blank)) there)
     go false none =
         ap (λ t. cond t (body_of (bytes_of new q)) (cond (can_be_read (length new.slots) q (place_in now q)) (body_of (place_in now q)) blank))
         (same.standing q ∙ none) ∙ ap (λ n. cond (can_be_read n q (place_in now q)) (body_of (place_in now q)) blank) same.slots
@@ -215,7 +217,8 @@ module _ (pool new : PoolView) (past now : Past) (told : Bool) (log later : LogV
       let place : place_in now q ≡ page_at w.batch j =
       ap (place_in now) (sym found.2) ∙ placed_more pool past now told log w leads k under j (omega (arith, found.1, all)) in
       let lsn : lsn_of (bytes_of pool (number_at w.batch j)) ≡ lsn_of (page_at w.batch j) = ap (λ n. lsn_of (bytes_of pool n)) found.2 ∙ found.3 in
-      let body : body_of (bytes_of pool q) ≡ body_of (page_at w.batch j) = ap (λ n. body_of (bytes_of pool n)) (sym found.2) ∙ under.same j found.1 (inl lsn) in (
+      let body : body_of (bytes_of pool q) ≡ body_of (page_at w.batch j) = ap (λ n. body_of (bytes_of pool n)) (sym found.2) ∙
+      under.same j found.1 (inl lsn) in (
         ap (is_good q) place ∙ good_is q (page_at w.batch j) (under.is_batch.sealed j found.1) found.2,
         body ∙ sym (ap body_of place),
       )

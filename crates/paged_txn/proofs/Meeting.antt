@@ -1,5 +1,6 @@
 -- What each call makes of the mini-transaction is what the trait asks of it: pages that are asked for, made and put.
-use Rattle.std.proofs.Common.{◌≡◌, ◌≢◌, ℕ, ◌+◌, ◌<◌, ◌≤◌, Bool, true, false, cond, inl, inr, List, [], ◌∷◌, ◌++◌, length, Option, Some, None, refl, sym, ap, subst}
+use Rattle.std.proofs.Common.{◌≡◌, ◌≢◌, ℕ, ◌+◌, ◌<◌, ◌≤◌, Bool, true, false, cond, inl, inr, List, [], ◌∷◌, ◌++◌, length, Option, Some, None, refl, sym, ap}
+use Rattle.std.proofs.Common.{subst}
 use Rattle.std.proofs.Common.{◌∙◌, arith}
 use Rattle.std.specs.Prelude.{◌==◌, ◌&&◌, is_some}
 use Rattle.std.specs.Option.{option_map_or}
@@ -51,7 +52,8 @@ seen_is pool past dealt page readable = go (copy_of dealt page) refl where
       let there = readable is in
       seen_none pool dealt page is ∙ one_stands pool page there
       ∙ sym (ap (λ o. option_map_or body_of o (standing_in pool past page)) is
-      ∙ ap (λ b. cond b (body_of (bytes_of pool page)) (cond (can_be_read (length pool.slots) page (place_in past page)) (body_of (place_in past page)) blank)) there)
+      ∙ ap (λ b. cond b (body_of (bytes_of pool page))
+      (cond (can_be_read (length pool.slots) page (place_in past page)) (body_of (place_in past page)) blank)) there)
 
 -- ---- the disk was looked at, and the pool is as it was
 
@@ -123,11 +125,13 @@ module _ (pool new : PoolView) (past now : Past) (pages : List ℕ) (told was_to
         ]
   ]
 
-module _ (pool new : PoolView) (past now : Past) (dealt : List Entry) (records : List Record) (told : Bool) (page : ℕ) (is : IsPaged pool past dealt records told)
+module _ (pool new : PoolView) (past now : Past) (dealt : List Entry) (records : List Record) (told : Bool) (page : ℕ)
+    (is : IsPaged pool past dealt records told)
     (was : is_known told now ≡ true → is_known told past ≡ true) (fixes : Fixes (is_known told now) page past now pool new)
     (unknown : is_in page (pages_of dealt) ≡ false) where
   known_slot : (q : ℕ) → is_in q (pages_of dealt) ≡ true → holds (slot_of pool q) ≡ true → slot_of new q ≡ slot_of pool q
-  known_slot q known there = dealt_slot pool new past now (pages_of dealt) (is_known told now) (is_known told past) page is.frames was fixes unknown q known there
+  known_slot q known there = dealt_slot pool new past now (pages_of dealt) (is_known told now) (is_known told past) page is.frames was fixes unknown q
+      known there
 
   pub known_frames : (later : List ℕ) → later ≡ visit page (pages_of dealt) → (q : ℕ)
       → IsFrame (is_known told now) q (place_in now q) (is_in q later) (slot_of new q)
@@ -233,7 +237,8 @@ module _ (pool : PoolView) (past : Past) (dealt new : List Entry) (records : Lis
   pub put_paged : IsPaged pool past new (records ++ Put page at piece ∷ []) now
   put_paged = record {
     frames = λ q. frame_is (is_known now past) q (place_in past q) (is_in q (pages_of dealt)) (is_in q (pages_of new)) (slot_of pool q) (slot_of pool q)
-        (same_pages q) refl (frame_less (is_known told past) (is_known now past) q (place_in past q) (place_in past q) (is_in q (pages_of dealt)) (slot_of pool q)
+        (same_pages q) refl (frame_less (is_known told past) (is_known now past) q (place_in past q) (place_in past q) (is_in q (pages_of dealt))
+        (slot_of pool q)
         was_known (λ k. refl) (is.frames q));
     readable = λ q k none. elim (cases_eq q page) [
       | inl same ↦ subst (λ (n : ℕ). copy_of new n ≡ None → is_standing pool n ≡ true) (sym same) new_readable none

@@ -41,7 +41,8 @@ module _ (before : Past) (pool : PoolView) (empty : HasNoPage (length pool.slots
       (bare_stands (slot_of pool q) (empty.none q).0)).standing
 
   -- page 0 was read and let go
-  module _ (now : Past) (mid new : PoolView) (brought : IsHeld 0 before now pool mid ⊎ IsLetIn 0 before now pool mid) (goes : LetsGoOne 0 mid new) (told : Bool) where
+  module _ (now : Past) (mid new : PoolView) (brought : IsHeld 0 before now pool mid ⊎ IsLetIn 0 before now pool mid) (goes : LetsGoOne 0 mid new)
+      (told : Bool) where
     b : Brings told 0 before now pool mid
     b = brings told 0 before pool mid (λ _. false) (bare (is_known told before) before (λ _. false)) refl now brought
 
@@ -59,7 +60,8 @@ module _ (before : Past) (pool : PoolView) (empty : HasNoPage (length pool.slots
         (can_be_read (length mid.slots) q (place_in now q)) (place_in now q)
 
     zeroth : standing_in mid now 0 ≡ body_of (bytes_of mid 0)
-    zeroth = ap (λ t. cond t (body_of (bytes_of mid 0)) (cond (can_be_read (length mid.slots) 0 (place_in now 0)) (body_of (place_in now 0)) blank)) b.stands_now
+    zeroth = ap (λ t. cond t (body_of (bytes_of mid 0)) (cond (can_be_read (length mid.slots) 0 (place_in now 0)) (body_of (place_in now 0)) blank))
+        b.stands_now
 
     pub opened_paged : (told ≡ true → u32_at 44 (bytes_of mid 0) ≤ length mid.slots) → IsPaged new now [] [] told
     opened_paged few =
@@ -107,7 +109,8 @@ module _ (before : Past) (pool : PoolView) (empty : HasNoPage (length pool.slots
           let places = same_places true before now read.0 refl (known_tells true now k) in (
             known_by true before refl tells_was,
             places,
-            ap (λ b. nat_lt 0 (length pool.slots) && b) (ap (is_good 0) (places 0) ∙ refused_is before 0 tells_was read.1) ∙ and_none (nat_lt 0 (length pool.slots)),
+            ap (λ b. nat_lt 0 (length pool.slots) && b) (ap (is_good 0) (places 0) ∙ refused_is before 0 tells_was read.1) ∙
+                and_none (nat_lt 0 (length pool.slots)),
           )
 
     pub unread_paged : IsPaged pool now [] [] true

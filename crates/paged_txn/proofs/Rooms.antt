@@ -1,5 +1,6 @@
 -- Frames that are taken one by one, and frames that are let go one by one.
-use Rattle.std.proofs.Common.{◌≡◌, ◌≢◌, ℕ, ◌+◌, ◌-◌, ◌<◌, ◌≤◌, Bool, true, false, cond, inl, inr, List, [], ◌∷◌, ◌++◌, length, Option, Some, None, refl, sym, ap, subst}
+use Rattle.std.proofs.Common.{◌≡◌, ◌≢◌, ℕ, ◌+◌, ◌-◌, ◌<◌, ◌≤◌, Bool, true, false, cond, inl, inr, List, [], ◌∷◌, ◌++◌, length, Option, Some, None, refl, sym}
+use Rattle.std.proofs.Common.{ap, subst}
 use Rattle.std.proofs.Common.{◌∙◌, arith}
 use Rattle.std.specs.Prelude.{◌==◌, ◌||◌, option_map, is_some, replicate}
 use Rattle.std.specs.Option.{option_map_or}
@@ -82,7 +83,8 @@ pub one_goes : (front : List Entry) (e : Entry) (pool mid final : PoolView) → 
 one_goes front e pool mid final one rest = record {
   slots = rest.slots ∙ one.slots;
   each = λ few q.
-      let few_mid : (p : ℕ) → fixes_in (slot_of mid p) ≤ 1 = λ p. subst (λ (s : Option FrameView). fixes_in s ≤ 1) (sym (one.each p)) (small (p == e.page) (slot_of pool p) (few p)) in
+      let few_mid : (p : ℕ) → fixes_in (slot_of mid p) ≤ 1 =
+      λ p. subst (λ (s : Option FrameView). fixes_in s ≤ 1) (sym (one.each p)) (small (p == e.page) (slot_of pool p) (few p)) in
       rest.each few_mid q ∙ go q (is_in q (pages_of front)) (q == e.page) refl (one.each q) (few q)
       ∙ ap (λ b. cond b (option_map let_go (slot_of pool q)) (slot_of pool q)) (sym (in_push q front e));
 } where
@@ -105,7 +107,8 @@ one_goes front e pool mid final one rest = record {
       let mine : slot_of mid q ≡ option_map let_go (slot_of pool q) = each ∙ ap (λ b. cond b (option_map let_go (slot_of pool q)) (slot_of pool q)) is in
       ap (λ s. cond a (option_map let_go s) s) mine ∙ same a
       ∙ sym (ap (λ b. cond (a || b) (option_map let_go (slot_of pool q)) (slot_of pool q)) (turned q true is) ∙ any a) where
-        same : (c : Bool) → cond c (option_map let_go (option_map let_go (slot_of pool q))) (option_map let_go (slot_of pool q)) ≡ option_map let_go (slot_of pool q)
+        same : (c : Bool) → cond c (option_map let_go (option_map let_go (slot_of pool q))) (option_map let_go (slot_of pool q)) ≡ option_map let_go
+            (slot_of pool q)
         same true = twice (slot_of pool q) few
         same false = refl
 
@@ -116,7 +119,8 @@ one_goes front e pool mid final one rest = record {
       let mine : slot_of mid q ≡ slot_of pool q = each ∙ ap (λ b. cond b (option_map let_go (slot_of pool q)) (slot_of pool q)) is in
       ap (λ s. cond a (option_map let_go s) s) mine
       ∙ sym (ap (λ b. cond (a || b) (option_map let_go (slot_of pool q)) (slot_of pool q)) (turned q false is) ∙ none a) where
-        none : (c : Bool) → cond (c || false) (option_map let_go (slot_of pool q)) (slot_of pool q) ≡ cond c (option_map let_go (slot_of pool q)) (slot_of pool q)
+        none : (c : Bool) → cond (c || false) (option_map let_go (slot_of pool q)) (slot_of pool q) ≡ cond c (option_map let_go (slot_of pool q))
+            (slot_of pool q)
         none true = refl
         none false = refl
 

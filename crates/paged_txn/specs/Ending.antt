@@ -24,4 +24,5 @@ pub record LetsGo (pages : List ℕ) (old new : PoolView) : Type 0 where
 
 -- A page without a copy has the bytes that it had, and one with a copy has it in its frame, with the LSN of the group.
 abbrev pub IsPut : PoolView → List Entry → PoolView → ℕ → ℕ → Type 0
-IsPut old dealt new lsn page = ((copy_of dealt page ≡ None) × (bytes_in (slot_of new page) ≡ bytes_in (slot_of old page))) ⊎ IsStamped page lsn (slot_of new page)
+IsPut old dealt new lsn page = ((copy_of dealt page ≡ None) × (bytes_in (slot_of new page) ≡ bytes_in (slot_of old page)))
+    ⊎ IsStamped page lsn (slot_of new page)

@@ -139,4 +139,5 @@ pub record HasFrames (pages count : ℕ) (pool : PoolView) : Type 0 where
 -- Nothing was put yet. Each page stands as on the disk.
 pub record Begins (pages : ℕ) (before now : Past) (pool : PoolView) (told : Bool) : Type 0 where
   pub slots : length pool.slots ≡ pages
-  pub standing : is_known told now ≡ true → (page : ℕ) → standing_in pool now page ≡ standing_by None (can_be_read pages page (place_in before page)) (place_in before page)
+  pub standing : is_known told now ≡ true → (page : ℕ)
+      → standing_in pool now page ≡ standing_by None (can_be_read pages page (place_in before page)) (place_in before page)

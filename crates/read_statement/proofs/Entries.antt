@@ -12,7 +12,8 @@ use Rattle.inno_types.specs.declared.reply.Reply.TheVariants as replies
 use Rattle.inno_types.specs.declared.stmt.Stmt.{Stmt}
 use Rattle.inno_model.specs.declared.event.Event.{Event}
 use Rattle.inno_model.specs.declared.event.Event.TheVariants as events
-use Rattle.inno_model.specs.Past.{started, before_item, of_item, did, closes, begins_txn, takes_view, commits_txn, rolls_back_txn, begins, level, own, view_of, commits, awaits_ack, IsOpen, IsClosed}
+use Rattle.inno_model.specs.Past.{started, before_item, of_item, did, closes, begins_txn, takes_view, commits_txn, rolls_back_txn, begins, level, own, view_of}
+use Rattle.inno_model.specs.Past.{commits, awaits_ack, IsOpen, IsClosed}
 use Rattle.sql_grammar.specs.Grammar.{Spells}
 use Rattle.sql_history.specs.Items.{is_over, point, own_before, before_turn, undoes}
 use Rattle.sql_history.specs.Statements.{Sight, plain_sight, is_select}
@@ -29,8 +30,10 @@ use Rattle.read_statement.specs.declared.machine.Asked.{Asked}
 use Rattle.read_statement.specs.declared.machine.ReadStatement.{ReadStatement}
 use Rattle.read_statement.specs.declared.machine.ReadStatement.TheVariants as machine
 use Rattle.read_statement.specs.Going.{to_go}
-use Rattle.read_statement.specs.Running.{IsTakenWith, IsUnrefused, IsOpening, IsIn, IsEarly, HasView, MayTakeView, IsFound, IsSettledBy, IsAnswered, IsClosing, IsFailing, HasClosed, is_rows, IsRunning, owes_ack, acked}
-use Rattle.read_statement.proofs.Items.{quiet_own, quiet_level, quiet_turn, none_closed, none_committed, none_rolled, none_undone, no_victim, turn_goes_on, takes_on, none_of}
+use Rattle.read_statement.specs.Running.{IsTakenWith, IsUnrefused, IsOpening, IsIn, IsEarly, HasView, MayTakeView, IsFound, IsSettledBy, IsAnswered, IsClosing}
+use Rattle.read_statement.specs.Running.{IsFailing, HasClosed, is_rows, IsRunning, owes_ack, acked}
+use Rattle.read_statement.proofs.Items.{quiet_own, quiet_level, quiet_turn, none_closed, none_committed, none_rolled, none_undone, no_victim, turn_goes_on}
+use Rattle.read_statement.proofs.Items.{takes_on, none_of}
 use Rattle.read_statement.proofs.Selects.{plain_taken, begins_by, commits_by, rolls_back_by, views_by, answers}
 use Rattle.read_statement.proofs.Ending.{is_alone_of}
 use Rattle.read_statement.proofs.Staying.{settled_on, closing_on}

@@ -72,7 +72,8 @@ module _ (h : List Event) (s : ℕ) (standing : AreStanding h) where
       subst (All (IsRowOf p.schema.columns)) (sym (same_rows v.number found.table)) (rows_seen_fit h s v.number found.table p.schema fits ordered p.there) in
       let are : found.rows ≡ rows_in_range f.plan p.schema (rows_of found.table db) =
       f.rows p.schema p.there ∙ ap (rows_in_range f.plan p.schema) (sym (same_rows v.number found.table)) in
-      let reads : table_read db.schemas found.stmt ≡ Some found.table = subst (λ (l : List Schema). table_read l found.stmt ≡ Some found.table) tables p.table_is in
+      let reads : table_read db.schemas found.stmt ≡ Some found.table =
+      subst (λ (l : List Schema). table_read l found.stmt ≡ Some found.table) tables p.table_is in
       let answers_too : (other : Database) → IsReadFrom db.schemas found.rows found.stmt other → answer ≡ outcome found.stmt other =
       λ other from. answers other (subst (λ (l : List Schema). IsReadFrom l found.rows found.stmt other) (sym tables) from) in
       let is : answer ≡ outcome found.stmt db =

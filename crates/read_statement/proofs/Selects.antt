@@ -26,7 +26,8 @@ use Rattle.sql_history.specs.Settings.{Setting}
 use Rattle.sql_history.specs.Statements.{Sight, plain_sight, is_select, is_on_rows, refused_at_once}
 use Rattle.sql_history.specs.Readings.{is_plain_select}
 use Rattle.sql_history.specs.Answers.{MaySee, MakesFor, Answers}
-use Rattle.sql_history.specs.Legal.{Takes, sight_in, is_alone, BeginsBy, CommitsBy, IsSettled, RollsBackBy, EndsTaken, AnswersRows, EndsRows, NextBrings, MayLeaveOpen, ViewsBy, TakesView}
+use Rattle.sql_history.specs.Legal.{Takes, sight_in, is_alone, BeginsBy, CommitsBy, IsSettled, RollsBackBy, EndsTaken, AnswersRows, EndsRows, NextBrings}
+use Rattle.sql_history.specs.Legal.{MayLeaveOpen, ViewsBy, TakesView}
 use Rattle.sql_history.specs.Counts.{rows_of_reply}
 use Rattle.read_statement.specs.Running.{IsFound}
 

@@ -53,7 +53,8 @@ module _ (h : List Event) (s : ℕ) (stmt : Stmt) (alone : Bool) (early : IsEarl
 
 pub search_begins : (s : ℕ) (plan : Plan) (old new : State) (read : Read) → IsEarly old.past s read.stmt read.alone → IsOpen s old.past
     → HasView old.past s → IsPlanned (created old.past) read.stmt read.table plan
-    → Turns s (Searching read.table plan View) old new → Moves s old new × IsSearching new.past s (task_of s new) read × (started s new.past ≡ started s old.past)
+    → Turns s (Searching read.table plan View) old new → Moves s old new × IsSearching new.past s (task_of s new) read
+    × (started s new.past ≡ started s old.past)
 search_begins s plan old new read early is-open view planned turns = (
   moves_turns s (Searching read.table plan View) old new turns,
   subst (λ h. IsSearching h s (task_of s new) read) (sym turns.past_is)

@@ -30,7 +30,8 @@ use Rattle.read_statement.specs.declared.machine.Asked.{Asked}
 use Rattle.read_statement.specs.declared.machine.ReadStatement.{ReadStatement}
 use Rattle.read_statement.specs.declared.machine.ReadStatement.TheVariants as machine
 use Rattle.read_statement.specs.Planning.{IsPlanned}
-use Rattle.read_statement.specs.Running.{strays, IsUnrefused, IsOpening, IsIn, IsEarly, HasView, IsSearching, HasFound, IsSeen, IsTooMany, IsSettledBy, IsClosing, HasClosed, IsAt, IsRunning, is_rows}
+use Rattle.read_statement.specs.Running.{strays, IsUnrefused, IsOpening, IsIn, IsEarly, HasView, IsSearching, HasFound, IsSeen, IsTooMany, IsSettledBy}
+use Rattle.read_statement.specs.Running.{IsClosing, HasClosed, IsAt, IsRunning, is_rows}
 use Rattle.read_statement.proofs.Items.{takes_on}
 use Rattle.read_statement.proofs.Selects.{of_plain}
 use Rattle.read_statement.proofs.Tables.{grown, tabled_stays}

@@ -55,7 +55,8 @@ module _ (h : List Event) (w : ℕ) (alone : (u : ℕ) → u ≢ w → own u h �
       (rows_before (opening h) (created h) [] changes parts (in-order w)))
 
   -- what a statement answers by the rows that were read is what it answers over it
-  module _ (stmt : Stmt) (plain : is_plain_select stmt ≡ true) (table : ℕ) (rows : List (List Value)) (read : AreRead h stmt table rows) (in-order : IsInOrder h)
+  module _ (stmt : Stmt) (plain : is_plain_select stmt ≡ true) (table : ℕ) (rows : List (List Value)) (read : AreRead h stmt table rows)
+      (in-order : IsInOrder h)
       (fits : FitsThen h) (answer : Outcome)
       (answers : (db : Database) → IsReadFrom (created h) rows stmt db → answer ≡ outcome stmt db) where
     abbrev p : IsPlanned (created h) stmt table read.plan
@@ -112,7 +113,8 @@ seen_now h s stmt answer some dirty is =
     }
 
 -- of what a call gives that may find no memory
-pub newest_outcome : {E : Type 0} (h : List Event) (w s : ℕ) (stmt : Stmt) (table : ℕ) (rows : List (List Value)) → ((u : ℕ) → u ≢ w → own u h ≡ []) → IsOrdered h
+pub newest_outcome : {E : Type 0} (h : List Event) (w s : ℕ) (stmt : Stmt) (table : ℕ) (rows : List (List Value)) → ((u : ℕ) → u ≢ w → own u h ≡ [])
+    → IsOrdered h
     → AreStanding h → IsInOrder h → FitsThen h → level s h ≡ Some ReadUncommitted → is_plain_select stmt ≡ true → AreRead h stmt table rows
     → (schemas : List Schema) → schemas ≡ created h → (r : Result Outcome E) → IfOk r
     (λ answer. (db : Database) → IsReadFrom schemas rows stmt db → answer ≡ outcome stmt db) → IfOk r (λ answer. IsSeen h h s stmt answer.reply)

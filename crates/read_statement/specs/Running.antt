@@ -12,7 +12,8 @@ use Rattle.inno_db.specs.Outcome.{outcome}
 use Rattle.inno_db.specs.Refusals.{refusal}
 use Rattle.inno_model.specs.declared.event.Event.{Event}
 use Rattle.inno_model.specs.declared.event.Event.TheVariants as events
-use Rattle.inno_model.specs.Past.{before_item, of_item, did, begins_txn, takes_view, commits_txn, rolls_back_txn, level, own, view_of, awaits_ack, IsOpen, IsClosed}
+use Rattle.inno_model.specs.Past.{before_item, of_item, did, begins_txn, takes_view, commits_txn, rolls_back_txn, level, own, view_of, awaits_ack, IsOpen}
+use Rattle.inno_model.specs.Past.{IsClosed}
 use Rattle.inno_model.specs.Moments.{Sometime}
 use Rattle.sql_grammar.specs.Grammar.{Spells}
 use Rattle.sql_history.specs.Items.{is_over, point, own_before, undoes}

@@ -27,7 +27,8 @@ use Rattle.row_changes.specs.Coding.{Decodes}
 use Rattle.row_changes.specs.Asides.{IsReadied, StepsAside}
 use Rattle.row_changes.specs.Entries.{IsThere}
 use Rattle.row_changes.specs.Pairs.{RowsStay, Hinders}
-use Rattle.row_changes.specs.Records.{IsTable, IsListed, IsFormer, StageHolds, IsChangingRecord, GoesOnWithRecord, HindersRecord, IsSpoiled, ChangesRecord, record_steps, when_missed, when_found}
+use Rattle.row_changes.specs.Records.{IsTable, IsListed, IsFormer, StageHolds, IsChangingRecord, GoesOnWithRecord, HindersRecord, IsSpoiled, ChangesRecord}
+use Rattle.row_changes.specs.Records.{record_steps, when_missed, when_found}
 use Rattle.row_changes.specs.declared.row_edit.RowEdit.{RowEdit}
 use Rattle.row_changes.specs.declared.row_edit.RowEdit.TheVariants.{Put, Remove}
 use Rattle.row_changes.specs.Edits.{IsPut, FindsRow, HasNoRow, LacksRow}

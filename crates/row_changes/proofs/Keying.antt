@@ -1,5 +1,6 @@
 -- What stays known while the keys of a table take over a change of a row.
-use Rattle.std.proofs.Common.{◌≡◌, ◌≢◌, ◌⊎◌, inl, inr, ◌∙◌, sym, ap, subst, refl, ℕ, ◌+◌, ◌-◌, ◌*◌, ◌<◌, ◌≤◌, false, List, [], ◌∷◌, length, Option, None, Some, slice_get, get_or, arith}
+use Rattle.std.proofs.Common.{◌≡◌, ◌≢◌, ◌⊎◌, inl, inr, ◌∙◌, sym, ap, subst, refl, ℕ, ◌+◌, ◌-◌, ◌*◌, ◌<◌, ◌≤◌, false, List, [], ◌∷◌, length, Option, None, Some}
+use Rattle.std.proofs.Common.{slice_get, get_or, arith}
 use Rattle.std.proofs.lemmas.Option.{slice_get_cases, slice_get_within, get_or_from_slice_get}
 use Rattle.inno_types.specs.declared.value.Column.{Column}
 use Rattle.law_stored_rows.specs.FittingRecords.{IsEntryOf}
@@ -41,7 +42,8 @@ use Rattle.row_changes.specs.Edits.{IsRowFor, IsKeyAt}
 use Rattle.row_changes.specs.Records.{IsTable}
 use Rattle.world.specs.Told.{pairs_of, IsTold}
 use Rattle.row_changes.specs.KeyEntries.{value_stays, StayBetween, IsEntryIn, IsEntryFor, AreEntries}
-use Rattle.row_changes.specs.Keys.{gone, without_row, said_next, HasRowsSoFar, IsEntering, IsChangingKeys, keys_steps, keys_next, StaysBesideKeys, GoesOnWithKeys, ChangesKeys}
+use Rattle.row_changes.specs.Keys.{gone, without_row, said_next, HasRowsSoFar, IsEntering, IsChangingKeys, keys_steps, keys_next, StaysBesideKeys}
+use Rattle.row_changes.specs.Keys.{GoesOnWithKeys, ChangesKeys}
 use Rattle.row_changes.proofs.Changing.{same_rows}
 use Rattle.row_changes.proofs.KeySteps.{plain, code_of, Says, pass, mark, put_after, put_first, key_done, over, stays_alike, puts_entry}
 use Rattle.row_changes.proofs.Telling.{stays_told, rows_again, coded_again, put_told, put_pairs}

@@ -29,7 +29,8 @@ insert_hindered actor value old new put move is at call not_done =
     = subst (λ (phase : PutPhase). PutPhaseHolds phase put.entry (old.indexes put.index)) at is.phase in
     let kept = insert_keeps actor put.entry value (old.indexes put.index) (new.indexes put.index) move call.index_is.here not_done in
     let still : IsThere false put.entry (new.indexes put.index)
-    = told_still (λ (pairs : List Pair). is_some (value_of put.entry pairs) ≡ false) (old.indexes put.index).pairs (new.indexes put.index).pairs kept.0 absent in (
+    = told_still (λ (pairs : List Pair). is_some (value_of put.entry pairs) ≡ false) (old.indexes put.index).pairs (new.indexes put.index).pairs
+    kept.0 absent in (
       refl,
       change_stays_if call kept,
       record {

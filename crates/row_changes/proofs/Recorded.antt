@@ -1,5 +1,6 @@
 -- A record that stands, its undo record, and the entry of the history.
-use Rattle.std.proofs.Common.{◌≡◌, ◌≢◌, inl, inr, ℕ, ◌+◌, ◌==◌, ◌≤◌, ◌<◌, ⊎_elim, true, false, List, ◌∷◌, length, Option, Some, None, refl, sym, ap, subst, ◌∙◌, arith}
+use Rattle.std.proofs.Common.{◌≡◌, ◌≢◌, inl, inr, ℕ, ◌+◌, ◌==◌, ◌≤◌, ◌<◌, ⊎_elim, true, false, List, ◌∷◌, length, Option, Some, None, refl, sym, ap, subst, ◌∙◌}
+use Rattle.std.proofs.Common.{arith}
 use Rattle.std.specs.Prelude.{slice_get, is_some}
 use Rattle.std.proofs.lemmas.Bool.{cases_eq}
 use Rattle.std.proofs.lemmas.List.{length-set}
@@ -26,7 +27,8 @@ use Rattle.row_changes.specs.declared.record_change.RecordStage.TheVariants.{Ins
 use Rattle.row_changes.specs.declared.record_change.RecordReached.TheVariants.{Recorded, Hindered}
 use Rattle.row_changes.specs.Entries.{IsThere}
 use Rattle.row_changes.specs.Entering.{Enters}
-use Rattle.row_changes.specs.Records.{IsListed, HasRoom, IsChangingRecord, txns_with_id, ChangesWork, Records, ChangesRecord, id_for, undo_of_new, undo_of_former, RecordsEdit, row_found}
+use Rattle.row_changes.specs.Records.{IsListed, HasRoom, IsChangingRecord, txns_with_id, ChangesWork, Records, ChangesRecord, id_for, undo_of_new}
+use Rattle.row_changes.specs.Records.{undo_of_former, RecordsEdit, row_found}
 use Rattle.row_changes.specs.declared.record_change.RecordStage.{RecordStage}
 use Rattle.key_codec.specs.Keys.{key_width}
 use Rattle.row_changes.specs.declared.row_edit.RowEdit.{RowEdit}

@@ -32,7 +32,8 @@ use Rattle.row_changes.specs.Edits.{IsRowFor, IsKeyAt, version_by}
 use Rattle.row_codec.specs.Rows.{version_code}
 use Rattle.world.specs.Told.{pairs_of, IsTold}
 use Rattle.row_changes.specs.Told.{HasRows}
-use Rattle.row_changes.specs.Records.{IsChangingRecord, GoesOnWithRecord, ChangesRecord, record_steps, id_for, PutsFirst, PutsOver, PutsVersion, RecordsEdit, undo_of_new, undo_of_former}
+use Rattle.row_changes.specs.Records.{IsChangingRecord, GoesOnWithRecord, ChangesRecord, record_steps, id_for, PutsFirst, PutsOver, PutsVersion, RecordsEdit}
+use Rattle.row_changes.specs.Records.{undo_of_new, undo_of_former}
 use Rattle.row_changes.specs.Keys.{IsChangingKeys, ChangesKeys}
 use Rattle.row_changes.specs.Rows.{row_after, primary_of, PushesEdit, IsChangingRow, ChangesRow}
 use Rattle.row_changes.proofs.Sessions.{one_session}

@@ -1,5 +1,6 @@
 -- How the steps end that look at versions, and the last ones.
-use Rattle.std.proofs.Common.{Vec, Global, zero, suc, ◌≡◌, ◌≢◌, ◌∙◌, sym, ap, subst, refl, ℕ, ◌<◌, ◌≤◌, ◌+◌, Bool, true, false, List, [], ◌∷◌, ◌++◌, length, Option, Some, inl, inr, arith}
+use Rattle.std.proofs.Common.{Vec, Global, zero, suc, ◌≡◌, ◌≢◌, ◌∙◌, sym, ap, subst, refl, ℕ, ◌<◌, ◌≤◌, ◌+◌, Bool, true, false, List, [], ◌∷◌, ◌++◌, length}
+use Rattle.std.proofs.Common.{Option, Some, inl, inr, arith}
 use Rattle.std.specs.Prelude.{IsTrue, option_map}
 use Rattle.inno_types.specs.declared.value.Value.{Value}
 use Rattle.inno_types.specs.declared.value.Schema.{Schema}

@@ -194,7 +194,8 @@ input_ends way NoMemory left bytes is p at script read = inr refl
 input_ends way ScriptRead left bytes is p at script read = absurd (read refl)
 input_ends way (ScriptBad line) left bytes is p at script read =
     absurd ((subst (λ (o : Option (List ℕ)). IfSome o (Refuses way (ScriptBad line))) at p).1 script)
-input_ends way (Limit what found most) left bytes is p at script read = absurd (no_limit way (Limit what found most) left bytes what found most p at script refl)
+input_ends way (Limit what found most) left bytes is p at script read =
+    absurd (no_limit way (Limit what found most) left bytes what found most p at script refl)
 input_ends way other left bytes is p at script read = absurd is
 
 pub input_not_file : (f : Fault) (bad : MountBad) → IsInputFault f → f ≡ File bad → ⊥

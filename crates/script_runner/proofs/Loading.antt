@@ -9,7 +9,8 @@ use Rattle.script.specs.Reading.{over, most_sessions, most_items}
 use Rattle.script_generator.specs.Generated.{passed}
 use Rattle.run_outcome.specs.declared.words.Asked.{Asked}
 use Rattle.run_outcome.specs.declared.outcome.Fault.{Fault}
-use Rattle.run_outcome.specs.declared.outcome.Fault.TheVariants.{Nothing, Usage, ScriptBad as BadScript, ScriptRead, OutputWrite, DiskFault, File, Limit, NoMemory}
+use Rattle.run_outcome.specs.declared.outcome.Fault.TheVariants.{Nothing, Usage, ScriptBad as BadScript, ScriptRead, OutputWrite, DiskFault, File, Limit}
+use Rattle.run_outcome.specs.declared.outcome.Fault.TheVariants.{NoMemory}
 use Rattle.run_outcome.specs.declared.reports.Report.TheVariants.{Totals}
 use Rattle.run_outcome.specs.Faults.{IsInputFault, IsOutputFault, IsPrinted}
 use Rattle.run_outcome.specs.Generating.{IsGenerateFault, script_fault}

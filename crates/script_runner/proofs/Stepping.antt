@@ -71,7 +71,8 @@ halted_on other t j past = ([], refl)
 stopped_on : (cause : Cause) (phase : Phase) (t j : ℕ) (past new : List Event) → new ≡ ended t j phase (halted cause past) → Extends past new
 stopped_on cause phase t j past new is =
     subst (Extends past) (sym is)
-    (extends_on past (halted cause past) (ended t j phase (halted cause past)) (told_on (has_stopped past) cause past) (halted_on phase t j (halted cause past)))
+    (extends_on past (halted cause past) (ended t j phase (halted cause past)) (told_on (has_stopped past) cause past)
+    (halted_on phase t j (halted cause past)))
 
 pub starts_nothing : {D : Type 0} (t moment : ℕ) (answer : Progress) (old new : State D) → StepsBy t answer old new
     → StartsNothing (shown_of moment old) (shown_of moment new)

@@ -134,7 +134,8 @@ stays_by_one old new t s differ adding keeps same_task Idle agrees =
 stays_by_one old new t s differ adding keeps same_task (Busy statement) agrees =
     (runs_on old new t s differ adding same_task keeps statement agrees.0, spelled_on old new t s differ adding same_task agrees.1)
 stays_by_one old new t s differ adding keeps same_task (Refused at) agrees = unread_on old new t s differ adding same_task at agrees
-stays_by_one old new t s differ adding keeps same_task (Signalling item) agrees = (asked_on old new t s differ adding same_task item agrees.0, same_task ∙ agrees.1)
+stays_by_one old new t s differ adding keeps same_task (Signalling item) agrees =
+    (asked_on old new t s differ adding same_task item agrees.0, same_task ∙ agrees.1)
 stays_by_one old new t s differ adding keeps same_task Leaving agrees = going_on old new t s differ adding same_task agrees
 stays_by_one old new t s differ adding keeps same_task Left agrees =
     (let closed = closed_on old new t s differ adding same_task (agrees.0, agrees.1) in (closed.0, closed.1, same_task ∙ agrees.2))

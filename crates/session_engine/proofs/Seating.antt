@@ -1,5 +1,6 @@
 -- What holds of the seats is kept by each call of the engine.
-use Rattle.std.proofs.Common.{◌≡◌, ◌≢◌, ◌⊎◌, ℕ, zero, suc, ◌+◌, ◌<◌, ◌≤◌, Bool, true, false, Option, Some, None, List, [], ◌∷◌, ◌++◌, length, get_or, set, refl, sym, ap, subst, ◌∙◌, inl, inr, ⊎_elim, arith}
+use Rattle.std.proofs.Common.{◌≡◌, ◌≢◌, ◌⊎◌, ℕ, zero, suc, ◌+◌, ◌<◌, ◌≤◌, Bool, true, false, Option, Some, None, List, [], ◌∷◌, ◌++◌, length, get_or, set, refl}
+use Rattle.std.proofs.Common.{sym, ap, subst, ◌∙◌, inl, inr, ⊎_elim, arith}
 use Rattle.std.proofs.lemmas.Bool.Decides.{nat_tests, eqb_tells}
 use Rattle.std.proofs.lemmas.Bool.{false≢true}
 use Rattle.std.proofs.lemmas.List.{get_or-set_same, get_or-set_other, length-set, length-append}
@@ -34,8 +35,10 @@ use Rattle.session_engine.specs.declared.seats.SignalItem.{SignalItem}
 use Rattle.session_engine.specs.declared.seats.SignalItem.TheVariants.{Gives, Awaits}
 use Rattle.statement.specs.Running.{IsRunning, owes_ack, acked}
 use Rattle.statement.proofs.Acked.{goes_on_acked, acked_nears}
-use Rattle.session_engine.specs.Seats.{State, seat_at, is_working, IsSpelled, IsUnread, MayGoOut, IsGoingOut, HasAsked, IsSeatOf, SeatAgrees, AreSeats, owes, phase_of}
-use Rattle.session_engine.specs.Calls.{AreFirst, SameLists, Joins, Starts, SameState, OthersStay, KeepsItems, TellsOne, GoesOn, StepsOn, Settled, Refuses, GoesOut, HasGiven, EndsSignal, Signals, StepsBy, Acknowledges, WaitsInVain, GivesUpInVain, WaitsOn}
+use Rattle.session_engine.specs.Seats.{State, seat_at, is_working, IsSpelled, IsUnread, MayGoOut, IsGoingOut, HasAsked, IsSeatOf, SeatAgrees, AreSeats, owes}
+use Rattle.session_engine.specs.Seats.{phase_of}
+use Rattle.session_engine.specs.Calls.{AreFirst, SameLists, Joins, Starts, SameState, OthersStay, KeepsItems, TellsOne, GoesOn, StepsOn, Settled, Refuses}
+use Rattle.session_engine.specs.Calls.{GoesOut, HasGiven, EndsSignal, Signals, StepsBy, Acknowledges, WaitsInVain, GivesUpInVain, WaitsOn}
 use Rattle.statement.specs.Going.{statement_to_go}
 use Rattle.inno_model.specs.declared.board.Phase.TheVariants as phases
 use Rattle.session_engine.specs.Going.{Nears, NearsEnding, NearsLacking}
@@ -621,7 +624,8 @@ module _ (old new : Lists) (seats : List Seat) (s : ℕ) (are : AreSeats old sea
     signals_patient seat answer does is =
         let waits = subst (Signals s now item old new seat) is does in (waits.2.0, is_at seat ∙ waits.2.3, waits.2.2)
 
-    pub signals_wait : (seat : Seat) (answer : Progress) → Signals s now item old new seat answer → GivesUpInVain s now answer (record { lists = old; seats = seats })
+    pub signals_wait : (seat : Seat) (answer : Progress) → Signals s now item old new seat answer
+        → GivesUpInVain s now answer (record { lists = old; seats = seats })
     signals_wait seat answer does other waited at is =
         let same : Signalling item ≡ Signalling other = sym was ∙ at in
         let one : item ≡ other = cc in

@@ -1,5 +1,6 @@
 -- Signals in a past: how many were asked for, given and done, and what an item that awaits one has seen.
-use Rattle.std.proofs.Common.{◌≡◌, ◌≢◌, ℕ, zero, suc, ◌+◌, ◌<◌, ◌≤◌, ◌^◌, true, false, cond, eqb, Option, Some, None, List, [], ◌∷◌, ◌++◌, length, refl, sym, ap, subst, ◌∙◌, inl, inr, arith, ◌⊎◌}
+use Rattle.std.proofs.Common.{◌≡◌, ◌≢◌, ℕ, zero, suc, ◌+◌, ◌<◌, ◌≤◌, ◌^◌, true, false, cond, eqb, Option, Some, None, List, [], ◌∷◌, ◌++◌, length, refl, sym}
+use Rattle.std.proofs.Common.{ap, subst, ◌∙◌, inl, inr, arith, ◌⊎◌}
 use Rattle.std.specs.Prelude.{Bool, take, drop, reverse, bytes_eq, ◌||◌}
 use Rattle.std.specs.List.{AllByRecursion, list_any}
 use Rattle.std.proofs.lemmas.Bool.{false≢true}
@@ -121,7 +122,8 @@ module _ (name : List ℕ) where
       let g : List Event = events.Started t j item ∷ h in
       let before : waits h t ≡ 0 = ap (λ it. bit (is_signal_of name it)) ordered.0.0 in
       let now : waits g t ≡ bit (is_signal_of name (Some item)) = ap (λ it. bit (is_signal_of name it)) (this_started t j item h) in
-      let asked : signals_asked name g ≡ signals_asked name h + bit (is_signal_of name (Some item)) = cond_bit (is_signal_of name (Some item)) (signals_asked name h) in
+      let asked : signals_asked name g ≡ signals_asked name h + bit (is_signal_of name (Some item)) =
+      cond_bit (is_signal_of name (Some item)) (signals_asked name h) in
       let apart : (u : ℕ) → u ≢ t → waits g u ≡ waits h u = λ u differ. same_wait h g u (other_started t j item h u differ) in
       let m = n + (t + 1) in
       let all = counted h ordered.1 m in

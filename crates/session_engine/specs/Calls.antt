@@ -152,7 +152,8 @@ IsPatient now (Awaits wait) = (since : ℕ) × (wait.since ≡ Some since) × (n
 -- what a step of such an item does
 abbrev pub Signals : ℕ → ℕ → SignalItem → Lists → Lists → Seat → Progress → Type 0
 Signals s now item old new seat (progress.Done reply) = EndsSignal s reply old new × (seat ≡ seats.Idle) × HasCause now item reply old.past
-Signals s now item old new seat progress.NotYet = (new ≡ old) × IsAwaited s old.past × ((later : SignalItem) × HasAsked s later old.past × IsPatient now later × (seat ≡ seats.Signalling later))
+Signals s now item old new seat progress.NotYet = (new ≡ old) × IsAwaited s old.past
+    × ((later : SignalItem) × HasAsked s later old.past × IsPatient now later × (seat ≡ seats.Signalling later))
 Signals s now item old new seat other = ⊥
 
 -- where such an item gives up waiting, it has waited in vain

@@ -1,5 +1,6 @@
 -- Each entry keeps the history legal, and what is kept beside it in agreement.
-use Rattle.std.proofs.Common.{◌≡◌, ◌≢◌, ℕ, ◌+◌, ◌-◌, ◌<◌, ◌≤◌, true, false, cond, eqb, Option, Some, None, List, [], ◌∷◌, ◌++◌, length, get_or, set, refl, sym, ap, subst, ◌∙◌, inl, inr, arith}
+use Rattle.std.proofs.Common.{◌≡◌, ◌≢◌, ℕ, ◌+◌, ◌-◌, ◌<◌, ◌≤◌, true, false, cond, eqb, Option, Some, None, List, [], ◌∷◌, ◌++◌, length, get_or, set, refl, sym}
+use Rattle.std.proofs.Common.{ap, subst, ◌∙◌, inl, inr, arith}
 use Rattle.std.proofs.lemmas.Bool.{false≢true}
 use Rattle.std.proofs.lemmas.Bool.Decides.{nat_tests, eqb_tells}
 use Rattle.std.proofs.lemmas.List.{length-set, length-append}
@@ -26,7 +27,8 @@ use Rattle.sql_grammar.specs.Grammar.{Spells}
 use Rattle.sql_history.specs.Items.{Asks}
 use Rattle.sql_history.specs.Settings.{Setting, HasSet, at_first, at_begin, at_end, saved, set_by}
 use Rattle.sql_history.specs.Counts.{has_stopped, last_moment, rows_of_entry, rows_kept, rows_of_reply, most_rows}
-use Rattle.sql_history.specs.Legal.{MayFollow, PaysCommit, MayBegin, MayView, MayChange, MayUndo, MayCommit, MayRollBack, MaySignal, is_leaving, IsWithin, EndsBy, owed_by, owes_commit}
+use Rattle.sql_history.specs.Legal.{MayFollow, PaysCommit, MayBegin, MayView, MayChange, MayUndo, MayCommit, MayRollBack, MaySignal, is_leaving, IsWithin}
+use Rattle.sql_history.specs.Legal.{EndsBy, owed_by, owes_commit}
 use Rattle.law_past_agreement.specs.Order.{created, is_creation, IsOfRow, IsTabled, IsUndoable, MayCome}
 use Rattle.law_past_agreement.proofs.Ids.{ids_of}
 use Rattle.sql_plan.specs.declared.choice.Plan.{Plan}
@@ -42,10 +44,12 @@ use Rattle.shared_lists.specs.State.{State, Lists, IsFirst, IsNow, Adds, Closes,
 use Rattle.shared_lists.specs.Steps.{Searches, Changes, TakesBack, rows_of_change, rows_entered}
 use Rattle.sql_lists.specs.Tables.{MayMake, begun, created_by, table_made, none_made}
 use Rattle.sql_lists.specs.Kept.{IsKept, MayReply, is_of_signal, OwesAck, SetsQuietly, AreStanding, IsInOrder, made as tables_made}
-use Rattle.sql_lists.proofs.Settings.{AllSet, set_other, sets_one, sets_none, sets_joined, set_at_begin, set_at_commit, set_at_rollback, set_at_end, set_at_signal, set_at_done}
+use Rattle.sql_lists.proofs.Settings.{AllSet, set_other, sets_one, sets_none, sets_joined, set_at_begin, set_at_commit, set_at_rollback, set_at_end}
+use Rattle.sql_lists.proofs.Settings.{set_at_signal, set_at_done}
 use Rattle.sql_lists.proofs.Moving.{then_adds, then_closes, then_locks, writer_gone}
 use Rattle.sql_lists.proofs.Ordered.{same_seen, ordered_changed, ordered_undone, ordered_committed}
-use Rattle.sql_lists.proofs.Standing.{schemas_after, committed_is, stands_plain, stands_row, stands_begun, stands_rolled_back, stands_undone, stands_committed, stands_made}
+use Rattle.sql_lists.proofs.Standing.{schemas_after, committed_is, stands_plain, stands_row, stands_begun, stands_rolled_back, stands_undone, stands_committed}
+use Rattle.sql_lists.proofs.Standing.{stands_made}
 
 cons_is_some : (e : Event) (h : List Event) → e ∷ h ≡ [] → ⊥
 cons_is_some e h is = cc

@@ -1,5 +1,6 @@
 -- What the calls of the lists do to what all sessions share, as steps of statements say it.
-use Rattle.std.proofs.Common.{◌≡◌, ◌≢◌, ◌⊎◌, ℕ, ◌+◌, ◌<◌, ◌-◌, true, false, Option, Some, None, List, [], ◌∷◌, ◌++◌, length, refl, sym, ap, subst, ◌∙◌, inl, inr, arith}
+use Rattle.std.proofs.Common.{◌≡◌, ◌≢◌, ◌⊎◌, ℕ, ◌+◌, ◌<◌, ◌-◌, true, false, Option, Some, None, List, [], ◌∷◌, ◌++◌, length, refl, sym, ap, subst, ◌∙◌, inl}
+use Rattle.std.proofs.Common.{inr, arith}
 use Rattle.std.proofs.lemmas.Bool.Decides.{nat_tests, eqb_tells}
 use Rattle.std.specs.List.{AllByRecursion}
 use Rattle.std.proofs.lemmas.Bool.{false≢true}
@@ -305,7 +306,8 @@ moves_goes_on t old new goes = moves_turns t (task_of t new) old new goes.turns
 
 pub moves_enters : (t : ℕ) (old new : State) → old.writer ≡ Some t → Enters t old new → Moves t old new
 moves_enters t old new locked enters =
-    moves_entry t (events.Changed t enters.change) (task_of t new) old new (grind (arith, nat_tests)) refl (λ changes. (locked, inl enters.asked_was)) enters.now
+    moves_entry t (events.Changed t enters.change) (task_of t new) old new (grind (arith, nat_tests)) refl (λ changes. (locked, inl enters.asked_was))
+    enters.now
 
 pub moves_changes : (t : ℕ) (old new : State) (answer : Changed) → old.writer ≡ Some t → Changes t old new answer → Moves t old new
 moves_changes t old new made.Went locked changes = moves_goes_on t old new changes

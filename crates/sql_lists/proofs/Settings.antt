@@ -1,5 +1,6 @@
 -- What each entry makes of what the sessions have set.
-use Rattle.std.proofs.Common.{◌≡◌, ◌≢◌, ℕ, ◌<◌, Bool, true, false, eqb, Some, List, [], ◌∷◌, ◌++◌, length, zero, suc, get_or, set, refl, sym, subst, inl, inr, arith}
+use Rattle.std.proofs.Common.{◌≡◌, ◌≢◌, ℕ, ◌<◌, Bool, true, false, eqb, Some, List, [], ◌∷◌, ◌++◌, length, zero, suc, get_or, set, refl, sym, subst, inl, inr}
+use Rattle.std.proofs.Common.{arith}
 use Rattle.std.proofs.lemmas.Bool.Decides.{nat_tests, eqb_tells}
 use Rattle.std.proofs.lemmas.List.{get_or-set_same, get_or-set_other}
 use Rattle.inno_types.specs.declared.stmt.Stmt.{Stmt}

@@ -11,7 +11,8 @@ use Rattle.inno_types.specs.declared.stmt.Stmt.{Stmt}
 use Rattle.inno_types.specs.declared.stmt.Stmt.TheVariants as stmt
 use Rattle.inno_model.specs.declared.event.Event.{Event}
 use Rattle.inno_model.specs.Moments.{Sometime}
-use Rattle.inno_model.specs.Past.{before_item, of_item, did, begins_txn, takes_view, commits_txn, rolls_back_txn, level, own, oldest, under_way, awaits_ack, IsOpen, IsClosed}
+use Rattle.inno_model.specs.Past.{before_item, of_item, did, begins_txn, takes_view, commits_txn, rolls_back_txn, level, own, oldest, under_way, awaits_ack}
+use Rattle.inno_model.specs.Past.{IsOpen, IsClosed}
 use Rattle.std.specs.Prelude.{is_some, length, ◌-◌}
 use Rattle.inno_db.specs.declared.change.Change.{Change}
 use Rattle.transaction_statements.proofs.Staying.{still, made_still}

@@ -31,10 +31,12 @@ use Rattle.transaction_statements.specs.Committing.{stmt_of, Fits}
 use Rattle.transaction_statements.specs.Knowing.{IsAt, HasOpened}
 use Rattle.transaction_statements.specs.Running.{RunsBy, TakesBackTo, HasTask, IsRunning, Nothing, begun_at, owes_ack, acked}
 use Rattle.transaction_statements.specs.Going.{to_go}
-use Rattle.sql_lists.proofs.Moving.{moves_none, moves_stays, moves_adds, moves_closes, moves_takes_back, below_phase, below_second, below_third, fewer_stand, takes_back_nears}
+use Rattle.sql_lists.proofs.Moving.{moves_none, moves_stays, moves_adds, moves_closes, moves_takes_back, below_phase, below_second, below_third, fewer_stand}
+use Rattle.sql_lists.proofs.Moving.{takes_back_nears}
 use Rattle.transaction_statements.proofs.Staying.{still}
 use Rattle.transaction_statements.proofs.Ending.{fails_begin, fails_still, fails_saving}
-use Rattle.transaction_statements.proofs.Stepping.{emptied_closed, emptied_committed, at_committed, emptied_acked, at_acked, opened_begun, at_begun, knows_less, opened_viewed, at_viewed, at_undone, back_undone, at_rolled, made_rolled}
+use Rattle.transaction_statements.proofs.Stepping.{emptied_closed, emptied_committed, at_committed, emptied_acked, at_acked, opened_begun, at_begun, knows_less}
+use Rattle.transaction_statements.proofs.Stepping.{opened_viewed, at_viewed, at_undone, back_undone, at_rolled, made_rolled}
 
 -- ---- by the answer
 
@@ -124,7 +126,8 @@ may_begin s past snapshot l r =
 
 module _ (s : ℕ) (old new : State) (snapshot : Bool) (l : Level) (r : IsRunning old s (statements.Closed (committers.Begin snapshot l))) where
   pub lacks_begin : Stays s old new → Steps IsRunning s old new statements.Failed advance.NoMemory
-  lacks_begin stays = lacks_memory s old new statements.Failed stays (fails_begin s old.past snapshot _ r.0.0 r.0.1.closed r.0.1.made (inl r.0.1.not_begun) r.0.2) r.1
+  lacks_begin stays = lacks_memory s old new statements.Failed stays
+      (fails_begin s old.past snapshot _ r.0.0 r.0.1.closed r.0.1.made (inl r.0.1.not_begun) r.0.2) r.1
 
   module _ (adds : Adds (events.Begin s (begins old.past + 1) l) s old new) where
     at : IsAt s (stmt.Begin snapshot) Nothing (events.Begin s (begins old.past + 1) l ∷ old.past)

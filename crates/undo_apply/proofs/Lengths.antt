@@ -14,7 +14,8 @@ last : (lists : List (List ℕ)) (list : List ℕ) → slice_index_or (lists ++ 
 last [] list = refl
 last (first ∷ lists) list = last lists list
 
-pub one_more : (lists : List (List ℕ)) (list : List ℕ) (count : ℕ) → AreOfEachLength count lists → length list ≡ count → AreOfEachLength (count + 1) (lists ++ list ∷ [])
+pub one_more : (lists : List (List ℕ)) (list : List ℕ) (count : ℕ) → AreOfEachLength count lists → length list ≡ count
+    → AreOfEachLength (count + 1) (lists ++ list ∷ [])
 one_more lists list count are is = record {
   count = omega (arith, are.count, length-append lists (list ∷ []));
   each = λ n within. ⊎_elim

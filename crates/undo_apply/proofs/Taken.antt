@@ -1,5 +1,6 @@
 -- What the change of one entry makes of a change that is being taken back.
-use Rattle.std.proofs.Common.{◌≡◌, ◌≢◌, inl, inr, ⊎_elim, ℕ, ◌+◌, ◌<◌, Bool, true, false, cond, List, [], ◌∷◌, Option, Some, None, refl, sym, ap, subst, ◌∙◌, arith, slice_get, length}
+use Rattle.std.proofs.Common.{◌≡◌, ◌≢◌, inl, inr, ⊎_elim, ℕ, ◌+◌, ◌<◌, Bool, true, false, cond, List, [], ◌∷◌, Option, Some, None, refl, sym, ap, subst, ◌∙◌}
+use Rattle.std.proofs.Common.{arith, slice_get, length}
 use Rattle.std.specs.Prelude.{◌==◌}
 use Rattle.std.specs.List.{list_any}
 use Rattle.std.proofs.lemmas.Bool.{cases_eq, cond-false, ne_eqb}
@@ -23,7 +24,8 @@ use Rattle.law_stored_rows.proofs.Pairs.{no_key}
 use Rattle.law_stored_rows.proofs.Entries.{marked, taken, is_taken, unmarked, is_unmarked, without_row, value_again}
 use Rattle.law_stored_rows.proofs.Keys.{entry_changed}
 use Rattle.undo_apply.specs.Told.{Rows}
-use Rattle.undo_apply.specs.Standing.{TellsOf, IsNewest, said_but, AreCodedBut, IsCleared, IsLagging, SayBefore, IsUnderWay, versions_before, column_of, some_has}
+use Rattle.undo_apply.specs.Standing.{TellsOf, IsNewest, said_but, AreCodedBut, IsCleared, IsLagging, SayBefore, IsUnderWay, versions_before, column_of}
+use Rattle.undo_apply.specs.Standing.{some_has}
 use Rattle.undo_apply.proofs.Telling.{pairs_after}
 use Rattle.undo_apply.proofs.Places.{place_is, WasThere, WasNot}
 use Rattle.undo_apply.proofs.Columns.{IsKeyAt, key_at, column_is, entry_is, few_keys}

@@ -147,7 +147,8 @@ module _ (s : ℕ) (desks : List Desk) (cuts : ℕ) (undo : UndoRoom) (room : Wo
       let shows = came_shown s desks cuts undo room old step.mid left later held is_made.leaves change step.reached at is_made.comes in
       subst (λ (d : Doing). ChangesIn s before (lists_of new (Some s) (with_doing s d desks) later) answer) (sym step.doing_is)
       (subst (λ (a : Changed). ChangesIn s before (lists_of new (Some s) desks_then later) a) (sym step.answer_is)
-      (subst (λ (now : Lists). ChangesIn s before now (answer_for change step.reached)) (sym (left_shown s (Some s) desks_then later step.mid new step.left none told))
+      (subst (λ (now : Lists). ChangesIn s before now (answer_for change step.reached))
+      (sym (left_shown s (Some s) desks_then later step.mid new step.left none told))
       shows))
 
 -- The session may write, and its desk has this to do now.

@@ -157,7 +157,8 @@ module _ (s : ℕ) (old new : WorldState) (writer : Option ℕ) (desks : List De
   pub left_held : doing_at s desks ≡ Nothing → IsHeld old writer desks cuts undo room → IsHeld new writer desks cuts undo room
   left_held rest held = held_left s writer old new leaves desks cuts undo room held (ap is_searching rest) memory.told
 
-  pub left_seen : doing_at s desks ≡ Nothing → (keep : ℕ) (was : Lists) (answer : Answer) → TakesBackIn s keep was (lists_held old writer desks undo room) answer
+  pub left_seen : doing_at s desks ≡ Nothing → (keep : ℕ) (was : Lists) (answer : Answer)
+      → TakesBackIn s keep was (lists_held old writer desks undo room) answer
       → TakesBackIn s keep was (lists_held new writer desks undo room) answer
   left_seen rest keep was answer takes = subst (λ (now : Lists). TakesBackIn s keep was now answer) (same_seen rest) takes
 

@@ -52,7 +52,8 @@ entered s old new part todo rows r enters =
     (subst (λ w. IsChanging (events.Changed s r.change ∷ old.past) w s part (of_rest part) todo) (sym enters.now.writer_is)
     (changing_then old.past old.writer s part (of_rest part) todo r.change r.changing r.of_row)) in
     let stands : part.before < length (own s new.past) =
-    subst (λ (h : List Event). part.before < length (own s h)) (sym past-is) (stands_now old.past old.writer s part (of_rest part) todo r.change r.changing r.of_row) in (
+    subst (λ (h : List Event). part.before < length (own s h)) (sym past-is)
+    (stands_now old.past old.writer s part (of_rest part) todo r.change r.changing r.of_row) in (
       moves_enters s old new r.changing.right.locked enters,
       record
           { changing = changing; under_way = enters.still; told = enters.asked_is; stands = stands },
@@ -119,7 +120,8 @@ pub making_given_up : (s : ℕ) (old new : State) (part : Part) (todo : List Cha
     → IsMaking old.past old.writer (task_of s old) s part todo rows → Turns s (left_by (asked (task_of s old))) old new
     → m ≡ machine.BackingOut (given_up part.alone part.before) → a ≡ advance.NoMemory → Steps IsRunning s old new m a
 making_given_up s old new part todo rows m a r turns state answer =
-    changing_given_up s old new (left_by (asked (task_of s old))) part (of_rest part) (todo ++ r.change ∷ []) m a r.changing turns (inl (ap left_by r.asked_is)) state answer
+    changing_given_up s old new (left_by (asked (task_of s old))) part (of_rest part) (todo ++ r.change ∷ []) m a r.changing turns
+    (inl (ap left_by r.asked_is)) state answer
 
 -- and what it tells is to be taken back
 pub finishing_given_up : (s : ℕ) (old new : State) (part : Part) (todo : List Change) (m : WriteStatement) (a : Advance)

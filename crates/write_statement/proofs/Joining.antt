@@ -10,7 +10,8 @@ use Rattle.inno_types.specs.declared.reply.Item.TheVariants.{Sql}
 use Rattle.inno_types.specs.declared.reply.Reply.TheVariants.{NoMemory}
 use Rattle.inno_model.specs.declared.event.Event.{Event}
 use Rattle.inno_model.specs.declared.event.Event.TheVariants as events
-use Rattle.inno_model.specs.Past.{is_of, before_item, of_item, did, begins_txn, commits_txn, rolls_back_txn, closes, begins, level, own, started, awaits_ack, IsOpen, IsClosed}
+use Rattle.inno_model.specs.Past.{is_of, before_item, of_item, did, begins_txn, commits_txn, rolls_back_txn, closes, begins, level, own, started, awaits_ack}
+use Rattle.inno_model.specs.Past.{IsOpen, IsClosed}
 use Rattle.inno_model.specs.Moments.{starts, Sometime}
 use Rattle.inno_model.proofs.Untouched.{untouched}
 use Rattle.sql_grammar.specs.Grammar.{Spells}
@@ -122,7 +123,8 @@ acked_none s h none = ap awaits_ack none
 
 -- ---- in the transaction that was open
 
-pub joined : (s : ℕ) (statement : Stmt) (h : List Event) → IsWriting statement → IsTaken s statement h → IsUnrefused statement h → IsOpen s h → IsEarly s statement false h
+pub joined : (s : ℕ) (statement : Stmt) (h : List Event) → IsWriting statement → IsTaken s statement h → IsUnrefused statement h → IsOpen s h
+    → IsEarly s statement false h
 joined s statement h writes taken unrefused is-open =
     let none = taken.nothing in
     let turn = turn_nothing s h none in

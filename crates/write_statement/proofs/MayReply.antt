@@ -13,7 +13,8 @@ use Rattle.sql_grammar.specs.Grammar.{Spells}
 use Rattle.sql_history.specs.Items.{base, point, HasMade}
 use Rattle.sql_history.specs.Answers.{Answers, MakesFor}
 use Rattle.sql_history.specs.Endings.{BacksOut, RollsBack}
-use Rattle.sql_history.specs.Legal.{Takes, IsWriting, AnswersRows, EndsRows, EndsTaken, EndsItem, IsGivenUp, IsOverfull, NextBrings, LeavesIt, WantsMemory, BrokeOff, sight_in}
+use Rattle.sql_history.specs.Legal.{Takes, IsWriting, AnswersRows, EndsRows, EndsTaken, EndsItem, IsGivenUp, IsOverfull, NextBrings, LeavesIt, WantsMemory}
+use Rattle.sql_history.specs.Legal.{BrokeOff, sight_in}
 use Rattle.sql_history.specs.Waiting.{is_victim}
 use Rattle.sql_history.specs.Counts.{rows_of_reply}
 use Rattle.sql_lists.specs.Kept.{MayReply}

@@ -1,5 +1,6 @@
 -- An entry of another session leaves what the machine knows.
-use Rattle.std.proofs.Common.{◌≡◌, ◌≢◌, ◌<◌, ℕ, Bool, true, false, Some, None, List, [], ◌∷◌, ◌++◌, length, take, reverse, refl, sym, ap, subst, ◌∙◌, ◌⊎◌, inl, inr}
+use Rattle.std.proofs.Common.{◌≡◌, ◌≢◌, ◌<◌, ℕ, Bool, true, false, Some, None, List, [], ◌∷◌, ◌++◌, length, take, reverse, refl, sym, ap, subst, ◌∙◌, ◌⊎◌, inl}
+use Rattle.std.proofs.Common.{inr}
 use Rattle.std.specs.Prelude.{is_some, slice_get}
 use Rattle.std.specs.List.{AllByRecursion, list_any}
 use Rattle.inno_types.specs.declared.value.Schema.{Schema}
@@ -33,7 +34,8 @@ use Rattle.write_statement.specs.declared.machine.Work.{Work}
 use Rattle.write_statement.specs.declared.machine.WriteStatement.{WriteStatement}
 use Rattle.write_statement.specs.declared.machine.WriteStatement.TheVariants as machine
 use Rattle.write_statement.specs.Parts.{IsCut, GoesOnWith, behind, of_part, of_rest}
-use Rattle.write_statement.specs.Running.{Joins, HasOpened, InTxn, IsWorking, GoesOn, IsUnrefused, IsEarly, IsChanging, HasReply, HasRight, IsReading, IsMaking, IsFinishing, MovesOn, IsBackingOut, MayGoBack, MayAnswer, EndsTxn, IsClosing, IsRunning}
+use Rattle.write_statement.specs.Running.{Joins, HasOpened, InTxn, IsWorking, GoesOn, IsUnrefused, IsEarly, IsChanging, HasReply, HasRight, IsReading, IsMaking}
+use Rattle.write_statement.specs.Running.{IsFinishing, MovesOn, IsBackingOut, MayGoBack, MayAnswer, EndsTxn, IsClosing, IsRunning}
 use Rattle.plain_sql.proofs.MoreTables.{more_tables}
 use Rattle.write_statement.proofs.Writing.{reads_rows}
 use Rattle.write_statement.proofs.Replies.{reply_stays, reply_goes_on}

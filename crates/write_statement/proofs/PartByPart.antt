@@ -17,7 +17,8 @@ use Rattle.inno_db.specs.Database.{Database, rows_of}
 use Rattle.inno_db.specs.Changes.{apply_one, apply}
 use Rattle.inno_db.specs.Names.{table_place}
 use Rattle.inno_db.specs.Refusals.{refusal}
-use Rattle.inno_db.specs.Outcome.{outcome, answer_to, unless_refused, counted, count_unless, on_rows, on_number, on_schema, insert_answer, update_answer, delete_answer, deleted, matching}
+use Rattle.inno_db.specs.Outcome.{outcome, answer_to, unless_refused, counted, count_unless, on_rows, on_number, on_schema, insert_answer, update_answer}
+use Rattle.inno_db.specs.Outcome.{delete_answer, deleted, matching}
 use Rattle.inno_db.proofs.Keys.{IsKeyed}
 use Rattle.inno_db.proofs.Outcomes.{table_read}
 use Rattle.inno_db.proofs.Applying.{apply-append}
@@ -232,7 +233,8 @@ cut_writes schemas statement [] cut writes = writes
 cut_writes schemas (stmt.Insert table names (tuple ∷ [])) (next ∷ later) cut writes = tt
 cut_writes schemas other (next ∷ later) cut writes = absurd cut
 
-left_table : (schemas : List Schema) (statement : Stmt) (later : List (List Literal)) → table_read schemas (left_of statement later) ≡ table_read schemas statement
+left_table : (schemas : List Schema) (statement : Stmt) (later : List (List Literal))
+    → table_read schemas (left_of statement later) ≡ table_read schemas statement
 left_table schemas statement [] = refl
 left_table schemas (stmt.Insert table names tuples) (next ∷ later) = refl
 left_table schemas other (next ∷ later) = refl

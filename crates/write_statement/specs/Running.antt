@@ -15,7 +15,8 @@ use Rattle.inno_db.proofs.Outcomes.{table_read}
 use Rattle.inno_model.specs.declared.event.Event.{Event}
 use Rattle.inno_model.specs.declared.event.Event.TheVariants.{Changed}
 use Rattle.inno_model.specs.Moments.{Sometime}
-use Rattle.inno_model.specs.Past.{before_item, of_item, did, begins_txn, commits_txn, rolls_back_txn, level, own, commits, current, awaits_ack, IsOpen, IsClosed}
+use Rattle.inno_model.specs.Past.{before_item, of_item, did, begins_txn, commits_txn, rolls_back_txn, level, own, commits, current, awaits_ack, IsOpen}
+use Rattle.inno_model.specs.Past.{IsClosed}
 use Rattle.sql_grammar.specs.Grammar.{Spells}
 use Rattle.sql_history.specs.Items.{is_over, own_before, base, point, HasMade, undoes}
 use Rattle.sql_history.specs.Settings.{Setting, Either}

@@ -21,7 +21,8 @@ loop-entry-preserved c =
     record {
       joined = c.enter.ensures.joined ∙ c.loop-entry.invariant.joined;
       may =
-          may_after s (draft_of s c.loop-entry.log.drafts).ready (draft_of s c.enter.new.self.drafts).ready e (drop (i + 1) entries) c.enter.ensures.room_stays may;
+          may_after s (draft_of s c.loop-entry.log.drafts).ready (draft_of s c.enter.new.self.drafts).ready e (drop (i + 1) entries)
+          c.enter.ensures.room_stays may;
       kept = λ root now past is.
           subst (λ (es : List Event). IsLogging root now (es ++ past) c.enter.new.self) (sym more)
           (c.enter.ensures.kept root now (reverse (take i entries) ++ past) (c.loop-entry.invariant.kept root now past is));

@@ -45,7 +45,8 @@ returns-in-Ok-clause-crash g c = λ first groups base newest ready held.
     let run = flushed_run first groups base log old mid ready held flushed keeps.flushed (c.flush_for.ensures.stands first groups) in
     Meanwhile-join (KeepsSince log.run first log.flushed groups base) old mid new
     (flush_crash first groups base log old mid ready held (c.flush_for.ensures.crash first groups))
-    (stage_crash first groups base flushed c.args.batch mid new run newest c.in-Ok.ensures.logged log.run log.flushed keeps.run keeps.flushed c.copy_all.ensures.crash)
+    (stage_crash first groups base flushed c.args.batch mid new run newest c.in-Ok.ensures.logged log.run log.flushed keeps.run keeps.flushed
+    c.copy_all.ensures.crash)
 
 pub returns-in-Ok-clause-reads : goal.returns-in-Ok-clause-reads
 returns-in-Ok-clause-reads g c = leads_join _ _ _ c.flush_for.ensures.reads c.copy_all.ensures.reads

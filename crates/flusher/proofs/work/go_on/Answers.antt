@@ -23,7 +23,9 @@ returns-in-Ok-false-clause-in_place g c = λ held.
     let place = c.place_next in
     let next = place.new.self in
     let count : next.batch.count ≡ c.args.staged.batch.count = ap (λ (b : BatchView). b.count) place.ensures.batch in
-    let all : next.placed ≡ next.batch.count = all_placed c.in-Ok-false.field-0 c.args.staged.placed next.placed next.batch.count c.in-Ok-false.field-0-test c.in-Ok-false.ensures.more c.in-Ok-false.ensures.ok (omega (arith, c.requires, count)) in
+    let all : next.placed ≡ next.batch.count =
+    all_placed c.in-Ok-false.field-0 c.args.staged.placed next.placed next.batch.count c.in-Ok-false.field-0-test c.in-Ok-false.ensures.more
+    c.in-Ok-false.ensures.ok (omega (arith, c.requires, count)) in
     let whole : next ≡ record {
       batch = c.args.staged.batch;
       placed = c.args.staged.batch.count;
@@ -35,7 +37,9 @@ returns-in-Ok-false-clause-stands g c = λ first groups base log ready held.
     let place = c.place_next in
     let next = place.new.self in
     let count : next.batch.count ≡ c.args.staged.batch.count = ap (λ (b : BatchView). b.count) place.ensures.batch in
-    let all : next.placed ≡ next.batch.count = all_placed c.in-Ok-false.field-0 c.args.staged.placed next.placed next.batch.count c.in-Ok-false.field-0-test c.in-Ok-false.ensures.more c.in-Ok-false.ensures.ok (omega (arith, c.requires, count)) in
+    let all : next.placed ≡ next.batch.count =
+    all_placed c.in-Ok-false.field-0 c.args.staged.placed next.placed next.batch.count c.in-Ok-false.field-0-test c.in-Ok-false.ensures.more
+    c.in-Ok-false.ensures.ok (omega (arith, c.requires, count)) in
     last_run first groups base c.args.staged log (g.D.Disk.past c.args.disk.now)
     (g.D.Disk.past place.new.disk) ready held next place.ensures.batch place.ensures.stands place.ensures.placed all
 
@@ -65,11 +69,13 @@ returns-in-Ok-false-clause-home g c = λ first groups base log newest ready held
     let next = place.new.self in
     let staged = c.args.staged in
     let count : next.batch.count ≡ staged.batch.count = ap (λ (b : BatchView). b.count) place.ensures.batch in
-    let all : next.placed ≡ next.batch.count = all_placed c.in-Ok-false.field-0 staged.placed next.placed next.batch.count c.in-Ok-false.field-0-test c.in-Ok-false.ensures.more c.in-Ok-false.ensures.ok (omega (arith, c.requires, count)) in
+    let all : next.placed ≡ next.batch.count = all_placed c.in-Ok-false.field-0 staged.placed next.placed next.batch.count c.in-Ok-false.field-0-test
+    c.in-Ok-false.ensures.more c.in-Ok-false.ensures.ok (omega (arith, c.requires, count)) in
     let whole : next ≡ record { batch = staged.batch; placed = staged.batch.count } = λ i. record { batch = place.ensures.batch i; placed = (all ∙ count) i } in
     let cleans = subst (λ (b : BatchView). Cleans b b.count c.args.pool.now c.settle.new.pool) (c.done-batch.ensures ∙ place.ensures.batch) c.settle.ensures in
     last_home first groups base staged log (g.D.Disk.past c.args.disk.now)
-    (g.D.Disk.past place.new.disk) ready held next place.ensures.batch place.ensures.stands place.ensures.placed whole c.args.pool.now c.settle.new.pool newest cleans
+    (g.D.Disk.past place.new.disk) ready held next place.ensures.batch place.ensures.stands place.ensures.placed whole c.args.pool.now
+    c.settle.new.pool newest cleans
 
 pub returns-in-Ok-true-clause-kept : goal.returns-in-Ok-true-clause-kept
 returns-in-Ok-true-clause-kept g c = λ first groups base log newest ready changed held kept.

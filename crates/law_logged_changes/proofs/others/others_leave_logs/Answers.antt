@@ -1,4 +1,5 @@
-use Rattle.law_logged_changes.proofs.Leaving.{log_left, apart_left, all_left, but_left, aside_left, to_cut_left, cut_left, rows_leave, stay_leaves, entry_leaves}
+use Rattle.law_logged_changes.proofs.Leaving.{log_left, apart_left, all_left, but_left, aside_left, to_cut_left, cut_left, rows_leave, stay_leaves}
+use Rattle.law_logged_changes.proofs.Leaving.{entry_leaves}
 use Rattle.law_logged_changes.proofs.others.others_leave_logs.Goals as goal
 
 pub returns-clause-log : goal.returns-clause-log

@@ -7,7 +7,8 @@ pub returns-clause-nowhere : goal.returns-clause-nowhere
 returns-clause-nowhere c = λ chains place table which value apart. refl
 
 pub returns-clause-pushed : goal.returns-clause-pushed
-returns-clause-pushed c = λ before after place version said lag pushes. lag_stays before after place said (pushed_elsewhere before after place version pushes) lag
+returns-clause-pushed c = λ before after place version said lag pushes.
+    lag_stays before after place said (pushed_elsewhere before after place version pushes) lag
 
 pub returns-clause-popped : goal.returns-clause-popped
 returns-clause-popped c = λ before after place said lag pops. lag_stays before after place said (popped_elsewhere before after place pops) lag

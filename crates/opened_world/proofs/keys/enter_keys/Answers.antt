@@ -7,7 +7,8 @@ returns-in-Done c = record {
   rows = taken_rows _ (world_of c.args.world.now) (world_of c.loop.world) (world_of c.step.new.world) c.loop.change c.loop.invariant c.in-Done.ensures.changes;
   awaits = same_table _ (world_of c.args.world.now) (world_of c.loop.world) (world_of c.step.new.world) c.loop.change c.loop.invariant c.in-Done.ensures.awaits;
   rest = taken_rest _ (world_of c.args.world.now) (world_of c.loop.world) (world_of c.step.new.world) c.loop.change c.loop.invariant c.in-Done.ensures.changes;
-  later = taken_later _ (world_of c.args.world.now) (world_of c.loop.world) (world_of c.step.new.world) c.loop.change c.loop.invariant c.in-Done.ensures.changes;
+  later = taken_later _ (world_of c.args.world.now) (world_of c.loop.world) (world_of c.step.new.world) c.loop.change c.loop.invariant
+      c.in-Done.ensures.changes;
 }
 
 pub loop-preserved : goal.loop-preserved

@@ -19,6 +19,7 @@ plain_on_rows-requires-clause-table_is g c =
 pub returns : goal.returns
 returns g c =
     let schemas : c.schemas.result.now ≡ created c.args.lists.now.past = cc in
-    newest_outcome c.args.lists.now.past c.only_writer-writer.result c.args.session c.args.stmt.now c.args.read.now.table c.args.read.now.rows c.only_writer-writer.ensures
+    newest_outcome c.args.lists.now.past c.only_writer-writer.result c.args.session c.args.stmt.now c.args.read.now.table c.args.read.now.rows
+    c.only_writer-writer.ensures
     c.lists.ensures.sound c.lists.ensures.tables c.lists.ensures.ordered c.lists.ensures.fits c.requires.dirty c.requires.plain c.requires.read
     c.schemas.result.now schemas c.plain_on_rows.result c.plain_on_rows.ensures

@@ -39,7 +39,8 @@ returns-clause-durable g c = λ none.
     (rw c.finish.ensures.disk
     (elim c.if-stopped.branch [
       | then-stopped w ↦ (let e = sym w.failed-is ∙ c.finish.ensures.served none in cc)
-      | else-stopped w ↦ where_no_err c.close-disk.result.2 (sym w.is_err-failed.ensures.value ∙ (sym w.failed-is ∙ c.finish.ensures.served none)) c.close-disk.ensures.whole
+      | else-stopped w ↦ where_no_err c.close-disk.result.2 (sym w.is_err-failed.ensures.value ∙ (sym w.failed-is ∙ c.finish.ensures.served none))
+          c.close-disk.ensures.whole
     ]))
 
 pub returns-clause-named : goal.returns-clause-named

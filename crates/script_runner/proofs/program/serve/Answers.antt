@@ -15,7 +15,8 @@ returns-in-Err-clause-follows g c =
 pub returns-in-Err-clause-causes : goal.returns-in-Err-clause-causes
 returns-in-Err-clause-causes g c =
     rw c.without_engine.ensures.fault
-    (rw c.without_engine.ensures.disk (rw c.fault_of.ensures (mount_fault (g.D.Disk.past c.args.disk) (g.D.Disk.past c.in-Err.disk) c.in-Err.bad c.in-Err.ensures.refused)))
+    (rw c.without_engine.ensures.disk
+    (rw c.fault_of.ensures (mount_fault (g.D.Disk.past c.args.disk) (g.D.Disk.past c.in-Err.disk) c.in-Err.bad c.in-Err.ensures.refused)))
 
 pub returns-in-Err-clause-named : goal.returns-in-Err-clause-named
 returns-in-Err-clause-named g c = nobody_named c.args.script.now c.without_engine.result.history.names c.without_engine.ensures.names

@@ -10,7 +10,8 @@ pub returns-in-Ok-clause-printed : goal.returns-in-Ok-clause-printed
 returns-in-Ok-clause-printed g c = λ db files.
     let told = subst (λ disk. Files (g.D.Disk.past c.args.disk) (g.D.Disk.past disk) db) c.without_engine.ensures.disk files in
     rw c.without_engine.ensures.fault
-    (subst (λ (at : Database). IsPrinted c.print_shown-fault.result (g.K.Sink.taken c.args.out.now) (g.K.Sink.taken c.print_shown-fault.new.out) (shown_text c.args.shown at))
+    (subst (λ (at : Database). IsPrinted c.print_shown-fault.result (g.K.Sink.taken c.args.out.now) (g.K.Sink.taken c.print_shown-fault.new.out)
+    (shown_text c.args.shown at))
     (c.in-Ok.ensures.mounted.keeps.opens db told) c.print_shown-fault.ensures.printed)
 
 pub returns-in-Err-clause-printed : goal.returns-in-Err-clause-printed
@@ -20,4 +21,5 @@ returns-in-Err-clause-printed g c = λ db files.
 pub returns-in-Err-clause-causes : goal.returns-in-Err-clause-causes
 returns-in-Err-clause-causes g c =
     rw c.without_engine-in-Err.ensures.fault
-    (rw c.without_engine-in-Err.ensures.disk (rw c.fault_of.ensures (mount_fault (g.D.Disk.past c.args.disk) (g.D.Disk.past c.mount.new.disk) c.in-Err.bad c.in-Err.ensures.refused)))
+    (rw c.without_engine-in-Err.ensures.disk
+    (rw c.fault_of.ensures (mount_fault (g.D.Disk.past c.args.disk) (g.D.Disk.past c.mount.new.disk) c.in-Err.bad c.in-Err.ensures.refused)))

@@ -9,7 +9,8 @@ use Rattle.law_held_steps.specs.SeenUndoing.{lists_held}
 use Rattle.law_held_steps.proofs.Putting.{asks_for, held_on}
 use Rattle.law_held_steps.proofs.UndoShowing.{shows_went}
 use Rattle.world_lists.proofs.Awaiting.{only_then, only_left}
-use Rattle.world_lists.proofs.ChangeUndo.{is_logged, is_session, has_changes, has_still, step_is_not_done, end_held, end_shown, left_held, left_seen, drops_same, only_dropped, has_table, same_schemas, is_made}
+use Rattle.world_lists.proofs.ChangeUndo.{is_logged, is_session, has_changes, has_still, step_is_not_done, end_held, end_shown, left_held, left_seen}
+use Rattle.world_lists.proofs.ChangeUndo.{drops_same, only_dropped, has_table, same_schemas, is_made}
 use Rattle.world_lists.proofs.undoing.take_newest_back.Goals as goal
 
 pub put_back-requires-clause-under_way : goal.put_back-requires-clause-under_way

@@ -7,7 +7,8 @@ use Rattle.write_statement.proofs.changing.begin.Goals as goal
 
 pub begin_change-requires-clause-fits : goal.begin_change-requires-clause-fits
 begin_change-requires-clause-fits g c =
-    fits c.args.lists.now.past c.args.lists.now.writer c.args.session c.args.part (of_rest c.args.part) c.args.todo.items c.args.change c.requires.changing c.lists.ensures.fits
+    fits c.args.lists.now.past c.args.lists.now.writer c.args.session c.args.part (of_rest c.args.part) c.args.todo.items c.args.change
+    c.requires.changing c.lists.ensures.fits
     c.lists.ensures.sound c.lists.ensures.ordered
 
 pub returns-in-Ok-clause-steps : goal.returns-in-Ok-clause-steps
@@ -17,7 +18,8 @@ returns-in-Ok-clause-steps g c =
 
 pub returns-in-Err-clause-steps : goal.returns-in-Err-clause-steps
 returns-in-Err-clause-steps g c =
-    changing_given_up c.args.session c.args.lists.now c.begin_change.new.self Idle c.args.part (of_rest c.args.part) (c.args.todo.items ++ c.args.change ∷ []) c.give_up.result.0
+    changing_given_up c.args.session c.args.lists.now c.begin_change.new.self Idle c.args.part (of_rest c.args.part)
+    (c.args.todo.items ++ c.args.change ∷ []) c.give_up.result.0
     c.give_up.result.1 c.requires.changing
     (turns_stayed c.args.session c.args.lists.now c.begin_change.new.self c.in-Err.ensures.err c.requires.idle) (inl refl) c.give_up.ensures.state
     c.give_up.ensures.answer

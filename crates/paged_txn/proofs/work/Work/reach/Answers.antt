@@ -39,7 +39,8 @@ invariant_of-self-in-Err g c =
       is_paged = subst (λ p. IsPaged p now m.dealt m.edits (m.told && c.leaves_disk_whole.result)) (sym c.in-Err.ensures.same)
           (subst (λ b. IsPaged m.pool now m.dealt m.edits (m.told && b)) (sym c.leaves_disk_whole.ensures) r.paged);
       is_flushed = subst (λ b. IsFlushed (is_known (m.told && b) now) c.bring.new.pool m.log now m.flusher) (sym c.leaves_disk_whole.ensures)
-          (flushed_still (is_known m.told past) (is_known (m.told && is_no_fault c.in-Err.why) now) m.pool c.bring.new.pool m.log past now m.flusher m.is_flushed
+          (flushed_still (is_known m.told past) (is_known (m.told && is_no_fault c.in-Err.why) now) m.pool c.bring.new.pool m.log past now m.flusher
+          m.is_flushed
           r.was r.places (same_pool m.pool c.bring.new.pool c.in-Err.ensures.same));
     }
 

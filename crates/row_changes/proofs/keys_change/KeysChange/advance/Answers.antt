@@ -3,10 +3,12 @@ use Rattle.row_changes.proofs.Keying.{put_went, put_done, put_waits}
 use Rattle.row_changes.proofs.Awaited.{put_awaits}
 
 abbrev pub returns-in-Went-clause-changes : goal.returns-in-Went-clause-changes
-returns-in-Went-clause-changes g c = λ chains p. put_went c.args.actor chains _ _ c.args.self.now c.in-Some.put c.step.new.self c.in-Some.is c.in-Went.ensures.puts p
+returns-in-Went-clause-changes g c = λ chains p. put_went c.args.actor chains _ _ c.args.self.now c.in-Some.put c.step.new.self c.in-Some.is
+    c.in-Went.ensures.puts p
 
 abbrev pub returns-in-Done-clause-changes : goal.returns-in-Done-clause-changes
-returns-in-Done-clause-changes g c = λ chains p. put_done c.args.actor chains _ _ c.args.self.now c.in-Some.put c.step.new.self c.in-Some.is c.in-Done.ensures.puts p
+returns-in-Done-clause-changes g c = λ chains p. put_done c.args.actor chains _ _ c.args.self.now c.in-Some.put c.step.new.self c.in-Some.is
+    c.in-Done.ensures.puts p
 
 abbrev pub returns-in-Hindered-clause-changes : goal.returns-in-Hindered-clause-changes
 returns-in-Hindered-clause-changes g c =
@@ -19,4 +21,5 @@ pub returns-in-Done-clause-awaits : goal.returns-in-Done-clause-awaits
 returns-in-Done-clause-awaits g c = put_awaits c.requires.0 c.args.actor _ _ c.args.self.now c.in-Some.put c.in-Some.is c.requires.1 c.in-Done.ensures.awaits
 
 pub returns-in-Hindered-clause-awaits : goal.returns-in-Hindered-clause-awaits
-returns-in-Hindered-clause-awaits g c = put_awaits c.requires.0 c.args.actor _ _ c.args.self.now c.in-Some.put c.in-Some.is c.requires.1 c.in-Hindered.ensures.awaits
+returns-in-Hindered-clause-awaits g c = put_awaits c.requires.0 c.args.actor _ _ c.args.self.now c.in-Some.put c.in-Some.is c.requires.1
+    c.in-Hindered.ensures.awaits

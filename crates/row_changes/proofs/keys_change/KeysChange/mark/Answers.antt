@@ -8,7 +8,8 @@ abbrev pub returns-in-Done-clause-changes : goal.returns-in-Done-clause-changes
 returns-in-Done-clause-changes g c = λ chains p.
     subst (ChangesKeys c.args.actor chains (g.W.World.state c.args.world.now) (g.W.World.state c.step.new.world) c.args.self.now)
     (sym (handed_on c.next.new.self _ c.next.result c.next.ensures.went c.next.ensures.next))
-    (marked_on chains _ _ c.args.self.now p c.args.mark.index (record { which = c.args.which; old = Some c.args.mark.entry; new = c.args.new }) c.args.mark.entry
+    (marked_on chains _ _ c.args.self.now p c.args.mark.index (record { which = c.args.which; old = Some c.args.mark.entry; new = c.args.new })
+    c.args.mark.entry
     c.requires.none c.requires.index (c.requires.entries p.schema p.table.there) refl
     (rw c.in-Done.is at c.step.ensures.marks))
 

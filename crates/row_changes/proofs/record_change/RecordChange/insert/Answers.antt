@@ -2,7 +2,8 @@ use Rattle.row_changes.proofs.record_change.RecordChange.insert.Goals as goal
 use Rattle.std.proofs.Common.{Some, refl}
 use Rattle.row_changes.specs.declared.record_change.RecordStage.TheVariants.{Insert}
 use Rattle.row_changes.proofs.Changing.{stage_at}
-use Rattle.row_changes.proofs.Recorded.{key_short, value_short, version_first, may_log_new, may_enter, inserted_logs, inserted, insert_hindered, value_of_row, found_first}
+use Rattle.row_changes.proofs.Recorded.{key_short, value_short, version_first, may_log_new, may_enter, inserted_logs, inserted, insert_hindered, value_of_row}
+use Rattle.row_changes.proofs.Recorded.{found_first}
 use Rattle.law_stored_rows.specs.Edits.{clustered_index}
 use Rattle.row_changes.proofs.Awaited.{entered_awaits, insert_with_here}
 
@@ -35,7 +36,8 @@ returns-in-Done-clause-changes g c =
     let value =
     value_of_row p.schema _ _ _ _ _ _ _ _ _ (c.in-Ok-coded.ensures p.schema p.table.there) c.in-Ok.ensures (found_first _ c.requires.stage)
     (c.writer_of-writer.ensures p.session p.work p.has_work) refl in
-    inserted _ _ _ _ _ p _ _ c.requires.stage value c.in-Ok-undo_of_new.ensures (rw c.index.ensures at (rw c.in-Done.is at c.insert.ensures)) (rw c.take_edit.ensures at c.enter.ensures)
+    inserted _ _ _ _ _ p _ _ c.requires.stage value c.in-Ok-undo_of_new.ensures (rw c.index.ensures at (rw c.in-Done.is at c.insert.ensures))
+    (rw c.take_edit.ensures at c.enter.ensures)
 
 abbrev pub returns-clause-changes : goal.returns-clause-changes
 returns-clause-changes g c =
@@ -50,4 +52,6 @@ returns-in-Done-clause-awaits g c =
     let index = clustered_index c.args.self.now.table in
     let old = g.W.World.state c.args.world.now in
     let mid = g.W.World.state c.insert.new.self in
-    entered_awaits c.args.s index _ old mid _ _ _ may.0 may.1 call (insert_with_here (Some c.in-Ok-undo_of_new.undo) c.args.s c.args.self.now.key _ (old.indexes index) (mid.indexes index) c.insert.result call.here) ((rw c.take_edit.ensures at c.enter.ensures) may.0 may.1 may.2)
+    entered_awaits c.args.s index _ old mid _ _ _ may.0 may.1 call
+    (insert_with_here (Some c.in-Ok-undo_of_new.undo) c.args.s c.args.self.now.key _ (old.indexes index) (mid.indexes index) c.insert.result
+    call.here) ((rw c.take_edit.ensures at c.enter.ensures) may.0 may.1 may.2)

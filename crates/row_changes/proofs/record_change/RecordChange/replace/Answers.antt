@@ -2,7 +2,8 @@ use Rattle.row_changes.proofs.record_change.RecordChange.replace.Goals as goal
 use Rattle.std.proofs.Common.{◌<◌, ◌^◌, Some, arith}
 use Rattle.std.proofs.lemmas.Option.{slice_get_within}
 use Rattle.row_changes.proofs.Changing.{lacks_memory}
-use Rattle.row_changes.proofs.Recorded.{rows_index, value_of_row, found_at, value_short, version_next, may_log_former, may_enter_over, replaced_logs, replaced, replace_hindered}
+use Rattle.row_changes.proofs.Recorded.{rows_index, value_of_row, found_at, value_short, version_next, may_log_former, may_enter_over, replaced_logs, replaced}
+use Rattle.row_changes.proofs.Recorded.{replace_hindered}
 use Rattle.law_stored_rows.specs.Edits.{clustered_index}
 use Rattle.row_changes.proofs.Awaited.{entered_awaits, replace_with_here}
 
@@ -39,7 +40,8 @@ returns-in-Done-clause-changes g c =
     (c.writer_of-writer.ensures p.session p.work p.has_work) (c.next_pointer-pointer.ensures p.session p.has_work.session_is) in
     let pointer_is = c.next_pointer-pointer.ensures p.session p.has_work.session_is in
     let small : p.session.next_pointer < 2 ^ 64 = omega (arith, pointer_is) in
-    replaced _ _ _ _ _ p _ _ _ _ _ at value told.1 told.0 small (rw c.index.ensures at (rw c.in-Done.is at c.replace.ensures)) (rw c.take_edit.ensures at c.enter.ensures)
+    replaced _ _ _ _ _ p _ _ _ _ _ at value told.1 told.0 small (rw c.index.ensures at (rw c.in-Done.is at c.replace.ensures))
+    (rw c.take_edit.ensures at c.enter.ensures)
 
 abbrev pub returns-in_default-replace-clause-changes : goal.returns-in_default-replace-clause-changes
 returns-in_default-replace-clause-changes g c =
@@ -66,4 +68,6 @@ returns-in-Done-clause-awaits g c =
     let index = clustered_index c.args.self.now.table in
     let old = g.W.World.state c.args.world.now in
     let mid = g.W.World.state c.replace.new.self in
-    entered_awaits c.args.s index _ old mid _ _ _ may.0 may.1 call (replace_with_here (Some c.in-Ok.undo) c.args.s c.args.self.now.key _ (old.indexes index) (mid.indexes index) c.replace.result call.here) ((rw c.take_edit.ensures at c.enter.ensures) may.0 may.1 may.2)
+    entered_awaits c.args.s index _ old mid _ _ _ may.0 may.1 call
+    (replace_with_here (Some c.in-Ok.undo) c.args.s c.args.self.now.key _ (old.indexes index) (mid.indexes index) c.replace.result call.here)
+    ((rw c.take_edit.ensures at c.enter.ensures) may.0 may.1 may.2)

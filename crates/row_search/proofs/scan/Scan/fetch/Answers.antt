@@ -47,7 +47,8 @@ returns-in-Done g c =
     (fetch_done c.args.actor schema old new scan c.args.entry c.requires.searching c.requires.table c.fetch-found.new.into.items
     (recast (λ (a : Move) (before after : Index). Fetches c.args.actor (primary_part schema c.args.entry) c.fetch-found.new.into.items before after a)
     c.index_number.result (index_of scan.table 0) c.fetch-found.result Done old new c.index_number.ensures c.in-Done.is
-    (subst (λ (key : List ℕ). Calls c.index_number.result (λ before after. Fetches c.args.actor key c.fetch-found.new.into.items before after c.fetch-found.result) old
+    (subst (λ (key : List ℕ).
+    Calls c.index_number.result (λ before after. Fetches c.args.actor key c.fetch-found.new.into.items before after c.fetch-found.result) old
     new) key_is c.fetch-found.ensures.answer))))
 
 pub returns-in-End : goal.returns-in-End
@@ -61,7 +62,8 @@ returns-in-End g c =
     (fetch_end c.args.actor schema old new scan c.args.entry c.requires.searching c.fetch-found.new.into.items
     (recast (λ (a : Move) (before after : Index). Fetches c.args.actor (primary_part schema c.args.entry) c.fetch-found.new.into.items before after a)
     c.index_number.result (index_of scan.table 0) c.fetch-found.result End old new c.index_number.ensures c.in-End.is
-    (subst (λ (key : List ℕ). Calls c.index_number.result (λ before after. Fetches c.args.actor key c.fetch-found.new.into.items before after c.fetch-found.result) old
+    (subst (λ (key : List ℕ).
+    Calls c.index_number.result (λ before after. Fetches c.args.actor key c.fetch-found.new.into.items before after c.fetch-found.result) old
     new) key_is c.fetch-found.ensures.answer)))
 
 pub returns-in_default-found : goal.returns-in_default-found
@@ -76,5 +78,6 @@ returns-in_default-found g c =
     (fetch_waits c.args.actor schema old new scan c.args.entry c.requires.searching c.fetch-found.new.into.items c.fetch-found.result
     (recast (λ (a : Move) (before after : Index). Fetches c.args.actor (primary_part schema c.args.entry) c.fetch-found.new.into.items before after a)
     c.index_number.result (index_of scan.table 0) c.fetch-found.result c.fetch-found.result old new c.index_number.ensures refl
-    (subst (λ (key : List ℕ). Calls c.index_number.result (λ before after. Fetches c.args.actor key c.fetch-found.new.into.items before after c.fetch-found.result) old
+    (subst (λ (key : List ℕ).
+    Calls c.index_number.result (λ before after. Fetches c.args.actor key c.fetch-found.new.into.items before after c.fetch-found.result) old
     new) key_is c.fetch-found.ensures.answer)) c.in_default-found.not-Done c.in_default-found.not-End)

@@ -1,6 +1,8 @@
 use Rattle.std.proofs.Common.{length, ◌≡◌, ◌<◌, ◌∙◌, subst, sym, ap, true}
 use Rattle.session_engine.specs.Seats.{seat_at, is_working}
-use Rattle.session_engine.proofs.Seating.{leaving_is, spelled_at, step_keeps, step_does, step_nears, unread, refused_keeps, refused_does, refused_nears, signals_keep, signals_do, signals_near, signals_patient, signals_wait, out_keeps, out_does, out_nears, step_lacks, refused_lacks, out_lacks, signalling_lacks}
+use Rattle.session_engine.proofs.Seating.{leaving_is, spelled_at, step_keeps, step_does, step_nears, unread, refused_keeps, refused_does, refused_nears}
+use Rattle.session_engine.proofs.Seating.{signals_keep, signals_do, signals_near, signals_patient, signals_wait, out_keeps, out_does, out_nears, step_lacks}
+use Rattle.session_engine.proofs.Seating.{refused_lacks, out_lacks, signalling_lacks}
 use Rattle.session_engine.proofs.machine.SessionEngine.step.Goals as goal
 
 pub invariant_of-self : goal.invariant_of-self

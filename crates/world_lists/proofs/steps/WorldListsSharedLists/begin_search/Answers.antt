@@ -5,7 +5,8 @@ use Rattle.world.specs.State.{WorldState}
 use Rattle.desks.specs.declared.desk.TableSearch.{TableSearch}
 use Rattle.law_held_steps.specs.Begun.{IsBegun}
 use Rattle.law_held_steps.proofs.Begins.{new_search}
-use Rattle.world_lists.proofs.SearchBegins.{ReadsBy, reads_by_view, reads_newest, copied, joined_within, table_there, idle_now, writer_now, view_there, begun_held, begun_seen}
+use Rattle.world_lists.proofs.SearchBegins.{ReadsBy, reads_by_view, reads_newest, copied, joined_within, table_there, idle_now, writer_now, view_there}
+use Rattle.world_lists.proofs.SearchBegins.{begun_held, begun_seen}
 use Rattle.world_lists.proofs.steps.WorldListsSharedLists.begin_search.Goals.{in-View+in_ok-sight-in-View, in-Newest}
 use Rattle.world_lists.proofs.Awaiting.{kept_beside, same_no_more}
 use Rattle.world_lists.specs.Between.{can_await}

@@ -49,7 +49,8 @@ invariant_of-self g c =
     let same : with_save c.txn_of-txn.result c.args.name.now c.session-made.result.own old ≡ target
     = ap (λ n. with_save n c.args.name.now c.session-made.result.own old) number ∙ ap (λ n. with_save work.txn c.args.name.now n old) owns in
     kept_on old (g.W.World.state c.savepoint.new.self) l.writer l.desks.items l.cuts l.undo l.room c.self.invariant
-    (by_result c.savepoint.result c.savepoint.ensures.ok c.savepoint.ensures.err (λ done. no_more_in old (g.W.World.state c.savepoint.new.self) _ done refl refl)
+    (by_result c.savepoint.result c.savepoint.ensures.ok c.savepoint.ensures.err
+    (λ done. no_more_in old (g.W.World.state c.savepoint.new.self) _ done refl refl)
     (λ failed. same_no_more old (g.W.World.state c.savepoint.new.self) failed))
     (by_result c.savepoint.result c.savepoint.ensures.ok c.savepoint.ensures.err
     (λ done. saved_made c.args.session old l.writer l.desks.items l.cuts l.undo l.room c.args.self.now c.self.invariant.held c.self.view_is

@@ -3,7 +3,8 @@ use Rattle.desks.specs.declared.desk.Doing.TheVariants.{Searching}
 use Rattle.desks.specs.Desks.{doing_at}
 use Rattle.law_held_steps.specs.Moving.{MovesPlaces}
 use Rattle.law_held_steps.specs.TakenUp.{IsTakenUp}
-use Rattle.world_lists.proofs.SearchSteps.{desks_given, taken_by, may_step_now, went_held, went_seen, went_nears, ended_held, ended_seen, hindered_moves, given_up_held, given_up_seen}
+use Rattle.world_lists.proofs.SearchSteps.{desks_given, taken_by, may_step_now, went_held, went_seen, went_nears, ended_held, ended_seen, hindered_moves}
+use Rattle.world_lists.proofs.SearchSteps.{given_up_held, given_up_seen}
 use Rattle.world_lists.proofs.Awaiting.{kept_beside, moves_no_more}
 use Rattle.world_lists.specs.Between.{can_await}
 use Rattle.law_held_steps.proofs.Places.{moves_in_one, leaving_moves, moves_then}
@@ -43,7 +44,8 @@ invariant_of-self g c =
     =
     taken_by _ l.cuts on c.taken_up-search.result refl c.taken_up-search.ensures.as_it_was c.taken_up-search.ensures.anew in
     kept_beside (g.W.World.state l.world) (g.W.World.state c.step.new.world) l.writer l.desks.items l.cuts l.undo l.room c.self.invariant
-    (moves_no_more c.args.session (g.W.World.state l.world) (g.W.World.state c.step.new.world) (moves_in_one c.args.session _ (g.W.World.state l.world) (g.W.World.state c.step.new.world) c.in-Went.ensures.moves)) c.args.session
+    (moves_no_more c.args.session (g.W.World.state l.world) (g.W.World.state c.step.new.world)
+    (moves_in_one c.args.session _ (g.W.World.state l.world) (g.W.World.state c.step.new.world) c.in-Went.ensures.moves)) c.args.session
     (Searching (record on { search = c.in-Went.search; cuts = l.cuts })) c.give_doing.new.desks.items (ap can_await is)
     (desks_given c.args.session (Searching (record on { search = c.in-Went.search; cuts = l.cuts })) l.desks.items c.take_doing.new.desks.items
     c.give_doing.new.desks.items c.take_doing.ensures.is c.give_doing.ensures)
@@ -90,7 +92,8 @@ invariant_of-self-in-Done-1 g c =
     =
     taken_by _ l.cuts on c.taken_up-search.result refl c.taken_up-search.ensures.as_it_was c.taken_up-search.ensures.anew in
     kept_beside (g.W.World.state l.world) (g.W.World.state c.step.new.world) l.writer l.desks.items l.cuts l.undo l.room c.self.invariant
-    (moves_no_more c.args.session (g.W.World.state l.world) (g.W.World.state c.step.new.world) (leaving_moves c.args.session _ (g.W.World.state l.world) (g.W.World.state c.step.new.world) c.in-Done.ensures.leaves)) c.args.session Nothing
+    (moves_no_more c.args.session (g.W.World.state l.world) (g.W.World.state c.step.new.world)
+    (leaving_moves c.args.session _ (g.W.World.state l.world) (g.W.World.state c.step.new.world) c.in-Done.ensures.leaves)) c.args.session Nothing
     c.take_doing.new.desks.items (ap can_await is) c.take_doing.ensures.is
     (ended_held c.args.session (g.W.World.state l.world) l.writer l.desks.items l.cuts l.undo l.room c.args.self.now c.self.invariant.held
     c.self.view_is on is c.taken_up-search.result taken
@@ -126,7 +129,9 @@ invariant_of-self-in-Hindered-1 g c =
     (g.W.World.state c.step.new.world) (g.met.W.EngineWorld.tells c.step.new.world).told c.take_doing.new.desks.items c.in-Hindered.search c.in-Hindered._why
     c.in-Hindered.ensures in
     kept_beside (g.W.World.state l.world) (g.W.World.state c.give_up.new.world) l.writer l.desks.items l.cuts l.undo l.room c.self.invariant
-    (moves_no_more c.args.session (g.W.World.state l.world) (g.W.World.state c.give_up.new.world) (moves_then c.args.session (g.W.World.state l.world) (g.W.World.state c.step.new.world) (g.W.World.state c.give_up.new.world) moves (leaving_moves c.args.session _ (g.W.World.state c.step.new.world) (g.W.World.state c.give_up.new.world) c.give_up.ensures)))
+    (moves_no_more c.args.session (g.W.World.state l.world) (g.W.World.state c.give_up.new.world)
+    (moves_then c.args.session (g.W.World.state l.world) (g.W.World.state c.step.new.world) (g.W.World.state c.give_up.new.world) moves
+    (leaving_moves c.args.session _ (g.W.World.state c.step.new.world) (g.W.World.state c.give_up.new.world) c.give_up.ensures)))
     c.args.session Nothing c.take_doing.new.desks.items (ap can_await is) c.take_doing.ensures.is
     (given_up_held c.args.session (g.W.World.state l.world) l.writer l.desks.items l.cuts l.undo l.room c.args.self.now c.self.invariant.held
     c.self.view_is on is _ (g.W.World.state c.step.new.world) (g.W.World.state c.give_up.new.world)

@@ -17,7 +17,8 @@ invariant_of-self g c =
       held =
           step_held c.args.session self.writer self.desks.items self.cuts self.undo self.room old new c.in-Changing.change
           c.drop_change-doing.result NoMemory c.drop_change-doing.ensures
-          (ap (λ (lists : Lists). lists.state.writer) c.self.view_is ∙ c.requires.locked) c.self.invariant.held (sym c.take_doing-doing.ensures.was ∙ c.in-Changing.is)
+          (ap (λ (lists : Lists). lists.state.writer) c.self.view_is ∙ c.requires.locked) c.self.invariant.held (sym c.take_doing-doing.ensures.was ∙
+          c.in-Changing.is)
           (g.met.W.EngineWorld.tells self.world).told (g.met.W.EngineWorld.tells c.drop_change-doing.new.world).told
           c.is_short.ensures.few c.give_doing.new.desks.items
           (desks_given c.args.session c.drop_change-doing.result self.desks.items c.take_doing-doing.new.desks.items c.give_doing.new.desks.items
@@ -26,7 +27,8 @@ invariant_of-self g c =
       awaits =
           step_awaits c.args.session self.writer self.desks.items self.cuts self.undo self.room old new c.in-Changing.change
           c.drop_change-doing.result NoMemory c.drop_change-doing.ensures
-          (ap (λ (lists : Lists). lists.state.writer) c.self.view_is ∙ c.requires.locked) c.self.invariant.held (sym c.take_doing-doing.ensures.was ∙ c.in-Changing.is)
+          (ap (λ (lists : Lists). lists.state.writer) c.self.view_is ∙ c.requires.locked) c.self.invariant.held (sym c.take_doing-doing.ensures.was ∙
+          c.in-Changing.is)
           (g.met.W.EngineWorld.tells self.world).told (g.met.W.EngineWorld.tells c.drop_change-doing.new.world).told
           c.is_short.ensures.few c.give_doing.new.desks.items
           (desks_given c.args.session c.drop_change-doing.result self.desks.items c.take_doing-doing.new.desks.items c.give_doing.new.desks.items
@@ -42,7 +44,8 @@ returns g c =
     let shows =
     step_shown c.args.session self.writer self.desks.items self.cuts self.undo self.room old new c.in-Changing.change
     c.drop_change-doing.result NoMemory c.drop_change-doing.ensures
-    (ap (λ (lists : Lists). lists.state.writer) c.self.view_is ∙ c.requires.locked) c.self.invariant.held (sym c.take_doing-doing.ensures.was ∙ c.in-Changing.is)
+    (ap (λ (lists : Lists). lists.state.writer) c.self.view_is ∙ c.requires.locked) c.self.invariant.held (sym c.take_doing-doing.ensures.was ∙
+    c.in-Changing.is)
     (g.met.W.EngineWorld.tells self.world).told (g.met.W.EngineWorld.tells c.drop_change-doing.new.world).told
     c.is_short.ensures.few c.give_doing.new.desks.items
     (desks_given c.args.session c.drop_change-doing.result self.desks.items c.take_doing-doing.new.desks.items c.give_doing.new.desks.items
@@ -52,4 +55,8 @@ returns g c =
     subst (λ (was : Lists). ChangesIn c.args.session was
     (lists_of new self.writer c.give_doing.new.desks.items (undo_left_in self.undo.table self.room.stage new)) NoMemory)
     c.self.view_is shows in
-    record { stops = stopped c.args.session _ _ c.requires.asked.0 c.requires.asked.1 changes.changes; settings = changes.settings; rows = none_entered _ _ changes.rows }
+    record {
+      stops = stopped c.args.session _ _ c.requires.asked.0 c.requires.asked.1 changes.changes;
+      settings = changes.settings;
+      rows = none_entered _ _ changes.rows;
+    }
