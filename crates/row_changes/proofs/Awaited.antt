@@ -7,7 +7,7 @@ use Rattle.store_api.specs.declared.answers.Undo.{Undo}
 use Rattle.store_api.specs.declared.moves.Move.{Move}
 use Rattle.store_api.specs.declared.moves.Move.TheVariants.{At, End, Done, Step, Latch, Again, Full, TooDeep, Failed, Bad, NoMemory}
 use Rattle.entries.specs.Index.{Index}
-use Rattle.entries.specs.Calls.{Delays, Fetches, NextKeys, Inserts, Replaces, Removes}
+use Rattle.entries.specs.Calls.{Delays, Inserts, Replaces}
 use Rattle.law_stored_rows.specs.Edits.{clustered_index, key_index}
 use Rattle.world.specs.State.{WorldState, Session, Work}
 use Rattle.world.specs.Indexes.{InIndex, InsertsWith, ReplacesWith}
@@ -36,48 +36,13 @@ same_here actor old new same by is = inl (sym same ∙ is)
 none_here : (actor : ℕ) (old new : Index) → new.awaited ≡ None → AwaitsHere actor old new
 none_here actor old new none by is = absurd (cc)
 
-mine_here : (actor : ℕ) (old new : Index) → new.awaited ≡ Some actor → AwaitsHere actor old new
-mine_here actor old new mine by is = inr (cc)
-
 delay_here : (actor : ℕ) (old new : Index) (move : Move) → Delays actor old new move → AwaitsHere actor old new
 delay_here actor old new Step h = same_here actor old new h.all.awaited
 delay_here actor old new (Latch by) h = same_here actor old new h.all.awaited
 delay_here actor old new Again h = same_here actor old new h.all.awaited
 delay_here actor old new Failed h = same_here actor old new h.awaited
 delay_here actor old new (Bad page rule) h = same_here actor old new h.all.awaited
-delay_here actor old new (At key value) h = absurd h
-delay_here actor old new End h = absurd h
-delay_here actor old new Done h = absurd h
-delay_here actor old new (Full need free) h = absurd h
-delay_here actor old new TooDeep h = absurd h
-delay_here actor old new NoMemory h = absurd h
-
-pub fetch_here : (actor : ℕ) (key read : List ℕ) (old new : Index) (move : Move) → Fetches actor key read old new move → AwaitsHere actor old new
-fetch_here actor key read old new Done h = same_here actor old new h.1.awaited
-fetch_here actor key read old new End h = same_here actor old new h.1.awaited
-fetch_here actor key read old new Step h = delay_here actor old new Step h
-fetch_here actor key read old new (Latch by) h = delay_here actor old new (Latch by) h
-fetch_here actor key read old new Again h = delay_here actor old new Again h
-fetch_here actor key read old new Failed h = delay_here actor old new Failed h
-fetch_here actor key read old new (Bad page rule) h = delay_here actor old new (Bad page rule) h
-fetch_here actor key read old new (At k value) h = absurd h
-fetch_here actor key read old new (Full need free) h = absurd h
-fetch_here actor key read old new TooDeep h = absurd h
-fetch_here actor key read old new NoMemory h = absurd h
-
-pub next_key_here : (actor : ℕ) (key read : List ℕ) (old new : Index) (move : Move) → NextKeys actor key read old new move → AwaitsHere actor old new
-next_key_here actor key read old new Done h = mine_here actor old new h.2.awaited
-next_key_here actor key read old new End h = mine_here actor old new h.2.awaited
-next_key_here actor key read old new (Latch by) h =
-    ⊎_elim (λ off. same_here actor old new off.all.awaited) (λ delay. same_here actor old new delay.all.awaited) h
-next_key_here actor key read old new Step h = delay_here actor old new Step h
-next_key_here actor key read old new Again h = delay_here actor old new Again h
-next_key_here actor key read old new Failed h = delay_here actor old new Failed h
-next_key_here actor key read old new (Bad page rule) h = delay_here actor old new (Bad page rule) h
-next_key_here actor key read old new (At k value) h = absurd h
-next_key_here actor key read old new (Full need free) h = absurd h
-next_key_here actor key read old new TooDeep h = absurd h
-next_key_here actor key read old new NoMemory h = absurd h
+delay_here actor old new other h = absurd h
 
 insert_here : (actor : ℕ) (key value : List ℕ) (old new : Index) (move : Move) → Inserts actor key value old new move → AwaitsHere actor old new
 insert_here actor key value old new Done h = none_here actor old new h.2.awaited
@@ -87,26 +52,13 @@ insert_here actor key value old new (Latch by) h =
 insert_here actor key value old new NoMemory h = same_here actor old new h.1.awaited
 insert_here actor key value old new (Full need free) h = same_here actor old new h.all.awaited
 insert_here actor key value old new TooDeep h = same_here actor old new h.all.awaited
-insert_here actor key value old new Step h = delay_here actor old new Step h
-insert_here actor key value old new Again h = delay_here actor old new Again h
-insert_here actor key value old new Failed h = delay_here actor old new Failed h
-insert_here actor key value old new (Bad page rule) h = delay_here actor old new (Bad page rule) h
-insert_here actor key value old new End h = absurd h
+insert_here actor key value old new other h = delay_here actor old new other h
 
 pub insert_with_here : (undo : Option Undo) (actor : ℕ) (key value : List ℕ) (old new : Index) (move : Move)
     → InsertsWith undo actor key value old new move → AwaitsHere actor old new
 insert_with_here None actor key value old new move h = insert_here actor key value old new move h
-insert_with_here (Some undo) actor key value old new Done h = insert_here actor key value old new Done h
-insert_with_here (Some undo) actor key value old new (At there kept) h = insert_here actor key value old new (At there kept) h
-insert_with_here (Some undo) actor key value old new (Latch by) h = insert_here actor key value old new (Latch by) h
 insert_with_here (Some undo) actor key value old new NoMemory h = same_here actor old new h.awaited
-insert_with_here (Some undo) actor key value old new (Full need free) h = insert_here actor key value old new (Full need free) h
-insert_with_here (Some undo) actor key value old new TooDeep h = insert_here actor key value old new TooDeep h
-insert_with_here (Some undo) actor key value old new Step h = insert_here actor key value old new Step h
-insert_with_here (Some undo) actor key value old new Again h = insert_here actor key value old new Again h
-insert_with_here (Some undo) actor key value old new Failed h = insert_here actor key value old new Failed h
-insert_with_here (Some undo) actor key value old new (Bad page rule) h = insert_here actor key value old new (Bad page rule) h
-insert_with_here (Some undo) actor key value old new End h = insert_here actor key value old new End h
+insert_with_here (Some undo) actor key value old new other h = insert_here actor key value old new other h
 
 replace_here : (actor : ℕ) (key value : List ℕ) (old new : Index) (move : Move) → Replaces actor key value old new move → AwaitsHere actor old new
 replace_here actor key value old new Done h = same_here actor old new h.1.awaited
@@ -114,41 +66,13 @@ replace_here actor key value old new End h = same_here actor old new h.1.awaited
 replace_here actor key value old new NoMemory h = same_here actor old new h.1.awaited
 replace_here actor key value old new (Full need free) h = same_here actor old new h.1.all.awaited
 replace_here actor key value old new TooDeep h = same_here actor old new h.1.all.awaited
-replace_here actor key value old new (Latch by) h = delay_here actor old new (Latch by) h
-replace_here actor key value old new Step h = delay_here actor old new Step h
-replace_here actor key value old new Again h = delay_here actor old new Again h
-replace_here actor key value old new Failed h = delay_here actor old new Failed h
-replace_here actor key value old new (Bad page rule) h = delay_here actor old new (Bad page rule) h
-replace_here actor key value old new (At k v) h = absurd h
+replace_here actor key value old new other h = delay_here actor old new other h
 
 pub replace_with_here : (undo : Option Undo) (actor : ℕ) (key value : List ℕ) (old new : Index) (move : Move)
     → ReplacesWith undo actor key value old new move → AwaitsHere actor old new
 replace_with_here None actor key value old new move h = replace_here actor key value old new move h
-replace_with_here (Some undo) actor key value old new Done h = replace_here actor key value old new Done h
-replace_with_here (Some undo) actor key value old new (At there kept) h = replace_here actor key value old new (At there kept) h
-replace_with_here (Some undo) actor key value old new (Latch by) h = replace_here actor key value old new (Latch by) h
 replace_with_here (Some undo) actor key value old new NoMemory h = same_here actor old new h.awaited
-replace_with_here (Some undo) actor key value old new (Full need free) h = replace_here actor key value old new (Full need free) h
-replace_with_here (Some undo) actor key value old new TooDeep h = replace_here actor key value old new TooDeep h
-replace_with_here (Some undo) actor key value old new Step h = replace_here actor key value old new Step h
-replace_with_here (Some undo) actor key value old new Again h = replace_here actor key value old new Again h
-replace_with_here (Some undo) actor key value old new Failed h = replace_here actor key value old new Failed h
-replace_with_here (Some undo) actor key value old new (Bad page rule) h = replace_here actor key value old new (Bad page rule) h
-replace_with_here (Some undo) actor key value old new End h = replace_here actor key value old new End h
-
-pub remove_here : (actor : ℕ) (key : List ℕ) (old new : Index) (move : Move) → Removes actor key old new move → AwaitsHere actor old new
-remove_here actor key old new Done h = none_here actor old new h.2.awaited
-remove_here actor key old new End h = none_here actor old new h.2.awaited
-remove_here actor key old new (Latch by) h =
-    ⊎_elim (λ off. same_here actor old new off.all.awaited) (λ delay. same_here actor old new delay.all.awaited) h
-remove_here actor key old new Step h = delay_here actor old new Step h
-remove_here actor key old new Again h = delay_here actor old new Again h
-remove_here actor key old new Failed h = delay_here actor old new Failed h
-remove_here actor key old new (Bad page rule) h = delay_here actor old new (Bad page rule) h
-remove_here actor key old new NoMemory h = absurd h
-remove_here actor key old new (Full need free) h = absurd h
-remove_here actor key old new TooDeep h = absurd h
-remove_here actor key old new (At k v) h = absurd h
+replace_with_here (Some undo) actor key value old new other h = replace_here actor key value old new other h
 
 -- ---- of a world
 

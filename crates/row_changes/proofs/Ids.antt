@@ -1,8 +1,8 @@
 -- A transaction is given its id, and its change is entered.
-use Rattle.std.proofs.Common.{◌≡◌, ◌≢◌, ⊎_elim, ℕ, ◌+◌, ◌==◌, Bool, true, false, cond, List, ◌∷◌, length, Option, Some, None, refl, sym, ap, subst, ◌∙◌, eq-eqb}
+use Rattle.std.proofs.Common.{◌≡◌, ◌≢◌, ℕ, ◌+◌, ◌==◌, true, false, List, ◌∷◌, length, Option, Some, None, refl, sym, ap, subst, ◌∙◌, eq-eqb}
 use Rattle.std.proofs.lemmas.List.{length-map}
 use Rattle.std.specs.Prelude.{slice_get, option_map}
-use Rattle.std.proofs.lemmas.Bool.Decides.{eqb_tells}
+use Rattle.std.proofs.lemmas.Bool.{cond-true, cond-false, ne_eqb}
 use Rattle.std.proofs.lemmas.Option.{slice_get-map}
 use Rattle.std.proofs.lemmas.List.{length-set}
 use Rattle.inno_db.specs.declared.change.Change.{Change}
@@ -13,7 +13,7 @@ use Rattle.world.specs.State.{WorldState, Session, Work, HasWork, txn_of, id_of,
 use Rattle.world.specs.Sessions.{of_txn, change_txn, work_with_id, identified, change_added}
 use Rattle.row_changes.specs.Records.{IsListed, id_for, txns_with_id}
 use Rattle.row_changes.specs.Entering.{GivesId, Enters}
-use Rattle.row_changes.proofs.Sessions.{set_here, set_other}
+use Rattle.row_changes.proofs.Sessions.{one_found, set_here, set_other}
 
 -- what a session tells of its transaction
 pub tells_txn : (s : ℕ) (session : Session) (work : Work) (state : WorldState) → HasWork s session work state → (standing_of session).txn ≡ Some work.txn
@@ -23,23 +23,17 @@ pub tells_id : (s : ℕ) (session : Session) (work : Work) (state : WorldState) 
 tells_id s session work state has = ap id_of has.work_is
 
 pub id_given : (own next : ℕ) → own ≢ 0 → id_for own next ≡ own
-id_given own next differs = go (own == 0) (⊎_elim (λ t. absurd (differs t.1)) (λ f. f.0) (eqb_tells own 0))
-  where
-    go : (b : Bool) → b ≡ false → cond b next own ≡ own
-    go b is = ap (λ x. cond x next own) is
+id_given own next differs = cond-false (own == 0) next own (ne_eqb own 0 differs)
 
 pub id_new : (own next : ℕ) → own ≡ 0 → id_for own next ≡ next
-id_new own next is = ap (λ (b : Bool). cond b next own) (eq-eqb own 0 is)
+id_new own next is = cond-true (own == 0) next own (eq-eqb own 0 is)
 
 pub txns_new : (work : Work) (txns : Txns) → work.id ≡ 0
     → txns_with_id work txns ≡ record txns { open_txns = with_id work.txn txns.next txns.open_txns; next = txns.next + 1 }
-txns_new work txns is =
-    ap (λ (b : Bool). cond b (record txns { open_txns = with_id work.txn txns.next txns.open_txns; next = txns.next + 1 }) txns) (eq-eqb work.id 0 is)
+txns_new work txns is = cond-true (work.id == 0) _ _ (eq-eqb work.id 0 is)
 
 pub txns_same : (work : Work) (txns : Txns) → work.id ≢ 0 → txns_with_id work txns ≡ txns
-txns_same work txns differs =
-    ap (λ (b : Bool). cond b (record txns { open_txns = with_id work.txn txns.next txns.open_txns; next = txns.next + 1 }) txns)
-    (⊎_elim (λ t. absurd (differs t.1)) (λ f. f.0) (eqb_tells work.id 0))
+txns_same work txns differs = cond-false (work.id == 0) _ _ (ne_eqb work.id 0 differs)
 
 -- ---- sessions of which one's transaction is changed
 
@@ -47,12 +41,11 @@ txns_same work txns differs =
 other_kept : (txn : ℕ) (f : Session → Session) (session : Session) (work : Option Work) → session.work ≡ work
     → ((other : Work) → work ≡ Some other → other.txn ≢ txn) → of_txn txn f session work ≡ session
 other_kept txn f session None is differs = refl
-other_kept txn f session (Some other) is differs =
-    ap (λ (b : Bool). cond b (f session) session) (⊎_elim (λ t. absurd (differs other refl t.1)) (λ k. k.0) (eqb_tells other.txn txn))
+other_kept txn f session (Some other) is differs = cond-false (other.txn == txn) (f session) session (ne_eqb other.txn txn (differs other refl))
 
 mine_changed : (txn : ℕ) (f : Session → Session) (session : Session) (work : Work) → session.work ≡ Some work → work.txn ≡ txn
     → of_txn txn f session session.work ≡ f session
-mine_changed txn f session work is same = ap (λ w. of_txn txn f session w) is ∙ ap (λ (b : Bool). cond b (f session) session) (eq-eqb work.txn txn same)
+mine_changed txn f session work is same = ap (λ w. of_txn txn f session w) is ∙ cond-true (work.txn == txn) (f session) session (eq-eqb work.txn txn same)
 
 found_kept : (g : Session → Session) (found : Option Session) → ((session : Session) → found ≡ Some session → g session ≡ session) → option_map g found ≡ found
 found_kept g None same = refl
@@ -131,12 +124,9 @@ pub now_has : (s : ℕ) (session : Session) (work : Work) (old new : WorldState)
     → HasWork s (record session { work = Some (record work { id = id_for work.id old.txns.next }) }) (record work { id = id_for work.id old.txns.next }) new
 now_has s session work old new gives = record { session_is = gives.now; work_is = refl }
 
-one_some : (a b : ℕ) → Some a ≡ Some b → a ≡ b
-one_some a b h = cc
-
 pub told_txn : (s : ℕ) (session : Session) (work : Work) (state : WorldState) (standing : Standing) (txn : ℕ) → HasWork s session work state
     → standing ≡ standing_of session → standing.txn ≡ Some txn → txn ≡ work.txn
-told_txn s session work state standing txn has is told = one_some txn work.txn (sym told ∙ ap (λ (x : Standing). x.txn) is ∙ tells_txn s session work state has)
+told_txn s session work state standing txn has is told = one_found txn work.txn told (ap (λ (x : Standing). x.txn) is ∙ tells_txn s session work state has)
 
 pub told_id : (s : ℕ) (session : Session) (work : Work) (state : WorldState) (standing : Standing) → HasWork s session work state
     → standing ≡ standing_of session → standing.id ≡ work.id
@@ -155,6 +145,3 @@ gives_told s x session w work old new standing txn has listed also is told none 
 
 pub differ : false ≡ true → ⊥
 differ h = cc
-
-pub never_none : (txn : Option ℕ) (other : ℕ) → txn ≡ None → txn ≡ Some other → ⊥
-never_none txn other none some = cc

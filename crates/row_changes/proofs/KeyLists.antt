@@ -12,15 +12,13 @@ use Rattle.row_codec.specs.Rows.{IsRowOf}
 use Rattle.law_stored_rows.proofs.Coding.{value_in-kind}
 use Rattle.law_stored_rows.specs.Entries.{value_in}
 use Rattle.row_changes.specs.KeyEntries.{value_stays, StayBetween, IsEntryIn}
+use Rattle.row_changes.proofs.Sessions.{one_found}
 
 pub item_at : {X : Type 0} (all xs : List X) (i : ℕ) (item : X) → xs ≡ all → i < length xs → item ≡ get_or xs i item → slice_get all i ≡ Some item
 item_at {X} all xs i item same within is = ap (λ (l : List X). slice_get l i) (sym same) ∙ slice_get-get_or xs i item within ∙ ap Some (sym is)
 
 pub item_there : {X : Type 0} (all xs : List X) (i : ℕ) (default : X) → xs ≡ all → i < length xs → slice_get all i ≡ Some (get_or xs i default)
 item_there {X} all xs i default same within = ap (λ (l : List X). slice_get l i) (sym same) ∙ slice_get-get_or xs i default within
-
-one_key : (found : Option Key) (a b : Key) → found ≡ Some a → found ≡ Some b → a ≡ b
-one_key found a b is also = cc
 
 before_or_at : (a b : ℕ) → a < b + 1 → a ≢ b → a < b
 before_or_at a b below differs = omega arith
@@ -29,7 +27,7 @@ pub more_stay : (schema : Schema) (from which : ℕ) (before after : Option (Lis
     → slice_get schema.keys which ≡ Some key → value_stays key.column before after ≡ true → StayBetween schema from (which + 1) before after
 more_stay schema from which before after key stay there stays w k from_there below is =
     ⊎_elim (λ e. ap (λ (x : Key). value_stays x.column before after)
-    (one_key (slice_get schema.keys which) k key (ap (slice_get schema.keys) (sym e) ∙ is) there) ∙ stays)
+    (one_found k key (ap (slice_get schema.keys) (sym e) ∙ is) there) ∙ stays)
     (λ differs. stay w k from_there (before_or_at w which below differs) is) (cases_eq w which)
 
 pub stay_to_end : (schema : Schema) (from which to : ℕ) (before after : Option (List Value)) → StayBetween schema from which before after → to ≤ which

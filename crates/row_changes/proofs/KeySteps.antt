@@ -2,8 +2,7 @@
 use Rattle.std.proofs.Common.{◌≡◌, ◌≢◌, ⊎_elim, ◌∙◌, sym, ap, subst, refl, ℕ, zero, suc, ◌+◌, ◌<◌, ◌≤◌, ◌^◌, ◌==◌, Bool, true, false, cond, List, [], ◌∷◌}
 use Rattle.std.proofs.Common.{length, Option, None, Some, slice_get, arith}
 use Rattle.std.specs.Prelude.{◌&&◌}
-use Rattle.std.proofs.lemmas.Bool.{cases_eq}
-use Rattle.std.proofs.lemmas.Bool.Decides.{eqb_tells}
+use Rattle.std.proofs.lemmas.Bool.{cases_eq, eqb-true}
 use Rattle.std.proofs.lemmas.Option.{slice_get_within}
 use Rattle.inno_types.specs.declared.value.Value.{Value}
 use Rattle.inno_types.specs.declared.value.Key.{Key}
@@ -28,34 +27,28 @@ use Rattle.law_stored_rows.proofs.Steps.{old_marked, new_put, first_put}
 use Rattle.row_changes.specs.Edits.{IsRowFor}
 use Rattle.row_changes.specs.KeyEntries.{value_stays, IsEntryIn}
 use Rattle.row_changes.specs.Keys.{SaySoFar}
+use Rattle.row_changes.proofs.Sessions.{one_found}
 
 -- what is said once one key says something else of one place
 abbrev pub says_of : Said → Place → ℕ → List Version → Said
 says_of was place which versions table key value =
     cond (key == which && is_same_place place (record { table = table; key = value })) versions (was table key value)
 
-above_or_at : (a b : ℕ) → a < b + 1 → a ≢ b → a < b
-above_or_at a b below differs = omega arith
-
-not_at : (a b : ℕ) → a < b → a ≢ b
-not_at a b below = omega arith
-
-not_over : (a b : ℕ) → b < a → a ≢ b
-not_over a b above = omega arith
+at_most : (a b : ℕ) → a < b + 1 → a ≢ b → a < b
+at_most a b below differs = omega arith
 
 -- the next key says something else now
 pub say_here : (chains : Chains) (place : Place) (done : ℕ) (next now older : List Version) (said : Said) → SaySoFar chains place done next older said
     → SaySoFar chains place done now older (says_of said place done now)
 say_here chains place done next now older said so =
+    let kept =
+    λ (which : ℕ) (differs : which ≢ done).
+    others_say said (says_of said place done now) place done now (λ t k v. refl) place.table which place.key differs in
     record {
       lag = lag_says said (says_of said place done now) place done now (λ t k v. refl) chains so.lag;
-      first =
-          λ which below. others_say said (says_of said place done now) place done now (λ t k v. refl) place.table which place.key (not_at which done below) ∙
-          so.first which below;
+      first = λ which below. kept which (omega arith) ∙ so.first which below;
       here = now_says said (says_of said place done now) place done now (λ t k v. refl);
-      later =
-          λ which above. others_say said (says_of said place done now) place done now (λ t k v. refl) place.table which place.key (not_over which done above)
-          ∙ so.later which above;
+      later = λ which above. kept which (omega arith) ∙ so.later which above;
     }
 
 -- the next key is done
@@ -66,7 +59,7 @@ say_more chains place done older said so =
       lag = so.lag;
       first =
           λ which below. ⊎_elim (λ e. subst (λ w. said place.table w place.key ≡ versions_at place chains) (sym e) so.here)
-          (λ differs. so.first which (above_or_at which done below differs)) (cases_eq which done);
+          (λ differs. so.first which (at_most which done below differs)) (cases_eq which done);
       here = so.later (done + 1) (omega arith);
       later = λ which above. so.later which (omega arith);
     }
@@ -75,12 +68,6 @@ alike_if : (a b : Bool) (column : ℕ) (was now : List Version) → (a ≡ true 
 alike_if true true column was now alike = alike refl refl
 alike_if true false column was now alike = λ value. refl
 alike_if false b column was now alike = λ value. refl
-
-one_schema : (found : Option Schema) (a b : Schema) → found ≡ Some a → found ≡ Some b → a ≡ b
-one_schema found a b is also = cc
-
-equal_numbers : (a b : ℕ) → (a == b) ≡ true → a ≡ b
-equal_numbers a b is = ⊎_elim (λ t. t.1) (λ f. let no : false ≡ true = sym f.0 ∙ is in absurd (cc)) (eqb_tells a b)
 
 -- of these rows the keys say so much of the place
 abbrev pub Says : List Schema → (ℕ → Option Kept) → Chains → Place → List Version → (ℕ → List Pair) → ℕ → List Version → Type 0
@@ -109,10 +96,10 @@ module _ (schemas : List Schema) (kept : ℕ → Option Kept) (chains : Chains) 
           → TellAlike k.column (says.0 table which value) (versions_at place chains)
       here table which s k s_there k_there value at same =
           let is : place ≡ record { table = table; key = value } = same_place place (record { table = table; key = value }) same in
-          let number : which ≡ done = equal_numbers which done at in
+          let number : which ≡ done = eqb-true which done at in
           let Alike : Place → Type 0 = λ p. slice_get schemas p.table ≡ Some s → TellAlike k.column (says.0 p.table which p.key) (versions_at place chains) in
           let at_place : Alike place = λ s_is v.
-          let one : s ≡ schema = one_schema (slice_get schemas place.table) s schema s_is there in
+          let one : s ≡ schema = one_found s schema s_is there in
           let k_is : slice_get schema.keys done ≡ Some k =
           ap (λ (x : Schema). slice_get x.keys done) (sym one) ∙ ap (slice_get s.keys) (sym number) ∙ k_there in
           ap (λ (w : ℕ). entry_of k.column v (says.0 place.table w place.key)) number ∙ ap (entry_of k.column v) says.2.here ∙ alike k k_is v ∙ ap
@@ -181,7 +168,7 @@ module _ (schemas : List Schema) (kept : ℕ → Option Kept) (chains : Chains) 
     where
       below : (which : ℕ) (s : Schema) (k : Key) → slice_get schemas place.table ≡ Some s → slice_get s.keys which ≡ Some k → which < done
       below which s k s_there k_there =
-          let one : s ≡ schema = one_schema (slice_get schemas place.table) s schema s_there there in
+          let one : s ≡ schema = one_found s schema s_there there in
           let within : which < length schema.keys = slice_get_within schema.keys which k (ap (λ (x : Schema). slice_get x.keys which) (sym one) ∙ k_there) in
           omega arith
 

@@ -3,7 +3,6 @@ use Rattle.std.proofs.Common.{◌≡◌, ◌≢◌, ◌∙◌, sym, ap, subst, r
 use Rattle.std.proofs.Common.{arith}
 use Rattle.std.specs.Prelude.{IfSome}
 use Rattle.inno_types.specs.declared.value.Value.{Value}
-use Rattle.inno_types.specs.declared.value.Column.{Column}
 use Rattle.inno_types.specs.declared.value.Schema.{Schema}
 use Rattle.inno_db.specs.Database.{key_of}
 use Rattle.store_api.specs.declared.answers.Version.{Version as Coded}
@@ -25,9 +24,6 @@ use Rattle.row_changes.specs.Records.{id_for}
 use Rattle.row_changes.specs.Rows.{row_after, primary_of}
 
 -- ---- the version and its place
-
-one_column : (found : Option Column) (a b : Column) → found ≡ Some a → found ≡ Some b → a ≡ b
-one_column found a b is also = cc
 
 -- the bytes of the key are those of the primary value
 pub key_at : (schema : Schema) (edit : RowEdit) (key : List ℕ) → FitsEdit schema edit key → IsKeyAt schema (primary_of schema edit) key

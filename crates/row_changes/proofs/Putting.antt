@@ -1,11 +1,8 @@
 -- An entry that is being put, where the call of its index was hindered.
-use Rattle.std.proofs.Common.{◌≡◌, ◌≢◌, ℕ, false, List, Option, Some, None, refl, sym, ap, subst}
-use Rattle.std.specs.Prelude.{IfSome, is_some}
+use Rattle.std.proofs.Common.{◌≡◌, ◌≢◌, ℕ, false, List, None, refl, sym, ap, subst}
 use Rattle.inno_types.specs.declared.value.Schema.{Schema}
 use Rattle.store_api.specs.declared.moves.Move.{Move}
 use Rattle.store_api.specs.declared.moves.Move.TheVariants.{Done}
-use Rattle.entries.specs.Pairs.{Pair, value_of}
-use Rattle.entries.specs.Index.{AreKept}
 use Rattle.entries.specs.Calls.{Inserts}
 use Rattle.world.specs.State.{WorldState, IsIndex}
 use Rattle.world.specs.Indexes.{Changes}
@@ -14,12 +11,8 @@ use Rattle.row_changes.specs.declared.entry_put.PutPhase.{PutPhase}
 use Rattle.row_changes.specs.declared.entry_put.PutPhase.TheVariants.{Insert}
 use Rattle.row_changes.specs.declared.reached.Reached.TheVariants.{Hindered}
 use Rattle.row_changes.specs.Entries.{IsThere, PutPhaseHolds, IsPutting, PutsEntry}
+use Rattle.row_changes.proofs.Changing.{told_kept}
 use Rattle.row_changes.proofs.Worlds.{insert_keeps, insert_hinders, change_stays_if}
-
-told_still : (P : List Pair → Type 0) (old new : Option (List Pair)) → AreKept old new → IfSome old P → IfSome new P
-told_still P old None kept is = tt
-told_still P None (Some new) kept is = absurd kept
-told_still P (Some old) (Some new) kept is = subst P (sym kept) is
 
 pub insert_hindered : (actor : ℕ) (value : List ℕ) (old new : WorldState) (put : EntryPut) (move : Move) → IsPutting old put → put.phase ≡ Insert
     → Changes put.index actor None (λ before after answer. Inserts actor put.entry value before after answer) old new move → move ≢ Done
@@ -27,16 +20,14 @@ pub insert_hindered : (actor : ℕ) (value : List ℕ) (old new : WorldState) (p
 insert_hindered actor value old new put move is at call not_done =
     let absent : IsThere false put.entry (old.indexes put.index)
     = subst (λ (phase : PutPhase). PutPhaseHolds phase put.entry (old.indexes put.index)) at is.phase in
-    let kept = insert_keeps actor put.entry value (old.indexes put.index) (new.indexes put.index) move call.index_is.here not_done in
-    let still : IsThere false put.entry (new.indexes put.index)
-    = told_still (λ (pairs : List Pair). is_some (value_of put.entry pairs) ≡ false) (old.indexes put.index).pairs (new.indexes put.index).pairs
-    kept.0 absent in (
+    let kept = insert_keeps actor put.entry value (old.indexes put.index) (new.indexes put.index) move call.index_is.here not_done in (
       refl,
       change_stays_if call kept,
       record {
         index_is = subst (λ (schemas : List Schema). IsIndex schemas put.index) (sym (ap (λ (w : WorldState). w.schemas) call.beside.rest)) is.index_is;
         short = is.short;
-        phase = subst (λ (phase : PutPhase). PutPhaseHolds phase put.entry (new.indexes put.index)) (sym at) still;
+        phase = subst (λ (phase : PutPhase). PutPhaseHolds phase put.entry (new.indexes put.index)) (sym at)
+            (told_kept _ (old.indexes put.index) (new.indexes put.index) kept.0 absent);
       },
       insert_hinders actor put.entry value (old.indexes put.index) (new.indexes put.index) move absent call.index_is.here not_done,
     )

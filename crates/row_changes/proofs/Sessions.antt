@@ -1,12 +1,10 @@
 -- Lists of sessions in which one is another now.
 use Rattle.std.proofs.Common.{◌≡◌, ◌≢◌, ℕ, zero, suc, List, [], ◌∷◌, length, Option, Some, None, refl, sym, ap, ◌∙◌}
 use Rattle.std.specs.Prelude.{slice_get, slice_set}
-use Rattle.std.proofs.lemmas.List.{length-set}
 use Rattle.entries.specs.Index.{AreKept}
 use Rattle.row_versions.specs.Versions.{Versions, Stays}
-use Rattle.world.specs.State.{WorldState, Session, IsSession, with_session}
-use Rattle.world.proofs.Stores.{store_stays}
-use Rattle.row_changes.specs.Asides.{IsReadied, StepsAside}
+use Rattle.world.specs.State.{WorldState, Session, IsSession}
+use Rattle.row_changes.specs.Asides.{StepsAside}
 use Rattle.row_changes.specs.Pairs.{RowsStay}
 
 pub set_here : {X : Type 0} (xs : List X) (i : ℕ) (x a : X) → slice_get xs i ≡ Some x → slice_get (slice_set xs i a) i ≡ Some a
@@ -21,9 +19,12 @@ set_other (y ∷ xs) zero (suc j) a differs = refl
 set_other (y ∷ xs) (suc i) zero a differs = refl
 set_other (y ∷ xs) (suc i) (suc j) a differs = set_other xs i j a (λ e. differs (ap suc e))
 
--- a session is there once
+-- what is found is one
+pub one_found : {X : Type 0} {found : Option X} (a b : X) → found ≡ Some a → found ≡ Some b → a ≡ b
+one_found a b is also = cc
+
 pub one_session : (state : WorldState) (s : ℕ) (a b : Session) → IsSession s a state → IsSession s b state → a ≡ b
-one_session state s a b first second = cc
+one_session state s a b first second = one_found a b first second
 
 -- what was told stays
 pub same_pairs : (pairs : Option (List (List ℕ × List ℕ))) → AreKept pairs pairs
@@ -32,25 +33,6 @@ same_pairs (Some pairs) = refl
 
 pub same_versions : (versions : Versions) → Stays versions versions
 same_versions versions = record { told = λ h. h; kept = λ h. refl }
-
--- the session alone has other rooms
-abbrev pub readied_alone : (s : ℕ) (before after : Session) (old : WorldState) → IsSession s before old → IsReadied before after
-    → StepsAside s old (with_session s after old)
-readied_alone s before after old there readied =
-    record {
-      pairs = λ index. same_pairs (old.indexes index).pairs;
-      places = λ index. refl;
-      versions = same_versions old.versions;
-      before = before;
-      after = after;
-      was = there;
-      is = set_here old.sessions s before after there;
-      readied = readied;
-      others = λ t differs. set_other old.sessions s t after differs;
-      count = length-set old.sessions s after;
-      rest = refl;
-      later = store_stays old.paged;
-    }
 
 -- nothing has changed but pairs that are told no longer
 abbrev pub aside_of_stay : {s : ℕ} {session : Session} {old new : WorldState} → IsSession s session old → RowsStay old new → StepsAside s old new

@@ -1,12 +1,13 @@
 -- What stays told of pairs and versions.
-use Rattle.std.proofs.Common.{◌≡◌, ◌≢◌, ⊎_elim, ◌∙◌, sym, ap, subst, refl, ℕ, ◌==◌, Bool, true, false, cond, List, Option, None, Some}
+use Rattle.std.proofs.Common.{◌≡◌, ◌≢◌, ⊎_elim, ◌∙◌, sym, ap, subst, refl, ℕ, ◌==◌, List, Option, None, Some}
 use Rattle.std.specs.Prelude.{IfSome, IsSome}
-use Rattle.std.proofs.lemmas.Bool.{cases_eq}
+use Rattle.std.proofs.lemmas.Bool.{cases_eq, cond-true, cond-false}
 use Rattle.std.proofs.lemmas.Bool.Decides.{eqb_tells}
 use Rattle.inno_types.specs.declared.value.Schema.{Schema}
 use Rattle.entries.specs.Pairs.{Pair}
 use Rattle.entries.specs.Index.{Goes, AreKept}
 use Rattle.row_versions.specs.declared.kept.Kept.{Kept}
+use Rattle.row_versions.specs.Versions.{Stays}
 use Rattle.row_versions.specs.Chains.{Chains}
 use Rattle.law_stored_rows.specs.Edits.{with_value, Puts}
 use Rattle.law_stored_rows.specs.Tables.{Said, AreCodedAs}
@@ -29,13 +30,16 @@ went f (Some old) (Some new) goes told = goes
 
 -- ---- while no pair changes
 
-pub stays_told : (old new : WorldState) → RowsStay old new → IsTold new → IsTold old
-stays_told old new stay told =
+pub told_if : (old new : WorldState) → ((i : ℕ) → AreKept (old.indexes i).pairs (new.indexes i).pairs) → Stays old.versions new.versions → IsTold new
+    → IsTold old
+told_if old new pairs versions told =
     record {
-      pairs = λ i. told_before (λ before after. after ≡ before) (old.indexes i).pairs (new.indexes i).pairs (stay.pairs i) (told.pairs i);
-      versions =
-          stay.versions.told told.versions;
+      pairs = λ i. told_before (λ before after. after ≡ before) (old.indexes i).pairs (new.indexes i).pairs (pairs i) (told.pairs i);
+      versions = versions.told told.versions;
     }
+
+pub stays_told : (old new : WorldState) → RowsStay old new → IsTold new → IsTold old
+stays_told old new stay = told_if old new stay.pairs stay.versions
 
 pub same_pairs_of : (old new : WorldState) → RowsStay old new → IsTold new → pairs_of new ≡ pairs_of old
 same_pairs_of old new stay told = λ d i. went (λ pairs. pairs) (old.indexes i).pairs (new.indexes i).pairs (stay.pairs i) (told.pairs i) d
@@ -46,10 +50,16 @@ coded_again schemas others pairs now kept found chains said tables rows versions
     subst (λ s. AreCodedAs s now found chains said) (sym tables)
     (subst (λ p. AreCodedAs schemas p found chains said) (sym rows) (subst (λ k. AreCodedAs schemas pairs k chains said) (sym versions) is))
 
+-- rows of which no pair and no version has changed
+pub rows_if : (old new : WorldState) (chains : Chains) (said : Said) → new.schemas ≡ old.schemas
+    → ((i : ℕ) → AreKept (old.indexes i).pairs (new.indexes i).pairs) → Stays old.versions new.versions → IsTold new
+    → AreRowsAs chains said old → AreRowsAs chains said new
+rows_if old new chains said same pairs versions told is =
+    coded_again old.schemas new.schemas (pairs_of old) (pairs_of new) old.versions.kept_at new.versions.kept_at chains said same
+    (λ d i. went (λ list. list) (old.indexes i).pairs (new.indexes i).pairs (pairs i) (told.pairs i) d) (versions.kept told.versions) is
+
 pub rows_again : (old new : WorldState) (chains : Chains) (said : Said) → RowsStay old new → IsTold new → AreRowsAs chains said old → AreRowsAs chains said new
-rows_again old new chains said stay told is =
-    coded_again old.schemas new.schemas (pairs_of old) (pairs_of new) old.versions.kept_at new.versions.kept_at chains said
-    (ap (λ (state : WorldState). state.schemas) stay.rest) (same_pairs_of old new stay told) (stay.versions.kept told.versions) is
+rows_again old new chains said stay = rows_if old new chains said (ap (λ (state : WorldState). state.schemas) stay.rest) stay.pairs stay.versions
 
 -- ---- where one pair changes
 
@@ -66,20 +76,14 @@ pairs_told index key value old new puts told i =
     (told_before (λ before after. after ≡ with_value key value before) (old.indexes index).pairs (new.indexes index).pairs puts.0 (told.pairs index)))
     (λ differs. told_before (λ before after. after ≡ before) (old.indexes i).pairs (new.indexes i).pairs (puts.1 i differs) (told.pairs i)) (cases_eq i index)
 
-if_true : (b : Bool) (a c x : List Pair) → b ≡ true → x ≡ a → x ≡ cond b a c
-if_true b a c x is same = same ∙ sym (ap (λ (t : Bool). cond t a c) is)
-
-if_false : (b : Bool) (a c x : List Pair) → b ≡ false → x ≡ c → x ≡ cond b a c
-if_false b a c x is same = same ∙ sym (ap (λ (t : Bool). cond t a c) is)
-
 pub puts_pairs : (index : ℕ) (key : List ℕ) (value : Option (List ℕ)) (old new : WorldState) → HasPut index key value old new → IsTold new
     → Puts (pairs_of old) (pairs_of new) index key value
 puts_pairs index key value old new puts told i =
     ⊎_elim
-    (λ t. if_true (i == index) (with_value key value (pairs_of old index)) (pairs_of old i) (pairs_of new i) t.0
-    (ap (pairs_of new) t.1 ∙ went (with_value key value) (old.indexes index).pairs (new.indexes index).pairs puts.0 (told.pairs index)))
-    (λ f. if_false (i == index) (with_value key value (pairs_of old index)) (pairs_of old i) (pairs_of new i) f.0
-    (went (λ pairs. pairs) (old.indexes i).pairs (new.indexes i).pairs (puts.1 i f.1) (told.pairs i)))
+    (λ t. ap (pairs_of new) t.1 ∙ went (with_value key value) (old.indexes index).pairs (new.indexes index).pairs puts.0 (told.pairs index)
+    ∙ sym (cond-true (i == index) (with_value key value (pairs_of old index)) (pairs_of old i) t.0))
+    (λ f. went (λ pairs. pairs) (old.indexes i).pairs (new.indexes i).pairs (puts.1 i f.1) (told.pairs i)
+    ∙ sym (cond-false (i == index) (with_value key value (pairs_of old index)) (pairs_of old i) f.0))
     (eqb_tells i index)
 
 pub put_told : (index : ℕ) (key : List ℕ) (value : Option (List ℕ)) (old new : WorldState) → PutsPair index key value old new → IsTold new → IsTold old

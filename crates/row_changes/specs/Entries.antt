@@ -11,9 +11,6 @@ use Rattle.row_changes.specs.declared.entry_put.EntryPut.{EntryPut}
 use Rattle.row_changes.specs.declared.entry_put.PutPhase.{PutPhase}
 use Rattle.row_changes.specs.declared.entry_put.PutPhase.TheVariants.{Look, Unmark, Insert}
 use Rattle.row_changes.specs.declared.entry_mark.EntryMark.{EntryMark}
-use Rattle.row_changes.specs.declared.entry_drop.EntryDrop.{EntryDrop}
-use Rattle.row_changes.specs.declared.entry_drop.DropPhase.{DropPhase}
-use Rattle.row_changes.specs.declared.entry_drop.DropPhase.TheVariants as drops
 use Rattle.row_changes.specs.Pairs.{RowsStay, PutsPair, Hinders}
 
 -- the value of an entry is its mark
@@ -72,26 +69,3 @@ MarksEntry actor old new mark (Went next) = ⊥
 MarksEntry actor old new mark Done = PutsPair mark.index mark.entry (Some marked) old new
 MarksEntry actor old new mark (Hindered same why) =
     (same ≡ mark) × RowsStay old new × IsMarking new mark × HindersEntry actor mark.entry (old.indexes mark.index) (new.indexes mark.index) why
-
--- ---- removing
-
-pub record IsDropping (state : WorldState) (drop : EntryDrop) : Type 0 where
-  pub index_is : IsIndex state.schemas drop.index
-
-abbrev pub drop_steps : DropPhase → ℕ
-drop_steps drops.Next = 2
-drop_steps drops.Remove = 1
-
--- the same entry, a step nearer
-pub record GoesOnDropping (old new : WorldState) (drop next : EntryDrop) : Type 0 where
-  pub stays : RowsStay old new
-  pub index_is : next.index ≡ drop.index
-  pub entry_is : next.entry ≡ drop.entry
-  pub holds : IsDropping new next
-  pub nears : drop_steps next.phase < drop_steps drop.phase
-
-abbrev pub DropsEntry : ℕ → WorldState → WorldState → EntryDrop → Reached EntryDrop → Type 0
-DropsEntry actor old new drop (Went next) = GoesOnDropping old new drop next
-DropsEntry actor old new drop Done = PutsPair drop.index drop.entry None old new
-DropsEntry actor old new drop (Hindered same why) =
-    (same ≡ drop) × RowsStay old new × IsDropping new drop × HindersEntry actor drop.entry (old.indexes drop.index) (new.indexes drop.index) why

@@ -3,7 +3,6 @@
 
 mod coding;
 mod entering;
-mod entry_drop;
 mod entry_mark;
 mod entry_put;
 mod key_entries;
@@ -13,7 +12,6 @@ mod record_change;
 mod row_change;
 mod row_edit;
 
-pub use entry_drop::{DropPhase, EntryDrop};
 pub use entry_mark::EntryMark;
 pub use entry_put::{EntryPut, PutPhase};
 pub use keys_change::KeysChange;

@@ -7,7 +7,7 @@ ghost use Rattle.row_changes.specs.InPlace.{reached_at};
 ghost use Rattle.row_changes.specs.Rows.{IsChangingRow, ChangesRow, row_after, table_of};
 
 use crate::keys_change::KeysChange;
-use crate::reached::{Came, Reached};
+use crate::reached::Came;
 use crate::record_change::{RecordCame, RecordChange, RecordStage};
 use crate::row_edit::RowEdit;
 use inno_types::{Bytes, Row};
@@ -40,23 +40,7 @@ impl RowChange {
         Ok(RowChange::Record(change, copy, after))
     }
 
-    /// One step. It asks that nobody else changes rows between the steps.
-    pub fn step<W: World>(mut self, alloc: Global, world: &mut W, s: u32) -> Reached<RowChange>
-        requires { (chains : Chains) × IsChangingRow s chains (W.state world.old) self }
-        ensures changes { (chains : Chains) → IsChangingRow s chains (W.state world.old) self → ChangesRow s chains (W.state world.old) (W.state world.new) self result }
-        ensures awaits { AwaitsIn s (table_of self) (W.state world.old) (W.state world.new) }
-    {
-        match self.advance(alloc, world, s) {
-            Came::Went => Reached::Went(self),
-            Came::Done => {
-                drop(self);
-                Reached::Done
-            }
-            Came::Hindered(why) => Reached::Hindered(self, why),
-        }
-    }
-
-    /// One step, made where the change lies.
+    /// One step, made where the change lies. It asks that nobody else changes rows between the steps.
     pub fn advance<W: World>(&mut self, alloc: Global, world: &mut W, s: u32) -> Came
         requires { (chains : Chains) × IsChangingRow s chains (W.state world.old) self.old }
         ensures changes { (chains : Chains) → IsChangingRow s chains (W.state world.old) self.old → ChangesRow s chains (W.state world.old) (W.state world.new) self.old (reached_at self.new result) }

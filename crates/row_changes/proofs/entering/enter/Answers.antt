@@ -1,7 +1,11 @@
 use Rattle.row_changes.proofs.entering.enter.Goals as goal
+use Rattle.row_changes.proofs.Ids.{differ, now_has, entered_change}
 
-abbrev pub returns-in-Put : goal.returns-in-Put
-returns-in-Put g c = rw c.in-Put.is c.enter_put.ensures
+abbrev pub add-requires : goal.add-requires
+add-requires g c = (_, _, now_has _ _ _ _ _ (c.give_id.ensures _ _ c.requires.2))
 
-abbrev pub returns-in-Remove : goal.returns-in-Remove
-returns-in-Remove g c = rw c.in-Remove.is c.enter_remove.ensures
+abbrev pub unreachable-requires : goal.unreachable-requires
+unreachable-requires g c = differ (rw c.in-Err.is at c.add.ensures.sure _ (c.give_id.ensures _ _ c.requires.2).now c.requires.4)
+
+abbrev pub returns : goal.returns
+returns g c = λ session work has. entered_change _ _ _ _ _ _ _ _ (c.give_id.ensures session work has) c.in-Ok.ensures.ok

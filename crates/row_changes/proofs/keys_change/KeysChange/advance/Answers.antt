@@ -3,16 +3,15 @@ use Rattle.row_changes.proofs.Keying.{put_went, put_done, put_waits}
 use Rattle.row_changes.proofs.Awaited.{put_awaits}
 
 abbrev pub returns-in-Went-clause-changes : goal.returns-in-Went-clause-changes
-returns-in-Went-clause-changes g c = λ chains p. put_went c.args.actor chains _ _ c.args.self.now c.in-Some.put c.step.new.self c.in-Some.is
-    c.in-Went.ensures.puts p
+returns-in-Went-clause-changes g c = λ chains p.
+    put_went chains _ _ c.args.self.now p c.in-Some.put c.step.new.self c.in-Some.is c.in-Went.ensures.puts
 
 abbrev pub returns-in-Done-clause-changes : goal.returns-in-Done-clause-changes
-returns-in-Done-clause-changes g c = λ chains p. put_done c.args.actor chains _ _ c.args.self.now c.in-Some.put c.step.new.self c.in-Some.is
-    c.in-Done.ensures.puts p
+returns-in-Done-clause-changes g c = λ chains p. put_done chains _ _ c.args.self.now p c.in-Some.put c.in-Some.is c.in-Done.ensures.puts
 
 abbrev pub returns-in-Hindered-clause-changes : goal.returns-in-Hindered-clause-changes
-returns-in-Hindered-clause-changes g c =
-    λ chains p. put_waits c.args.actor chains _ _ c.args.self.now c.in-Some.put c.step.new.self c.in-Some.is c.in-Hindered.why c.in-Hindered.ensures.puts p
+returns-in-Hindered-clause-changes g c = λ chains p.
+    put_waits chains _ _ c.args.self.now p c.args.actor c.in-Some.put c.step.new.self c.in-Hindered.why c.in-Some.is c.in-Hindered.ensures.puts
 
 pub returns-in-Went-clause-awaits : goal.returns-in-Went-clause-awaits
 returns-in-Went-clause-awaits g c = put_awaits c.requires.0 c.args.actor _ _ c.args.self.now c.in-Some.put c.in-Some.is c.requires.1 c.in-Went.ensures.awaits

@@ -16,7 +16,7 @@ returns-in-Done-clause-changes g c = λ chains p.
 abbrev pub returns-in-Hindered-clause-changes : goal.returns-in-Hindered-clause-changes
 returns-in-Hindered-clause-changes g c = λ chains p.
     let h = rw c.in-Hindered.is at c.step.ensures.marks in
-    mark_hindered c.args.actor chains _ _ c.args.self.now p c.args.mark.index c.args.which c.args.mark.entry c.in-Hindered.why c.requires.none
+    mark_hindered chains _ _ c.args.self.now p c.args.actor c.args.mark.index c.args.which c.args.mark.entry c.in-Hindered.why c.requires.none
     (c.requires.entries p.schema p.table.there).first.from_there c.requires.index h.1 h.3
 
 pub returns-in-Hindered-clause-awaits : goal.returns-in-Hindered-clause-awaits

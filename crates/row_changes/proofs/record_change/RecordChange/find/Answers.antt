@@ -1,5 +1,5 @@
 use Rattle.row_changes.proofs.record_change.RecordChange.find.Goals as goal
-use Rattle.std.proofs.Common.{sym, subst, refl, inl}
+use Rattle.std.proofs.Common.{sym, subst, inl}
 use Rattle.std.specs.Prelude.{Ok, Err}
 use Rattle.row_changes.specs.Coding.{Decodes}
 use Rattle.row_changes.specs.Records.{ChangesRecord}
@@ -9,20 +9,20 @@ use Rattle.row_changes.proofs.Changing.{looked_up, looked_up_none, not_decoded, 
 abbrev pub returns-in-End-clause-changes : goal.returns-in-End-clause-changes
 returns-in-End-clause-changes g c =
     subst (ChangesRecord c.args.s (g.W.World.state c.args.world.now) (g.W.World.state c.fetch.new.self) c.args.self.now) (sym c.missed.ensures)
-    (looked_up_none _ _ _ _ c.fetch.new.into.items c.requires.changing c.requires.stage (rw c.index.ensures at (rw c.in-End.is at c.fetch.ensures.answer)))
+    (looked_up_none _ _ _ _ c.requires.changing c.fetch.new.into.items c.requires.stage (rw c.index.ensures at (rw c.in-End.is at c.fetch.ensures.answer)))
 
 abbrev pub returns-in_default-fetch-clause-changes : goal.returns-in_default-fetch-clause-changes
 returns-in_default-fetch-clause-changes g c =
     let answer = rw c.index.ensures at c.fetch.ensures.answer in
     let here = answer.index_is.here in
-    hindered _ _ _ _ _ _ c.requires.changing refl (stays_if answer (fetch_keeps _ _ _ _ _ _ here))
+    hindered _ _ _ _ c.requires.changing _ (stays_if answer (fetch_keeps _ _ _ _ _ _ here))
     (inl (delay_hinders _ _ _ _ (fetch_delays _ _ _ _ _ _ here c.in_default-fetch.not-Done c.in_default-fetch.not-End)))
 
 abbrev pub returns-in-Ok-decoded-clause-changes : goal.returns-in-Ok-decoded-clause-changes
 returns-in-Ok-decoded-clause-changes g c =
     let decoded = rw c.in-Ok-decoded.is at c.decoded.ensures in
     let next =
-    looked_up _ _ _ _ _ c.fetch.new.into.items c.requires.changing c.requires.stage (rw c.index.ensures at (rw c.in-Done.is at c.fetch.ensures.answer))
+    looked_up _ _ _ _ c.requires.changing _ c.fetch.new.into.items c.requires.stage (rw c.index.ensures at (rw c.in-Done.is at c.fetch.ensures.answer))
     (λ schema there. subst (λ value. Decodes schema c.args.self.now.key value (Ok c.in-Ok-decoded.before)) c.deref.ensures.value (decoded schema there)) in
     subst (ChangesRecord c.args.s (g.W.World.state c.args.world.now) (g.W.World.state c.fetch.new.self) c.args.self.now) (sym c.found.ensures)
     (rw c.from_vec.ensures next)
@@ -30,5 +30,5 @@ returns-in-Ok-decoded-clause-changes g c =
 abbrev pub returns-in-Err-clause-changes : goal.returns-in-Err-clause-changes
 returns-in-Err-clause-changes g c =
     let decoded = rw c.in-Err.is at c.decoded.ensures in
-    not_decoded _ _ _ _ _ c.fetch.new.into.items c.requires.changing (rw c.index.ensures at (rw c.in-Done.is at c.fetch.ensures.answer))
+    not_decoded _ _ _ _ c.requires.changing _ c.fetch.new.into.items (rw c.index.ensures at (rw c.in-Done.is at c.fetch.ensures.answer))
     (λ schema there. subst (λ value. Decodes schema c.args.self.now.key value (Err c.in-Err.why)) c.deref.ensures.value (decoded schema there))

@@ -2,8 +2,7 @@ use Rattle.row_changes.proofs.record_change.RecordChange.insert.Goals as goal
 use Rattle.std.proofs.Common.{Some, refl}
 use Rattle.row_changes.specs.declared.record_change.RecordStage.TheVariants.{Insert}
 use Rattle.row_changes.proofs.Changing.{stage_at}
-use Rattle.row_changes.proofs.Recorded.{key_short, value_short, version_first, may_log_new, may_enter, inserted_logs, inserted, insert_hindered, value_of_row}
-use Rattle.row_changes.proofs.Recorded.{found_first}
+use Rattle.row_changes.proofs.Recorded.{key_short, value_short, version_first, may_log_new, may_enter, inserted, insert_hindered, value_of_row, found_first}
 use Rattle.law_stored_rows.specs.Edits.{clustered_index}
 use Rattle.row_changes.proofs.Awaited.{entered_awaits, insert_with_here}
 
@@ -23,12 +22,12 @@ insert-requires-clause-value g c =
 abbrev pub insert-requires-clause-undo : goal.insert-requires-clause-undo
 insert-requires-clause-undo g c =
     let p = c.requires.changing in
-    may_log_new _ _ _ p _ (stage_at _ _ _ Insert p c.requires.stage).0 c.in-Ok-undo_of_new.ensures
+    may_log_new _ _ _ p _ (stage_at _ _ _ p Insert c.requires.stage).0 c.in-Ok-undo_of_new.ensures
 
 abbrev pub enter-requires : goal.enter-requires
 enter-requires g c =
     let p = c.requires.changing in
-    may_enter _ _ _ _ _ p (stage_at _ _ _ Insert p c.requires.stage).0 (inserted_logs _ _ _ _ _ _ _ (rw c.in-Done.is at c.insert.ensures))
+    may_enter _ _ _ _ _ p (stage_at _ _ _ p Insert c.requires.stage).0 (rw c.in-Done.is at c.insert.ensures).beside
 
 abbrev pub returns-in-Done-clause-changes : goal.returns-in-Done-clause-changes
 returns-in-Done-clause-changes g c =
@@ -47,7 +46,7 @@ returns-clause-changes g c =
 pub returns-in-Done-clause-awaits : goal.returns-in-Done-clause-awaits
 returns-in-Done-clause-awaits g c =
     let p = c.requires.changing in
-    let may = may_enter _ _ _ _ _ p (stage_at _ _ _ Insert p c.requires.stage).0 (inserted_logs _ _ _ _ _ _ _ (rw c.in-Done.is at c.insert.ensures)) in
+    let may = may_enter _ _ _ _ _ p (stage_at _ _ _ p Insert c.requires.stage).0 (rw c.in-Done.is at c.insert.ensures).beside in
     let call = (rw c.index.ensures at c.insert.ensures).index_is in
     let index = clustered_index c.args.self.now.table in
     let old = g.W.World.state c.args.world.now in

@@ -1,5 +1,5 @@
 use Rattle.row_changes.proofs.record_change.RecordChange.make_room.Goals as goal
-use Rattle.std.proofs.Common.{sym, subst, refl, inl, inr}
+use Rattle.std.proofs.Common.{sym, subst, inl, inr}
 use Rattle.row_changes.specs.Records.{ChangesRecord}
 use Rattle.row_changes.proofs.Changing.{handed_on, room_made, hindered, no_room_stays}
 
@@ -12,5 +12,5 @@ returns-in-Done-clause-changes g c =
 
 abbrev pub returns-in_default-clause-changes : goal.returns-in_default-clause-changes
 returns-in_default-clause-changes g c =
-    hindered _ _ _ _ _ _ c.requires.changing refl (no_room_stays _ _ _ _ _ c.undo_room.ensures c.in_default.not-Done)
+    hindered _ _ _ _ c.requires.changing _ (no_room_stays _ _ _ _ _ c.undo_room.ensures c.in_default.not-Done)
     (inr (inl (c.in_default.not-Done, c.undo_room.ensures)))

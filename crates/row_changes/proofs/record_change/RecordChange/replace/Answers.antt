@@ -1,9 +1,8 @@
 use Rattle.row_changes.proofs.record_change.RecordChange.replace.Goals as goal
 use Rattle.std.proofs.Common.{◌<◌, ◌^◌, Some, arith}
 use Rattle.std.proofs.lemmas.Option.{slice_get_within}
-use Rattle.row_changes.proofs.Changing.{lacks_memory}
-use Rattle.row_changes.proofs.Recorded.{rows_index, value_of_row, found_at, value_short, version_next, may_log_former, may_enter_over, replaced_logs, replaced}
-use Rattle.row_changes.proofs.Recorded.{replace_hindered}
+use Rattle.row_changes.proofs.Changing.{stage_at, lacks_memory}
+use Rattle.row_changes.proofs.Recorded.{rows_index, value_of_row, found_at, value_short, version_next, may_log_former, may_enter, replaced, replace_hindered}
 use Rattle.law_stored_rows.specs.Edits.{clustered_index}
 use Rattle.row_changes.proofs.Awaited.{entered_awaits, replace_with_here}
 
@@ -28,18 +27,19 @@ replace-requires-clause-undo g c =
 
 abbrev pub enter-requires : goal.enter-requires
 enter-requires g c =
-    may_enter_over _ _ _ _ _ c.requires.changing _ _ c.requires.stage.2 (replaced_logs _ _ _ _ _ _ _ (rw c.in-Done.is at c.replace.ensures))
+    let p = c.requires.changing in
+    may_enter _ _ _ _ _ p (stage_at _ _ _ p _ c.requires.stage.2).0 (rw c.in-Done.is at c.replace.ensures).beside
 
 abbrev pub returns-in-Done-clause-changes : goal.returns-in-Done-clause-changes
 returns-in-Done-clause-changes g c =
     let p = c.requires.changing in
     let at = c.requires.stage.2 in
     let told = c.in-Ok.ensures _ _ at in
-    let value =
-    value_of_row p.schema _ _ _ _ _ _ _ _ _ (c.in-Ok-coded.ensures p.schema p.table.there) c.in-Ok-version.ensures (found_at _ _ _ at)
-    (c.writer_of-writer.ensures p.session p.work p.has_work) (c.next_pointer-pointer.ensures p.session p.has_work.session_is) in
     let pointer_is = c.next_pointer-pointer.ensures p.session p.has_work.session_is in
     let small : p.session.next_pointer < 2 ^ 64 = omega (arith, pointer_is) in
+    let value =
+    value_of_row p.schema _ _ _ _ _ _ _ _ _ (c.in-Ok-coded.ensures p.schema p.table.there) c.in-Ok-version.ensures (found_at _ _ _ at)
+    (c.writer_of-writer.ensures p.session p.work p.has_work) pointer_is in
     replaced _ _ _ _ _ p _ _ _ _ _ at value told.1 told.0 small (rw c.index.ensures at (rw c.in-Done.is at c.replace.ensures))
     (rw c.take_edit.ensures at c.enter.ensures)
 
@@ -63,7 +63,8 @@ returns-in_default-version-clause-changes g c = lacks_memory c.args.s _ c.args.s
 
 pub returns-in-Done-clause-awaits : goal.returns-in-Done-clause-awaits
 returns-in-Done-clause-awaits g c =
-    let may = may_enter_over _ _ _ _ _ c.requires.changing _ _ c.requires.stage.2 (replaced_logs _ _ _ _ _ _ _ (rw c.in-Done.is at c.replace.ensures)) in
+    let p = c.requires.changing in
+    let may = may_enter _ _ _ _ _ p (stage_at _ _ _ p _ c.requires.stage.2).0 (rw c.in-Done.is at c.replace.ensures).beside in
     let call = (rw c.index.ensures at c.replace.ensures).index_is in
     let index = clustered_index c.args.self.now.table in
     let old = g.W.World.state c.args.world.now in
