@@ -1,20 +1,16 @@
 -- What an entry of another session, or one's own within an item, leaves as it was: for the definitions of SQL's histories.
-use Rattle.std.proofs.Common.{◌≡◌, ◌≢◌, ℕ, ◌+◌, ◌≤◌, Bool, true, false, cond, eqb, Some, List, [], ◌∷◌, ◌++◌, refl, sym, ap, ◌∙◌, inl, inr, arith}
-use Rattle.std.proofs.lemmas.Bool.Decides.{nat_tests, eqb_tells}
-use Rattle.std.proofs.lemmas.Bool.{false≢true}
+use Rattle.std.proofs.Common.{◌≡◌, ◌≢◌, ℕ, Bool, true, false, cond, eqb, List, [], ◌∷◌, refl, ap, ◌∙◌, inr, arith}
+use Rattle.std.proofs.lemmas.Bool.Decides.{nat_tests}
 use Rattle.std.specs.List.{list_any}
 use Rattle.inno_types.specs.declared.stmt.Stmt.{Stmt}
 use Rattle.inno_model.specs.declared.event.Event.{Event}
 use Rattle.inno_model.specs.declared.event.Event.TheVariants as events
-use Rattle.inno_model.specs.Past.{is_of, under_way, before_item, closes, own, commits, committed, opening, changed}
+use Rattle.inno_model.specs.Past.{is_of, under_way, before_item, closes, own, opening}
 use Rattle.inno_model.specs.Moments.{starts}
 use Rattle.sql_grammar.specs.Grammar.{Spells}
-use Rattle.sql_history.specs.Items.{of_turn, is_over, point, before_turn, own_before, base}
+use Rattle.sql_history.specs.Items.{of_turn, is_over, point, before_turn, own_before}
 use Rattle.sql_history.specs.Legal.{Takes}
 use Rattle.law_past_agreement.specs.Order.{IsNoOthers}
-use Rattle.shared_lists.specs.State.{State}
-use Rattle.sql_lists.specs.Steps.{changes_rows}
-use Rattle.sql_lists.proofs.Moving.{AddingOne}
 
 -- an entry of one session is no other's
 own_of : (e : Event) (t u : ℕ) → is_of t e ≡ true → u ≢ t → is_of u e ≡ false
@@ -90,65 +86,3 @@ module _ (e : Event) (h : List Event) (s : ℕ) (within : is_within s e ≡ true
 
 pub within_of_other : (e : Event) (s : ℕ) → is_of s e ≡ false → is_within s e ≡ true
 within_of_other e s other = grind (arith, nat_tests, other)
-
--- ---- the latest rows, while one session alone has changes
-
--- the session alone may write, and no other has changes
-pub record IsSteady (state : State) (s : ℕ) : Type 0 where
-  pub locked : state.writer ≡ Some s
-  pub alone : (other : ℕ) → other ≢ s → own other state.past ≡ []
-
--- more commits than there are give no more changes
-pub committed_more : (n : ℕ) (h : List Event) → commits h ≤ n → committed n h ≡ committed (commits h) h
-committed_more n [] le = refl
-committed_more n (events.Committed t ∷ h) le = grind (arith, nat_tests, committed_more n h (omega (arith, le)), committed_more (commits h + 1) h (omega arith))
-committed_more n (e ∷ h) le = committed_more n h le
-
--- an entry of a session without changes leaves what is committed
-pub committed_all : (e : Event) (h : List Event) (t : ℕ) → IsNoOthers t e → own t h ≡ [] → committed (commits (e ∷ h)) (e ∷ h) ≡ committed (commits h) h
-committed_all (events.Committed t') h t mine none =
-    elim (eqb_tells t' t) [
-      | inl same ↦ (let empty : own t' h ≡ [] = ap (λ x. own x h) same.1 ∙ none in grind
-          (arith, nat_tests, empty, committed_more (commits h + 1) h (omega arith)))
-      | inr differ ↦ absurd (false≢true (sym differ.0 ∙ mine))
-    ]
-committed_all e h t mine none = refl
-
--- without a change of rows nobody has changes who had none
-none_more : (e : Event) (h : List Event) (u : ℕ) → changes_rows e ≡ false → own u h ≡ [] → own u (e ∷ h) ≡ []
-none_more (events.Changed t change) h u spares none = cc
-none_more (events.Undone t keep) h u spares none = grind (arith, nat_tests, none)
-none_more e h u spares none = grind (arith, nat_tests, none)
-
-not_true : (b : Bool) → (b ≡ true → ⊥) → b ≡ false
-not_true true refuted = absurd (refuted refl)
-not_true false refuted = refl
-
-module _ (old new : State) (t s : ℕ) (differ : t ≢ s) (adding : AddingOne t old new) (keeps : old.writer ≡ Some s → new.writer ≡ Some s)
-    (steady : IsSteady old s) where
-  still_locked : new.writer ≡ Some s
-  still_locked = keeps steady.locked
-
-  pub steady_on : IsSteady new s
-  steady_on =
-      record {
-        locked = still_locked;
-        alone = λ other ne. elim adding [
-          | inl same ↦ ap (own other) same ∙ steady.alone other ne
-          | inr adds ↦
-              let spares = not_true (changes_rows adds.0) (λ is. adds.3 is s (λ same. differ (sym same)) still_locked) in
-              ap (own other) adds.2 ∙ none_more adds.0 old.past other spares (steady.alone other ne)
-        ];
-      }
-
-  pub base_on : base s new.past ≡ base s old.past
-  base_on = elim adding [
-    | inl same ↦ ap (base s) same
-    | inr adds ↦
-        let e = adds.0 in
-        let other : is_of s e ≡ false = other_of e t s adds.1 (λ is. differ (sym is)) in
-        ap (base s) adds.2
-        ∙ (ap (λ db. changed db (own_before s (e ∷ old.past) ++ committed (commits (e ∷ old.past)) (e ∷ old.past))) (opening_stays e old.past t adds.1)
-        ∙ (ap (λ changes. changed (opening old.past) (changes ++ committed (commits (e ∷ old.past)) (e ∷ old.past))) (at_work e old.past s other).own_is
-        ∙ ap (λ changes. changed (opening old.past) (own_before s old.past ++ changes)) (committed_all e old.past t adds.1 (steady.alone t differ))))
-  ]
