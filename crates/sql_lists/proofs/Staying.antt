@@ -1,11 +1,11 @@
 -- What an entry of another session, or one's own within an item, leaves as it was: for the definitions of SQL's histories.
-use Rattle.std.proofs.Common.{◌≡◌, ◌≢◌, ℕ, Bool, true, false, cond, eqb, List, [], ◌∷◌, refl, ap, ◌∙◌, inr, arith}
+use Rattle.std.proofs.Common.{◌≡◌, ◌≢◌, ℕ, ◌+◌, ◌≤◌, Bool, true, false, cond, eqb, List, [], ◌∷◌, refl, ap, ◌∙◌, inr, arith}
 use Rattle.std.proofs.lemmas.Bool.Decides.{nat_tests}
 use Rattle.std.specs.List.{list_any}
 use Rattle.inno_types.specs.declared.stmt.Stmt.{Stmt}
 use Rattle.inno_model.specs.declared.event.Event.{Event}
 use Rattle.inno_model.specs.declared.event.Event.TheVariants as events
-use Rattle.inno_model.specs.Past.{is_of, under_way, before_item, closes, own, opening}
+use Rattle.inno_model.specs.Past.{is_of, under_way, before_item, closes, own, commits, committed, opening}
 use Rattle.inno_model.specs.Moments.{starts}
 use Rattle.sql_grammar.specs.Grammar.{Spells}
 use Rattle.sql_history.specs.Items.{of_turn, is_over, point, before_turn, own_before}
@@ -86,3 +86,10 @@ module _ (e : Event) (h : List Event) (s : ℕ) (within : is_within s e ≡ true
 
 pub within_of_other : (e : Event) (s : ℕ) → is_of s e ≡ false → is_within s e ≡ true
 within_of_other e s other = grind (arith, nat_tests, other)
+
+-- more commits than there are give no more changes
+pub committed_more : (n : ℕ) (h : List Event) → commits h ≤ n → committed n h ≡ committed (commits h) h
+committed_more n [] le = refl
+committed_more n (events.Committed t ∷ h) le =
+    grind (arith, nat_tests, committed_more n h (omega (arith, le)), committed_more (commits h + 1) h (omega arith))
+committed_more n (e ∷ h) le = committed_more n h le
