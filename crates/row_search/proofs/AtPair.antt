@@ -19,7 +19,7 @@ use Rattle.row_search.specs.declared.scan.Scan.{Scan}
 use Rattle.row_search.specs.declared.phase.Phase.TheVariants.{Follow, Look, Walk, Keep, Sort, Leave}
 use Rattle.row_search.specs.Sights.{sees_by, rows_seen}
 use Rattle.row_search.specs.FoundRows.{AreFound}
-use Rattle.row_search.specs.Ranges.{primary_part, lies_in, lies_up_to, lies_below}
+use Rattle.row_search.specs.Ranges.{primary_part, lies_in, lies_up_to}
 use Rattle.row_search.specs.Tables.{ShowsRows}
 use Rattle.row_search.specs.Searches.{place_in, IsSearching, IsComing, IsSeenAt, Finds, HasToGo, pairs_behind}
 use Rattle.row_search.specs.Visits.{phase_after}
@@ -28,11 +28,10 @@ use Rattle.key_codec.specs.Keys.{entry_code}
 use Rattle.sql_plan.specs.Visits.{primary_key, index_key}
 use Rattle.law_stored_rows.specs.Entries.{value_in}
 use Rattle.law_stored_rows.specs.Tables.{HasItsColumns}
-use Rattle.store_api.specs.declared.moves.Move.TheVariants.{NoMemory}
 use Rattle.row_search.specs.declared.found.FoundRow.{FoundRow}
 use Rattle.row_search.specs.Owners.{TellsSame, IsOwner}
 use Rattle.row_search.proofs.Keys.{IsHome, home, fits_in, keyed_is, key_there_at}
-use Rattle.row_search.specs.Steps.{IsSameScan, GoesOn, Waits}
+use Rattle.row_search.specs.Steps.{IsSameScan, GoesOn}
 use Rattle.row_search.proofs.Worlds.{unchanged_itself, moves_itself}
 use Rattle.row_search.proofs.Ways.{IsOnWay, from_record, from_pointer, may_ask, nothing_led}
 use Rattle.row_search.proofs.Given.{searching_on}
@@ -132,12 +131,6 @@ sort_is_done actor schema state scan now is same finds =
           );
     }
 
-pub clustered_is_sorted : (actor : ℕ) (schema : Schema) (state : WorldState) (scan : Scan)
-    → IsSearching actor schema state (record { scan = scan; phase = Sort }) → scan.which ≡ 0
-    → GoesOn actor schema state state (record { scan = scan; phase = Sort }) (record { scan = scan; phase = Leave })
-clustered_is_sorted actor schema state scan is none =
-    sort_is_done actor schema state scan scan is (same_scan scan) (λ versions_at shows found. (found, found.order none))
-
 -- ---- keep
 
 one_plus : (n : ℕ) → suc n ≡ 1 + n
@@ -202,30 +195,6 @@ module _ (actor : ℕ) (schema : Schema) (state : WorldState) (scan : Scan) (ent
             (tells versions_at true shows finds.0 finds.1 owner))),
       )) left
 
-  -- there was no room for the row
-  pub keep_waits : (kept : Vec FoundRow Global) → kept.items ≡ scan.rows.items
-      → Waits actor schema state state (record { scan = scan; phase = Keep entry row })
-      (record { scan = record scan { rows = kept }; phase = Keep entry row }) NoMemory
-  keep_waits kept kept_are =
-      record {
-        unchanged = unchanged_itself state;
-        scan_is = record { table = refl; which = refl; range = refl; sight = refl };
-        rows_are = kept_are;
-        phase_is = refl;
-        holds = record { there = is.there; key = is.key; few = is.few; phase = is.phase };
-        finds = λ versions_at finds. (
-          record {
-            below =
-                subst (λ (rows : List FoundRow). AreFound schema scan.which (rows_seen scan.sight versions_at) (lies_below schema scan entry) rows)
-                (sym kept_are) finds.0.below;
-            within = finds.0.within;
-            whole = finds.0.whole;
-          },
-          finds.1,
-        );
-        cause = refl;
-      }
-
 -- ---- sort
 
 pub keyed_is_sorted : (actor : ℕ) (schema : Schema) (state : WorldState) (scan : Scan)
@@ -241,20 +210,3 @@ keyed_is_sorted actor schema state scan is keyed sorted same up =
           (λ value row seen. home schema state.versions.kept_at shows.table.pairs versions_at (sees_by scan.sight) value row shows.table.clustered seen)
           (permuted schema (rows_seen scan.sight versions_at) scan.which (lies_in schema scan) scan.rows.items sorted.items keyed same found) up,
     ))
-
--- there was no room to sort
-pub sort_waits : (actor : ℕ) (schema : Schema) (state : WorldState) (scan : Scan) (kept : Vec FoundRow Global)
-    → IsSearching actor schema state (record { scan = scan; phase = Sort }) → kept.items ≡ scan.rows.items
-    → Waits actor schema state state (record { scan = scan; phase = Sort }) (record { scan = record scan { rows = kept }; phase = Sort }) NoMemory
-sort_waits actor schema state scan kept is kept_are =
-    record {
-      unchanged = unchanged_itself state;
-      scan_is = record { table = refl; which = refl; range = refl; sight = refl };
-      rows_are = kept_are;
-      phase_is = refl;
-      holds = record { there = is.there; key = is.key; few = is.few; phase = is.phase };
-      finds =
-          λ versions_at found. subst (λ (rows : List FoundRow). AreFound schema scan.which (rows_seen scan.sight versions_at) (lies_in schema scan) rows)
-          (sym kept_are) found;
-      cause = refl;
-    }

@@ -1,5 +1,5 @@
 -- How the steps end that walk the searched index.
-use Rattle.std.proofs.Common.{◌≡◌, ◌≢◌, ◌∙◌, sym, ap, subst, refl, ℕ, ◌<◌, ◌≤◌, Bool, true, false, List, [], ◌∷◌, length, Option, None, Some, Err, inl, arith}
+use Rattle.std.proofs.Common.{◌≡◌, ◌≢◌, ◌∙◌, sym, ap, subst, refl, ℕ, ◌<◌, ◌≤◌, Bool, true, false, List, [], ◌∷◌, length, Option, None, Some, inl, arith}
 use Rattle.std.specs.Prelude.{IfSome, is_some, MatchOption}
 use Rattle.std.specs.Ordering.{is_le, is_lt}
 use Rattle.inno_types.specs.declared.value.Value.{Value}
@@ -11,11 +11,7 @@ use Rattle.store_api.specs.declared.moves.Move.{Move}
 use Rattle.store_api.specs.declared.moves.Move.TheVariants.{At, End}
 use Rattle.entries.proofs.Found.{first_is}
 use Rattle.row_versions.specs.declared.kept.Kept.{Kept}
-use Rattle.row_versions.specs.Versions.{Versions, Stays}
-use Rattle.row_versions.specs.Calls.{ShowsVersion}
-use Rattle.row_versions.specs.declared.answers.ChainBad.{ChainBad}
-use Rattle.row_versions.specs.declared.answers.ChainBad.TheVariants.{Visit, NoMemory as NoMemoryThere}
-use Rattle.store_api.specs.declared.visits.Visit.TheVariants.{Failed, Again, Bad}
+use Rattle.row_versions.specs.Versions.{Stays}
 use Rattle.row_versions.specs.declared.version.Version.{Version}
 use Rattle.law_stored_rows.specs.Records.{LeadTo, IsRecordWith}
 use Rattle.world.specs.State.{WorldState, index_of}
@@ -29,9 +25,9 @@ use Rattle.row_search.specs.FoundRows.{AreFound}
 use Rattle.row_search.specs.Ranges.{bound_bytes, primary_part, lies_in, lies_up_to, lies_below}
 use Rattle.row_search.specs.Tables.{most_versions, HoldsTable, ShowsRows}
 use Rattle.row_search.specs.Searches.{place_in, PhaseHolds, IsSearching, Finds, HasToGo, pairs_behind}
-use Rattle.row_search.specs.Visits.{phase_at, IsGivenPhase, move_for}
-use Rattle.row_search.specs.Steps.{OnlyMoves, IsSameScan, GoesOn, Waits, PhaseWaits, MayBeUnseen}
-use Rattle.row_search.proofs.Worlds.{call_moves, call_unchanged, moves_unchanged, seek_put_off, follow_put_off}
+use Rattle.row_search.specs.Visits.{phase_at, IsGivenPhase}
+use Rattle.row_search.specs.Steps.{OnlyMoves, IsSameScan, GoesOn, Waits, PhaseWaits}
+use Rattle.row_search.proofs.Worlds.{call_moves, call_unchanged, moves_unchanged, seek_put_off}
 use Rattle.row_search.proofs.Coming.{comes_first, none_first, comes_next, none_next}
 use Rattle.row_search.proofs.Counts.{fewer_behind_first, fewer_behind_next}
 use Rattle.row_search.proofs.Given.{searching_on, holds_at, finds_at, nears_at}
@@ -251,17 +247,3 @@ module _ (actor : ℕ) (schema : Schema) (old new : WorldState) (scan : Scan) wh
         (subst (λ (o : Option Pair). IfSome (old.indexes index).pairs (λ ps. next_of o ps ≡ None)) last_is c.index_is.here.0))
         (first_is (λ other. is_lt (key_cmp last.0 other)) shows.searched shows.rising)))
         (λ versions_at shows n to_go. last_of (pairs_behind (place_in actor scan old) shows.searched) n (0 ∷ 0 ∷ []) to_go)
-
-    pub follow_waits : (why : Move) → Calls index (λ before after. Follows actor before after why) old new → ((key value : List ℕ) → why ≢ At key value)
-        → why ≢ End
-        → Waits actor schema old new (record { scan = scan; phase = Follow }) (record { scan = scan; phase = Follow }) why
-    follow_waits why c not_at not_end =
-        let off = follow_put_off actor (old.indexes index) (new.indexes index) why c.index_is.here not_at not_end in
-        waits actor schema old new scan Follow why is (call_unchanged c off.as_before) off.waits
-
--- why a version isn't shown, as a call of an index says it
-pub unseen_so : (old new : Versions) (pointer : ℕ) (why : ChainBad) → ShowsVersion pointer old new (Err why) → MayBeUnseen old new (move_for why)
-unseen_so old new pointer (Visit Failed) h = h
-unseen_so old new pointer (Visit Again) h = h
-unseen_so old new pointer (Visit (Bad page rule)) h = h
-unseen_so old new pointer NoMemoryThere h = tt

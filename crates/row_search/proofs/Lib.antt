@@ -14,3 +14,4 @@ pub mod InOrder
 pub mod Fetched
 pub mod Others
 pub mod Matching
+pub mod Spelled

@@ -6,4 +6,5 @@ pub mod Tables
 pub mod Searches
 pub mod Visits
 pub mod Steps
+pub mod InPlace
 pub mod Others

@@ -4,12 +4,12 @@ ghost use Rattle.std.specs.Prelude.{◌≡◌, ◌<◌, ◌≤◌};
 ghost use Rattle.row_search.specs.Visits.{IsGivenPhase};
 ghost use Rattle.row_search.specs.Searches.{IsSearching};
 ghost use Rattle.row_search.specs.Tables.{HoldsTable};
-ghost use Rattle.row_search.specs.Steps.{Searches};
+ghost use Rattle.row_search.specs.InPlace.{Comes};
 
 use crate::bounds::{first_bytes, primary_of, side_of};
 use crate::found::FoundRow;
 use crate::phase::Phase;
-use crate::search::{Reached, RowSearch};
+use crate::search::Came;
 use crate::side::Side;
 use crate::sight::Sight;
 use entries::{Buffer, PairBuffers};
@@ -34,18 +34,6 @@ pub struct Scan {
 }
 
 impl Scan {
-    pub(crate) fn then(self, phase: Phase) -> Reached
-        ensures { result ≡ Reached.Went (record { scan = self; phase = phase }) }
-    {
-        Reached::Went(RowSearch { scan: self, phase })
-    }
-
-    pub(crate) fn hindered(self, phase: Phase, why: Move) -> Reached
-        ensures { result ≡ Reached.Hindered (record { scan = self; phase = phase }) why }
-    {
-        Reached::Hindered(RowSearch { scan: self, phase }, why)
-    }
-
     /// What comes next where this pair was found.
     fn given(&mut self, key: Bytes, value: Bytes) -> Phase
         ensures next { IsGivenPhase self.old key value result }
@@ -72,15 +60,15 @@ impl Scan {
     }
 
     pub(crate) fn seek<W: World>(
-        mut self,
+        &mut self,
         alloc: Global,
         world: &mut W,
         actor: u32,
         schema: &Schema,
-    ) -> Reached
-        requires searching { IsSearching actor schema.now (W.state world.old) (record { scan = self; phase = Phase.Seek }) }
-        requires table { HoldsTable schema.now self.table (W.state world.old) }
-        ensures { Searches actor schema.now (W.state world.old) (W.state world.new) (record { scan = self; phase = Phase.Seek }) result }
+    ) -> (Phase, Came)
+        requires searching { IsSearching actor schema.now (W.state world.old) (record { scan = self.old; phase = Phase.Seek }) }
+        requires table { HoldsTable schema.now self.old.table (W.state world.old) }
+        ensures { Comes actor schema.now (W.state world.old) (W.state world.new) self.old Phase.Seek self.new result }
     {
         let none = Bytes::new(alloc);
         let found = world.seek(
@@ -90,63 +78,63 @@ impl Scan {
             &mut self.pair,
         );
         match found {
-            Move::At(key, value) => {
-                let next = self.given(key, value);
-                self.then(next)
-            }
-            Move::End => self.then(Phase::Sort),
-            hindrance => self.hindered(Phase::Seek, hindrance),
+            Move::At(key, value) => (self.given(key, value), Came::Went),
+            Move::End => (Phase::Sort, Came::Went),
+            hindrance => (Phase::Seek, Came::Hindered(hindrance)),
         }
     }
 
-    pub(crate) fn follow<W: World>(mut self, world: &mut W, actor: u32, schema: &Schema) -> Reached
-        requires searching { IsSearching actor schema.now (W.state world.old) (record { scan = self; phase = Phase.Follow }) }
-        requires table { HoldsTable schema.now self.table (W.state world.old) }
-        ensures { Searches actor schema.now (W.state world.old) (W.state world.new) (record { scan = self; phase = Phase.Follow }) result }
+    pub(crate) fn follow<W: World>(
+        &mut self,
+        world: &mut W,
+        actor: u32,
+        schema: &Schema,
+    ) -> (Phase, Came)
+        requires searching { IsSearching actor schema.now (W.state world.old) (record { scan = self.old; phase = Phase.Follow }) }
+        requires table { HoldsTable schema.now self.old.table (W.state world.old) }
+        ensures { Comes actor schema.now (W.state world.old) (W.state world.new) self.old Phase.Follow self.new result }
     {
         match world.following(index_number(self.table, self.which), actor, &mut self.pair) {
-            Move::At(key, value) => {
-                let next = self.given(key, value);
-                self.then(next)
-            }
-            Move::End => self.then(Phase::Sort),
-            hindrance => self.hindered(Phase::Follow, hindrance),
+            Move::At(key, value) => (self.given(key, value), Came::Went),
+            Move::End => (Phase::Sort, Came::Went),
+            hindrance => (Phase::Follow, Came::Hindered(hindrance)),
         }
     }
 
     pub(crate) fn fetch<W: World>(
-        mut self,
+        &mut self,
         alloc: Global,
         world: &mut W,
         actor: u32,
         schema: &Schema,
         entry: Bytes,
-    ) -> Reached
-        requires searching { IsSearching actor schema.now (W.state world.old) (record { scan = self; phase = Phase.Fetch entry }) }
-        requires table { HoldsTable schema.now self.table (W.state world.old) }
-        ensures { Searches actor schema.now (W.state world.old) (W.state world.new) (record { scan = self; phase = Phase.Fetch entry }) result }
+    ) -> (Phase, Came)
+        requires searching { IsSearching actor schema.now (W.state world.old) (record { scan = self.old; phase = Phase.Fetch entry }) }
+        requires table { HoldsTable schema.now self.old.table (W.state world.old) }
+        ensures { Comes actor schema.now (W.state world.old) (W.state world.new) self.old (Phase.Fetch entry) self.new result }
     {
         let Ok(key) = self
             .primary
             .filled(alloc, primary_of(schema, entry.as_slice()))
         else {
-            return self.hindered(Phase::Fetch { entry }, Move::NoMemory);
+            return (Phase::Fetch { entry }, Came::Hindered(Move::NoMemory));
         };
         let Ok(mut bytes) = self.pair.value.with_room(alloc, MOST_BYTES_OF_VALUE) else {
-            return self.hindered(Phase::Fetch { entry }, Move::NoMemory);
+            return (Phase::Fetch { entry }, Came::Hindered(Move::NoMemory));
         };
         let found = world.fetch(index_number(self.table, 0), actor, &key, &mut bytes);
         self.primary.keep(key);
+        let bytes = Bytes::from_vec(bytes);
         match found {
-            Move::Done => self.then(Phase::Look {
-                entry,
-                bytes: Bytes::from_vec(bytes),
-            }),
+            Move::Done => (Phase::Look { entry, bytes }, Came::Went),
             Move::End => {
-                self.pair.keep((entry, Bytes::from_vec(bytes)));
-                self.then(Phase::Follow)
+                self.pair.keep((entry, bytes));
+                (Phase::Follow, Came::Went)
             }
-            hindrance => self.hindered(Phase::Fetch { entry }, hindrance),
+            hindrance => {
+                self.pair.value.keep(bytes);
+                (Phase::Fetch { entry }, Came::Hindered(hindrance))
+            }
         }
     }
 }

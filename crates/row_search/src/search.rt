@@ -1,4 +1,4 @@
-//! A search as a machine: moved by value, one short step a call. Steps of other sessions come between.
+//! A search as a machine: it makes one short step a call, where it lies. Steps of other sessions come between.
 
 ghost use Rattle.std.specs.Prelude.{◌≡◌, true, if◌then◌else◌};
 ghost use Rattle.entries.specs.Calls.{Leaves};
@@ -8,6 +8,7 @@ ghost use Rattle.row_search.specs.Searches.{IsSearching, BeginsWithNothing, MayB
 ghost use Rattle.row_search.specs.Others.{KeepsFound, KeepsSearching, NeedsNoVersion};
 ghost use Rattle.row_search.specs.Tables.{HoldsTable};
 ghost use Rattle.row_search.specs.Steps.{Searches};
+ghost use Rattle.row_search.specs.InPlace.{Comes, reached_at};
 ghost use Rattle.row_search.specs.Visits.{phase_anew};
 
 use crate::found::FoundRow;
@@ -18,6 +19,7 @@ use entries::{Buffer, PairBuffers};
 use inno_types::Schema;
 use sql_plan::Plan;
 use std::alloc::Global;
+use std::mem;
 use store_api::Move;
 use world::{World, index_number};
 
@@ -39,6 +41,16 @@ pub enum Reached {
     Hindered(RowSearch, Move),
     /// A record is not one of the table. This comes only where the world doesn't tell what is kept.
     Malformed(RowSearch),
+}
+
+/// The same of a step that is made where the search lies.
+#[derive(Drop)]
+pub enum Came {
+    Went,
+    /// The search is over, and has handed its rows out.
+    Done(Vec<FoundRow>),
+    Hindered(Move),
+    Malformed,
 }
 
 impl RowSearch {
@@ -103,9 +115,27 @@ impl RowSearch {
         world.leave(index_number(self.scan.table, self.scan.which), actor);
     }
 
-    /// One step. The actor has a place in no index but the one that is searched.
+    /// One step, made where the search lies. The actor has a place in no index but the one that is searched.
+    pub fn advance<W: World>(
+        &mut self,
+        alloc: Global,
+        world: &mut W,
+        actor: u32,
+        schema: &Schema,
+    ) -> Came
+        requires searching { IsSearching actor schema.now (W.state world.old) self.old }
+        requires table { HoldsTable schema.now self.old.scan.table (W.state world.old) }
+        ensures { Searches actor schema.now (W.state world.old) (W.state world.new) self.old (reached_at self.new result) }
+    {
+        let phase = mem::replace(&mut self.phase, Phase::Leave);
+        let (next, came) = self.scan.comes(phase, alloc, world, actor, schema);
+        self.phase = next;
+        came
+    }
+
+    /// One step of a search that is moved: `advance` does the work, and this goes with its last caller.
     pub fn step<W: World>(
-        self,
+        mut self,
         alloc: Global,
         world: &mut W,
         actor: u32,
@@ -115,16 +145,41 @@ impl RowSearch {
         requires table { HoldsTable schema.now self.scan.table (W.state world.old) }
         ensures { Searches actor schema.now (W.state world.old) (W.state world.new) self result }
     {
-        let RowSearch { scan, phase } = self;
+        match self.advance(alloc, world, actor, schema) {
+            Came::Went => Reached::Went(self),
+            Came::Done(rows) => {
+                drop(self);
+                Reached::Done(rows)
+            }
+            Came::Hindered(why) => Reached::Hindered(self, why),
+            Came::Malformed => Reached::Malformed(self),
+        }
+    }
+}
+
+impl Scan {
+    /// From this phase to the next.
+    fn comes<W: World>(
+        &mut self,
+        phase: Phase,
+        alloc: Global,
+        world: &mut W,
+        actor: u32,
+        schema: &Schema,
+    ) -> (Phase, Came)
+        requires searching { IsSearching actor schema.now (W.state world.old) (record { scan = self.old; phase = phase }) }
+        requires table { HoldsTable schema.now self.old.table (W.state world.old) }
+        ensures { Comes actor schema.now (W.state world.old) (W.state world.new) self.old phase self.new result }
+    {
         match phase {
-            Phase::Seek => scan.seek(alloc, world, actor, schema),
-            Phase::Follow => scan.follow(world, actor, schema),
-            Phase::Fetch { entry } => scan.fetch(alloc, world, actor, schema, entry),
-            Phase::Look { entry, bytes } => scan.look(alloc, world, actor, schema, entry, bytes),
-            Phase::Walk { entry, pointer } => scan.walk(world, actor, schema, entry, pointer),
-            Phase::Keep { entry, row } => scan.keep(alloc, world, actor, schema, entry, row),
-            Phase::Sort => scan.sort(world, actor, schema),
-            Phase::Leave => scan.leave(world, actor, schema),
+            Phase::Seek => self.seek(alloc, world, actor, schema),
+            Phase::Follow => self.follow(world, actor, schema),
+            Phase::Fetch { entry } => self.fetch(alloc, world, actor, schema, entry),
+            Phase::Look { entry, bytes } => self.look(alloc, world, actor, schema, entry, bytes),
+            Phase::Walk { entry, pointer } => self.walk(world, actor, schema, entry, pointer),
+            Phase::Keep { entry, row } => self.keep(alloc, world, actor, schema, entry, row),
+            Phase::Sort => self.sort(world, actor, schema),
+            Phase::Leave => self.leave(alloc, world, actor, schema),
         }
     }
 }

@@ -3,7 +3,7 @@
 ghost use Rattle.std.specs.Prelude.{◌≡◌, ◌<◌, ◌≤◌};
 ghost use Rattle.row_search.specs.Searches.{IsSearching};
 ghost use Rattle.row_search.specs.Tables.{HoldsTable};
-ghost use Rattle.row_search.specs.Steps.{Searches};
+ghost use Rattle.row_search.specs.InPlace.{Comes};
 ghost use Rattle.row_search.specs.Visits.{phase_after, move_for};
 
 use crate::bounds::{copy_of, primary_of};
@@ -11,11 +11,12 @@ use crate::entry::is_entry_of;
 use crate::found::{FoundRow, sort_by_key};
 use crate::phase::Phase;
 use crate::scan::Scan;
-use crate::search::{Reached, RowSearch};
+use crate::search::Came;
 use inno_types::{Bytes, Row, Schema};
 use row_codec::{RowBad, decode};
 use row_versions::ChainBad;
 use std::alloc::Global;
+use std::mem;
 use store_api::{Move, Version, Visit};
 use world::{World, index_number};
 
@@ -54,111 +55,114 @@ impl Scan {
     }
 
     pub(crate) fn look<W: World>(
-        mut self,
+        &mut self,
         alloc: Global,
         world: &mut W,
         actor: u32,
         schema: &Schema,
         entry: Bytes,
         bytes: Bytes,
-    ) -> Reached
-        requires { IsSearching actor schema.now (W.state world.old) (record { scan = self; phase = Phase.Look entry bytes }) }
-        ensures { Searches actor schema.now (W.state world.old) (W.state world.new) (record { scan = self; phase = Phase.Look entry bytes }) result }
+    ) -> (Phase, Came)
+        requires { IsSearching actor schema.now (W.state world.old) (record { scan = self.old; phase = Phase.Look entry bytes }) }
+        ensures { Comes actor schema.now (W.state world.old) (W.state world.new) self.old (Phase.Look entry bytes) self.new result }
     {
         let key = primary_of(schema, entry.as_slice());
         match decode(alloc, schema, key, bytes.as_slice()) {
             Ok(version) => {
                 self.pair.value.keep(bytes);
-                let next = self.after(entry, version);
-                self.then(next)
+                (self.after(entry, version), Came::Went)
             }
-            Err(RowBad::NoMemory) => self.hindered(Phase::Look { entry, bytes }, Move::NoMemory),
-            Err(RowBad::Shape) => Reached::Malformed(RowSearch {
-                scan: self,
-                phase: Phase::Look { entry, bytes },
-            }),
+            Err(RowBad::NoMemory) => (Phase::Look { entry, bytes }, Came::Hindered(Move::NoMemory)),
+            Err(RowBad::Shape) => (Phase::Look { entry, bytes }, Came::Malformed),
         }
     }
 
     pub(crate) fn walk<W: World>(
-        mut self,
+        &mut self,
         world: &mut W,
         actor: u32,
         schema: &Schema,
         entry: Bytes,
         pointer: u64,
-    ) -> Reached
-        requires { IsSearching actor schema.now (W.state world.old) (record { scan = self; phase = Phase.Walk entry pointer }) }
-        ensures { Searches actor schema.now (W.state world.old) (W.state world.new) (record { scan = self; phase = Phase.Walk entry pointer }) result }
+    ) -> (Phase, Came)
+        requires { IsSearching actor schema.now (W.state world.old) (record { scan = self.old; phase = Phase.Walk entry pointer }) }
+        ensures { Comes actor schema.now (W.state world.old) (W.state world.new) self.old (Phase.Walk entry pointer) self.new result }
     {
         match world.version(pointer) {
-            Ok(Some(version)) => {
-                let next = self.after(entry, version);
-                self.then(next)
-            }
+            Ok(Some(version)) => (self.after(entry, version), Came::Went),
             Ok(None) => {
                 self.pair.key.keep(entry);
-                self.then(Phase::Follow)
+                (Phase::Follow, Came::Went)
             }
-            Err(why) => self.hindered(Phase::Walk { entry, pointer }, move_of(why)),
+            Err(why) => (Phase::Walk { entry, pointer }, Came::Hindered(move_of(why))),
         }
     }
 
     pub(crate) fn keep<W: World>(
-        mut self,
+        &mut self,
         alloc: Global,
         world: &mut W,
         actor: u32,
         schema: &Schema,
         entry: Bytes,
         row: Row,
-    ) -> Reached
-        requires { IsSearching actor schema.now (W.state world.old) (record { scan = self; phase = Phase.Keep entry row }) }
-        ensures { Searches actor schema.now (W.state world.old) (W.state world.new) (record { scan = self; phase = Phase.Keep entry row }) result }
+    ) -> (Phase, Came)
+        requires { IsSearching actor schema.now (W.state world.old) (record { scan = self.old; phase = Phase.Keep entry row }) }
+        ensures { Comes actor schema.now (W.state world.old) (W.state world.new) self.old (Phase.Keep entry row) self.new result }
     {
-        let Ok(key) = copy_of(alloc, primary_of(schema, entry.as_slice())) else {
-            return self.hindered(Phase::Keep { entry, row }, Move::NoMemory);
-        };
-        let Ok(is_own) = is_entry_of(alloc, schema, self.which, &entry, &key, &row) else {
-            return self.hindered(Phase::Keep { entry, row }, Move::NoMemory);
-        };
-        if !is_own {
+        let primary = primary_of(schema, entry.as_slice());
+        if !is_entry_of(schema, self.which, entry.as_slice(), primary, &row) {
             self.pair.key.keep(entry);
-            return self.then(Phase::Follow);
+            return (Phase::Follow, Came::Went);
         }
+        let Ok(key) = copy_of(alloc, primary) else {
+            return (Phase::Keep { entry, row }, Came::Hindered(Move::NoMemory));
+        };
         match self.rows.push(FoundRow { key, row }) {
             Ok(()) => {
                 self.pair.key.keep(entry);
-                self.then(Phase::Follow)
+                (Phase::Follow, Came::Went)
             }
-            Err(full) => self.hindered(
+            Err(full) => (
                 Phase::Keep {
                     entry,
                     row: full.value.row,
                 },
-                Move::NoMemory,
+                Came::Hindered(Move::NoMemory),
             ),
         }
     }
 
-    pub(crate) fn sort<W: World>(mut self, world: &mut W, actor: u32, schema: &Schema) -> Reached
-        requires { IsSearching actor schema.now (W.state world.old) (record { scan = self; phase = Phase.Sort }) }
-        ensures { Searches actor schema.now (W.state world.old) (W.state world.new) (record { scan = self; phase = Phase.Sort }) result }
+    pub(crate) fn sort<W: World>(
+        &mut self,
+        world: &mut W,
+        actor: u32,
+        schema: &Schema,
+    ) -> (Phase, Came)
+        requires { IsSearching actor schema.now (W.state world.old) (record { scan = self.old; phase = Phase.Sort }) }
+        ensures { Comes actor schema.now (W.state world.old) (W.state world.new) self.old Phase.Sort self.new result }
     {
         if self.which == 0 {
-            return self.then(Phase::Leave);
+            return (Phase::Leave, Came::Went);
         }
         match sort_by_key(&mut self.rows) {
-            Ok(()) => self.then(Phase::Leave),
-            Err(_) => self.hindered(Phase::Sort, Move::NoMemory),
+            Ok(()) => (Phase::Leave, Came::Went),
+            Err(_) => (Phase::Sort, Came::Hindered(Move::NoMemory)),
         }
     }
 
-    pub(crate) fn leave<W: World>(self, world: &mut W, actor: u32, schema: &Schema) -> Reached
-        requires { IsSearching actor schema.now (W.state world.old) (record { scan = self; phase = Phase.Leave }) }
-        ensures { Searches actor schema.now (W.state world.old) (W.state world.new) (record { scan = self; phase = Phase.Leave }) result }
+    pub(crate) fn leave<W: World>(
+        &mut self,
+        alloc: Global,
+        world: &mut W,
+        actor: u32,
+        schema: &Schema,
+    ) -> (Phase, Came)
+        requires { IsSearching actor schema.now (W.state world.old) (record { scan = self.old; phase = Phase.Leave }) }
+        ensures { Comes actor schema.now (W.state world.old) (W.state world.new) self.old Phase.Leave self.new result }
     {
         world.leave(index_number(self.table, self.which), actor);
-        Reached::Done(self.rows)
+        let rows = mem::replace(&mut self.rows, Vec::new(alloc));
+        (Phase::Leave, Came::Done(rows))
     }
 }
