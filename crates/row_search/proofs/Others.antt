@@ -29,7 +29,7 @@ use Rattle.row_search.specs.Sights.{sees_by, rows_seen}
 use Rattle.row_search.specs.Ranges.{primary_part}
 use Rattle.row_search.specs.Tables.{HaveKeys}
 use Rattle.row_search.specs.Searches.{IsSearching, PhaseHolds, PhaseFinds, Finds, place_in}
-use Rattle.row_search.specs.Others.{KeepsWay}
+use Rattle.row_search.specs.Others.{KeepsWay, KeepsFound, KeepsSearching, NeedsNoVersion}
 use Rattle.row_search.specs.Visits.{phase_anew}
 use Rattle.row_search.proofs.Keys.{home, kind_is, key_is_value, keyed_is, fits_in}
 use Rattle.entries.specs.Calls.{HasKey as IsAtKey}
@@ -178,16 +178,42 @@ newest_seen (version ∷ versions) = refl
 
 -- ---- a search that comes to its pair anew
 
-pub needs_none : (schema : Schema) (sight : Sight) (old new : ℕ → Option Kept) (phase : Phase) → ((entry bytes : List ℕ) → phase ≡ Look entry bytes → ⊥)
-    → ((entry : List ℕ) (pointer : ℕ) → phase ≡ Walk entry pointer → ⊥) → KeepsWay schema sight old new phase
-needs_none schema sight old new Seek no_look no_walk = tt
-needs_none schema sight old new Follow no_look no_walk = tt
-needs_none schema sight old new (Fetch entry) no_look no_walk = tt
-needs_none schema sight old new (Look entry bytes) no_look no_walk = absurd (no_look entry bytes refl)
-needs_none schema sight old new (Walk entry pointer) no_look no_walk = absurd (no_walk entry pointer refl)
-needs_none schema sight old new (Keep entry row) no_look no_walk = tt
-needs_none schema sight old new Sort no_look no_walk = tt
-needs_none schema sight old new Leave no_look no_walk = tt
+-- a search that comes to its pair anew has found what it had found, needs no version, and may go on where it might
+pub anew_finds : (scan : Scan) (phase : Phase)
+    → KeepsFound (record { scan = scan; phase = phase }) (record { scan = scan; phase = phase_anew phase })
+anew_finds scan Seek = λ schema kept place versions_at found. found
+anew_finds scan Follow = λ schema kept place versions_at found. found
+anew_finds scan (Fetch entry) = λ schema kept place versions_at found. found
+anew_finds scan (Look entry bytes) = λ schema kept place versions_at found. found.0
+anew_finds scan (Walk entry pointer) = λ schema kept place versions_at found. found.0
+anew_finds scan (Keep entry row) = λ schema kept place versions_at found. found
+anew_finds scan Sort = λ schema kept place versions_at found. found
+anew_finds scan Leave = λ schema kept place versions_at found. found
+
+pub anew_needs_none : (scan : Scan) (phase : Phase) → NeedsNoVersion (record { scan = scan; phase = phase_anew phase })
+anew_needs_none scan Seek = λ schema old new. tt
+anew_needs_none scan Follow = λ schema old new. tt
+anew_needs_none scan (Fetch entry) = λ schema old new. tt
+anew_needs_none scan (Look entry bytes) = λ schema old new. tt
+anew_needs_none scan (Walk entry pointer) = λ schema old new. tt
+anew_needs_none scan (Keep entry row) = λ schema old new. tt
+anew_needs_none scan Sort = λ schema old new. tt
+anew_needs_none scan Leave = λ schema old new. tt
+
+pub anew_holds : (scan : Scan) (phase : Phase)
+    → KeepsSearching (record { scan = scan; phase = phase }) (record { scan = scan; phase = phase_anew phase })
+anew_holds scan phase = λ actor schema state is. record { there = is.there; key = is.key; few = is.few; phase = still actor schema state phase is.phase }
+  where
+    still : (actor : ℕ) (schema : Schema) (state : WorldState) (at : Phase) → PhaseHolds actor schema scan state at
+        → PhaseHolds actor schema scan state (phase_anew at)
+    still actor schema state Seek is = tt
+    still actor schema state Follow is = is
+    still actor schema state (Fetch entry) is = is
+    still actor schema state (Look entry bytes) is = is.0
+    still actor schema state (Walk entry pointer) is = is.0
+    still actor schema state (Keep entry row) is = is
+    still actor schema state Sort is = tt
+    still actor schema state Leave is = tt
 
 pub comes_as_it_was : (phase : Phase) → ((entry bytes : List ℕ) → phase ≡ Look entry bytes → ⊥)
     → ((entry : List ℕ) (pointer : ℕ) → phase ≡ Walk entry pointer → ⊥) → phase ≡ phase_anew phase

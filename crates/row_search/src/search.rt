@@ -80,31 +80,27 @@ impl RowSearch {
 
     /// Comes to its pair anew, where it is at one: the row's record is read again. So the search needs nothing of what was
     /// kept for roll pointers, which may go as a writer rolls back.
-    pub fn anew(self) -> RowSearch
+    pub fn come_anew(&mut self)
+        ensures scan { self.new.scan ≡ self.old.scan }
+        ensures phase { self.new.phase ≡ phase_anew self.old.phase }
+        ensures finds { KeepsFound self.old self.new }
+        ensures way { NeedsNoVersion self.new }
+        ensures holds { KeepsSearching self.old self.new }
+    {
+        let phase = mem::replace(&mut self.phase, Phase::Leave);
+        self.phase = anew(phase);
+    }
+
+    /// The same of a search that is moved: this goes with its last caller.
+    pub fn anew(mut self) -> RowSearch
         ensures scan { result.scan ≡ self.scan }
         ensures phase { result.phase ≡ phase_anew self.phase }
         ensures finds { KeepsFound self result }
         ensures way { NeedsNoVersion result }
         ensures holds { KeepsSearching self result }
     {
-        let RowSearch { scan, phase } = self;
-        match phase {
-            Phase::Look {
-                entry,
-                bytes: _bytes,
-            } => RowSearch {
-                scan,
-                phase: Phase::Fetch { entry },
-            },
-            Phase::Walk {
-                entry,
-                pointer: _pointer,
-            } => RowSearch {
-                scan,
-                phase: Phase::Fetch { entry },
-            },
-            other => RowSearch { scan, phase: other },
-        }
+        self.come_anew();
+        self
     }
 
     /// Gives the search up. The actor has no place in the index any more.
@@ -154,6 +150,20 @@ impl RowSearch {
             Came::Hindered(why) => Reached::Hindered(self, why),
             Came::Malformed => Reached::Malformed(self),
         }
+    }
+}
+
+/// What comes next where the search comes to its pair anew.
+fn anew(phase: Phase) -> Phase
+    ensures { result ≡ phase_anew phase }
+{
+    match phase {
+        Phase::Look { entry, bytes } => {
+            drop(bytes);
+            Phase::Fetch { entry }
+        }
+        Phase::Walk { entry, .. } => Phase::Fetch { entry },
+        other => other,
     }
 }
 
