@@ -5,6 +5,9 @@ use Rattle.inno_types.specs.declared.value.Value.{Value}
 use Rattle.inno_types.specs.declared.reply.Reply.{Reply}
 use Rattle.inno_db.specs.declared.change.Change.{Change}
 use Rattle.inno_db.specs.declared.outcome.Outcome.{Outcome}
+use Rattle.inno_db.specs.Outcome.{outcome}
+use Rattle.sql_history.specs.Items.{base}
+use Rattle.law_claims.proofs.Standing.{stands_now}
 use Rattle.law_past_agreement.specs.Order.{IsOrdered}
 use Rattle.shared_lists.specs.Fitting.{FitsThen}
 use Rattle.shared_lists.specs.Tasks.{Idle}
@@ -21,8 +24,8 @@ use Rattle.write_statement.specs.Parts.{of_part}
 use Rattle.write_statement.specs.Settling.{is_count, IsSettledBy}
 use Rattle.write_statement.specs.Running.{IsChanging, AreEnough, IsRunning}
 use Rattle.write_statement.proofs.Found.{tables_now, current_keyed}
-use Rattle.write_statement.proofs.PartByPart.{part_refused, part_counted}
-use Rattle.write_statement.proofs.GivingUp.{refused}
+use Rattle.write_statement.proofs.PartByPart.{refusal_ground, refusal_wider, part_refused, part_counted}
+use Rattle.write_statement.proofs.GivingUp.{keeps_reply, refused}
 use Rattle.write_statement.proofs.Moving.{steps_as}
 
 module _ (s : ℕ) (state : State) (part : Part) (rows : List (List Value)) (r : IsChanging state.past state.writer s part (of_part part) [])
@@ -44,8 +47,13 @@ module _ (s : ℕ) (state : State) (part : Part) (rows : List (List Value)) (r :
       → Steps IsRunning s state state m advance.Went
   refused_then kept given m is state-is =
       let keyed = current_keyed state.past state.writer s part (of_part part) [] r fits ordered in-order in
-      let answer =
-      part_refused state.past state.writer s part r (tables_now state.past s stands) keyed kept is.1 (is.2 ∙ ap (λ (o : Outcome). o.reply) enough.same) in
+      let answer = is.2 ∙ ap (λ (o : Outcome). o.reply) enough.same in
+      let tables = tables_now state.past s stands in
+      let stands-so = part_refused state.past state.writer s part r tables keyed kept is.1 answer in
+      let ground = refusal_ground state.past state.writer s part r tables keyed kept is.1 answer in
+      let of-all = stands_now ground (λ db. (outcome r.statement db).reply ≡ kept) (base s state.past) stands-so in
+      let keeps = keeps_reply state.past state.writer s part (of_part part) [] r kept ground
+      (refusal_wider state.past state.writer s part r tables keyed kept is.1 answer) (λ place is. is) (λ is. stands-so) in
       steps_as IsRunning s state state m (machine.BackingOut (record { alone = part.alone; before = part.before; kept = kept; given = given }))
       advance.Went advance.Went state-is refl
-      (moves_none s state, (refused state.past state.writer s part (of_part part) [] r kept given is.0 is.1 answer, inl idle), refl)
+      (moves_none s state, (refused state.past state.writer s part (of_part part) [] r kept given is.0 is.1 (sym of-all) keeps, inl idle), refl)

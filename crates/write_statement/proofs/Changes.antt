@@ -11,10 +11,10 @@ use Rattle.inno_types.specs.declared.value.Schema.{Schema}
 use Rattle.inno_types.specs.declared.stmt.Stmt.{Stmt}
 use Rattle.inno_db.specs.declared.change.Change.{Change}
 use Rattle.inno_db.specs.declared.change.Change.TheVariants.{Create, Put, Remove}
-use Rattle.inno_db.specs.Database.{Database, Place}
+use Rattle.inno_db.specs.Database.{Database}
 use Rattle.inno_db.specs.Outcome.{outcome}
 use Rattle.inno_db.proofs.Outcomes.{table_read}
-use Rattle.inno_db.specs.Changes.{Spares, apply}
+use Rattle.inno_db.specs.Changes.{apply}
 use Rattle.inno_db.specs.declared.outcome.Outcome.{Outcome}
 use Rattle.inno_model.specs.declared.event.Event.{Event}
 use Rattle.inno_model.specs.declared.event.Event.TheVariants as events
@@ -33,7 +33,10 @@ use Rattle.shared_lists.specs.Fitting.{FitsWell, FitsThen}
 use Rattle.sql_lists.specs.Kept.{IsInOrder}
 use Rattle.write_statement.specs.declared.machine.Part.{Part}
 use Rattle.write_statement.specs.Parts.{IsCut, GoesOnWith, behind}
-use Rattle.write_statement.specs.Running.{IsChanging}
+use Rattle.law_claims.specs.Claims.{Tables, Row, RestsOn, Stands}
+use Rattle.law_claims.proofs.Keeping.{all_kept, kept_is_free, kept_by_own}
+use Rattle.write_statement.specs.Running.{IsChanging, ground_for}
+use Rattle.write_statement.proofs.PartByPart.{goes_here}
 use Rattle.write_statement.proofs.Writing.{of_writing}
 use Rattle.write_statement.proofs.Own.{did_same, over_same, working_own}
 
@@ -91,9 +94,6 @@ with_entry s rows change h is fits = omega (arith, is, fits, sum_by-cons rows_of
 changes_by : (s : ℕ) (past : List Event) (statement : Stmt) → IsWriting statement → ChangesBy s statement past
 changes_by s past = of_writing (λ statement. ChangesBy s statement past) (λ table columns tuples. tt) (λ table sets condition. tt) (λ table condition. tt)
 
-spared : (db : Database) (place : Place) (changes : List Change) → changes ≡ [] → Spares db place changes
-spared db place changes none = rw none tt
-
 no_table_more : (t : ℕ) (change : Change) (h : List Event) → IsOfRow change → created (events.Changed t change ∷ h) ≡ created h
 no_table_more t (Create schema) h of-row = absurd of-row
 no_table_more t (Put table row) h of-row = refl
@@ -109,7 +109,7 @@ module _ (past : List Event) (writer : Option ℕ) (s : ℕ) (part : Part) (next
   parts_are =
       let more : List Change = (next (apply (base s past) (r.made ++ reverse (todo ++ change ∷ [])))).changes in (
         behind_it,
-        r.goes.changes
+        (goes_here past writer s part next (todo ++ change ∷ []) r).changes
             ∙ (append_assoc r.made (reverse (todo ++ change ∷ [])) more ∙ ap (λ (xs : List Change). r.made ++ (xs ++ more)) (next_first todo change)),
       )
 
@@ -127,7 +127,8 @@ module _ (past : List Event) (writer : Option ℕ) (s : ℕ) (part : Part) (next
         statement = r.statement;
         takes = r.working.takes;
         by = changes_by s past r.statement r.working.writes;
-        free = λ place is other ne. spared (newest past) place (own other past) (r.right.alone other ne);
+        free = λ place is other ne.
+            kept_is_free s place past writer (all_kept s Tables (Row place) past writer (r.keeps Tables tt)) (newest past) other ne;
         within = within;
       }
 
@@ -152,8 +153,12 @@ module _ (past : List Event) (writer : Option ℕ) (s : ℕ) (part : Part) (next
     own_now : own s after ≡ change ∷ own s past
     own_now = rw mine refl
 
-    others_none : (other : ℕ) → other ≢ s → own other after ≡ []
-    others_none other ne = grind (arith, nat_tests, ne, r.right.alone other ne)
+    -- it was to be made, and is made
+    ground_now : (todo ++ change ∷ []) ++ own s past ≡ todo ++ own s after
+    ground_now = append_assoc todo (change ∷ []) (own s past) ∙ ap (λ (xs : List Change). todo ++ xs) (sym own_now)
+
+    abbrev StandsOn : List Change → List Change → Type 0
+    StandsOn changes all = Stands (ground_for r.searched changes) (λ db. GoesOnWith r.statement db all next) (base s past)
 
     told_next : r.made ++ reverse (todo ++ change ∷ []) ≡ (r.made ++ change ∷ []) ++ reverse todo
     told_next = ap (λ (xs : List Change). r.made ++ xs) (next_first todo change) ∙ sym (append_assoc r.made (change ∷ []) (reverse todo))
@@ -175,7 +180,6 @@ module _ (past : List Event) (writer : Option ℕ) (s : ℕ) (part : Part) (next
                 not_undone = did_same
                     (events.Changed s change) past s mine refl refl undoes refl ∙ r.goes_on.not_undone;
               };
-          right = record { locked = r.right.locked; alone = others_none };
           before_is = r.before_is;
           tables = no_table_more s change past of-row ∙ r.tables;
           writes = r.writes;
@@ -183,7 +187,13 @@ module _ (past : List Event) (writer : Option ℕ) (s : ℕ) (part : Part) (next
           table_is = ap (λ schemas. table_read schemas part.stmt) (no_table_more s change past of-row) ∙ r.table_is;
           made = r.made ++ change ∷ [];
           own_is = made_own;
-          goes = subst (λ (changes : List Change). GoesOnWith r.statement (base s past) changes next) told_next r.goes;
+          searched = r.searched;
+          searched_is = r.searched_is;
+          keeps = λ claim rests.
+              kept_by_own (events.Changed s change) s claim past writer mine
+              (r.keeps claim (subst (λ (changes : List Change). RestsOn (base s past).schemas (ground_for r.searched changes) claim) (sym ground_now) rests));
+          goes = subst (StandsOn (todo ++ own s after)) told_next
+              (subst (λ (changes : List Change). StandsOn changes (r.made ++ reverse (todo ++ change ∷ []))) ground_now r.goes);
         }
 
     -- and it stands behind those that stood before the statement

@@ -24,6 +24,8 @@ use Rattle.write_statement.specs.declared.machine.WriteStatement.{WriteStatement
 use Rattle.write_statement.specs.declared.machine.WriteStatement.TheVariants as machine
 use Rattle.write_statement.specs.Parts.{of_rest}
 use Rattle.write_statement.specs.Running.{IsChanging, IsMaking, IsFinishing, IsRunning, given_up}
+use Rattle.law_claims.specs.Claims.{Tables}
+use Rattle.law_claims.proofs.Keeping.{keeper_writes}
 use Rattle.write_statement.proofs.Changes.{with_entry, tabled, may_change, changing_then, stands_now}
 use Rattle.write_statement.proofs.Turning.{changing_given_up}
 
@@ -54,7 +56,7 @@ entered s old new part todo rows r enters =
     let stands : part.before < length (own s new.past) =
     subst (λ (h : List Event). part.before < length (own s h)) (sym past-is)
     (stands_now old.past old.writer s part (of_rest part) todo r.change r.changing r.of_row) in (
-      moves_enters s old new r.changing.right.locked enters,
+      moves_enters s old new (keeper_writes s Tables old.past old.writer (r.changing.keeps Tables tt)) enters,
       record
           { changing = changing; under_way = enters.still; told = enters.asked_is; stands = stands },
       ap (started s) past-is,

@@ -55,7 +55,7 @@ use Rattle.write_statement.specs.declared.machine.Part.{Part}
 use Rattle.sql_plan.specs.Planning.{Covers, HoldsKeys, HoldsMatches}
 use Rattle.sql_plan.proofs.Inserting.{other_keys}
 use Rattle.write_statement.specs.Running.{IsFound, AreEnough, IsChanging}
-use Rattle.write_statement.proofs.PartByPart.{current_changed}
+use Rattle.write_statement.proofs.Changed.{current_changed}
 
 -- ---- the same rows, whether later tables are there or not
 

@@ -13,7 +13,7 @@ use Rattle.inno_types.specs.declared.reply.Reply.TheVariants as replies
 use Rattle.inno_types.specs.declared.value.Value.{Value}
 use Rattle.inno_db.specs.declared.change.Change.{Change}
 use Rattle.inno_db.specs.declared.change.Change.TheVariants.{Put}
-use Rattle.inno_db.specs.Database.{Database}
+use Rattle.inno_db.specs.Database.{Database, Place}
 use Rattle.inno_db.specs.declared.outcome.Outcome.{Outcome}
 use Rattle.inno_db.specs.Changes.{apply}
 use Rattle.inno_db.specs.Outcome.{outcome}
@@ -21,7 +21,7 @@ use Rattle.inno_model.specs.declared.event.Event.{Event}
 use Rattle.inno_model.specs.declared.event.Event.TheVariants as events
 use Rattle.inno_model.specs.Moments.{Sometime}
 use Rattle.inno_types.specs.Order.{IsBelow}
-use Rattle.inno_model.specs.Past.{before_item, of_item, begins_txn, commits_txn, rolls_back_txn, level, own, oldest, started, awaits_ack, IsOpen}
+use Rattle.inno_model.specs.Past.{changed, before_item, of_item, begins_txn, commits_txn, rolls_back_txn, level, own, oldest, started, awaits_ack, IsOpen}
 use Rattle.sql_grammar.specs.Grammar.{Spells}
 use Rattle.sql_history.specs.Items.{own_before, base, point, HasMade}
 use Rattle.sql_history.specs.Settings.{Setting, Either}
@@ -44,7 +44,15 @@ use Rattle.write_statement.specs.declared.machine.Work.{Work}
 use Rattle.write_statement.specs.declared.machine.WriteStatement.TheVariants.{BackingOut}
 use Rattle.write_statement.specs.Going.{to_go}
 use Rattle.write_statement.specs.Settling.{is_count, is_refusal}
-use Rattle.write_statement.specs.Running.{InTxn, IsWorking, IsEarly, IsChanging, PutsRows, MayAnswer, IsBackingOut, MayGoBack, IsClosing, IsRunning, given_up}
+use Rattle.write_statement.specs.Parts.{GoesOnWith}
+use Rattle.write_statement.specs.Running.{InTxn, IsWorking, IsEarly, IsChanging, KeepsReply, PutsRows, MayAnswer, IsBackingOut, MayGoBack, IsClosing}
+use Rattle.write_statement.specs.Running.{IsRunning, given_up, ground_for}
+use Rattle.law_beside.specs.Beside.{touches}
+use Rattle.law_claims.specs.Claims.{Claim, Tables, Ground, RestsOn, Stands}
+use Rattle.law_claims.proofs.Standing.{stands_now}
+use Rattle.law_claims.proofs.Keeping.{all_kept}
+use Rattle.write_statement.proofs.Grounds.{touched_later}
+use Rattle.write_statement.proofs.PartByPart.{goes_here}
 use Rattle.write_statement.proofs.Writing.{of_writing, some_of}
 use Rattle.sql_lists.proofs.Moving.{moves_closes, moves_takes_back, below_first, below_second, fewer_stand}
 use Rattle.write_statement.proofs.Own.{acked_of, did_same, did_now, over_now, entries_are, takes_own, reply_closed, working_own}
@@ -78,16 +86,45 @@ early_given_up h writer s statement work early before-is kept-is given-is =
 
 module _ (g : List Event) (writer : Option ℕ) (s : ℕ) (part : Part) (next : Database → Outcome) (todo : List Change)
     (r : IsChanging g writer s part next todo) where
+  -- the changes that are made come first, over any rows that the whole goes on over
+  first_made : (db : Database) → GoesOnWith r.statement db (r.made ++ reverse todo) next → take (length r.made) (outcome r.statement db).changes ≡ r.made
+  first_made db goes =
+      let more : List Change = (next (apply db (r.made ++ reverse todo))).changes in
+      ap (take (length r.made)) (goes.changes ∙ append_assoc r.made (reverse todo) more) ∙ taken r.made (reverse todo ++ more)
+
   made_now : HasMade (length r.made) s (outcome r.statement (base s g)).changes g
-  made_now =
-      let more : List Change = (next (apply (base s g) (r.made ++ reverse todo))).changes in
-      let all : (outcome r.statement (base s g)).changes ≡ r.made ++ (reverse todo ++ more) = r.goes.changes ∙ append_assoc r.made (reverse todo) more in
-      r.own_is ∙ ap (λ changes. reverse changes ++ own_before s g) (sym (ap (take (length r.made)) all ∙ taken r.made (reverse todo ++ more)))
+  made_now = r.own_is ∙ ap (λ changes. reverse changes ++ own_before s g) (sym (first_made (base s g) (goes_here g writer s part next todo r)))
+
+  -- what its reply rests on is kept: more than the changes that are made or to be made, where it is refused
+  module _ (kept : Reply) (ground : Ground)
+      (more : (claim : Claim) → RestsOn (base s g).schemas (ground_for r.searched (todo ++ own s g)) claim → RestsOn (base s g).schemas ground claim)
+      (among : (place : Place) → touches (base s g).schemas (own s g) place ≡ true → touches (base s g).schemas ground.changes place ≡ true)
+      (refuses : is_refusal kept ≡ true → Stands ground (λ db. (outcome r.statement db).reply ≡ kept) (base s g)) where
+    pub keeps_reply : KeepsReply s (length r.made) kept r.statement g writer
+    keeps_reply =
+        record {
+          ground = ground;
+          keeps = λ claim rests. all_kept s Tables claim g writer (r.keeps Tables tt);
+          among = among;
+          stands = λ others leaves. record {
+            changes =
+                first_made (changed (base s g) others) (r.goes others (λ claim rests. leaves claim (more claim rests)))
+                ∙ sym (first_made (base s g) (goes_here g writer s part next todo r));
+            reply = λ is.
+                refuses is others leaves ∙ sym (stands_now ground (λ db. (outcome r.statement db).reply ≡ kept) (base s g) (refuses is));
+          };
+        }
+
+  -- where no refusal is told, nothing more
+  unrefused_keeps : (kept : Reply) → is_refusal kept ≡ false → KeepsReply s (length r.made) kept r.statement g writer
+  unrefused_keeps kept no-refusal =
+      keeps_reply kept (ground_for r.searched (todo ++ own s g)) (λ claim rests. rests) (touched_later (base s g).schemas todo (own s g))
+      (λ is. absurd (false≢true (sym no-refusal ∙ is)))
 
   -- with another reply, for which it may be given up
   pub gives_up : (other : Work) → other.alone ≡ part.alone → other.before ≡ part.before → other.given ≡ other.kept → is_count other.kept ≡ false
-      → MayAnswer s r.statement (length r.made) other.kept g → IsBackingOut g writer s other
-  gives_up other same-alone same-before same no-count answers =
+      → MayAnswer s r.statement (length r.made) other.kept g → KeepsReply s (length r.made) other.kept r.statement g writer → IsBackingOut g writer s other
+  gives_up other same-alone same-before same no-count answers keeps =
       let now = point_now g s r.goes_on.not_over in
       record {
         statement = r.statement;
@@ -101,7 +138,7 @@ module _ (g : List Event) (writer : Option ℕ) (s : ℕ) (part : Part) (next : 
           made = subst (λ p. HasMade (length r.made) s (outcome r.statement (base s p)).changes p) (sym now) made_now;
           answers = answers;
         };
-        moves = inr (record { not_over = r.goes_on.not_over; stays = inr r.right });
+        moves = inr (record { not_over = r.goes_on.not_over; stays = inr keeps });
         rest = reverse r.made;
         own_is = r.own_is;
       }
@@ -113,11 +150,12 @@ module _ (g : List Event) (writer : Option ℕ) (s : ℕ) (part : Part) (next : 
 
   -- the interpreter refuses it
   pub refused : (kept given : Reply) → given ≡ kept → is_refusal kept ≡ true → kept ≡ (outcome r.statement (base s g)).reply
+      → KeepsReply s (length r.made) kept r.statement g writer
       → IsBackingOut g writer s (record { alone = part.alone; before = part.before; kept = kept; given = given })
-  refused kept given same is answer =
+  refused kept given same is answer keeps =
       let now = point_now g s r.goes_on.not_over in
       let answers = refused_answers (length r.made) kept is (answer ∙ ap (λ p. (outcome r.statement (base s p)).reply) (sym now)) in
-      gives_up (record { alone = part.alone; before = part.before; kept = kept; given = given }) refl refl same answers.0 answers.1
+      gives_up (record { alone = part.alone; before = part.before; kept = kept; given = given }) refl refl same answers.0 answers.1 keeps
 
 -- at this moment
 now_so : (P : List Event → Type 0) (s : ℕ) (h : List Event) → IsOpen s h → P h → Sometime P s h
@@ -402,6 +440,7 @@ early_no_memory past writer task s statement alone before early before-is idle =
 pub changing_no_memory : (past : List Event) (writer : Option ℕ) (s : ℕ) (part : Part) (next : Database → Outcome) (todo : List Change)
     → IsChanging past writer s part next todo → IsBackingOut past writer s (given_up part.alone part.before)
 changing_no_memory past writer s part next todo r = gives_up past writer s part next todo r (given_up part.alone part.before) refl refl refl refl tt
+    (unrefused_keeps past writer s part next todo r replies.NoMemory refl)
 
 -- ---- for want of rows
 
@@ -424,3 +463,4 @@ overfull past writer s part next todo table row rows r many count =
     let puts = puts_rows (base s past) r.statement r.made table row parts.0 r.working.writes parts.1 in
     gives_up past writer s part next (todo ++ Put table row ∷ []) r (broken_off part rows) refl refl refl refl
     (many, puts, now_so (λ h. rows ≡ rows_kept h + 1) s past r.working.is_open count)
+    (unrefused_keeps past writer s part next (todo ++ Put table row ∷ []) r (replies.RunLimit rows) refl)

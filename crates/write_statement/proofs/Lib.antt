@@ -10,6 +10,8 @@ pub mod Own
 pub mod Found
 pub mod Plans
 pub mod TupleByTuple
+pub mod Changed
+pub mod Grounds
 pub mod PartByPart
 pub mod Changes
 pub mod Removing

@@ -6,7 +6,7 @@ use Rattle.std.specs.List.{AllByRecursion, list_any}
 use Rattle.inno_types.specs.declared.value.Schema.{Schema}
 use Rattle.inno_types.specs.declared.stmt.Stmt.{Stmt}
 use Rattle.inno_types.specs.declared.reply.Reply.{Reply}
-use Rattle.inno_db.specs.Database.{Database}
+use Rattle.inno_db.specs.Database.{Database, Place}
 use Rattle.inno_db.specs.declared.outcome.Outcome.{Outcome}
 use Rattle.inno_db.specs.Outcome.{outcome}
 use Rattle.inno_db.specs.declared.change.Change.{Change}
@@ -26,24 +26,26 @@ use Rattle.sql_history.specs.Waiting.{is_victim}
 use Rattle.shared_lists.specs.Tasks.{Idle, is_changing, asked, MayTakeBack}
 use Rattle.shared_lists.specs.State.{State, task_of}
 use Rattle.law_past_agreement.specs.Order.{created, IsOfRow, IsNoOthers}
-use Rattle.sql_lists.specs.Steps.{IsTaken, StaysRunning, MayWriteAlone, changes_rows}
+use Rattle.sql_lists.specs.Steps.{IsTaken, StaysRunning, changes_rows}
 use Rattle.sql_lists.proofs.Moving.{AddingOne, stays_running}
-use Rattle.sql_lists.proofs.Staying.{other_of, not_starting, at_work, point_now, point_stays, IsSteady, steady_on, base_on}
+use Rattle.sql_lists.proofs.Staying.{other_of, not_starting, at_work, point_now, point_stays}
+use Rattle.law_beside.specs.Beside.{touches, AreOfRows}
+use Rattle.law_beside.proofs.Apart.{schemas_stay}
+use Rattle.law_claims.specs.Claims.{Tables, Ground, Keeps, KeepsGround, Stands, GoesBeside}
+use Rattle.law_claims.proofs.Standing.{of_rows, rests_as, stands_then, stands_as}
+use Rattle.law_claims.proofs.Keeping.{kept_on, spares_rows, goes_beside}
 use Rattle.write_statement.specs.declared.machine.Part.{Part}
 use Rattle.write_statement.specs.declared.machine.Work.{Work}
 use Rattle.write_statement.specs.declared.machine.WriteStatement.{WriteStatement}
 use Rattle.write_statement.specs.declared.machine.WriteStatement.TheVariants as machine
 use Rattle.write_statement.specs.Parts.{IsCut, GoesOnWith, behind, of_part, of_rest}
-use Rattle.write_statement.specs.Running.{Joins, HasOpened, InTxn, IsWorking, GoesOn, IsUnrefused, IsEarly, IsChanging, HasReply, HasRight, IsReading, IsMaking}
-use Rattle.write_statement.specs.Running.{IsFinishing, MovesOn, IsBackingOut, MayGoBack, MayAnswer, EndsTxn, IsClosing, IsRunning}
+use Rattle.write_statement.specs.Running.{Joins, HasOpened, InTxn, IsWorking, GoesOn, IsUnrefused, IsEarly, IsChanging, HasReply, IsReading, IsMaking}
+use Rattle.write_statement.specs.Running.{AnswersAlike, ground_for, IsFinishing, MovesOn, IsBackingOut, MayGoBack, MayAnswer, EndsTxn, IsClosing, IsRunning}
 use Rattle.plain_sql.proofs.MoreTables.{more_tables}
+use Rattle.write_statement.proofs.Grounds.{later_rows, touched_later}
 use Rattle.write_statement.proofs.Writing.{reads_rows}
 use Rattle.write_statement.proofs.Replies.{reply_stays, reply_goes_on}
 use Rattle.write_statement.proofs.Ends.{rolls_back_on, txn_ends_on}
-
-not_true : (b : Bool) → (b ≡ true → ⊥) → b ≡ false
-not_true true refuted = absurd (refuted refl)
-not_true false refuted = refl
 
 no_table_more : (e : Event) (h : List Event) (t : ℕ) → IsNoOthers t e → changes_rows e ≡ false → created (e ∷ h) ≡ created h
 no_table_more (events.Opened db) h t mine spares = cc
@@ -103,23 +105,45 @@ module _ (old new : State) (t s : ℕ) (differ : t ≢ s) (adding : AddingOne t 
             ((at_work a.0 old.past s (other a.0 a.1)).over ∙ over)
       ]
 
-  -- ---- what all share, while the session alone may write
+  -- ---- what all share, while something is kept
 
-  module _ (right : HasRight s old.past old.writer) where
-    steady : IsSteady old s
-    steady = record { locked = right.locked; alone = right.alone }
-
-    right_on : HasRight s new.past new.writer
-    right_on = let still = steady_on old new t s differ adding keeps steady in record { locked = still.locked; alone = still.alone }
-
-    base_is : base s new.past ≡ base s old.past
-    base_is = base_on old new t s differ adding keeps steady
-
-    spares : (e : Event) → (changes_rows e ≡ true → MayWriteAlone t new.writer) → changes_rows e ≡ false
-    spares e writes = not_true (changes_rows e) (λ is. writes is s (λ same. differ (sym same)) (keeps right.locked))
-
+  module _ (kept : Keeps s Tables old.past old.writer) where
     tables_are : created new.past ≡ created old.past
-    tables_are = elim adding [ inl same ↦ ap created same | inr a ↦ ap created a.2 ∙ no_table_more a.0 old.past t a.1 (spares a.0 a.3) ]
+    tables_are = elim adding [
+      | inl same ↦ ap created same
+      | inr a ↦ ap created a.2 ∙ no_table_more a.0 old.past t a.1 (spares_rows old new t s differ keeps Tables kept a.0 a.3)
+    ]
+
+  module _ (ground : Ground) (kept : KeepsGround s (base s old.past).schemas ground old.past old.writer)
+      (own-rows : AreOfRows (own_before s old.past)) (had : List Change) (own-parts : own s old.past ≡ had ++ own_before s old.past)
+      (among : (place : Place) → touches (base s old.past).schemas (own s old.past) place ≡ true
+      → touches (base s old.past).schemas ground.changes place ≡ true) where
+    -- what the statement acts on goes on beside it
+    beside : GoesBeside ground s old.past new.past
+    beside =
+        let schemas = (base s old.past).schemas in
+        goes_beside old new t s differ adding keeps ground kept own-rows (λ place before.
+        among place (ap (λ (cs : List Change). touches schemas cs place) own-parts ∙ touched_later schemas had (own_before s old.past) place before))
+
+    schemas_are : (base s new.past).schemas ≡ (base s old.past).schemas
+    schemas_are =
+        ap (λ (db : Database). db.schemas) beside.base_is
+        ∙ schemas_stay (base s old.past) beside.others (of_rows (base s old.past).schemas beside.others (beside.leaves Tables tt))
+
+    keeps_on : KeepsGround s (base s new.past).schemas ground new.past new.writer
+    keeps_on claim rests =
+        kept_on old new t s differ adding keeps claim (kept claim (rests_as (base s new.past).schemas (base s old.past).schemas schemas_are ground claim rests))
+
+    among_on : (place : Place) → touches (base s new.past).schemas (own s new.past) place ≡ true
+        → touches (base s new.past).schemas ground.changes place ≡ true
+    among_on place mine =
+        ap (λ (schemas : List Schema). touches schemas ground.changes place) schemas_are
+        ∙ among place (ap (λ (cs : List Change). touches (base s old.past).schemas cs place) (sym own_is)
+        ∙ (ap (λ (schemas : List Schema). touches schemas (own s new.past) place) (sym schemas_are) ∙ mine))
+
+    stands_on : (Holds : Database → Type 0) → Stands ground Holds (base s old.past) → Stands ground Holds (base s new.past)
+    stands_on Holds stands =
+        subst (Stands ground Holds) (sym beside.base_is) (stands_then ground Holds (base s old.past) beside.others stands beside.leaves)
 
   -- ---- what refused it not
 
@@ -195,28 +219,43 @@ module _ (old new : State) (t s : ℕ) (differ : t ≢ s) (adding : AddingOne t 
 
   -- ---- its states
 
+  own_rows : (had : List Change) → own s old.past ≡ had ++ own_before s old.past → AllByRecursion IsOfRow (own s old.past)
+      → AreOfRows (own_before s old.past)
+  own_rows had parts alone = later_rows had (own_before s old.past) (subst (AllByRecursion IsOfRow) parts alone)
+
   changing_on : (part : Part) (next : Database → Outcome) (todo : List Change) → IsChanging old.past old.writer s part next todo
       → IsChanging new.past new.writer s part next todo
   changing_on part next todo r =
-      let same = base_is r.right in
+      let ground = ground_for r.searched (todo ++ own s old.past) in
+      let rows = own_rows (reverse r.made) r.own_is r.working.rows_alone in
+      let among = touched_later (base s old.past).schemas todo (own s old.past) in
+      let Holds : Database → Type 0 = λ db. GoesOnWith r.statement db (r.made ++ reverse todo) next in
+      let tables = tables_are (r.keeps Tables tt) in
+      let still = ap (λ (changes : List Change). ground_for r.searched (todo ++ changes)) (sym own_is) in
       record {
         statement = r.statement;
         working = working_on r.statement part.alone r.working;
         goes_on = goes_on r.goes_on;
-        right = right_on r.right;
         before_is = r.before_is ∙ ap length (sym had_is);
-        tables = tables_are r.right ∙ (r.tables ∙ ap (λ (db : Database). db.schemas) (sym same));
+        tables = tables ∙ (r.tables ∙ sym (schemas_are ground r.keeps rows (reverse r.made) r.own_is among));
         writes = r.writes;
-        cut = subst (λ (schemas : List Schema). IsCut schemas part.stmt (behind part)) (sym (tables_are r.right)) r.cut;
-        table_is = ap (λ schemas. table_read schemas part.stmt) (tables_are r.right) ∙ r.table_is;
+        cut = subst (λ (schemas : List Schema). IsCut schemas part.stmt (behind part)) (sym tables) r.cut;
+        table_is = ap (λ schemas. table_read schemas part.stmt) tables ∙ r.table_is;
         made = r.made;
         own_is = own_is ∙ (r.own_is ∙ ap (λ changes. reverse r.made ++ changes) (sym had_is));
-        goes = subst (λ (db : Database). GoesOnWith r.statement db (r.made ++ reverse todo) next) (sym same) r.goes;
+        searched = r.searched;
+        searched_is = r.searched_is;
+        keeps =
+            subst (λ (g : Ground). KeepsGround s (base s new.past).schemas g new.past new.writer) still
+            (keeps_on ground r.keeps rows (reverse r.made) r.own_is among);
+        goes =
+            subst (λ (g : Ground). Stands g Holds (base s new.past)) still
+            (stands_on ground r.keeps rows (reverse r.made) r.own_is among Holds r.goes);
       }
 
   abbrev reading_on : (part : Part) → IsReading old.past old.writer s part → IsReading new.past new.writer s part
   reading_on part r =
-      let tables = tables_are r.changing.right in
+      let tables = tables_are (r.changing.keeps Tables tt) in
       record {
         changing = changing_on part (of_part part) [] r.changing;
         schema = r.schema;
@@ -253,8 +292,8 @@ module _ (old new : State) (t s : ℕ) (differ : t ≢ s) (adding : AddingOne t 
       (subst (MayGoBack before s old.past) (sym task-is) back)
 
   module _ (work : Work) (r : IsBackingOut old.past old.writer s work) where
-    backing_with : (reply : HasReply s r.statement work.kept new.past) → (is_over s new.past ≡ true) ⊎ MovesOn reply.count work.kept new.past new.writer s
-        → IsBackingOut new.past new.writer s work
+    backing_with : (reply : HasReply s r.statement work.kept new.past)
+        → (is_over s new.past ≡ true) ⊎ MovesOn s reply.count work.kept r.statement new.past new.writer → IsBackingOut new.past new.writer s work
     backing_with reply moves =
         record {
           statement = r.statement;
@@ -275,7 +314,7 @@ module _ (old new : State) (t s : ℕ) (differ : t ≢ s) (adding : AddingOne t 
         subst (λ p. HasMade r.reply.count s (outcome r.statement (base s p)).changes p) (point_now old.past s not-over) r.reply.made in
         own_is ∙ (was ∙ ap (λ changes. reverse (take r.reply.count (outcome r.statement (base s old.past)).changes) ++ changes) (sym had_is))
 
-    moves_on : MovesOn r.reply.count work.kept old.past old.writer s → IsBackingOut new.past new.writer s work
+    moves_on : MovesOn s r.reply.count work.kept r.statement old.past old.writer → IsBackingOut new.past new.writer s work
     moves_on m =
         let not-over = over_is ∙ m.not_over in
         let is-open = ap is_some level_is ∙ r.working.is_open in
@@ -291,10 +330,26 @@ module _ (old new : State) (t s : ℕ) (differ : t ≢ s) (adding : AddingOne t 
                 answers = subst (λ (kept : Reply). MayAnswer s r.statement 0 kept new.past) (sym none.0) tt;
               } in
               backing_with reply (inr (record { not_over = not-over; stays = inl (none.0, refl) }))
-          | inr right ↦
-              backing_with (reply_goes_on s old.past new.past some_on (point_now old.past s m.not_over) (point_now new.past s not-over) (base_is right)
-              is-open r.statement work.kept r.reply (made_on m.not_over))
-              (inr (record { not_over = not-over; stays = inr (right_on right) }))
+          | inr k ↦
+              let rows = own_rows r.rest r.own_is r.working.rows_alone in
+              let goes = beside k.ground k.keeps rows r.rest r.own_is k.among in
+              let alike : AnswersAlike r.reply.count work.kept r.statement (base s new.past) (base s old.past) =
+              subst (λ (db : Database). AnswersAlike r.reply.count work.kept r.statement db (base s old.past)) (sym goes.base_is)
+              (k.stands goes.others goes.leaves) in
+              backing_with (reply_goes_on s old.past new.past some_on (point_now old.past s m.not_over) (point_now new.past s not-over)
+              is-open r.statement work.kept r.backs r.reply alike (made_on m.not_over)) (inr (record {
+                not_over = not-over;
+                stays = inr (record {
+                  ground = k.ground;
+                  keeps = keeps_on k.ground k.keeps rows r.rest r.own_is k.among;
+                  among = among_on k.ground k.keeps rows r.rest r.own_is k.among;
+                  stands = stands_as k.ground (λ db. AnswersAlike r.reply.count work.kept r.statement db (base s old.past))
+                      (λ db. AnswersAlike r.reply.count work.kept r.statement db (base s new.past)) (base s new.past)
+                      (λ db was. record { changes = was.changes ∙ sym alike.changes; reply = λ is. was.reply is ∙ sym (alike.reply is) })
+                      (stands_on k.ground k.keeps rows r.rest r.own_is k.among
+                      (λ db. AnswersAlike r.reply.count work.kept r.statement db (base s old.past)) k.stands);
+                });
+              }))
         ] where
           nothing_made : r.reply.count ≡ 0 → own s old.past ≡ own_before s old.past
           nothing_made none =

@@ -1,5 +1,6 @@
 -- The parts of a statement: what comes first, what is done with one of them, and what comes next.
 use Rattle.std.proofs.Common.{◌≡◌, ℕ, ◌+◌, Bool, true, Option, Some, None, List, [], ◌∷◌, ◌++◌, length, reverse, refl, sym, ap, subst, ◌∙◌, arith}
+use Rattle.std.proofs.Common.{inl, inr}
 use Rattle.std.proofs.lemmas.Bool.{false≢true}
 use Rattle.std.proofs.lemmas.List.{append-nil, append_assoc, length-append, reverse-append}
 use Rattle.std.specs.Prelude.{slice_get}
@@ -13,7 +14,7 @@ use Rattle.inno_types.specs.declared.reply.Reply.TheVariants as replies
 use Rattle.inno_db.specs.declared.change.Change.{Change}
 use Rattle.inno_db.specs.declared.outcome.Outcome.{Outcome}
 use Rattle.inno_db.specs.declared.outcome.Written.{Written}
-use Rattle.inno_db.specs.Database.{Database, rows_of}
+use Rattle.inno_db.specs.Database.{Database, Place, rows_of}
 use Rattle.inno_db.specs.Changes.{apply_one, apply}
 use Rattle.inno_db.specs.Names.{table_place}
 use Rattle.inno_db.specs.Refusals.{refusal}
@@ -31,7 +32,16 @@ use Rattle.write_statement.specs.Following.{counted_on, followed, followed_by}
 use Rattle.write_statement.specs.Settling.{is_count, is_refusal}
 use Rattle.write_statement.specs.Parts.{with_tuple, left_of, rest_of, IsCut, behind, of_part, of_rest, GoesOnWith, IsFirstPart}
 use Rattle.write_statement.specs.declared.machine.Part.{Part}
-use Rattle.write_statement.specs.Running.{IsWorking, IsEarly, HasRight, IsChanging, IsMade}
+use Rattle.law_db.specs.RowChanges.{AreOfTables}
+use Rattle.law_beside.specs.Beside.{touches}
+use Rattle.law_beside.proofs.Apart.{schemas_stay}
+use Rattle.law_claims.specs.Claims.{Claim, Tables, Ground, Keeps, RestsOn, LeavesGround, Stands}
+use Rattle.law_claims.proofs.Standing.{of_rows, stands_now, stands_as}
+use Rattle.law_claims.proofs.Keeping.{all_kept}
+use Rattle.law_claims.proofs.Outcomes.{keyed_behind}
+use Rattle.write_statement.specs.Running.{IsWorking, IsEarly, IsChanging, IsMade, ground_for, search_of, refused_at}
+use Rattle.write_statement.proofs.Grounds.{IsSearchOf, wider, touched_front, touched_later, touched_reverse, count_stands, refused_stands, others_behind}
+use Rattle.write_statement.proofs.Grounds.{same_tables, leaves_there}
 use Rattle.write_statement.proofs.Writing.{of_writing}
 use Rattle.write_statement.proofs.TupleByTuple.{insert_split, parts_unrefused}
 
@@ -151,75 +161,131 @@ module _ (statement : Stmt) (db : Database) (made : List Change) where
             ∙ ap (λ n. counted_on n (rest (apply db (made ++ first.changes))).reply) (sym (length-append made first.changes))));
       }
 
--- ---- what the session sees amid its changes
-
-changed-append : (db : Database) (later earlier : List Change) → changed db (later ++ earlier) ≡ changed (changed db earlier) later
-changed-append db [] earlier = refl
-changed-append db (change ∷ later) earlier = ap (λ (d : Database). apply_one d change) (changed-append db later earlier)
-
-changed_all : (db : Database) (changes : List Change) → changed db (reverse changes) ≡ apply db changes
-changed_all db [] = refl
-changed_all db (change ∷ changes) =
-    ap (changed db) (reverse-append (change ∷ []) changes)
-    ∙ (changed-append db (reverse changes) (change ∷ []) ∙ changed_all (apply_one db change) changes)
-
-pub current_changed : (past : List Event) (s : ℕ) (later : List Change) → own s past ≡ later ++ own_before s past
-    → current s past ≡ changed (base s past) later
-current_changed past s later is =
-    ap (λ (changes : List Change). changed (opening past) (changes ++ committed (commits past) past)) is
-    ∙ (ap (changed (opening past)) (append_assoc later (own_before s past) (committed (commits past) past))
-    ∙ changed-append (opening past) later (own_before s past ++ committed (commits past) past))
-
-current_is : (past : List Event) (s : ℕ) (made : List Change) → own s past ≡ reverse made ++ own_before s past → current s past ≡ apply (base s past) made
-current_is past s made is = current_changed past s (reverse made) is ∙ changed_all (base s past) made
-
 -- ---- what is done with a part
+
+-- the whole goes on with what comes next, over the rows as they are
+pub goes_here : (past : List Event) (writer : Option ℕ) (s : ℕ) (part : Part) (next : Database → Outcome) (todo : List Change)
+    (r : IsChanging past writer s part next todo) → GoesOnWith r.statement (base s past) (r.made ++ reverse todo) next
+goes_here past writer s part next todo r =
+    stands_now (ground_for r.searched (todo ++ own s past)) (λ db. GoesOnWith r.statement db (r.made ++ reverse todo) next) (base s past) r.goes
 
 module _ (past : List Event) (writer : Option ℕ) (s : ℕ) (part : Part) (r : IsChanging past writer s part (of_part part) [])
     (tables : created past ≡ (current s past).schemas) (keyed : IsKeyed (current s past)) where
-  goes_now : GoesOnWith r.statement (base s past) r.made (of_part part)
-  goes_now = subst (λ (changes : List Change). GoesOnWith r.statement (base s past) changes (of_part part)) (append-nil r.made) r.goes
+  abbrev here : Database
+  here = current s past
 
-  here : current s past ≡ apply (base s past) r.made
-  here = current_is past s r.made r.own_is
+  -- over what the statement acts on with others' changes
+  module _ (ground : Ground) (more : (claim : Claim) → RestsOn (base s past).schemas (ground_for r.searched (own s past)) claim → RestsOn (base s past).schemas ground claim)
+      (among : (place : Place) → touches (base s past).schemas (own s past) place ≡ true → touches (base s past).schemas ground.changes place ≡ true)
+      (others : List Change) (leaves : LeavesGround ground (base s past) others) where
+    abbrev below : Database
+    below = changed (base s past) others
 
-  cut_now : IsCut (current s past).schemas part.stmt (behind part)
-  cut_now = subst (λ (schemas : List Schema). IsCut schemas part.stmt (behind part)) tables r.cut
+    goes_there : GoesOnWith r.statement below r.made (of_part part)
+    goes_there =
+        subst (λ (changes : List Change). GoesOnWith r.statement below changes (of_part part)) (append-nil r.made)
+        (r.goes others (λ claim rests. leaves claim (more claim rests)))
 
-  -- its refusal is that of the whole
-  pub part_refused : (kept : Reply) → is_refusal kept ≡ true → kept ≡ (outcome part.stmt (current s past)).reply
-      → kept ≡ (outcome r.statement (base s past)).reply
-  part_refused kept is answer =
-      let refused : is_refusal (outcome part.stmt (current s past)).reply ≡ true = ap is_refusal (sym answer) ∙ is in
-      let of-all : (of_part part (current s past)).reply ≡ kept =
-      refused_left (current s past) keyed part.stmt (behind part) cut_now refused ∙ sym answer in
-      sym (goes_now.reply
-      ∙ (ap (λ (d : Database). counted_on (length r.made) (of_part part d).reply) (sym here)
-      ∙ (ap (counted_on (length r.made)) of-all ∙ refused_on (length r.made) kept is)))
+    abbrev there : Database
+    there = apply below r.made
 
-  -- its changes come next
-  pub part_counted : (todo : List Change) → is_count (outcome part.stmt (current s past)).reply ≡ true
-      → (outcome part.stmt (current s past)).changes ≡ reverse todo → IsChanging past writer s part (of_rest part) todo
-  part_counted todo counts changes =
-      let on = counted_left (current s past) keyed part.stmt (behind part) r.writes cut_now counts in
-      let first = outcome part.stmt (current s past) in
-      let on-base = subst (λ (d : Database). GoesOn (of_part part d) first (of_rest part (apply d first.changes))) here on in
-      record {
-        statement = r.statement;
-        working = r.working;
-        goes_on = r.goes_on;
-        right = r.right;
-        before_is = r.before_is;
-        tables = r.tables;
-        writes = r.writes;
-        cut = r.cut;
-        table_is = r.table_is;
-        made = r.made;
-        own_is = r.own_is;
-        goes =
-            subst (λ (xs : List Change). GoesOnWith r.statement (base s past) (r.made ++ xs) (of_rest part)) changes
-            (goes_counted r.statement (base s past) r.made (of_part part) (of_rest part) first goes_now on-base);
-      }
+    there_is : there ≡ changed here others
+    there_is = others_behind past writer s part r ground others leaves among
+
+    tables_left : AreOfTables here.schemas others
+    tables_left = leaves_there past writer s part r ground others leaves among Tables tt
+
+    keyed_there : IsKeyed there
+    keyed_there = subst IsKeyed (sym there_is) (keyed_behind here others tables_left keyed)
+
+    cut_there : IsCut there.schemas part.stmt (behind part)
+    cut_there =
+        let same : created past ≡ there.schemas = tables ∙ (sym (schemas_stay here others (of_rows here.schemas others tables_left))
+        ∙ ap (λ (d : Database). d.schemas) (sym there_is)) in
+        subst (λ (schemas : List Schema). IsCut schemas part.stmt (behind part)) same r.cut
+
+    -- where the part comes to the same, what is counted goes on
+    counted_there : outcome part.stmt (changed here others) ≡ outcome part.stmt here → (todo : List Change)
+        → is_count (outcome part.stmt here).reply ≡ true → (outcome part.stmt here).changes ≡ reverse todo
+        → GoesOnWith r.statement below (r.made ++ reverse todo) (of_rest part)
+    counted_there same todo counts changes =
+        let first = outcome part.stmt there in
+        let alike : first ≡ outcome part.stmt here = ap (outcome part.stmt) there_is ∙ same in
+        let on = counted_left there keyed_there part.stmt (behind part) r.writes cut_there (ap (λ (o : Outcome). is_count o.reply) alike ∙ counts) in
+        subst (λ (xs : List Change). GoesOnWith r.statement below (r.made ++ xs) (of_rest part)) (ap (λ (o : Outcome). o.changes) alike ∙ changes)
+        (goes_counted r.statement below r.made (of_part part) (of_rest part) first goes_there on)
+
+    -- and its refusal is that of the whole
+    refused_there : outcome part.stmt (changed here others) ≡ outcome part.stmt here → (kept : Reply) → is_refusal kept ≡ true
+        → (outcome part.stmt here).reply ≡ kept → (outcome r.statement below).reply ≡ kept
+    refused_there same kept is answer =
+        let alike : (outcome part.stmt there).reply ≡ kept = ap (λ (o : Outcome). o.reply) (ap (outcome part.stmt) there_is ∙ same) ∙ answer in
+        let of-all = refused_left there keyed_there part.stmt (behind part) cut_there (ap is_refusal alike ∙ is) ∙ alike in
+        goes_there.reply ∙ (ap (counted_on (length r.made)) of-all ∙ refused_on (length r.made) kept is)
+
+  -- ---- it is counted
+
+  module _ (todo : List Change) (counts : is_count (outcome part.stmt here).reply ≡ true) (changes : (outcome part.stmt here).changes ≡ reverse todo) where
+    abbrev after : Ground
+    after = ground_for (search_of part.stmt) (todo ++ own s past)
+
+    stands_counted : Stands after (λ db. GoesOnWith r.statement db (r.made ++ reverse todo) (of_rest part)) (base s past)
+    stands_counted = λ others leaves.
+        let schemas = (base s past).schemas in
+        let among : (place : Place) → touches schemas (own s past) place ≡ true → touches schemas (todo ++ own s past) place ≡ true =
+        touched_later schemas todo (own s past) in
+        let there = leaves_there past writer s part r after others leaves among in
+        let same_schemas = same_tables past writer s part r after others leaves among in
+        counted_there after (wider schemas part.stmt r.searched r.searched_is (own s past) (todo ++ own s past) among None) among others leaves
+        (count_stands here others after there part.stmt r.writes refl counts (todo_among same_schemas)) todo counts changes where
+          todo_among : here.schemas ≡ (base s past).schemas → (place : Place) → touches here.schemas (outcome part.stmt here).changes place ≡ true
+              → touches here.schemas (todo ++ own s past) place ≡ true
+          todo_among same place is =
+              touched_front here.schemas todo (own s past) place
+              (sym (touched_reverse here.schemas todo place) ∙ (ap (λ (cs : List Change). touches here.schemas cs place) (sym changes) ∙ is))
+
+    -- its changes come next
+    pub part_counted : IsChanging past writer s part (of_rest part) todo
+    part_counted =
+        record {
+          statement = r.statement;
+          working = r.working;
+          goes_on = r.goes_on;
+          before_is = r.before_is;
+          tables = r.tables;
+          writes = r.writes;
+          cut = r.cut;
+          table_is = r.table_is;
+          made = r.made;
+          own_is = r.own_is;
+          searched = search_of part.stmt;
+          searched_is = inr refl;
+          keeps = λ claim rests. all_kept s Tables claim past writer (r.keeps Tables tt);
+          goes = stands_counted;
+        }
+
+  -- ---- it is refused
+
+  module _ (kept : Reply) (refused : is_refusal kept ≡ true) (answer : kept ≡ (outcome part.stmt here).reply) where
+    abbrev pub refusal_ground : Ground
+    refusal_ground = record { changes = own s past; searched = search_of part.stmt; refused_at = refused_at part.table kept }
+
+    pub refusal_wider : (claim : Claim) → RestsOn (base s past).schemas (ground_for r.searched (own s past)) claim
+        → RestsOn (base s past).schemas refusal_ground claim
+    refusal_wider =
+        wider (base s past).schemas part.stmt r.searched r.searched_is (own s past) (own s past) (λ place is. is) (refused_at part.table kept)
+
+    -- that is the refusal of the whole, whatever others commit
+    pub part_refused : Stands refusal_ground (λ db. (outcome r.statement db).reply ≡ kept) (base s past)
+    part_refused = λ others leaves.
+        let among : (place : Place) → touches (base s past).schemas (own s past) place ≡ true
+        → touches (base s past).schemas (own s past) place ≡ true = λ place is. is in
+        let there = leaves_there past writer s part r refusal_ground others leaves among in
+        let cut = subst (λ (schemas : List Schema). IsCut schemas part.stmt (behind part)) tables r.cut in
+        let reads = subst (λ (schemas : List Schema). table_read schemas part.stmt ≡ Some part.table) tables r.table_is in
+        refused_there refusal_ground refusal_wider among others leaves
+        (refused_stands here others refusal_ground there part.table keyed kept refl part.stmt (behind part) r.writes refl cut
+        (part_unrefused here.schemas part.stmt (behind part) cut) reads refused (sym answer)) kept refused (sym answer)
 
 -- ---- the first part
 
@@ -240,7 +306,7 @@ left_table schemas (stmt.Insert table names tuples) (next ∷ later) = refl
 left_table schemas other (next ∷ later) = refl
 
 pub starts : (past : List Event) (writer : Option ℕ) (s : ℕ) (statement : Stmt) (table : ℕ) (alone : Bool) (before : ℕ) (part : Part)
-    → IsEarly s statement alone past → HasRight s past writer → before ≡ length (own s past) → created past ≡ (current s past).schemas
+    → IsEarly s statement alone past → Keeps s Tables past writer → before ≡ length (own s past) → created past ≡ (current s past).schemas
     → table_read (created past) statement ≡ Some table → IsFirstPart (created past) statement table alone before part
     → IsChanging past writer s part (of_part part) []
 starts past writer s statement table alone before part early right before-is tables table-is first =
@@ -248,7 +314,6 @@ starts past writer s statement table alone before part early right before-is tab
       statement = statement;
       working = subst (λ own. IsWorking s statement own past) (sym first.alone_is) early.working;
       goes_on = early.goes_on;
-      right = right;
       before_is = first.before_is ∙ (before-is ∙ ap length early.unchanged);
       tables = tables ∙ ap (λ (changes : List Change). (changed (opening past) (changes ++ committed (commits past) past)).schemas) early.unchanged;
       writes = cut_writes (created past) part.stmt (behind part) first.cut (subst IsWriting (sym first.left) early.working.writes);
@@ -258,9 +323,12 @@ starts past writer s statement table alone before part early right before-is tab
           ∙ (ap (table_read (created past)) first.left ∙ (table-is ∙ ap Some (sym first.table_is)));
       made = [];
       own_is = early.unchanged;
-      goes =
-          subst (λ (st : Stmt). GoesOnWith statement (base s past) [] (outcome st)) (sym first.left)
-          (record { changes = refl; reply = zero_more (outcome statement (base s past)).reply });
+      searched = None;
+      searched_is = inl refl;
+      keeps = λ claim rests. all_kept s Tables claim past writer right;
+      goes = λ others leaves.
+          subst (λ (st : Stmt). GoesOnWith statement (changed (base s past) others) [] (outcome st)) (sym first.left)
+          (record { changes = refl; reply = zero_more (outcome statement (changed (base s past) others)).reply });
     }
 
 -- ---- the next part, or none
@@ -286,6 +354,12 @@ next_goes schemas whole db made (stmt.Insert table names (before ∷ [])) tuple 
 next_goes schemas whole db made (stmt.Insert table names (before ∷ [])) tuple (next ∷ later) cut goes = goes
 next_goes schemas whole db made other tuple later cut goes = absurd cut
 
+-- an INSERT has searched for no rows
+none_searched : (schemas : List Schema) (statement : Stmt) (tuple : List Literal) (later : List (List Literal)) → IsCut schemas statement (tuple ∷ later)
+    → (searched : Option Stmt) → IsSearchOf searched statement → searched ≡ None
+none_searched schemas (stmt.Insert table names (before ∷ [])) tuple later cut searched is = elim is [ inl none ↦ none | inr same ↦ same ]
+none_searched schemas other tuple later cut searched is = absurd cut
+
 module _ (past : List Event) (writer : Option ℕ) (s : ℕ) (part : Part) (r : IsChanging past writer s part (of_rest part) []) where
   pub goes_next : (tuple : List Literal) (after : Part) → behind part ≡ tuple ∷ behind after → after.stmt ≡ with_tuple tuple part.stmt
       → after.table ≡ part.table → after.alone ≡ part.alone → after.before ≡ part.before → IsChanging past writer s after (of_part after) []
@@ -295,7 +369,6 @@ module _ (past : List Event) (writer : Option ℕ) (s : ℕ) (part : Part) (r : 
         statement = r.statement;
         working = subst (λ alone. IsWorking s r.statement alone past) (sym alone-is) r.working;
         goes_on = r.goes_on;
-        right = r.right;
         before_is = before-is ∙ r.before_is;
         tables = r.tables;
         writes = subst IsWriting (sym stmt-is) (next_writes part.stmt tuple r.writes);
@@ -307,16 +380,22 @@ module _ (past : List Event) (writer : Option ℕ) (s : ℕ) (part : Part) (r : 
             ∙ (next_table (created past) part.stmt tuple ∙ (r.table_is ∙ ap Some (sym same-table)));
         made = r.made;
         own_is = r.own_is;
-        goes =
-            subst (λ (st : Stmt). GoesOnWith r.statement (base s past) (r.made ++ []) (outcome (left_of st (behind after)))) (sym stmt-is)
-            (next_goes (created past) r.statement (base s past) (r.made ++ []) part.stmt tuple (behind after) cut
-            (subst (λ (later : List (List Literal)). GoesOnWith r.statement (base s past) (r.made ++ []) (rest_of part.stmt later)) is r.goes));
+        searched = r.searched;
+        searched_is = inl (none_searched (created past) part.stmt tuple (behind after) cut r.searched r.searched_is);
+        keeps = r.keeps;
+        goes = stands_as
+            (ground_for r.searched (own s past)) (λ db. GoesOnWith r.statement db (r.made ++ []) (of_rest part))
+            (λ db. GoesOnWith r.statement db (r.made ++ []) (of_part after)) (base s past) (λ db goes.
+            subst (λ (st : Stmt). GoesOnWith r.statement db (r.made ++ []) (outcome (left_of st (behind after)))) (sym stmt-is)
+            (next_goes (created past) r.statement db (r.made ++ []) part.stmt tuple (behind after) cut
+            (subst (λ (later : List (List Literal)). GoesOnWith r.statement db (r.made ++ []) (rest_of part.stmt later)) is goes))) r.goes;
       }
 
   -- no tuple is left
   pub all_made : behind part ≡ [] → IsMade past writer s part.alone part.before
   all_made none =
-      let goes = subst (λ (later : List (List Literal)). GoesOnWith r.statement (base s past) (r.made ++ []) (rest_of part.stmt later)) none r.goes in
+      let goes = subst (λ (later : List (List Literal)). GoesOnWith r.statement (base s past) (r.made ++ []) (rest_of part.stmt later)) none
+      (goes_here past writer s part (of_rest part) [] r) in
       let all : (outcome r.statement (base s past)).changes ≡ r.made = goes.changes ∙ (append-nil (r.made ++ []) ∙ append-nil r.made) in
       let many : length (r.made ++ []) + 0 ≡ length (outcome r.statement (base s past)).changes =
       omega (arith, ap length all, ap length (append-nil r.made)) in
@@ -324,7 +403,6 @@ module _ (past : List Event) (writer : Option ℕ) (s : ℕ) (part : Part) (r : 
         statement = r.statement;
         working = r.working;
         goes_on = r.goes_on;
-        right = r.right;
         before_is = r.before_is;
         answer = goes.reply ∙ ap replies.Count many;
         own_is = r.own_is ∙ ap (λ (changes : List Change). reverse changes ++ own_before s past) (sym all);

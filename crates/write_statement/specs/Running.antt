@@ -1,14 +1,15 @@
 -- What the machine knows between its steps: of the past, of who may write, and of what the session has under way.
-use Rattle.std.specs.Prelude.{◌≡◌, ◌≢◌, ℕ, ◌+◌, ◌<◌, ◌⊎◌, Bool, true, false, Option, Some, None, List, [], ◌∷◌, ◌++◌, length, reverse, slice_get}
+use Rattle.std.specs.Prelude.{◌≡◌, ◌≢◌, ℕ, ◌+◌, ◌<◌, ◌⊎◌, Bool, true, false, Option, Some, None, List, [], ◌∷◌, ◌++◌, length, reverse, take, slice_get}
 use Rattle.inno_types.specs.declared.value.Value.{Value}
 use Rattle.inno_types.specs.declared.value.Schema.{Schema}
 use Rattle.inno_types.specs.declared.stmt.Stmt.{Stmt}
 use Rattle.inno_types.specs.declared.stmt.Stmt.TheVariants as stmt
 use Rattle.inno_types.specs.declared.reply.Reply.{Reply}
 use Rattle.inno_types.specs.declared.reply.Reply.TheVariants as replies
+use Rattle.inno_types.specs.declared.reply.SqlError.TheVariants.{Duplicate}
 use Rattle.inno_db.specs.declared.change.Change.{Change}
 use Rattle.inno_db.specs.declared.outcome.Outcome.{Outcome}
-use Rattle.inno_db.specs.Database.{Database}
+use Rattle.inno_db.specs.Database.{Database, Place}
 use Rattle.inno_db.specs.Outcome.{outcome}
 use Rattle.inno_db.specs.Refusals.{refusal}
 use Rattle.inno_db.proofs.Outcomes.{table_read}
@@ -31,13 +32,15 @@ use Rattle.shared_lists.specs.Tasks.{Task, Idle, Searching, is_changing, asked, 
 use Rattle.shared_lists.specs.State.{State, task_of}
 use Rattle.shared_lists.specs.Steps.{AreRowsSeen}
 use Rattle.sql_plan.specs.declared.choice.Plan.{Plan}
+use Rattle.law_beside.specs.Beside.{touches}
+use Rattle.law_claims.specs.Claims.{Ground, KeepsGround, Stands}
 use Rattle.sql_lists.specs.Steps.{HasRowsAlone, IsTaken}
 use Rattle.sql_plan.specs.Planning.{HoldsMatches}
 use Rattle.write_statement.specs.declared.machine.Part.{Part}
 use Rattle.write_statement.specs.declared.machine.Work.{Work}
 use Rattle.write_statement.specs.declared.machine.WriteStatement.{WriteStatement}
 use Rattle.write_statement.specs.declared.machine.WriteStatement.TheVariants as machine
-use Rattle.write_statement.specs.Settling.{is_count}
+use Rattle.write_statement.specs.Settling.{is_count, is_refusal}
 use Rattle.write_statement.specs.Parts.{IsCut, GoesOnWith, behind, of_part, of_rest}
 
 -- ---- its transaction
@@ -86,10 +89,34 @@ pub record IsEarly (s : ℕ) (statement : Stmt) (alone : Bool) (past : List Even
   pub unchanged : own s past ≡ own_before s past
   pub unrefused : IsUnrefused statement past
 
--- the session alone may write, and no other one has changes
-pub record HasRight (s : ℕ) (past : List Event) (writer : Option ℕ) : Type 0 where
-  pub locked : writer ≡ Some s
-  pub alone : (other : ℕ) → other ≢ s → own other past ≡ []
+-- ---- what it keeps
+
+-- the rows that an UPDATE or DELETE searches for; an INSERT rests on the places of its rows
+abbrev pub search_of : Stmt → Option Stmt
+search_of (stmt.Update table sets condition) = Some (stmt.Update table sets condition)
+search_of (stmt.Delete table condition) = Some (stmt.Delete table condition)
+search_of other = None
+
+-- the place of the row for which a tuple was refused
+abbrev pub refused_at : ℕ → Reply → Option Place
+refused_at table (replies.Fail (Duplicate key)) = Some (table, key)
+refused_at table other = None
+
+-- What changes that are made or to be made rest on: their places; and the rows that the statement has searched for.
+abbrev pub ground_for : Option Stmt → List Change → Ground
+ground_for searched changes = record { changes = changes; searched = searched; refused_at = None }
+
+-- the first so many changes, and the refusal if it is one
+pub record AnswersAlike (count : ℕ) (kept : Reply) (statement : Stmt) (some other : Database) : Type 0 where
+  pub changes : take count (outcome statement some).changes ≡ take count (outcome statement other).changes
+  pub reply : is_refusal kept ≡ true → (outcome statement some).reply ≡ (outcome statement other).reply
+
+-- what the reply of a statement that has made so many changes rests on is kept
+pub record KeepsReply (s count : ℕ) (kept : Reply) (statement : Stmt) (past : List Event) (writer : Option ℕ) : Type 0 where
+  pub ground : Ground
+  pub keeps : KeepsGround s (base s past).schemas ground past writer
+  pub among : (place : Place) → touches (base s past).schemas (own s past) place ≡ true → touches (base s past).schemas ground.changes place ≡ true
+  pub stands : Stands ground (λ db. AnswersAlike count kept statement db (base s past)) (base s past)
 
 -- ---- its parts
 
@@ -98,16 +125,19 @@ pub record IsChanging (past : List Event) (writer : Option ℕ) (s : ℕ) (part 
   pub statement : Stmt
   pub working : IsWorking s statement part.alone past
   pub goes_on : GoesOn s past
-  pub right : HasRight s past writer
   pub before_is : part.before ≡ length (own_before s past)
   pub tables : created past ≡ (base s past).schemas
   pub writes : IsWriting part.stmt
   pub cut : IsCut (created past) part.stmt (behind part)
   pub table_is : table_read (created past) part.stmt ≡ Some part.table
-  -- the changes that are made, and what comes behind those that are not
+  -- the changes that are made
   pub made : List Change
   pub own_is : own s past ≡ reverse made ++ own_before s past
-  pub goes : GoesOnWith statement (base s past) (made ++ reverse todo) next
+  -- what all of them rest on is kept; and on that stands what comes behind them
+  pub searched : Option Stmt
+  pub searched_is : (searched ≡ None) ⊎ (searched ≡ search_of part.stmt)
+  pub keeps : KeepsGround s (base s past).schemas (ground_for searched (todo ++ own s past)) past writer
+  pub goes : Stands (ground_for searched (todo ++ own s past)) (λ db. GoesOnWith statement db (made ++ reverse todo) next) (base s past)
 
 -- The plan of its search leaves out no row of its table that the part's outcome depends on.
 pub record IsReading (past : List Event) (writer : Option ℕ) (s : ℕ) (part : Part) : Type 0 where
@@ -155,7 +185,6 @@ pub record IsMade (past : List Event) (writer : Option ℕ) (s : ℕ) (alone : B
   pub statement : Stmt
   pub working : IsWorking s statement alone past
   pub goes_on : GoesOn s past
-  pub right : HasRight s past writer
   pub before_is : before ≡ length (own_before s past)
   pub answer : (outcome statement (base s past)).reply ≡ replies.Count (length (outcome statement (base s past)).changes)
   pub own_is : own s past ≡ reverse (outcome statement (base s past)).changes ++ own_before s past
@@ -189,10 +218,10 @@ pub record HasReply (s : ℕ) (statement : Stmt) (kept : Reply) (past : List Eve
   pub made : HasMade count s (outcome statement (base s (point s past))).changes (point s past)
   pub answers : MayAnswer s statement count kept past
 
--- the point of a statement that is not over is its past, which stays what it is
-pub record MovesOn (count : ℕ) (kept : Reply) (past : List Event) (writer : Option ℕ) (s : ℕ) : Type 0 where
+-- the point of a statement that is not over is its past, which goes on beside what its reply rests on
+pub record MovesOn (s count : ℕ) (kept : Reply) (statement : Stmt) (past : List Event) (writer : Option ℕ) : Type 0 where
   pub not_over : is_over s past ≡ false
-  pub stays : ((kept ≡ replies.NoMemory) × (count ≡ 0)) ⊎ HasRight s past writer
+  pub stays : ((kept ≡ replies.NoMemory) × (count ≡ 0)) ⊎ KeepsReply s count kept statement past writer
 
 pub record IsBackingOut (past : List Event) (writer : Option ℕ) (s : ℕ) (work : Work) : Type 0 where
   pub statement : Stmt
@@ -201,7 +230,7 @@ pub record IsBackingOut (past : List Event) (writer : Option ℕ) (s : ℕ) (wor
   pub same : work.given ≡ work.kept
   pub backs : is_count work.kept ≡ false
   pub reply : HasReply s statement work.kept past
-  pub moves : (is_over s past ≡ true) ⊎ MovesOn reply.count work.kept past writer s
+  pub moves : (is_over s past ≡ true) ⊎ MovesOn s reply.count work.kept statement past writer
   -- its changes that stand
   pub rest : List Change
   pub own_is : own s past ≡ rest ++ own_before s past

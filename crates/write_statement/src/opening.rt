@@ -15,7 +15,8 @@ ghost use Rattle.sql_lists.specs.Going.{Nears, left};
 ghost use Rattle.write_statement.specs.Going.{to_go, IsNearer};
 ghost use Rattle.sql_plan.specs.Planning.{IsPlanFor};
 ghost use Rattle.write_statement.specs.Parts.{of_part};
-ghost use Rattle.write_statement.specs.Running.{HasRight, IsChanging, IsRunning};
+ghost use Rattle.law_claims.specs.Claims.{Keeps, Tables};
+ghost use Rattle.write_statement.specs.Running.{IsChanging, IsRunning};
 
 use crate::answering::{give_up, give_up_at};
 use crate::machine::{Part, WriteStatement};
@@ -126,7 +127,7 @@ fn begin_search<L: SharedLists>(
 ) -> (WriteStatement, Advance)
     requires joined { session < length lists.old.names }
     requires running { IsRunning lists.old session (WriteStatement.Locking stmt alone) }
-    requires right { HasRight session lists.old.past lists.old.writer }
+    requires right { Keeps session Tables lists.old.past lists.old.writer }
     ensures steps { Steps IsRunning session lists.old lists.new result.0 result.1 }
     ensures nears { Nears to_go session lists.old (WriteStatement.Locking stmt alone) lists.new result.0 result.1 }
 {

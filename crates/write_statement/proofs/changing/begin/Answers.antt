@@ -1,9 +1,14 @@
 use Rattle.std.proofs.Common.{[], ◌∷◌, ◌++◌, inl, refl}
 use Rattle.shared_lists.specs.Tasks.{Idle}
+use Rattle.law_claims.specs.Claims.{Tables}
+use Rattle.law_claims.proofs.Keeping.{keeper_writes}
 use Rattle.write_statement.specs.Parts.{of_rest}
 use Rattle.write_statement.proofs.Changes.{fits}
 use Rattle.write_statement.proofs.Turning.{turns_stayed, changing_given_up, begun}
 use Rattle.write_statement.proofs.changing.begin.Goals as goal
+
+pub begin_change-requires-clause-locked : goal.begin_change-requires-clause-locked
+begin_change-requires-clause-locked g c = keeper_writes c.args.session Tables c.args.lists.now.past c.args.lists.now.writer (c.requires.changing.keeps Tables tt)
 
 pub begin_change-requires-clause-fits : goal.begin_change-requires-clause-fits
 begin_change-requires-clause-fits g c =

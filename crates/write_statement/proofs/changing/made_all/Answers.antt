@@ -1,11 +1,20 @@
-use Rattle.std.proofs.Common.{[], ◌∷◌, ◌+◌, ◌*◌, length, refl, ap, ◌∙◌, inl, arith}
+use Rattle.std.proofs.Common.{◌≡◌, List, sym, [], ◌∷◌, ◌+◌, ◌*◌, length, refl, ap, ◌∙◌, inl, arith}
 use Rattle.std.specs.Prelude.{reverse}
 use Rattle.std.proofs.lemmas.List.{length-append, reverse-append}
 use Rattle.shared_lists.specs.Tasks.{Idle}
 use Rattle.write_statement.specs.Parts.{of_rest}
-use Rattle.write_statement.proofs.PartByPart.{goes_next}
+use Rattle.write_statement.proofs.PartByPart.{goes_next, all_made}
 use Rattle.write_statement.proofs.Turning.{turns_none, changing_given_up}
 use Rattle.write_statement.proofs.changing.made_all.Goals as goal
+
+none_left : {A : Type 0} (items : List A) → length items ≡ 0 → items ≡ []
+none_left [] none = refl
+none_left (item ∷ items) none = absurd (omega (arith, none))
+
+pub finish-requires-clause-made : goal.finish-requires-clause-made
+finish-requires-clause-made g c =
+    all_made c.args.lists.now.past c.args.lists.now.writer c.args.session c.args.part c.requires.changing
+    (ap reverse (none_left c.args.part.later.items (sym c.args.part.later.ok.0 ∙ c.in_default.ensures.cases.0)))
 
 pub returns-in_default-clause-nears : goal.returns-in_default-clause-nears
 returns-in_default-clause-nears g c = c.finish.ensures.nears (length c.args.part.later.items)

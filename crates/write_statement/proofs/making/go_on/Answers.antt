@@ -1,5 +1,15 @@
+use Rattle.law_claims.specs.Claims.{Tables}
+use Rattle.law_claims.proofs.Keeping.{keeper_writes, keeper_alone}
 use Rattle.write_statement.proofs.Entering.{may_make, making_went, entered, making_given_up}
 use Rattle.write_statement.proofs.making.go_on.Goals as goal
+
+pub change-requires-clause-locked : goal.change-requires-clause-locked
+change-requires-clause-locked g c =
+    keeper_writes c.args.session Tables c.args.lists.now.past c.args.lists.now.writer (c.requires.running.changing.keeps Tables tt)
+
+pub change-requires-clause-alone : goal.change-requires-clause-alone
+change-requires-clause-alone g c =
+    keeper_alone c.args.session Tables c.args.lists.now.past c.args.lists.now.writer (c.requires.running.changing.keeps Tables tt)
 
 pub change-requires-clause-may : goal.change-requires-clause-may
 change-requires-clause-may g c =

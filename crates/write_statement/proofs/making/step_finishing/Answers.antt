@@ -1,5 +1,15 @@
+use Rattle.law_claims.specs.Claims.{Tables}
+use Rattle.law_claims.proofs.Keeping.{keeper_writes, keeper_alone}
 use Rattle.write_statement.proofs.Entering.{finishing_went, finishing_done, finishing_given_up}
 use Rattle.write_statement.proofs.making.step_finishing.Goals as goal
+
+pub change-requires-clause-locked : goal.change-requires-clause-locked
+change-requires-clause-locked g c =
+    keeper_writes c.args.session Tables c.args.lists.now.past c.args.lists.now.writer (c.requires.running.changing.keeps Tables tt)
+
+pub change-requires-clause-alone : goal.change-requires-clause-alone
+change-requires-clause-alone g c =
+    keeper_alone c.args.session Tables c.args.lists.now.past c.args.lists.now.writer (c.requires.running.changing.keeps Tables tt)
 
 pub returns-in-Went-clause-steps : goal.returns-in-Went-clause-steps
 returns-in-Went-clause-steps g c =

@@ -2,8 +2,14 @@ use Rattle.std.proofs.Common.{Option, sym, subst}
 use Rattle.inno_db.specs.declared.change.Change.{Change}
 use Rattle.shared_lists.specs.Tasks.{left_by}
 use Rattle.shared_lists.specs.State.{Turns}
+use Rattle.law_claims.specs.Claims.{Tables}
+use Rattle.law_claims.proofs.Keeping.{keeper_writes}
 use Rattle.write_statement.proofs.Entering.{making_given_up}
 use Rattle.write_statement.proofs.making.stop_making.Goals as goal
+
+pub stop_change-requires-clause-locked : goal.stop_change-requires-clause-locked
+stop_change-requires-clause-locked g c =
+    keeper_writes c.args.session Tables c.args.lists.now.past c.args.lists.now.writer (c.requires.running.changing.keeps Tables tt)
 
 pub stop_change-requires-clause-asked : goal.stop_change-requires-clause-asked
 stop_change-requires-clause-asked g c = (c.requires.running.change, c.requires.running.asked_is)

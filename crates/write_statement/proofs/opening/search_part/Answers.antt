@@ -4,9 +4,15 @@ use Rattle.law_stored_rows.specs.Storable.{AreStorable}
 use Rattle.law_found_rows.proofs.FittingChanges.{tables_storable}
 use Rattle.shared_lists.specs.Tasks.{Idle}
 use Rattle.shared_lists.specs.State.{State}
+use Rattle.law_claims.specs.Claims.{Tables}
+use Rattle.law_claims.proofs.Keeping.{keeper_writes}
 use Rattle.write_statement.specs.Parts.{of_part}
 use Rattle.write_statement.proofs.Turning.{turns_none, turns_stayed, changing_given_up, begins_search}
 use Rattle.write_statement.proofs.opening.search_part.Goals as goal
+
+pub begin_search-requires-clause-newest : goal.begin_search-requires-clause-newest
+begin_search-requires-clause-newest g c = λ newest.
+    keeper_writes c.args.session Tables c.args.lists.now.past c.args.lists.now.writer (c.requires.changing.keeps Tables tt)
 
 pub plan_in-requires : goal.plan_in-requires
 plan_in-requires g c =
