@@ -10,7 +10,7 @@ ghost use Rattle.world.specs.State.{WorldState};
 ghost use Rattle.world.specs.Told.{IsTold};
 ghost use Rattle.row_search.specs.declared.found.FoundRow.{FoundRow};
 ghost use Rattle.row_search.specs.declared.search.RowSearch.{RowSearch};
-ghost use Rattle.row_search.specs.declared.search.Reached.TheVariants.{Went, Done, Hindered, Malformed};
+ghost use Rattle.row_search.specs.declared.search.Came.TheVariants.{Went, Done, Hindered, Malformed};
 ghost use Rattle.row_search.specs.FoundRows.{AreFound, RiseByKey};
 ghost use Rattle.row_search.specs.Ranges.{lies_in};
 ghost use Rattle.row_search.specs.Searches.{BeginsWithNothing, MayBegin};
@@ -32,15 +32,15 @@ pub fn a_search_begins()
 pub fn a_search_goes_on()
     ensures went { (s : ℕ) (schema : Schema) (old new : WorldState) (chains : Chains) (search next : RowSearch)
         → IsFinding s schema old chains search → ShowsRows schema search.scan old (in_table search.scan.table chains)
-        → Searches s schema old new search (Went next) → IsTold new
+        → Searches s schema old new search next Went → IsTold new
         → IsFinding s schema new chains next × IsSameScan search.scan next.scan }
     ensures hindered { (s : ℕ) (schema : Schema) (old new : WorldState) (chains : Chains) (search same : RowSearch) (why : Move)
-        → IsFinding s schema old chains search → Searches s schema old new search (Hindered same why) → IsTold new
+        → IsFinding s schema old chains search → Searches s schema old new search same (Hindered why) → IsTold new
         → IsFinding s schema new chains same × IsSameScan search.scan same.scan }
-    ensures done { (s : ℕ) (schema : Schema) (old new : WorldState) (chains : Chains) (search : RowSearch) (rows : Vec FoundRow Global)
-        → IsFinding s schema old chains search → Searches s schema old new search (Done rows)
+    ensures done { (s : ℕ) (schema : Schema) (old new : WorldState) (chains : Chains) (search next : RowSearch) (rows : Vec FoundRow Global)
+        → IsFinding s schema old chains search → Searches s schema old new search next (Done rows)
         → AreFound schema search.scan.which (rows_seen search.scan.sight (in_table search.scan.table chains)) (lies_in schema search.scan) rows.items
         × RiseByKey rows.items }
     ensures malformed { (s : ℕ) (schema : Schema) (old new : WorldState) (search same : RowSearch)
-        → IsTold old → Searches s schema old new search (Malformed same) → ⊥ }
+        → IsTold old → Searches s schema old new search same Malformed → ⊥ }
 {}

@@ -11,7 +11,7 @@ ghost use Rattle.world.specs.Indexes.{Calls};
 ghost use Rattle.world.specs.declared.undo_room.UndoRoom.{UndoRoom};
 ghost use Rattle.row_search.specs.declared.found.FoundRow.{FoundRow};
 ghost use Rattle.row_search.specs.declared.search.RowSearch.{RowSearch};
-ghost use Rattle.row_search.specs.declared.search.Reached.TheVariants.{Went, Done, Hindered, Malformed};
+ghost use Rattle.row_search.specs.declared.search.Came.TheVariants.{Went, Done, Hindered, Malformed};
 ghost use Rattle.row_search.specs.Steps.{Searches, IsSameScan};
 ghost use Rattle.undo_apply.specs.declared.work_room.WorkRoom.{WorkRoom};
 ghost use Rattle.shared_lists.specs.State.{counted};
@@ -40,27 +40,27 @@ pub fn a_search_goes_on()
     ensures went { (s : ℕ) (old new : WorldState) (writer : Option ℕ) (desks : List Desk) (cuts : ℕ) (undo : UndoRoom) (room : WorkRoom)
         (on : TableSearch) (search next : RowSearch)
         → IsHeld old writer desks cuts undo room → doing_at s desks ≡ Searching on → IsTakenUp cuts on search
-        → Searches s on.schema old new search (Went next) → IsTold new
+        → Searches s on.schema old new search next Went → IsTold new
         → IsHeld new writer (with_doing s (Searching (record on { search = next; cuts = cuts })) desks) cuts undo room
         × MovesPlaces s old new × IsSameScan on.search.scan next.scan }
     ensures nears { (s : ℕ) (old new : WorldState) (writer : Option ℕ) (desks : List Desk) (cuts : ℕ) (undo : UndoRoom) (room : WorkRoom)
         (on : TableSearch) (search next : RowSearch)
         → IsHeld old writer desks cuts undo room → doing_at s desks ≡ Searching on → IsTakenUp cuts on search
-        → Searches s on.schema old new search (Went next) → IsTold new
+        → Searches s on.schema old new search next Went → IsTold new
         → IsBelow (counted (places_in s new (record on { search = next; cuts = cuts }))) (counted (places_in s old on)) }
     ensures done { (s : ℕ) (old new : WorldState) (writer : Option ℕ) (desks : List Desk) (cuts : ℕ) (undo : UndoRoom) (room : WorkRoom)
-        (on : TableSearch) (search : RowSearch) (rows : Vec FoundRow Global)
+        (on : TableSearch) (search next : RowSearch) (rows : Vec FoundRow Global)
         → IsHeld old writer desks cuts undo room → doing_at s desks ≡ Searching on → IsTakenUp cuts on search
-        → Searches s on.schema old new search (Done rows) → IsTold new
+        → Searches s on.schema old new search next (Done rows) → IsTold new
         → IsHeld new writer (with_doing s Nothing desks) cuts undo room × MovesPlaces s old new
         × AreFoundBy (reading_of on.search.scan.sight) on.search.scan.table (plan_of on) old.past s (map (λ (found : FoundRow). found.row) rows.items) }
     ensures hindered { (s : ℕ) (old new : WorldState) (writer : Option ℕ) (desks : List Desk) (cuts : ℕ) (undo : UndoRoom) (room : WorkRoom)
         (on : TableSearch) (search same : RowSearch) (why : Move)
         → IsHeld old writer desks cuts undo room → doing_at s desks ≡ Searching on → IsTakenUp cuts on search
-        → Searches s on.schema old new search (Hindered same why) → IsTold new
+        → Searches s on.schema old new search same (Hindered why) → IsTold new
         → MayStep s on.schema new same × MovesPlaces s old new }
     ensures malformed { (s : ℕ) (old new : WorldState) (on : TableSearch) (search same : RowSearch)
-        → IsTold old → Searches s on.schema old new search (Malformed same) → ⊥ }
+        → IsTold old → Searches s on.schema old new search same Malformed → ⊥ }
 {}
 
 /// A search is given up as its session leaves the index, at once or after steps that moved places.

@@ -14,7 +14,7 @@ ghost use Rattle.world.specs.Indexes.{Calls};
 ghost use Rattle.world.specs.declared.undo_room.UndoRoom.{UndoRoom};
 ghost use Rattle.row_search.specs.declared.found.FoundRow.{FoundRow};
 ghost use Rattle.row_search.specs.declared.search.RowSearch.{RowSearch};
-ghost use Rattle.row_search.specs.declared.search.Reached.TheVariants.{Went, Done, Hindered, Malformed};
+ghost use Rattle.row_search.specs.declared.search.Came.TheVariants.{Went, Done, Hindered, Malformed};
 ghost use Rattle.row_search.specs.declared.sight.Sight.TheVariants.{Newest};
 ghost use Rattle.row_search.specs.Steps.{Searches};
 ghost use Rattle.undo_apply.specs.declared.work_room.WorkRoom.{WorkRoom};
@@ -40,21 +40,21 @@ pub fn the_newest_rows_are_read()
     ensures may_step { (chains : Chains) (s table : ℕ) (plan : Plan) (schema : Schema) (first state : WorldState) (search : RowSearch)
         → IsReadingNewest chains s table plan schema first state search → IsTold state → MayStep s schema state search }
     ensures went { (chains : Chains) (s table : ℕ) (plan : Plan) (schema : Schema) (first old new : WorldState) (search next : RowSearch)
-        → IsReadingNewest chains s table plan schema first old search → Searches s schema old new search (Went next) → IsTold new
+        → IsReadingNewest chains s table plan schema first old search → Searches s schema old new search next Went → IsTold new
         → IsReadingNewest chains s table plan schema first new next }
     ensures nears { (chains : Chains) (s table : ℕ) (plan : Plan) (schema : Schema) (first old new : WorldState) (search next : RowSearch)
-        → IsReadingNewest chains s table plan schema first old search → Searches s schema old new search (Went next) → IsTold new
+        → IsReadingNewest chains s table plan schema first old search → Searches s schema old new search next Went → IsTold new
         → left_in s new next < left_in s old search }
-    ensures done { (chains : Chains) (s table : ℕ) (plan : Plan) (schema : Schema) (first old new : WorldState) (search : RowSearch) (rows : Vec FoundRow Global)
-        → IsReadingNewest chains s table plan schema first old search → Searches s schema old new search (Done rows)
+    ensures done { (chains : Chains) (s table : ℕ) (plan : Plan) (schema : Schema) (first old new : WorldState) (search next : RowSearch) (rows : Vec FoundRow Global)
+        → IsReadingNewest chains s table plan schema first old search → Searches s schema old new search next (Done rows)
         → AreRead chains table plan schema first rows.items × MovesPlaces s first new }
     ensures hindered { (chains : Chains) (s table : ℕ) (plan : Plan) (schema : Schema) (first old new : WorldState) (search same : RowSearch) (why : Move)
-        → IsReadingNewest chains s table plan schema first old search → Searches s schema old new search (Hindered same why) → IsTold new
+        → IsReadingNewest chains s table plan schema first old search → Searches s schema old new search same (Hindered why) → IsTold new
         → IsReadingNewest chains s table plan schema first new same }
     ensures given_up { (chains : Chains) (s table index : ℕ) (plan : Plan) (schema : Schema) (first state later : WorldState) (search : RowSearch)
         → IsReadingNewest chains s table plan schema first state search → Calls index (Leaves s) state later → MovesPlaces s first later }
     ensures malformed { (s : ℕ) (schema : Schema) (old new : WorldState) (search same : RowSearch)
-        → IsTold old → Searches s schema old new search (Malformed same) → ⊥ }
+        → IsTold old → Searches s schema old new search same Malformed → ⊥ }
 {}
 
 /// The rows that were read are the newest ones of the past, in the plan's range or all of them.

@@ -6,5 +6,4 @@ pub mod Tables
 pub mod Searches
 pub mod Visits
 pub mod Steps
-pub mod InPlace
 pub mod Others

@@ -19,8 +19,8 @@ use Rattle.row_search.specs.declared.scan.Scan.{Scan}
 use Rattle.row_search.specs.declared.phase.Phase.{Phase}
 use Rattle.row_search.specs.declared.phase.Phase.TheVariants.{Seek, Follow, Fetch, Walk}
 use Rattle.row_search.specs.declared.search.RowSearch.{RowSearch}
-use Rattle.row_search.specs.declared.search.Reached.{Reached}
-use Rattle.row_search.specs.declared.search.Reached.TheVariants.{Went, Done, Hindered, Malformed}
+use Rattle.row_search.specs.declared.search.Came.{Came}
+use Rattle.row_search.specs.declared.search.Came.TheVariants.{Went, Done, Hindered, Malformed}
 use Rattle.row_search.specs.Sights.{rows_seen}
 use Rattle.row_search.specs.FoundRows.{AreFound, RiseByKey}
 use Rattle.row_search.specs.Ranges.{lies_in}
@@ -97,8 +97,14 @@ pub record Ends (actor : ℕ) (schema : Schema) (old new : WorldState) (search :
   pub found : (versions_at : Value → List Version) → Finds schema old.versions.kept_at (place_in actor search.scan old) versions_at search
       → AreFound schema search.scan.which (rows_seen search.scan.sight versions_at) (lies_in schema search.scan) rows × RiseByKey rows
 
-abbrev pub Searches : ℕ → Schema → WorldState → WorldState → RowSearch → Reached → Type 0
-Searches actor schema old new search (Went next) = GoesOn actor schema old new search next
-Searches actor schema old new search (Done rows) = Ends actor schema old new search rows.items
-Searches actor schema old new search (Hindered same why) = Waits actor schema old new search same why
-Searches actor schema old new search (Malformed same) = (same ≡ search) × (new ≡ old) × (IsTrue old.versions.told → ⊥)
+-- a step of the search, which is the next one behind it; once it is over nothing is said of it
+abbrev pub Searches : ℕ → Schema → WorldState → WorldState → RowSearch → RowSearch → Came → Type 0
+Searches actor schema old new search next Went = GoesOn actor schema old new search next
+Searches actor schema old new search next (Done rows) = Ends actor schema old new search rows.items
+Searches actor schema old new search next (Hindered why) = Waits actor schema old new search next why
+Searches actor schema old new search next Malformed = (next ≡ search) × (new ≡ old) × (IsTrue old.versions.told → ⊥)
+
+-- the scan comes from this phase to the next
+abbrev pub Comes : ℕ → Schema → WorldState → WorldState → Scan → Phase → Scan → Phase × Came → Type 0
+Comes actor schema old new scan phase now came =
+    Searches actor schema old new (record { scan = scan; phase = phase }) (record { scan = now; phase = came.0 }) came.1

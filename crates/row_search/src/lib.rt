@@ -20,5 +20,5 @@ pub use laws::{
 };
 pub use phase::Phase;
 pub use scan::Scan;
-pub use search::{Came, Reached, RowSearch};
+pub use search::{Came, RowSearch};
 pub use sight::Sight;

@@ -4,7 +4,7 @@ ghost use Rattle.std.specs.Prelude.{◌≡◌, ◌<◌, ◌≤◌};
 ghost use Rattle.row_search.specs.Visits.{IsGivenPhase};
 ghost use Rattle.row_search.specs.Searches.{IsSearching};
 ghost use Rattle.row_search.specs.Tables.{HoldsTable};
-ghost use Rattle.row_search.specs.InPlace.{Comes};
+ghost use Rattle.row_search.specs.Steps.{Comes};
 
 use crate::bounds::{first_bytes, primary_of, side_of};
 use crate::found::FoundRow;

@@ -7,8 +7,7 @@ ghost use Rattle.world.specs.Indexes.{Calls};
 ghost use Rattle.row_search.specs.Searches.{IsSearching, BeginsWithNothing, MayBegin};
 ghost use Rattle.row_search.specs.Others.{KeepsFound, KeepsSearching, NeedsNoVersion};
 ghost use Rattle.row_search.specs.Tables.{HoldsTable};
-ghost use Rattle.row_search.specs.Steps.{Searches};
-ghost use Rattle.row_search.specs.InPlace.{Comes, reached_at};
+ghost use Rattle.row_search.specs.Steps.{Searches, Comes};
 ghost use Rattle.row_search.specs.Visits.{phase_anew};
 
 use crate::found::FoundRow;
@@ -32,24 +31,14 @@ pub struct RowSearch {
 
 /// How far a step of a search came.
 #[derive(Drop)]
-pub enum Reached {
+pub enum Came {
     /// Some steps are left.
-    Went(RowSearch),
-    /// The rows that were found, in the order of their primary keys.
+    Went,
+    /// The search is over: the rows that were found, in the order of their primary keys.
     Done(Vec<FoundRow>),
     /// What came next was not done: the same step is to be made again, or the search is given up.
-    Hindered(RowSearch, Move),
-    /// A record is not one of the table. This comes only where the world doesn't tell what is kept.
-    Malformed(RowSearch),
-}
-
-/// The same of a step that is made where the search lies.
-#[derive(Drop)]
-pub enum Came {
-    Went,
-    /// The search is over, and has handed its rows out.
-    Done(Vec<FoundRow>),
     Hindered(Move),
+    /// A record is not one of the table. This comes only where the world doesn't tell what is kept.
     Malformed,
 }
 
@@ -91,18 +80,6 @@ impl RowSearch {
         self.phase = anew(phase);
     }
 
-    /// The same of a search that is moved: this goes with its last caller.
-    pub fn anew(mut self) -> RowSearch
-        ensures scan { result.scan ≡ self.scan }
-        ensures phase { result.phase ≡ phase_anew self.phase }
-        ensures finds { KeepsFound self result }
-        ensures way { NeedsNoVersion result }
-        ensures holds { KeepsSearching self result }
-    {
-        self.come_anew();
-        self
-    }
-
     /// Gives the search up. The actor has no place in the index any more.
     pub fn give_up<W: World>(self, world: &mut W, actor: u32, schema: &Schema)
         requires { IsSearching actor schema.now (W.state world.old) self }
@@ -121,35 +98,12 @@ impl RowSearch {
     ) -> Came
         requires searching { IsSearching actor schema.now (W.state world.old) self.old }
         requires table { HoldsTable schema.now self.old.scan.table (W.state world.old) }
-        ensures { Searches actor schema.now (W.state world.old) (W.state world.new) self.old (reached_at self.new result) }
+        ensures { Searches actor schema.now (W.state world.old) (W.state world.new) self.old self.new result }
     {
         let phase = mem::replace(&mut self.phase, Phase::Leave);
         let (next, came) = self.scan.comes(phase, alloc, world, actor, schema);
         self.phase = next;
         came
-    }
-
-    /// One step of a search that is moved: `advance` does the work, and this goes with its last caller.
-    pub fn step<W: World>(
-        mut self,
-        alloc: Global,
-        world: &mut W,
-        actor: u32,
-        schema: &Schema,
-    ) -> Reached
-        requires searching { IsSearching actor schema.now (W.state world.old) self }
-        requires table { HoldsTable schema.now self.scan.table (W.state world.old) }
-        ensures { Searches actor schema.now (W.state world.old) (W.state world.new) self result }
-    {
-        match self.advance(alloc, world, actor, schema) {
-            Came::Went => Reached::Went(self),
-            Came::Done(rows) => {
-                drop(self);
-                Reached::Done(rows)
-            }
-            Came::Hindered(why) => Reached::Hindered(self, why),
-            Came::Malformed => Reached::Malformed(self),
-        }
     }
 }
 

@@ -3,7 +3,7 @@
 ghost use Rattle.std.specs.Prelude.{◌≡◌, ◌<◌, ◌≤◌};
 ghost use Rattle.row_search.specs.Searches.{IsSearching};
 ghost use Rattle.row_search.specs.Tables.{HoldsTable};
-ghost use Rattle.row_search.specs.InPlace.{Comes};
+ghost use Rattle.row_search.specs.Steps.{Comes};
 ghost use Rattle.row_search.specs.Visits.{phase_after, move_for};
 
 use crate::bounds::{copy_of, primary_of};

@@ -9,7 +9,7 @@ pub returns-clause-hindered : goal.returns-clause-hindered
 returns-clause-hindered c = waits_on
 
 pub returns-clause-done : goal.returns-clause-done
-returns-clause-done c = λ s schema old new chains search rows is ends. ends.found (in_table search.scan.table chains) is.finds
+returns-clause-done c = λ s schema old new chains search next rows is ends. ends.found (in_table search.scan.table chains) is.finds
 
 pub returns-clause-malformed : goal.returns-clause-malformed
 returns-clause-malformed c = λ s schema old new search same told is. is.2 told.versions

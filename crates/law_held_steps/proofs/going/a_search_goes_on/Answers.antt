@@ -13,7 +13,7 @@ returns-clause-nears c =
 
 pub returns-clause-done : goal.returns-clause-done
 returns-clause-done c =
-    λ s old new writer desks cuts undo room on search rows held is taken ends told. ended s old writer desks cuts undo room on held is search taken
+    λ s old new writer desks cuts undo room on search next rows held is taken ends told. ended s old writer desks cuts undo room on held is search taken
     new told rows.items ends
 
 pub returns-clause-hindered : goal.returns-clause-hindered

@@ -17,7 +17,7 @@ pub returns-clause-nears : goal.returns-clause-nears
 returns-clause-nears c = reading_nears
 
 pub returns-clause-done : goal.returns-clause-done
-returns-clause-done c = λ chains s table plan schema first old new search rows. reading_ends chains s table plan schema first old new search rows.items
+returns-clause-done c = λ chains s table plan schema first old new search next rows. reading_ends chains s table plan schema first old new search rows.items
 
 pub returns-clause-hindered : goal.returns-clause-hindered
 returns-clause-hindered c = reading_waits
