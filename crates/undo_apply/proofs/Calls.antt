@@ -1,24 +1,21 @@
 -- Why a call of an index has not done what it was asked, where all is told.
-use Rattle.std.proofs.Common.{◌≡◌, ◌≢◌, inr, ℕ, true, false, List, Option, Some, None, refl, sym, ap, ◌∙◌, length}
-use Rattle.std.specs.Prelude.{IsSome, IfSome, is_some}
+use Rattle.std.proofs.Common.{◌≡◌, ◌≢◌, inr, ℕ, true, false, List, Some, None, refl, sym, ap, ◌∙◌, length}
+use Rattle.std.specs.Prelude.{is_some}
 use Rattle.std.proofs.lemmas.Bool.{true≢false, eq-eqb}
 use Rattle.store_api.specs.declared.moves.Move.{Move}
-use Rattle.store_api.specs.declared.moves.Move.TheVariants.{At, End, Done, Step, Latch, Again, Full, TooDeep, Failed, Bad, NoMemory}
+use Rattle.store_api.specs.declared.moves.Move.TheVariants.{End, Done, Step, Latch, Again, Full, TooDeep, Failed, Bad, NoMemory}
 use Rattle.entries.specs.Pairs.{Pair, value_of}
 use Rattle.entries.specs.Index.{Told}
-use Rattle.entries.specs.Calls.{Fetches, NextKeys, Replaces, Removes, IsResized, is_as_long}
+use Rattle.entries.specs.Calls.{Delays, Fetches, NextKeys, Replaces, Removes, IsResized, is_as_long}
 use Rattle.world.specs.State.{WorldState}
-use Rattle.world.specs.Told.{pairs_in, IsTold}
+use Rattle.world.specs.Told.{IsTold}
+use Rattle.row_changes.proofs.Telling.{tells}
 use Rattle.undo_apply.specs.Told.{rows_of}
 use Rattle.undo_apply.specs.Stages.{Stops}
 
-told_pairs : (P : List Pair → Type 0) (pairs : Option (List Pair)) → IsSome pairs → IfSome pairs P → P (pairs_in pairs)
-told_pairs P None some holds = absurd cc
-told_pairs P (Some pairs) some holds = holds
-
 -- what is said of the pairs holds of them, where all is told
 pub told_of : (P : List Pair → Type 0) (state : WorldState) (index : ℕ) → IsTold state → Told P (state.indexes index) → P ((rows_of state).pairs index)
-told_of P state index told holds = told_pairs P (state.indexes index).pairs (told.pairs index) holds
+told_of P state index told holds = tells P (state.indexes index).pairs holds (told.pairs index)
 
 -- the key is there, with a value of this length
 abbrev pub IsThereAs : List ℕ → List ℕ → WorldState → ℕ → Type 0
@@ -38,6 +35,15 @@ not_resized key value state index told there resized =
     ap (is_as_long value) there.1 ∙ eq-eqb (length there.0) (length value) there.2 in
     true≢false (sym yes ∙ no)
 
+delay_stops : (actor : ℕ) (old new : WorldState) (index : ℕ) (answer : Move) → Delays actor (old.indexes index) (new.indexes index) answer
+    → Stops actor index old new answer
+delay_stops actor old new index (Latch by) h = inr h
+delay_stops actor old new index Step h = h
+delay_stops actor old new index Again h = h
+delay_stops actor old new index Failed h = h
+delay_stops actor old new index (Bad page rule) h = h
+delay_stops actor old new index other h = absurd h
+
 pub replace_stops : (actor : ℕ) (key value : List ℕ) (old new : WorldState) (index : ℕ) (answer : Move) → (IsTold old → IsThereAs key value old index)
     → Replaces actor key value (old.indexes index) (new.indexes index) answer → answer ≢ Done → Stops actor index old new answer
 replace_stops actor key value old new index Done there h not_done = absurd (not_done refl)
@@ -45,26 +51,14 @@ replace_stops actor key value old new index End there h not_done = λ told. not_
 replace_stops actor key value old new index NoMemory there h not_done = λ told. not_resized key value old index told (there told) h.0
 replace_stops actor key value old new index (Full need free) there h not_done = λ told. not_resized key value old index told (there told) h.0
 replace_stops actor key value old new index TooDeep there h not_done = λ told. not_resized key value old index told (there told) h.0
-replace_stops actor key value old new index (At k v) there h not_done = absurd h
-replace_stops actor key value old new index (Latch by) there h not_done = inr h
-replace_stops actor key value old new index Step there h not_done = h
-replace_stops actor key value old new index Again there h not_done = h
-replace_stops actor key value old new index Failed there h not_done = h
-replace_stops actor key value old new index (Bad page rule) there h not_done = h
+replace_stops actor key value old new index other there h not_done = delay_stops actor old new index other h
 
 pub remove_stops : (actor : ℕ) (key : List ℕ) (old new : WorldState) (index : ℕ) (answer : Move)
     → Removes actor key (old.indexes index) (new.indexes index) answer → answer ≢ Done → answer ≢ End → Stops actor index old new answer
 remove_stops actor key old new index Done h not_done not_end = absurd (not_done refl)
 remove_stops actor key old new index End h not_done not_end = absurd (not_end refl)
 remove_stops actor key old new index (Latch by) h not_done not_end = h
-remove_stops actor key old new index Step h not_done not_end = h
-remove_stops actor key old new index Again h not_done not_end = h
-remove_stops actor key old new index Failed h not_done not_end = h
-remove_stops actor key old new index (Bad page rule) h not_done not_end = h
-remove_stops actor key old new index NoMemory h not_done not_end = absurd h
-remove_stops actor key old new index (Full need free) h not_done not_end = absurd h
-remove_stops actor key old new index TooDeep h not_done not_end = absurd h
-remove_stops actor key old new index (At k v) h not_done not_end = absurd h
+remove_stops actor key old new index other h not_done not_end = delay_stops actor old new index other h
 
 -- the key was there, where all is told
 pub absent_stops : (actor : ℕ) (key : List ℕ) (old new : WorldState) (index : ℕ) → (IsTold old → is_some (value_of key ((rows_of old).pairs index)) ≡ true)
@@ -78,25 +72,10 @@ pub next_key_stops : (actor : ℕ) (key read : List ℕ) (old new : WorldState) 
 next_key_stops actor key read old new index Done h not_done not_end = absurd (not_done refl)
 next_key_stops actor key read old new index End h not_done not_end = absurd (not_end refl)
 next_key_stops actor key read old new index (Latch by) h not_done not_end = h
-next_key_stops actor key read old new index Step h not_done not_end = h
-next_key_stops actor key read old new index Again h not_done not_end = h
-next_key_stops actor key read old new index Failed h not_done not_end = h
-next_key_stops actor key read old new index (Bad page rule) h not_done not_end = h
-next_key_stops actor key read old new index NoMemory h not_done not_end = absurd h
-next_key_stops actor key read old new index (Full need free) h not_done not_end = absurd h
-next_key_stops actor key read old new index TooDeep h not_done not_end = absurd h
-next_key_stops actor key read old new index (At k v) h not_done not_end = absurd h
+next_key_stops actor key read old new index other h not_done not_end = delay_stops actor old new index other h
 
 pub fetch_stops : (actor : ℕ) (key read : List ℕ) (old new : WorldState) (index : ℕ) (answer : Move)
     → Fetches actor key read (old.indexes index) (new.indexes index) answer → answer ≢ Done → answer ≢ End → Stops actor index old new answer
 fetch_stops actor key read old new index Done h not_done not_end = absurd (not_done refl)
 fetch_stops actor key read old new index End h not_done not_end = absurd (not_end refl)
-fetch_stops actor key read old new index (Latch by) h not_done not_end = inr h
-fetch_stops actor key read old new index Step h not_done not_end = h
-fetch_stops actor key read old new index Again h not_done not_end = h
-fetch_stops actor key read old new index Failed h not_done not_end = h
-fetch_stops actor key read old new index (Bad page rule) h not_done not_end = h
-fetch_stops actor key read old new index NoMemory h not_done not_end = absurd h
-fetch_stops actor key read old new index (Full need free) h not_done not_end = absurd h
-fetch_stops actor key read old new index TooDeep h not_done not_end = absurd h
-fetch_stops actor key read old new index (At k v) h not_done not_end = absurd h
+fetch_stops actor key read old new index other h not_done not_end = delay_stops actor old new index other h

@@ -32,40 +32,27 @@ module _ (chains : Chains) (place : Place) (undo : Undo) (schema : Schema) (rows
   abbrev pub put_back : Rows
   put_back = record rows { pairs = pairs_after (clustered_index undo.table) undo.key (was_before undo) rows.pairs }
 
-  puts : Puts rows.pairs put_back.pairs (clustered_index undo.table) undo.key (was_before undo)
-  puts other = refl
+  step : (bytes : List ℕ) (coded : Coded) (value : Option (List ℕ)) → IsCodeOf schema undo.key bytes coded → was_before undo ≡ value
+      → PutsRecord rows.schemas rows.pairs put_back.pairs undo.table schema undo.key bytes coded value
+  step bytes coded value code now =
+      let Put : Option (List ℕ) → Type 0 = λ o. Puts rows.pairs put_back.pairs (clustered_index undo.table) undo.key o in
+      let puts : Put (was_before undo) = λ other. refl in
+      record { there = tells.there; code_is = code; puts = subst Put now puts }
 
   -- the record is taken back where its pointer leads to what was before
   taken_back : (after : Chains) (bytes : List ℕ) (coded : Coded) (said : ℕ → List Version) → IsNewest undo schema rows.pairs rows.kept bytes coded
       → AreCodedBut rows.schemas rows.pairs rows.kept chains place said → Pops chains after place
       → LeadsBack undo rows.kept coded.pointer → AreCodedBut rows.schemas put_back.pairs rows.kept after place said
   taken_back after bytes coded said is are pops (inl new) =
-      let here = place_is undo schema place rows.schemas tells bytes coded is.code_is in
-      let step : PutsRecord rows.schemas rows.pairs put_back.pairs undo.table schema undo.key bytes coded None
-      =
-      record {
-        there = tells.there;
-        code_is = is.code_is;
-        puts = subst
-            (λ (o : Option (List ℕ)). Puts rows.pairs put_back.pairs (clustered_index undo.table) undo.key o) (before_new undo new.0) puts;
-      } in
       but_after rows.schemas put_back.pairs rows.kept chains after place said pops
       (record_removed rows.schemas rows.pairs put_back.pairs rows.kept chains after (said_but chains place said) undo.table schema undo.key bytes coded are
-      step is.there new.1 (subst (λ (p : Place). Pops chains after p) (sym here) pops))
+      (step bytes coded None is.code_is (before_new undo new.0)) is.there new.1
+      (subst (λ (p : Place). Pops chains after p) (sym (place_is undo schema place rows.schemas tells bytes coded is.code_is)) pops))
   taken_back after bytes coded said is are pops (inr (kind, leads, former, keeps, same)) =
-      let here = place_is undo schema place rows.schemas tells bytes coded is.code_is in
-      let now : was_before undo ≡ Some former.bytes = before_kept undo kind ∙ ap Some (sym same) in
-      let step : PutsRecord rows.schemas rows.pairs put_back.pairs undo.table schema undo.key bytes coded (Some former.bytes)
-      =
-      record {
-        there = tells.there;
-        code_is = is.code_is;
-        puts = subst
-            (λ (o : Option (List ℕ)). Puts rows.pairs put_back.pairs (clustered_index undo.table) undo.key o) now puts;
-      } in
       but_after rows.schemas put_back.pairs rows.kept chains after place said pops
       (record_taken_back rows.schemas rows.pairs put_back.pairs rows.kept chains after (said_but chains place said) undo.table schema undo.key bytes coded are
-      former step is.there leads keeps (subst (λ (p : Place). Pops chains after p) (sym here) pops))
+      former (step bytes coded (Some former.bytes) is.code_is (before_kept undo kind ∙ ap Some (sym same))) is.there leads keeps
+      (subst (λ (p : Place). Pops chains after p) (sym (place_is undo schema place rows.schemas tells bytes coded is.code_is)) pops))
 
   -- Once all keys say the versions before, all is what it was without the newest version.
   pub ends : (bytes : List ℕ) (coded : Coded)

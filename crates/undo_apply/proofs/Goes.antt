@@ -1,16 +1,13 @@
 -- How a step leaves what is known: the stage is another, or nothing was done.
-use Rattle.std.proofs.Common.{◌≡◌, ◌≢◌, inl, inr, ℕ, List, Option, Some, None, refl, sym, ap, subst, ◌∙◌, length, slice_get}
+use Rattle.std.proofs.Common.{◌≡◌, ◌≢◌, inl, inr, ℕ, ◌≤◌, List, Some, refl, sym, ap, subst, ◌∙◌, length, slice_get, arith}
+use Rattle.std.specs.Prelude.{vec_capacity}
 use Rattle.inno_types.specs.declared.value.Schema.{Schema}
 use Rattle.store_api.specs.declared.answers.Undo.{Undo}
 use Rattle.store_api.specs.declared.moves.Move.{Move}
-use Rattle.store_api.specs.declared.moves.Move.TheVariants.{At, End, Done, Step, Latch, Again, Full, TooDeep, Failed, Bad, NoMemory}
-use Rattle.entries.specs.Pairs.{Pair}
-use Rattle.entries.specs.Index.{AreKept}
+use Rattle.store_api.specs.declared.moves.Move.TheVariants.{Done, Step}
 use Rattle.row_versions.specs.declared.place.Place.{Place}
 use Rattle.row_versions.specs.Chains.{Chains}
 use Rattle.world.specs.State.{WorldState}
-use Rattle.world.proofs.Stores.{store_stays}
-use Rattle.world.specs.Undoing.{IsUnchanged}
 use Rattle.row_changes.specs.Pairs.{RowsStay}
 use Rattle.undo_apply.specs.declared.work_room.WorkRoom.{WorkRoom}
 use Rattle.undo_apply.specs.declared.work_room.Stage.{Stage}
@@ -21,30 +18,16 @@ use Rattle.undo_apply.specs.Standing.{TellsOf}
 use Rattle.undo_apply.specs.Stages.{FitsKeys, StageHolds, IsPuttingBack, ChangesOneEntry, Nears, StopsAt, IsHindered, PutsBack}
 use Rattle.undo_apply.proofs.Telling.{schemas_stay, told_before, rows_stay, leaves_told, leaves_rows}
 
--- ---- nothing changes
-
-same_pairs : (pairs : Option (List Pair)) → AreKept pairs pairs
-same_pairs None = record {}
-same_pairs (Some pairs) = refl
-
-pub stays_same : (state : WorldState) → RowsStay state state
-stays_same state =
+-- the buffers hold as much as before
+pub whole_again : (old new : WorkRoom) → IsWhole old → vec_capacity old.newest ≤ vec_capacity new.newest → vec_capacity old.older ≤ vec_capacity new.older
+    → vec_capacity old.next ≤ vec_capacity new.next → new.marked ≡ old.marked → new.unmarked ≡ old.unmarked → IsWhole new
+whole_again old new whole newest older next marked unmarked =
     record {
-      pairs = λ index. same_pairs (state.indexes index).pairs;
-      places = λ index. refl;
-      versions = record { told = λ h. h; kept = λ h. refl };
-      rest = refl;
-      later = store_stays state.paged;
-    }
-
-pub unchanged_stays : (old new : WorldState) → IsUnchanged old new → RowsStay old new
-unchanged_stays old new same =
-    record {
-      pairs = λ index. (same.indexes index).pairs;
-      places = λ index. (same.indexes index).place;
-      versions = same.versions;
-      rest = same.rest;
-      later = same.later;
+      newest = omega (arith, whole.newest, newest);
+      older = omega (arith, whole.older, older);
+      next = omega (arith, whole.next, next);
+      marked = marked ∙ whole.marked;
+      unmarked = unmarked ∙ whole.unmarked;
     }
 
 -- ---- what is known after a step
@@ -84,15 +67,7 @@ module _ (chains : Chains) (place : Place) (actor : ℕ) (undo : Undo) (room : W
       → PutsBack chains place actor undo room next old new answer
   hindrance_is next new Done not_done is = absurd (not_done refl)
   hindrance_is next new Step not_done is = inr is
-  hindrance_is next new (Latch by) not_done is = is
-  hindrance_is next new Again not_done is = is
-  hindrance_is next new Failed not_done is = is
-  hindrance_is next new (Bad page rule) not_done is = is
-  hindrance_is next new End not_done is = is
-  hindrance_is next new (At key value) not_done is = is
-  hindrance_is next new (Full need free) not_done is = is
-  hindrance_is next new TooDeep not_done is = is
-  hindrance_is next new NoMemory not_done is = is
+  hindrance_is next new other not_done is = is
 
   -- It was not.
   pub hindered : (next : WorkRoom) (new : WorldState) (answer : Move) → answer ≢ Done → RowsStay old new → next.stage ≡ room.stage

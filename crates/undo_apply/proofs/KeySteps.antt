@@ -8,7 +8,7 @@ use Rattle.inno_types.specs.declared.value.Schema.{Schema}
 use Rattle.store_api.specs.declared.answers.Undo.{Undo}
 use Rattle.store_api.specs.declared.answers.Version.{Version as Coded}
 use Rattle.store_api.specs.declared.moves.Move.{Move}
-use Rattle.store_api.specs.declared.moves.Move.TheVariants.{At, End, Done, Step, Latch, Again, Full, TooDeep, Failed, Bad, NoMemory}
+use Rattle.store_api.specs.declared.moves.Move.TheVariants.{End, Done, Step, NoMemory}
 use Rattle.entries.specs.Pairs.{Pair, value_of}
 use Rattle.entries.specs.Index.{Index, HasGone}
 use Rattle.entries.specs.Calls.{NextKeys, Removes}
@@ -23,7 +23,8 @@ use Rattle.law_stored_rows.specs.Records.{shown, IsCodeOf}
 use Rattle.world.specs.State.{WorldState}
 use Rattle.world.specs.Indexes.{Calls, Changes, ReplacesWith}
 use Rattle.row_changes.specs.Pairs.{RowsStay, PutsPair}
-use Rattle.row_changes.proofs.Worlds.{places_if, stays_if, next_key_keeps, puts_if, change_stays_if, replace_keeps, remove_keeps}
+use Rattle.row_changes.proofs.Changing.{same_rows}
+use Rattle.row_changes.proofs.Worlds.{stays_if, next_key_keeps, puts_if, change_stays_if, replace_keeps, remove_keeps}
 use Rattle.undo_apply.specs.declared.work_room.WorkRoom.{WorkRoom}
 use Rattle.undo_apply.specs.declared.work_room.Stage.{Stage}
 use Rattle.undo_apply.specs.declared.work_room.Stage.TheVariants.{Key, Mark, Await, Remove, Unmark}
@@ -32,14 +33,14 @@ use Rattle.world.specs.Told.{IsTold}
 use Rattle.undo_apply.specs.Told.{Rows, rows_of}
 use Rattle.undo_apply.specs.Standing.{TellsOf, had_row, versions_before, IsCleared, IsUnderWay, column_of}
 use Rattle.undo_apply.specs.Moves.{WentOn, WentOnOrEnded, at_stage}
-use Rattle.undo_apply.specs.Stages.{FitsKeys, StageHolds, IsPuttingBack, PutsBack, ChangesOneEntry, Nears, StopsAt}
+use Rattle.undo_apply.specs.Stages.{FitsKeys, StageHolds, IsPuttingBack, PutsBack, ChangesOneEntry, Nears, Stops, StopsAt}
 use Rattle.undo_apply.proofs.Telling.{schemas_stay, schemas_after, told_before, told_before_put, rows_stay, rows_after, pairs_after}
 use Rattle.undo_apply.proofs.Places.{newest_read, what_was, WasThere, WasNot}
 use Rattle.undo_apply.proofs.Columns.{entry_short}
 use Rattle.undo_apply.proofs.Taken.{with_entry, dropped, unmarked_now, passed}
 use Rattle.undo_apply.proofs.There.{entry_says, one_byte, cleared_any, lagging_any, newest_any, absent_stays}
 use Rattle.undo_apply.proofs.Calls.{told_of, IsThereAs, replace_stops, remove_stops, next_key_stops}
-use Rattle.undo_apply.proofs.Goes.{stays_same, went, hindered}
+use Rattle.undo_apply.proofs.Goes.{whole_again, went, hindered}
 
 module _ (chains : Chains) (place : Place) (undo : Undo) (schema : Schema) where
   abbrev before : List Version
@@ -79,14 +80,9 @@ Writes state undo which value entry result =
 
 pub removed_if : {index : ℕ} {call : Index → Index → Type 0} {old new : WorldState} {holder : Option ℕ} (key : List ℕ) → Calls index call old new
     → HasGone (λ before after. after ≡ with_value key None before) holder (old.indexes index) (new.indexes index) → PutsPair index key None old new
-removed_if key c here = record {
-  here = here.pairs;
-  elsewhere = λ other differs. (c.index_is.elsewhere other differs).pairs;
-  places = places_if c.index_is here.place;
-  versions = c.beside.versions;
-  rest = c.beside.rest;
-  later = c.beside.later;
-}
+removed_if {index} {call} {old} {new} key c here =
+    let change : Changes index 0 None (λ before after answer. call before after) old new Done = record { index_is = c.index_is; beside = c.beside } in
+    puts_if key None change here
 
 -- a key that isn't there is removed from the pairs of an index in vain
 pub unchanged_at : (index : ℕ) (key : List ℕ) (pairs : ℕ → List Pair) (other : ℕ) → value_of key (pairs index) ≡ None
@@ -96,62 +92,6 @@ unchanged_at index key pairs other none = ⊎_elim
     (absent_stays key (pairs index) none ∙ ap pairs (sym same)))
     (λ differs. cond-false (other == index) (with_value key None (pairs index)) (pairs other) (ne_eqb other index differs))
     (cases_eq other index)
-
--- ---- answers
-
-pub done_or_not : (answer : Move) → (answer ≡ Done) ⊎ (answer ≢ Done)
-done_or_not Done = inl refl
-done_or_not End = inr (λ e. cc)
-done_or_not Step = inr (λ e. cc)
-done_or_not Again = inr (λ e. cc)
-done_or_not TooDeep = inr (λ e. cc)
-done_or_not Failed = inr (λ e. cc)
-done_or_not NoMemory = inr (λ e. cc)
-done_or_not (At key value) = inr (λ e. cc)
-done_or_not (Latch by) = inr (λ e. cc)
-done_or_not (Full need free) = inr (λ e. cc)
-done_or_not (Bad page rule) = inr (λ e. cc)
-
-pub end_or_not : (answer : Move) → (answer ≡ End) ⊎ (answer ≢ End)
-end_or_not End = inl refl
-end_or_not Done = inr (λ e. cc)
-end_or_not Step = inr (λ e. cc)
-end_or_not Again = inr (λ e. cc)
-end_or_not TooDeep = inr (λ e. cc)
-end_or_not Failed = inr (λ e. cc)
-end_or_not NoMemory = inr (λ e. cc)
-end_or_not (At key value) = inr (λ e. cc)
-end_or_not (Latch by) = inr (λ e. cc)
-end_or_not (Full need free) = inr (λ e. cc)
-end_or_not (Bad page rule) = inr (λ e. cc)
-
-pub went_on_other : (next : Stage) (answer : Move) (mid after : WorkRoom) (result : Move) → WentOn next answer mid after result → answer ≢ Done
-    → (result ≡ answer) × (after ≡ mid)
-went_on_other next Done mid after result on not_done = absurd (not_done refl)
-went_on_other next End mid after result on not_done = on
-went_on_other next Step mid after result on not_done = on
-went_on_other next Again mid after result on not_done = on
-went_on_other next TooDeep mid after result on not_done = on
-went_on_other next Failed mid after result on not_done = on
-went_on_other next NoMemory mid after result on not_done = on
-went_on_other next (At key value) mid after result on not_done = on
-went_on_other next (Latch by) mid after result on not_done = on
-went_on_other next (Full need free) mid after result on not_done = on
-went_on_other next (Bad page rule) mid after result on not_done = on
-
-pub went_or_ended_other : (next : Stage) (answer : Move) (mid after : WorkRoom) (result : Move) → WentOnOrEnded next answer mid after result
-    → answer ≢ Done → answer ≢ End → (result ≡ answer) × (after ≡ mid)
-went_or_ended_other next Done mid after result on not_done not_end = absurd (not_done refl)
-went_or_ended_other next End mid after result on not_done not_end = absurd (not_end refl)
-went_or_ended_other next Step mid after result on not_done not_end = on
-went_or_ended_other next Again mid after result on not_done not_end = on
-went_or_ended_other next TooDeep mid after result on not_done not_end = on
-went_or_ended_other next Failed mid after result on not_done not_end = on
-went_or_ended_other next NoMemory mid after result on not_done not_end = on
-went_or_ended_other next (At key value) mid after result on not_done not_end = on
-went_or_ended_other next (Latch by) mid after result on not_done not_end = on
-went_or_ended_other next (Full need free) mid after result on not_done not_end = on
-went_or_ended_other next (Bad page rule) mid after result on not_done not_end = on
 
 module _ (chains : Chains) (place : Place) (actor : ℕ) (undo : Undo) (room : WorkRoom) (old : WorldState) (is : IsPuttingBack chains place undo room old)
     (which : ℕ) where
@@ -189,15 +129,7 @@ module _ (chains : Chains) (place : Place) (actor : ℕ) (undo : Undo) (room : W
   nexted_leaves entry read holds = record {
     stage = refl;
     newest = refl;
-    whole =
-        record {
-          newest = is.whole.newest;
-          older = is.whole.older;
-          next = omega (arith, holds, is.whole.next);
-          marked = is.whole.marked;
-          unmarked =
-              is.whole.unmarked;
-        };
+    whole = whole_again room (record room { entries = entry; next = read }) is.whole (omega arith) (omega arith) holds refl refl;
   }
 
   pub went_to : (mid : WorkRoom) → Leaves mid → (next : Stage) (new : WorldState) → new.schemas ≡ old.schemas → ChangesOneEntry is.schema undo old new
@@ -218,6 +150,54 @@ module _ (chains : Chains) (place : Place) (actor : ℕ) (undo : Undo) (room : W
   put_as mid after new answer result result_is after_is is_so =
       subst (λ (r : Move). PutsBack chains place actor undo room after old new r) (sym result_is)
       (subst (λ (w : WorkRoom). PutsBack chains place actor undo room w old new answer) (sym after_is) is_so)
+
+  -- ---- answers
+
+  -- the call was done, and the stage is another; or the room is as it was
+  went_on : (next : Stage) (mid : WorkRoom) (new : WorldState) (Call : Move → Type 0)
+      → (Call Done → PutsBack chains place actor undo room (at_stage next mid) old new Step)
+      → ((answer : Move) → answer ≢ Done → Call answer → PutsBack chains place actor undo room mid old new answer)
+      → (answer : Move) → Call answer → (after : WorkRoom) (reached : Move) → WentOn next answer mid after reached
+      → PutsBack chains place actor undo room after old new reached
+  went_on next mid new Call done other Done call after reached on = put_as (at_stage next mid) after new Step reached on.0 on.1 (done call)
+  went_on next mid new Call done other answer call after reached on = put_as mid after new answer reached on.0 on.1 (other answer (λ e. cc) call)
+
+  -- the same where nothing to be done is as good
+  pub went_or_ended : (next : Stage) (mid : WorkRoom) (new : WorldState) (Call : Move → Type 0)
+      → (Call Done → PutsBack chains place actor undo room (at_stage next mid) old new Step)
+      → (Call End → PutsBack chains place actor undo room (at_stage next mid) old new Step)
+      → ((answer : Move) → answer ≢ Done → answer ≢ End → Call answer → PutsBack chains place actor undo room mid old new answer)
+      → (answer : Move) → Call answer → (after : WorkRoom) (reached : Move) → WentOnOrEnded next answer mid after reached
+      → PutsBack chains place actor undo room after old new reached
+  went_or_ended next mid new Call done ended other Done call after reached on = put_as (at_stage next mid) after new Step reached on.0 on.1 (done call)
+  went_or_ended next mid new Call done ended other End call after reached on = put_as (at_stage next mid) after new Step reached on.0 on.1 (ended call)
+  went_or_ended next mid new Call done ended other answer call after reached on =
+      put_as mid after new answer reached on.0 on.1 (other answer (λ e. cc) (λ e. cc) call)
+
+  -- Others are kept from changing keys, and no row has changed.
+  pub await_keys : (stage next : Stage) (index : ℕ) → room.stage ≡ stage → FitsKeys keys undo next
+      → ((rows : Rows) → StageHolds chains place undo is.schema rows room.newest.items stage
+      → StageHolds chains place undo is.schema rows room.newest.items next) → steps_left keys next < steps_left keys stage
+      → ((new : WorldState) (answer : Move) → Stops actor index old new answer → StopsAt actor undo stage old new answer) → (mid : WorkRoom) → Leaves mid
+      → (key read : List ℕ) (new : WorldState) (answer : Move) → Calls index (λ b a. NextKeys actor key read b a answer) old new
+      → (after : WorkRoom) (reached : Move) → WentOnOrEnded next answer mid after reached → PutsBack chains place actor undo room after old new reached
+  await_keys stage next index at fits holds nearer stops mid leaves key read new =
+      went_or_ended next mid new (λ answer. Calls index (λ b a. NextKeys actor key read b a answer) old new) (gone Done) (gone End)
+      (λ answer other not_end calls. stopped_at mid leaves new answer other (kept answer calls)
+      (subst (λ (s : Stage). StopsAt actor undo s old new answer) (sym at)
+      (stops new answer (next_key_stops actor key read old new index answer calls.index_is.here other not_end))))
+    where
+      kept : (answer : Move) → Calls index (λ b a. NextKeys actor key read b a answer) old new → RowsStay old new
+      kept answer calls = stays_if calls (next_key_keeps actor key read (old.indexes index) (new.indexes index) answer calls.index_is.here)
+
+      gone : (answer : Move) → Calls index (λ b a. NextKeys actor key read b a answer) old new
+          → PutsBack chains place actor undo room (at_stage next mid) old new Step
+      gone answer calls =
+          let stays = kept answer calls in
+          went_to mid leaves next new (schemas_stay stays) (inl stays) fits
+          (λ told. subst (λ (r : Rows). StageHolds chains place undo is.schema r room.newest.items next) (sym (rows_stay stays told))
+          (holds (rows_of old) (held stage at (told_before stays told))))
+          (inl (let from = ap (steps_left keys) at in omega (arith, from, nearer)))
 
   -- ---- entries
 
@@ -258,15 +238,37 @@ module _ (chains : Chains) (place : Place) (actor : ℕ) (undo : Undo) (room : W
       inl (let less = next_nears chains place undo is.schema which keys within (had_row undo) in let from = ap (steps_left keys) at in omega
       (arith, less, from, far))
 
-  mark_code : room.stage ≡ Mark which → IsTold old → (version : Coded) × IsCodeOf is.schema undo.key room.newest.items version
-  mark_code at told = let h = held (Mark which) at told in (h.0, h.1.newest.code_is)
-
-  pub mark_unwritten : room.stage ≡ Mark which → (entry : List ℕ) (result : Bool) → Writes old undo which room.newest.items entry result → result ≡ false
+  abbrev Unwritten : List ℕ → Type 0
+  Unwritten value =
+      (entry : List ℕ) (result : Bool) → Writes old undo which value entry result → result ≡ false
       → PutsBack chains place actor undo room (record room { entries = entry }) old old NoMemory
-  mark_unwritten at entry result writes false_is =
-      stopped_at (record room { entries = entry }) (written_leaves entry) old NoMemory (λ e. cc) (stays_same old)
-      (subst (λ (s : Stage). StopsAt actor undo s old old NoMemory) (sym at)
-      (not_written room.newest.items entry result writes (fitting (Mark which) at) (mark_code at) false_is))
+
+  unwritten : (stage : Stage) → room.stage ≡ stage → ((IsTold old → ⊥) → StopsAt actor undo stage old old NoMemory) → (value : List ℕ) → which < keys
+      → (IsTold old → (version : Coded) × IsCodeOf is.schema undo.key value version) → Unwritten value
+  unwritten stage at stops value within code entry result writes false_is =
+      stopped_at (record room { entries = entry }) (written_leaves entry) old NoMemory (λ e. cc) (same_rows old)
+      (subst (λ (s : Stage). StopsAt actor undo s old old NoMemory) (sym at) (stops (not_written value entry result writes within code false_is)))
+
+  pub mark_unwritten : room.stage ≡ Mark which → Unwritten room.newest.items
+  mark_unwritten at =
+      unwritten (Mark which) at (λ h. h) room.newest.items (fitting (Mark which) at)
+      (λ told. let h = held (Mark which) at told in (h.0, h.1.newest.code_is))
+
+  -- the entry's mark is another, or the call was not done
+  replace_step : (stage next : Stage) → room.stage ≡ stage → (entry value : List ℕ) (new : WorldState)
+      → ((answer : Move) → Stops actor (key_index undo.table which) old new answer → StopsAt actor undo stage old new answer)
+      → (IsTold old → IsThereAs entry value old (key_index undo.table which))
+      → (Changing entry value new Done → PutsBack chains place actor undo room (at_stage next (record room { entries = entry })) old new Step)
+      → (answer : Move) → Changing entry value new answer → (after : WorkRoom) (reached : Move)
+      → WentOn next answer (record room { entries = entry }) after reached → PutsBack chains place actor undo room after old new reached
+  replace_step stage next at entry value new stops there done =
+      went_on next (record room { entries = entry }) new (Changing entry value new) done
+      (λ answer other changes. stopped_at (record room { entries = entry }) (written_leaves entry) new answer other
+      (change_stays_if changes
+      (replace_keeps actor entry value (old.indexes (key_index undo.table which)) (new.indexes (key_index undo.table which)) answer changes.index_is.here
+      other))
+      (subst (λ (s : Stage). StopsAt actor undo s old new answer) (sym at)
+      (stops answer (replace_stops actor entry value old new (key_index undo.table which) answer there changes.index_is.here other))))
 
   mark_there : room.stage ≡ Mark which → (entry : List ℕ) (result : Bool) → Writes old undo which room.newest.items entry result → IsTold old
       → IsThereAs entry room.marked old (key_index undo.table which)
@@ -305,76 +307,29 @@ module _ (chains : Chains) (place : Place) (actor : ℕ) (undo : Undo) (room : W
       → (new : WorldState) (answer : Move) → Changing entry room.marked new answer
       → (after : WorkRoom) (reached : Move) → WentOn following answer (record room { entries = entry }) after reached → PutsBack chains place actor undo room
       after old new reached
-  mark_step at entry result writes new answer changes after reached on = by_answer (done_or_not answer) where
-    by_answer : (answer ≡ Done) ⊎ (answer ≢ Done) → PutsBack chains place actor undo room after old new reached
-    by_answer (inl done) =
-        let there = subst (λ (a : Move). WentOn following a (record room { entries = entry }) after reached) done on in
-        put_as (at_stage following (record room { entries = entry })) after new Step reached there.0 there.1
-        (mark_done at entry result writes new (subst (λ (a : Move). Changing entry room.marked new a) done changes))
-    by_answer (inr other) =
-        let there = went_on_other following answer (record room { entries = entry }) after reached on other in
-        put_as (record room { entries = entry }) after new answer reached there.0 there.1
-        (stopped_at (record room { entries = entry }) (written_leaves entry) new answer other
-        (change_stays_if changes (replace_keeps actor entry room.marked (old.indexes (key_index undo.table which))
-        (new.indexes (key_index undo.table which)) answer changes.index_is.here other))
-        (subst (λ (s : Stage). StopsAt actor undo s old new answer) (sym at)
-        (replace_stops actor entry room.marked old new (key_index undo.table which) answer (mark_there at entry result writes) changes.index_is.here other)))
+  mark_step at entry result writes new =
+      replace_step (Mark which) following at entry room.marked new (λ answer h. h) (mark_there at entry result writes) (mark_done at entry result writes new)
 
   -- ---- others are kept from changing keys
 
-  await_code : room.stage ≡ Await which → IsTold old → (version : Coded) × IsCodeOf is.schema undo.key room.newest.items version
-  await_code at told = let h = held (Await which) at told in (h.0, h.1.newest.code_is)
-
-  pub await_unwritten : room.stage ≡ Await which → (entry : List ℕ) (result : Bool) → Writes old undo which room.newest.items entry result → result ≡ false
-      → PutsBack chains place actor undo room (record room { entries = entry }) old old NoMemory
-  await_unwritten at entry result writes false_is =
-      stopped_at (record room { entries = entry }) (written_leaves entry) old NoMemory (λ e. cc) (stays_same old)
-      (subst (λ (s : Stage). StopsAt actor undo s old old NoMemory) (sym at)
-      (not_written room.newest.items entry result writes (fitting (Await which) at) (await_code at) false_is))
-
-  await_went : room.stage ≡ Await which → (mid : WorkRoom) → Leaves mid → (new : WorldState) → RowsStay old new
-      → PutsBack chains place actor undo room (at_stage (Remove which) mid) old new Step
-  await_went at mid leaves new stays =
-      went_to mid leaves (Remove which) new (schemas_stay stays) (inl stays) (fitting (Await which) at)
-      (λ told. subst (λ (r : Rows). StageHolds chains place undo is.schema r room.newest.items (Remove which)) (sym (rows_stay stays told))
-      (held (Await which) at (told_before stays told)))
-      (inl (let from = ap (steps_left keys) at in omega (arith, from)))
+  pub await_unwritten : room.stage ≡ Await which → Unwritten room.newest.items
+  await_unwritten at =
+      unwritten (Await which) at (λ h. h) room.newest.items (fitting (Await which) at)
+      (λ told. let h = held (Await which) at told in (h.0, h.1.newest.code_is))
 
   pub await_step : room.stage ≡ Await which → (mid : WorkRoom) → Leaves mid → (entry read : List ℕ) (new : WorldState) (answer : Move)
       → Calls (key_index undo.table which) (λ b a. NextKeys actor entry read b a answer) old new
       → (after : WorkRoom) (reached : Move) → WentOnOrEnded (Remove which) answer mid after reached → PutsBack chains place actor undo room after old new
       reached
-  await_step at mid leaves entry read new answer calls after reached on = by_answer (done_or_not answer) (end_or_not answer) where
-    stays : RowsStay old new
-    stays =
-        stays_if calls (next_key_keeps actor entry read (old.indexes (key_index undo.table which)) (new.indexes (key_index undo.table which)) answer
-        calls.index_is.here)
-
-    by_answer : (answer ≡ Done) ⊎ (answer ≢ Done) → (answer ≡ End) ⊎ (answer ≢ End) → PutsBack chains place actor undo room after old new reached
-    by_answer (inl done) ended =
-        let there = subst (λ (a : Move). WentOnOrEnded (Remove which) a mid after reached) done on in
-        put_as (at_stage (Remove which) mid) after new Step reached there.0 there.1 (await_went at mid leaves new stays)
-    by_answer (inr other) (inl ended) =
-        let there = subst (λ (a : Move). WentOnOrEnded (Remove which) a mid after reached) ended on in
-        put_as (at_stage (Remove which) mid) after new Step reached there.0 there.1 (await_went at mid leaves new stays)
-    by_answer (inr other) (inr not_end) =
-        let there = went_or_ended_other (Remove which) answer mid after reached on other not_end in
-        put_as mid after new answer reached there.0 there.1
-        (stopped_at mid leaves new answer other stays
-        (subst (λ (s : Stage). StopsAt actor undo s old new answer) (sym at)
-        (next_key_stops actor entry read old new (key_index undo.table which) answer calls.index_is.here other not_end)))
+  await_step at mid leaves =
+      await_keys (Await which) (Remove which) (key_index undo.table which) at (fitting (Await which) at) (λ rows h. h) (omega arith) (λ new answer h. h) mid leaves
 
   -- ---- the newest row's entry is removed
 
-  remove_code : room.stage ≡ Remove which → IsTold old → (version : Coded) × IsCodeOf is.schema undo.key room.newest.items version
-  remove_code at told = let h = held (Remove which) at told in (h.0, h.1.newest.code_is)
-
-  pub remove_unwritten : room.stage ≡ Remove which → (entry : List ℕ) (result : Bool) → Writes old undo which room.newest.items entry result
-      → result ≡ false → PutsBack chains place actor undo room (record room { entries = entry }) old old NoMemory
-  remove_unwritten at entry result writes false_is =
-      stopped_at (record room { entries = entry }) (written_leaves entry) old NoMemory (λ e. cc) (stays_same old)
-      (subst (λ (s : Stage). StopsAt actor undo s old old NoMemory) (sym at)
-      (not_written room.newest.items entry result writes (fitting (Remove which) at) (remove_code at) false_is))
+  pub remove_unwritten : room.stage ≡ Remove which → Unwritten room.newest.items
+  remove_unwritten at =
+      unwritten (Remove which) at (λ h. h) room.newest.items (fitting (Remove which) at)
+      (λ told. let h = held (Remove which) at told in (h.0, h.1.newest.code_is))
 
   -- the rows without the entry are those of a key that is clear
   remove_holds : room.stage ≡ Remove which → (entry : List ℕ) (result : Bool) → Writes old undo which room.newest.items entry result → IsTold old
@@ -433,24 +388,14 @@ module _ (chains : Chains) (place : Place) (actor : ℕ) (undo : Undo) (room : W
       → (new : WorldState) (answer : Move) → Removing entry new answer
       → (after : WorkRoom) (reached : Move) → WentOnOrEnded following answer (record room { entries = entry }) after reached → PutsBack chains place actor
       undo room after old new reached
-  remove_step at entry result writes new answer calls after reached on = by_answer (done_or_not answer) (end_or_not answer) where
-    by_answer : (answer ≡ Done) ⊎ (answer ≢ Done) → (answer ≡ End) ⊎ (answer ≢ End) → PutsBack chains place actor undo room after old new reached
-    by_answer (inl done) ended =
-        let there = subst (λ (a : Move). WentOnOrEnded following a (record room { entries = entry }) after reached) done on in
-        put_as (at_stage following (record room { entries = entry })) after new Step reached there.0 there.1
-        (remove_done at entry result writes new (subst (λ (a : Move). Removing entry new a) done calls))
-    by_answer (inr other) (inl ended) =
-        let there = subst (λ (a : Move). WentOnOrEnded following a (record room { entries = entry }) after reached) ended on in
-        put_as (at_stage following (record room { entries = entry })) after new Step reached there.0 there.1
-        (remove_ended at entry result writes new (subst (λ (a : Move). Removing entry new a) ended calls))
-    by_answer (inr other) (inr not_end) =
-        let there = went_or_ended_other following answer (record room { entries = entry }) after reached on other not_end in
-        put_as (record room { entries = entry }) after new answer reached there.0 there.1
-        (stopped_at (record room { entries = entry }) (written_leaves entry) new answer other
-        (stays_if calls (remove_keeps actor entry (old.indexes (key_index undo.table which)) (new.indexes (key_index undo.table which)) answer
-        calls.index_is.here other))
-        (subst (λ (s : Stage). StopsAt actor undo s old new answer) (sym at)
-        (remove_stops actor entry old new (key_index undo.table which) answer calls.index_is.here other not_end)))
+  remove_step at entry result writes new =
+      let index = key_index undo.table which in
+      went_or_ended following (record room { entries = entry }) new (Removing entry new) (remove_done at entry result writes new)
+      (remove_ended at entry result writes new)
+      (λ answer other not_end calls. stopped_at (record room { entries = entry }) (written_leaves entry) new answer other
+      (stays_if calls (remove_keeps actor entry (old.indexes index) (new.indexes index) answer calls.index_is.here other))
+      (subst (λ (s : Stage). StopsAt actor undo s old new answer) (sym at)
+      (remove_stops actor entry old new index answer calls.index_is.here other not_end)))
 
   -- ---- the entry of the row before is unmarked
 
@@ -466,15 +411,9 @@ module _ (chains : Chains) (place : Place) (actor : ℕ) (undo : Undo) (room : W
         there (inl was) = was
         there (inr was) = absurd (true≢false (sym (fitting (Unmark which) at).1 ∙ was.had))
 
-  unmark_code : room.stage ≡ Unmark which → IsTold old → (version : Coded) × IsCodeOf is.schema undo.key undo.value version
-  unmark_code at told = let was = former_is at told in (was.former, was.code_is)
-
-  pub unmark_unwritten : room.stage ≡ Unmark which → (entry : List ℕ) (result : Bool) → Writes old undo which undo.value entry result → result ≡ false
-      → PutsBack chains place actor undo room (record room { entries = entry }) old old NoMemory
-  unmark_unwritten at entry result writes false_is =
-      stopped_at (record room { entries = entry }) (written_leaves entry) old NoMemory (λ e. cc) (stays_same old)
-      (subst (λ (s : Stage). StopsAt actor undo s old old NoMemory) (sym at)
-      (not_written undo.value entry result writes (fitting (Unmark which) at).0 (unmark_code at) false_is))
+  pub unmark_unwritten : room.stage ≡ Unmark which → Unwritten undo.value
+  unmark_unwritten at =
+      unwritten (Unmark which) at (λ h. h) undo.value (fitting (Unmark which) at).0 (λ told. let was = former_is at told in (was.former, was.code_is))
 
   unmark_there : room.stage ≡ Unmark which → (entry : List ℕ) (result : Bool) → Writes old undo which undo.value entry result → IsTold old
       → IsThereAs entry room.unmarked old (key_index undo.table which)
@@ -519,18 +458,6 @@ module _ (chains : Chains) (place : Place) (actor : ℕ) (undo : Undo) (room : W
       → (new : WorldState) (answer : Move) → Changing entry room.unmarked new answer
       → (after : WorkRoom) (reached : Move) → WentOn (Key (which + 1)) answer (record room { entries = entry }) after reached → PutsBack chains place actor
       undo room after old new reached
-  unmark_step at entry result writes new answer changes after reached on = by_answer (done_or_not answer) where
-    by_answer : (answer ≡ Done) ⊎ (answer ≢ Done) → PutsBack chains place actor undo room after old new reached
-    by_answer (inl done) =
-        let there = subst (λ (a : Move). WentOn (Key (which + 1)) a (record room { entries = entry }) after reached) done on in
-        put_as (at_stage (Key (which + 1)) (record room { entries = entry })) after new Step reached there.0 there.1
-        (unmark_done at entry result writes new (subst (λ (a : Move). Changing entry room.unmarked new a) done changes))
-    by_answer (inr other) =
-        let there = went_on_other (Key (which + 1)) answer (record room { entries = entry }) after reached on other in
-        put_as (record room { entries = entry }) after new answer reached there.0 there.1
-        (stopped_at (record room { entries = entry }) (written_leaves entry) new answer other
-        (change_stays_if changes (replace_keeps actor entry room.unmarked (old.indexes (key_index undo.table which))
-        (new.indexes (key_index undo.table which)) answer changes.index_is.here other))
-        (subst (λ (s : Stage). StopsAt actor undo s old new answer) (sym at)
-        (replace_stops actor entry room.unmarked old new (key_index undo.table which) answer (unmark_there at entry result writes) changes.index_is.here
-        other)))
+  unmark_step at entry result writes new =
+      replace_step (Unmark which) (Key (which + 1)) at entry room.unmarked new (λ answer h. h) (unmark_there at entry result writes)
+      (unmark_done at entry result writes new)

@@ -20,6 +20,7 @@ use Rattle.law_stored_rows.specs.Records.{IsCodeOf, LeadTo}
 use Rattle.world.specs.State.{WorldState}
 use Rattle.world.specs.Undoing.{IsUnchanged}
 use Rattle.row_changes.specs.Pairs.{RowsStay}
+use Rattle.row_changes.proofs.Changing.{same_rows, unchanged_stays}
 use Rattle.undo_apply.specs.declared.work_room.WorkRoom.{WorkRoom}
 use Rattle.undo_apply.specs.declared.work_room.Stage.{Stage}
 use Rattle.undo_apply.specs.declared.work_room.Stage.TheVariants.{Key, Walk, Mark, Await, Unmark, AwaitRecords, Record}
@@ -34,7 +35,7 @@ use Rattle.undo_apply.proofs.Places.{newest_read, what_was, WasThere, WasNot}
 use Rattle.undo_apply.proofs.Columns.{entry_short}
 use Rattle.undo_apply.proofs.Taken.{clear_unless_row, clear_of_same}
 use Rattle.undo_apply.proofs.Walks.{IsRead, version_read, values_same, found_here, passed_here, walk_begins, walk_ends, walk_leads, walk_shortens}
-use Rattle.undo_apply.proofs.Goes.{stays_same, unchanged_stays, went}
+use Rattle.undo_apply.proofs.Goes.{whole_again, went}
 use Rattle.undo_apply.proofs.KeySteps.{held, fitting, Leaves, written_leaves, went_to, stopped_at, next_holds, next_fits, next_nears}
 
 -- what a record's head is
@@ -60,54 +61,47 @@ module _ (chains : Chains) (place : Place) (actor : ℕ) (undo : Undo) (room : W
   to_stage : (mid : WorkRoom) → Leave mid → (next : Stage) → FitsKeys keys undo next
       → (IsTold old → StageHolds chains place undo is.schema (rows_of old) room.newest.items next) → Nears is.schema undo old room.stage next
       → PutsBack chains place actor undo room (at_stage next mid) old old Step
-  to_stage mid leaves next fits holds nears = went_to chains place actor undo room old is which mid leaves next old refl (inl (stays_same old)) fits holds nears
+  to_stage mid leaves next fits holds nears = went_to chains place actor undo room old is which mid leaves next old refl (inl (same_rows old)) fits holds nears
 
   pub room_leaves : Leave room
   room_leaves = record { stage = refl; newest = refl; whole = is.whole }
 
   -- an older version was read
-  pub older_leaves : (read : Vec ℕ Global) → vec_capacity room.older ≤ vec_capacity read → Leave (record room { older = read })
+  older_leaves : (read : Vec ℕ Global) → vec_capacity room.older ≤ vec_capacity read → Leave (record room { older = read })
   older_leaves read holds = record {
     stage = refl;
     newest = refl;
-    whole =
-        record {
-          newest = is.whole.newest;
-          older = omega (arith, holds, is.whole.older);
-          next = is.whole.next;
-          marked = is.whole.marked;
-          unmarked =
-              is.whole.unmarked;
-        };
+    whole = whole_again room (record room { older = read }) is.whole (omega arith) holds (omega arith) refl refl;
   }
 
-  pub within_key : room.stage ≡ Key which → (count : ℕ) → ((schema : Schema) → slice_get old.schemas undo.table ≡ Some schema → count ≡ length schema.keys)
-      → which < count → which < keys
+  -- so many keys the table has
+  abbrev Counts : ℕ → Type 0
+  Counts count = (schema : Schema) → slice_get old.schemas undo.table ≡ Some schema → count ≡ length schema.keys
+
+  pub within_key : room.stage ≡ Key which → (count : ℕ) → Counts count → which < count → which < keys
   within_key at count counted less = omega (arith, less, counted is.schema is.tells.there)
 
-  last_key : room.stage ≡ Key which → (count : ℕ) → ((schema : Schema) → slice_get old.schemas undo.table ≡ Some schema → count ≡ length schema.keys)
-      → count ≤ which → which ≡ keys
+  last_key : room.stage ≡ Key which → (count : ℕ) → Counts count → count ≤ which → which ≡ keys
   last_key at count counted more =
       let fits = fitting chains place actor undo room old is which (Key which) at in omega (arith, more, fits, counted is.schema is.tells.there)
 
   -- ---- the keys are done
 
-  pub look_new : room.stage ≡ Key which → (count : ℕ) → ((schema : Schema) → slice_get old.schemas undo.table ≡ Some schema → count ≡ length schema.keys)
-      → count ≤ which → undo.kind ≡ 1 → PutsBack chains place actor undo room (at_stage AwaitRecords room) old old Step
-  look_new at count counted more new =
-      let all = last_key at count counted more in
-      to_stage room room_leaves AwaitRecords new
-      (λ told. let h = hold (Key which) at told in
-      (h.0, subst (λ (n : ℕ). LagsAt chains place undo is.schema (rows_of old) room.newest.items n h.0) all h.1))
-      (inl (let from = ap (steps_left keys) at in omega (arith, from)))
+  look_last : room.stage ≡ Key which → (count : ℕ) → Counts count → count ≤ which → IsTold old
+      → (coded : Coded) × LagsAt chains place undo is.schema (rows_of old) room.newest.items keys coded
+  look_last at count counted more told =
+      let h = hold (Key which) at told in
+      (h.0, subst (λ (n : ℕ). LagsAt chains place undo is.schema (rows_of old) room.newest.items n h.0) (last_key at count counted more) h.1)
 
-  pub look_kept : room.stage ≡ Key which → (count : ℕ) → ((schema : Schema) → slice_get old.schemas undo.table ≡ Some schema → count ≡ length schema.keys)
-      → count ≤ which → PutsBack chains place actor undo room (at_stage Record room) old old Step
+  pub look_new : room.stage ≡ Key which → (count : ℕ) → Counts count → count ≤ which → undo.kind ≡ 1
+      → PutsBack chains place actor undo room (at_stage AwaitRecords room) old old Step
+  look_new at count counted more new =
+      to_stage room room_leaves AwaitRecords new (look_last at count counted more) (inl (let from = ap (steps_left keys) at in omega (arith, from)))
+
+  pub look_kept : room.stage ≡ Key which → (count : ℕ) → Counts count → count ≤ which
+      → PutsBack chains place actor undo room (at_stage Record room) old old Step
   look_kept at count counted more =
-      let all = last_key at count counted more in
-      to_stage room room_leaves Record tt (λ told. let h = hold (Key which) at told in
-      (h.0, subst (λ (n : ℕ). LagsAt chains place undo is.schema (rows_of old) room.newest.items n h.0) all h.1))
-      (inl (let from = ap (steps_left keys) at in omega (arith, from)))
+      to_stage room room_leaves Record tt (look_last at count counted more) (inl (let from = ap (steps_left keys) at in omega (arith, from)))
 
   -- ---- the newest version has no row
 
@@ -213,12 +207,12 @@ module _ (chains : Chains) (place : Place) (actor : ℕ) (undo : Undo) (room : W
         let h = hold (Walk which pointer) at (record { pairs = together told; versions = told }) in
         walk_leads is.schema undo.key old.versions pointer h.3.left h.3.leads
 
-    pub walk_over : (mid : WorkRoom) → Leave mid → (new : WorldState) → IsUnchanged old new → pointer ≡ 0
-        → PutsBack chains place actor undo room (at_stage (Await which) mid) old new Step
-    walk_over mid leaves new same nowhere =
+    pub walk_over : (read : Vec ℕ Global) → vec_capacity room.older ≤ vec_capacity read → (new : WorldState) → IsUnchanged old new → pointer ≡ 0
+        → PutsBack chains place actor undo room (at_stage (Await which) (record room { older = read })) old new Step
+    walk_over read room_is new same nowhere =
         let stays = unchanged_stays old new same in
-        went_to chains place actor undo room old is which mid leaves (Await which) new (schemas_stay stays) (inl stays)
-        (fitting chains place actor undo room old is which (Walk which pointer) at)
+        went_to chains place actor undo room old is which (record room { older = read }) (older_leaves read room_is) (Await which) new (schemas_stay stays)
+        (inl stays) (fitting chains place actor undo room old is which (Walk which pointer) at)
         (λ told.
         let h = hold (Walk which pointer) at (told_before stays told) in
         let none = walk_ends is.schema undo.key (rows_of old).kept which pointer h.0 before h.3 nowhere in
@@ -226,24 +220,26 @@ module _ (chains : Chains) (place : Place) (actor : ℕ) (undo : Undo) (room : W
         (h.0, h.1, record { plain = h.2; found_is = none }))
         (inl (let from = ap (steps_left keys) at in omega (arith, from)))
 
-    pub walk_stopped : (mid : WorkRoom) → Leave mid → (new : WorldState) → IsUnchanged old new → (answer : Move) → answer ≢ Done → StopsWalk old new answer
-        → PutsBack chains place actor undo room mid old new answer
-    walk_stopped mid leaves new same answer not_done cause =
-        stopped_at chains place actor undo room old is which mid leaves new answer not_done (unchanged_stays old new same)
+    pub walk_stopped : (read : Vec ℕ Global) → vec_capacity room.older ≤ vec_capacity read → (new : WorldState) → IsUnchanged old new → (answer : Move)
+        → answer ≢ Done → StopsWalk old new answer → PutsBack chains place actor undo room (record room { older = read }) old new answer
+    walk_stopped read room_is new same answer not_done cause =
+        stopped_at chains place actor undo room old is which (record room { older = read }) (older_leaves read room_is) new answer not_done
+        (unchanged_stays old new same)
         (subst (λ (s : Stage). StopsAt actor undo s old new answer) (sym at) cause)
 
-    module _ (mid : WorkRoom) (leaves : Leave mid) (new : WorldState) (same : IsUnchanged old new) (leads_on : pointer ≢ 0)
-        (bytes : IsTrue old.versions.told → option_map (λ (k : Kept). k.bytes) (old.versions.kept_at pointer) ≡ Some mid.older.items)
-        (after : WorkRoom) (result : Move) (looks : LooksOn new undo which mid after result) where
+    module _ (read : Vec ℕ Global) (room_is : vec_capacity room.older ≤ vec_capacity read) (new : WorldState) (same : IsUnchanged old new)
+        (leads_on : pointer ≢ 0)
+        (bytes : IsTrue old.versions.told → option_map (λ (k : Kept). k.bytes) (old.versions.kept_at pointer) ≡ Some read.items)
+        (after : WorkRoom) (result : Move) (looks : LooksOn new undo which (record room { older = read }) after result) where
       stays : RowsStay old new
       stays = unchanged_stays old new same
 
       within : which < keys
       within = fitting chains place actor undo room old is which (Walk which pointer) at
 
-      read_at : (told : IsTold old) → IsRead is.schema undo.key mid.older.items (rows_of old).kept (hold (Walk which pointer) at told).3.left
+      read_at : (told : IsTold old) → IsRead is.schema undo.key read.items (rows_of old).kept (hold (Walk which pointer) at told).3.left
       read_at told =
-          let h = hold (Walk which pointer) at told in version_read is.schema undo.key mid.older.items (rows_of old).kept pointer h.3.left h.3.leads leads_on
+          let h = hold (Walk which pointer) at told in version_read is.schema undo.key read.items (rows_of old).kept pointer h.3.left h.3.leads leads_on
           (bytes told.versions)
 
       looked : (told : IsTold old)
@@ -251,13 +247,12 @@ module _ (chains : Chains) (place : Place) (actor : ℕ) (undo : Undo) (room : W
           (entry_of is.schema (which + 1) (read_at told).version.row undo.key) after.stage
       looked told =
           let h = hold (Walk which pointer) at told in
-          let read = read_at told in
+          let seen = read_at told in
           let code = h.1.newest.code_is in
-          let newest = subst (λ (b : List ℕ). IsRecordOf is.schema h.0 undo.key b) (sym leaves.newest) code.record_is in
-          looks.stage is.schema h.0 read.version (ap (λ (s : List Schema). slice_get s undo.table) (schemas_stay stays) ∙ is.tells.there) code.numbers
-          read.code_is.numbers newest read.code_is.record_is
+          looks.stage is.schema h.0 seen.version (ap (λ (s : List Schema). slice_get s undo.table) (schemas_stay stays) ∙ is.tells.there) code.numbers
+          seen.code_is.numbers code.record_is seen.code_is.record_is
           (entry_short old.schemas undo is.schema place which h.0 room.newest.items is.tells within code)
-          (entry_short old.schemas undo is.schema place which read.version mid.older.items is.tells within read.code_is)
+          (entry_short old.schemas undo is.schema place which seen.version read.items is.tells within seen.code_is)
 
       holds_by : (told : IsTold old) (stage : Stage)
           → LooksAt which (read_at told).version (entry_of is.schema (which + 1) (hold (Walk which pointer) at told).0.row undo.key)
@@ -265,27 +260,27 @@ module _ (chains : Chains) (place : Place) (actor : ℕ) (undo : Undo) (room : W
           → StageHolds chains place undo is.schema (rows_of old) room.newest.items stage
       holds_by told stage (inl found) =
           let h = hold (Walk which pointer) at told in
-          let read = read_at told in
+          let seen = read_at told in
           let here =
-          found_here is.schema undo.key which is.tells.storable within room.newest.items mid.older.items h.0 read.version h.1.newest.code_is read.code_is
-          found.1 found.2 read.rest in
-          let some : some_has is.schema which h.0 before ≡ true = h.3.passed ∙ (ap (some_has is.schema which h.0) read.left_is ∙ here) in
+          found_here is.schema undo.key which is.tells.storable within room.newest.items read.items h.0 seen.version h.1.newest.code_is seen.code_is
+          found.1 found.2 seen.rest in
+          let some : some_has is.schema which h.0 before ≡ true = h.3.passed ∙ (ap (some_has is.schema which h.0) seen.left_is ∙ here) in
           subst (λ (s : Stage). StageHolds chains place undo is.schema (rows_of old) room.newest.items s) (sym found.0)
           (h.0, h.1, record { plain = h.2; found_is = some })
       holds_by told stage (inr on) =
           let h = hold (Walk which pointer) at told in
-          let read = read_at told in
+          let seen = read_at told in
           let past =
-          passed_here is.schema undo.key which is.tells.storable within room.newest.items mid.older.items h.0 read.version h.1.newest.code_is
-          read.code_is on.1 read.rest in
-          let walked : HasWalked is.schema undo.key (rows_of old).kept which read.version.pointer h.0 before
+          passed_here is.schema undo.key which is.tells.storable within room.newest.items read.items h.0 seen.version h.1.newest.code_is
+          seen.code_is on.1 seen.rest in
+          let walked : HasWalked is.schema undo.key (rows_of old).kept which seen.version.pointer h.0 before
           =
           record {
-            left = read.rest;
-            leads = read.leads;
-            fewer = (let all = ap length read.left_is in omega (arith, all, h.3.fewer));
+            left = seen.rest;
+            leads = seen.leads;
+            fewer = (let all = ap length seen.left_is in omega (arith, all, h.3.fewer));
             passed = h.3.passed
-                ∙ (ap (some_has is.schema which h.0) read.left_is ∙ past);
+                ∙ (ap (some_has is.schema which h.0) seen.left_is ∙ past);
           } in
           subst (λ (s : Stage). StageHolds chains place undo is.schema (rows_of old) room.newest.items s) (sym on.0) (h.0, h.1, h.2, walked)
 
@@ -311,26 +306,25 @@ module _ (chains : Chains) (place : Place) (actor : ℕ) (undo : Undo) (room : W
                 let before_told = told_before stays told in
                 let kept : new.versions.kept_at ≡ old.versions.kept_at = same.versions.kept told.versions in
                 let h = hold (Walk which pointer) at before_told in
-                let read = read_at before_told in
+                let seen = read_at before_told in
                 let one = behind_is before_told behind walk (looked before_told) in
                 let Lead : ℕ → List Version → (ℕ → Option Kept) → Type 0 = λ p vs k. LeadTo is.schema undo.key k p vs in
                 let first = subst (λ (k : ℕ → Option Kept). Lead pointer versions k) kept from in
                 let second =
                 subst (λ (p : ℕ). Lead p others old.versions.kept_at) one (subst (λ (k : ℕ → Option Kept). Lead behind others k) kept behind_leads) in
-                walk_shortens is.schema undo.key (rows_of old).kept pointer h.3.left read.version read.rest versions others h.3.leads read.left_is read.leads
+                walk_shortens is.schema undo.key (rows_of old).kept pointer h.3.left seen.version seen.rest versions others h.3.leads seen.left_is seen.leads
                 first second,
           )))
 
       pub walk_looks : PutsBack chains place actor undo room after old new result
       walk_looks =
-          let whole : IsWhole after = record {
-            newest = subst (λ (v : _). 1024 ≤ vec_capacity v) (sym looks.buffers.newest) leaves.whole.newest;
-            older = subst (λ (v : _). 1024 ≤ vec_capacity v) (sym looks.buffers.older) leaves.whole.older;
-            next = subst (λ (v : _). 67 ≤ vec_capacity v) (sym looks.buffers.next) leaves.whole.next;
-            marked = looks.buffers.marked ∙ leaves.whole.marked;
-            unmarked = looks.buffers.unmarked ∙ leaves.whole.unmarked;
-          } in
-          let items : after.newest.items ≡ room.newest.items = ap (λ (v : _). v.items) looks.buffers.newest ∙ leaves.newest in
+          let kept = older_leaves read room_is in
+          let whole : IsWhole after =
+          whole_again (record room { older = read }) after kept.whole
+          (subst (λ (v : _). vec_capacity room.newest ≤ vec_capacity v) (sym looks.buffers.newest) (omega arith))
+          (subst (λ (v : _). vec_capacity read ≤ vec_capacity v) (sym looks.buffers.older) (omega arith))
+          (subst (λ (v : _). vec_capacity room.next ≤ vec_capacity v) (sym looks.buffers.next) (omega arith)) looks.buffers.marked looks.buffers.unmarked in
+          let items : after.newest.items ≡ room.newest.items = ap (λ (v : _). v.items) looks.buffers.newest in
           subst (λ (r : Move). PutsBack chains place actor undo room after old new r) (sym looks.step)
           (went chains place actor undo room old is after new (schemas_stay stays) (inl stays) whole (fits_by looks.either)
           (λ told.

@@ -1,5 +1,5 @@
 -- The place that an undo record tells of, the newest version there, and the one before.
-use Rattle.std.proofs.Common.{◌≡◌, ◌⊎◌, inl, inr, ℕ, Bool, true, false, List, [], ◌∷◌, ◌++◌, Option, Some, None, refl, sym, ap, subst, ◌∙◌, arith}
+use Rattle.std.proofs.Common.{◌≡◌, ◌≢◌, ◌⊎◌, inl, inr, ℕ, Bool, true, false, List, [], ◌∷◌, ◌++◌, Option, Some, None, refl, sym, ap, subst, ◌∙◌, arith}
 use Rattle.std.specs.Prelude.{◌==◌, slice_index_or, not}
 use Rattle.std.proofs.lemmas.Bool.{cond-true, cond-false, eq-eqb, ne_eqb}
 use Rattle.inno_types.specs.declared.value.Value.{Value}
@@ -83,23 +83,22 @@ pub record WasNot (undo : Undo) (before : List Version) : Type 0 where
   pub had : had_row undo ≡ false
   pub first : newest before ≡ None
 
-kind_two : (undo : Undo) → undo.kind ≡ 2 → (undo.kind == 1) ≡ false
-kind_two undo is = ne_eqb undo.kind 1 (λ e. absurd (omega (arith, is, e)))
-
-pub kind_new : (undo : Undo) → undo.kind ≡ 1 → (undo.kind == 1) ≡ true
-kind_new undo is = eq-eqb undo.kind 1 is
-
 pub had_not_new : (undo : Undo) → undo.kind ≡ 1 → had_row undo ≡ false
-had_not_new undo is = cond-true (undo.kind == 1) false (slice_index_or undo.value 0 1 == 0) (kind_new undo is)
+had_not_new undo is = cond-true (undo.kind == 1) false (slice_index_or undo.value 0 1 == 0) (eq-eqb undo.kind 1 is)
 
 pub had_kept : (undo : Undo) → undo.kind ≡ 2 → had_row undo ≡ (slice_index_or undo.value 0 1 == 0)
-had_kept undo is = cond-false (undo.kind == 1) false (slice_index_or undo.value 0 1 == 0) (kind_two undo is)
+had_kept undo is =
+    cond-false (undo.kind == 1) false (slice_index_or undo.value 0 1 == 0)
+    (ne_eqb undo.kind 1 (λ new. absurd (omega (arith, is, new))))
 
 pub before_new : (undo : Undo) → undo.kind ≡ 1 → was_before undo ≡ None
-before_new undo is = cond-true (undo.kind == 1) None (Some undo.value) (kind_new undo is)
+before_new undo is = cond-true (undo.kind == 1) None (Some undo.value) (eq-eqb undo.kind 1 is)
+
+pub not_new : (undo : Undo) → undo.kind ≢ 1 → was_before undo ≡ Some undo.value
+not_new undo other = cond-false (undo.kind == 1) None (Some undo.value) (ne_eqb undo.kind 1 other)
 
 pub before_kept : (undo : Undo) → undo.kind ≡ 2 → was_before undo ≡ Some undo.value
-before_kept undo is = cond-false (undo.kind == 1) None (Some undo.value) (kind_two undo is)
+before_kept undo is = not_new undo (λ new. absurd (omega (arith, is, new)))
 
 former_row : (undo : Undo) (schema : Schema) (kept : ℕ → Option Kept) (pointer : ℕ) (before : List Version) (former : Kept) → undo.kind ≡ 2
     → IsCodeOf schema undo.key undo.value former.version → before ≡ shown former.version ∷ older before

@@ -1,13 +1,12 @@
 -- The steps that deal with the record.
-use Rattle.std.proofs.Common.{◌≡◌, ◌≢◌, ◌⊎◌, inl, inr, ⊎_elim, ℕ, ◌≤◌, true, false, List, Option, Some, None, refl, sym, ap, subst, ◌∙◌, arith, length}
-use Rattle.std.specs.Prelude.{is_some, vec_capacity, Vec, ◌==◌}
+use Rattle.std.proofs.Common.{◌≡◌, ◌≢◌, inl, inr, ⊎_elim, ℕ, ◌≤◌, false, List, Option, Some, None, refl, sym, ap, subst, ◌∙◌, arith, length}
+use Rattle.std.specs.Prelude.{is_some, vec_capacity, Vec}
 use Rattle.std.specs.declared.alloc.Global.{Global}
-use Rattle.std.proofs.lemmas.Bool.{cond-false, ne_eqb}
 use Rattle.inno_types.specs.declared.value.Schema.{Schema}
 use Rattle.store_api.specs.declared.answers.Undo.{Undo}
 use Rattle.store_api.specs.declared.answers.Version.{Version as Coded}
 use Rattle.store_api.specs.declared.moves.Move.{Move}
-use Rattle.store_api.specs.declared.moves.Move.TheVariants.{At, End, Done, Step, Latch, Again, Full, TooDeep, Failed, Bad, NoMemory}
+use Rattle.store_api.specs.declared.moves.Move.TheVariants.{End, Done, Step}
 use Rattle.entries.specs.Pairs.{value_of}
 use Rattle.entries.specs.Calls.{is_done, Fetches, NextKeys, Removes}
 use Rattle.row_codec.proofs.Stored.{length-version_code}
@@ -21,7 +20,7 @@ use Rattle.law_stored_rows.proofs.RowRecords.{pointer_followed}
 use Rattle.world.specs.State.{WorldState}
 use Rattle.world.specs.Indexes.{Calls, Changes, ReplacesWith}
 use Rattle.row_changes.specs.Pairs.{RowsStay, PutsPair}
-use Rattle.row_changes.proofs.Worlds.{stays_if, fetch_keeps, next_key_keeps, puts_if, change_stays_if, replace_keeps, remove_keeps}
+use Rattle.row_changes.proofs.Worlds.{stays_if, fetch_keeps, puts_if, change_stays_if, replace_keeps, remove_keeps}
 use Rattle.undo_apply.specs.declared.work_room.WorkRoom.{WorkRoom}
 use Rattle.undo_apply.specs.declared.work_room.Stage.{Stage}
 use Rattle.undo_apply.specs.declared.work_room.Stage.TheVariants.{Find, Key, AwaitRecords, Record}
@@ -30,29 +29,13 @@ use Rattle.world.specs.Told.{IsTold}
 use Rattle.undo_apply.specs.Told.{Rows, rows_of}
 use Rattle.undo_apply.specs.Standing.{LeadsBack, was_before, versions_before, IsLagging, IsUnderWay, IsTakenBack}
 use Rattle.undo_apply.specs.Moves.{WentOnOrEnded, Ended, at_stage}
-use Rattle.undo_apply.specs.Stages.{StageHolds, IsPuttingBack, PutsBack, StopsAt}
+use Rattle.undo_apply.specs.Stages.{StageHolds, IsPuttingBack, PutsBack, Stops, StopsAt}
 use Rattle.undo_apply.proofs.Telling.{schemas_stay, told_before, told_before_put, rows_stay, rows_after}
-use Rattle.undo_apply.proofs.Places.{newest_read, before_new}
+use Rattle.undo_apply.proofs.Places.{newest_read, not_new, before_new}
 use Rattle.undo_apply.proofs.Ends.{ends, stands}
-use Rattle.undo_apply.proofs.Calls.{told_of, IsThereAs, replace_stops, remove_stops, absent_stops, next_key_stops, fetch_stops}
-use Rattle.undo_apply.proofs.Goes.{went, hindered}
-use Rattle.undo_apply.proofs.KeySteps.{held, Leaves, went_to, stopped_at, put_as, removed_if, done_or_not, end_or_not, went_or_ended_other}
-
-pub ended_other : (answer : Move) (mid after : WorkRoom) (result : Move) → Ended answer mid after result → answer ≢ Done → (result ≡ answer) × (after ≡ mid)
-ended_other Done mid after result on not_done = absurd (not_done refl)
-ended_other End mid after result on not_done = on
-ended_other Step mid after result on not_done = on
-ended_other Again mid after result on not_done = on
-ended_other TooDeep mid after result on not_done = on
-ended_other Failed mid after result on not_done = on
-ended_other NoMemory mid after result on not_done = on
-ended_other (At key value) mid after result on not_done = on
-ended_other (Latch by) mid after result on not_done = on
-ended_other (Full need free) mid after result on not_done = on
-ended_other (Bad page rule) mid after result on not_done = on
-
-pub not_new : (undo : Undo) → undo.kind ≢ 1 → was_before undo ≡ Some undo.value
-not_new undo other = cond-false (undo.kind == 1) None (Some undo.value) (ne_eqb undo.kind 1 other)
+use Rattle.undo_apply.proofs.Calls.{told_of, IsThereAs, replace_stops, remove_stops, absent_stops, fetch_stops}
+use Rattle.undo_apply.proofs.Goes.{whole_again, went, hindered}
+use Rattle.undo_apply.proofs.KeySteps.{held, Leaves, stopped_at, put_as, removed_if, await_keys}
 
 -- the version before has as many bytes as the newest
 pub as_long : (undo : Undo) (schema : Schema) (kept : ℕ → Option Kept) (bytes : List ℕ) (coded : Coded) (before : List Version)
@@ -80,20 +63,18 @@ module _ (chains : Chains) (place : Place) (actor : ℕ) (undo : Undo) (room : W
 
   -- ---- the record is found
 
+  -- the change stands yet
+  abbrev Stands : Type 0
+  Stands =
+      (read : List ℕ) × (coded : Coded) × IsUnderWay chains place undo is.schema (rows_of old) read coded 0
+      (IsLagging (shown coded) (versions_before chains place))
+
   abbrev Fetching : List ℕ → WorldState → Move → Type 0
   Fetching read new answer = Calls index (λ b a. Fetches actor undo.key read b a answer) old new
 
   -- the room with what was read
   pub read_whole : (read : Vec ℕ Global) → vec_capacity room.newest ≤ vec_capacity read → IsWhole (record room { newest = read })
-  read_whole read holds =
-      record {
-        newest = omega (arith, holds, is.whole.newest);
-        older = is.whole.older;
-        next = is.whole.next;
-        marked = is.whole.marked;
-        unmarked =
-            is.whole.unmarked;
-      }
+  read_whole read holds = whole_again room (record room { newest = read }) is.whole holds (omega arith) (omega arith) refl refl
 
   fetched : (read : List ℕ) (new : WorldState) (answer : Move) → Fetching read new answer → RowsStay old new
   fetched read new answer calls = stays_if calls (fetch_keeps actor undo.key read (old.indexes index) (new.indexes index) answer calls.index_is.here)
@@ -102,8 +83,7 @@ module _ (chains : Chains) (place : Place) (actor : ℕ) (undo : Undo) (room : W
   was_back : room.stage ≡ Find → (found : Option (List ℕ)) → IsTold old → value_of undo.key ((rows_of old).pairs index) ≡ found → found ≡ was_before undo
       → IsTakenBack chains undo (rows_of old)
   was_back at found told there same =
-      ⊎_elim (λ (way : (read : List ℕ) × (coded : Coded) × IsUnderWay chains place undo is.schema (rows_of old) read coded 0
-      (IsLagging (shown coded) (versions_before chains place))).
+      ⊎_elim (λ (way : Stands).
       absurd (stands chains place undo is.schema (rows_of old) way.0 way.1 0 (IsLagging (shown way.1) (versions_before chains place)) is.tells way.2
       (there ∙ same))) (λ taken. taken) (hold Find at told)
 
@@ -132,10 +112,8 @@ module _ (chains : Chains) (place : Place) (actor : ℕ) (undo : Undo) (room : W
   -- no record stands: there was none before, and the change had been taken back
   none_before : room.stage ≡ Find → IsTold old → value_of undo.key ((rows_of old).pairs index) ≡ None → None ≡ was_before undo
   none_before at told none =
-      ⊎_elim (λ (way : (read : List ℕ) × (coded : Coded) × IsUnderWay chains place undo is.schema (rows_of old) read coded 0
-      (IsLagging (shown coded) (versions_before chains place))).
-      absurd (let e : None ≡ Some way.0 = sym none ∙ way.2.newest.there in cc)) (λ (taken : IsTakenBack chains undo (rows_of old)). sym none ∙ taken.there)
-      (hold Find at told)
+      ⊎_elim (λ (way : Stands). absurd (let e : None ≡ Some way.0 = sym none ∙ way.2.newest.there in cc))
+      (λ (taken : IsTakenBack chains undo (rows_of old)). sym none ∙ taken.there) (hold Find at told)
 
   pub find_none : room.stage ≡ Find → (read : Vec ℕ Global) → vec_capacity room.newest ≤ vec_capacity read → (new : WorldState)
       → Fetching read.items new End → PutsBack chains place actor undo room (record room { newest = read }) old new Done
@@ -156,8 +134,7 @@ module _ (chains : Chains) (place : Place) (actor : ℕ) (undo : Undo) (room : W
       let before_told = told_before stays told in
       let there = told_of (λ pairs. value_of undo.key pairs ≡ Some read.items) old index before_told calls.index_is.here.0 in
       subst (λ (r : Rows). StageHolds chains place undo is.schema r read.items (Key 0)) (sym (rows_stay stays told))
-      (⊎_elim (λ (way : (bytes : List ℕ) × (coded : Coded) × IsUnderWay chains place undo is.schema (rows_of old) bytes coded 0
-      (IsLagging (shown coded) (versions_before chains place))).
+      (⊎_elim (λ (way : Stands).
       let some : Some way.0 ≡ Some read.items = sym way.2.newest.there ∙ there in
       let one : way.0 ≡ read.items = cc in
       subst (λ (b : List ℕ). StageHolds chains place undo is.schema (rows_of old) b (Key 0)) one (way.1, way.2))
@@ -175,54 +152,13 @@ module _ (chains : Chains) (place : Place) (actor : ℕ) (undo : Undo) (room : W
 
   -- ---- others are kept from changing records
 
-  pub records_leave : (read : Vec ℕ Global) → vec_capacity room.next ≤ vec_capacity read → Leave (record room { next = read })
-  records_leave read holds = record {
-    stage = refl;
-    newest = refl;
-    whole =
-        record {
-          newest = is.whole.newest;
-          older = is.whole.older;
-          next = omega (arith, holds, is.whole.next);
-          marked = is.whole.marked;
-          unmarked =
-              is.whole.unmarked;
-        };
-  }
-
-  await_went : room.stage ≡ AwaitRecords → (mid : WorkRoom) → Leave mid → (new : WorldState) → RowsStay old new
-      → PutsBack chains place actor undo room (at_stage Record mid) old new Step
-  await_went at mid leaves new stays =
-      went_to chains place actor undo room old is 0 mid leaves Record new (schemas_stay stays) (inl stays) tt
-      (λ told. subst (λ (r : Rows). StageHolds chains place undo is.schema r room.newest.items Record) (sym (rows_stay stays told))
-      (hold AwaitRecords at (told_before stays told)))
-      (inl (let from = ap (steps_left keys) at in omega (arith, from)))
-
   pub await_records_step : room.stage ≡ AwaitRecords → (mid : WorkRoom) → Leave mid → (read : List ℕ) (new : WorldState) (answer : Move)
       → Calls index (λ b a. NextKeys actor undo.key read b a answer) old new
       → (after : WorkRoom) (reached : Move) → WentOnOrEnded Record answer mid after reached → PutsBack chains place actor undo room after old new reached
-  await_records_step at mid leaves read new answer calls after reached on = by_answer (done_or_not answer) (end_or_not answer) where
-    stays : RowsStay old new
-    stays = stays_if calls (next_key_keeps actor undo.key read (old.indexes index) (new.indexes index) answer calls.index_is.here)
-
-    by_answer : (answer ≡ Done) ⊎ (answer ≢ Done) → (answer ≡ End) ⊎ (answer ≢ End) → PutsBack chains place actor undo room after old new reached
-    by_answer (inl done) ended =
-        let there = subst (λ (a : Move). WentOnOrEnded Record a mid after reached) done on in
-        put_as chains place actor undo room old is 0 (at_stage Record mid) after new Step reached there.0 there.1 (await_went at mid leaves new stays)
-    by_answer (inr other) (inl ended) =
-        let there = subst (λ (a : Move). WentOnOrEnded Record a mid after reached) ended on in
-        put_as chains place actor undo room old is 0 (at_stage Record mid) after new Step reached there.0 there.1 (await_went at mid leaves new stays)
-    by_answer (inr other) (inr not_end) =
-        let there = went_or_ended_other Record answer mid after reached on other not_end in
-        put_as chains place actor undo room old is 0 mid after new answer reached there.0 there.1
-        (stopped_at chains place actor undo room old is 0 mid leaves new answer other stays
-        (subst (λ (s : Stage). StopsAt actor undo s old new answer) (sym at)
-        (next_key_stops actor undo.key read old new index answer calls.index_is.here other not_end)))
+  await_records_step at mid leaves =
+      await_keys chains place actor undo room old is 0 AwaitRecords Record index at tt (λ rows h. h) (omega arith) (λ new answer h. h) mid leaves undo.key
 
   -- ---- the record is put back
-
-  same_room : Leave room
-  same_room = record { stage = refl; newest = refl; whole = is.whole }
 
   -- the record is what it was before, and the newest version is gone
   ended : room.stage ≡ Record → (new : WorldState) → PutsPair index undo.key (was_before undo) old new
@@ -241,83 +177,63 @@ module _ (chains : Chains) (place : Place) (actor : ℕ) (undo : Undo) (room : W
         (IsLagging (shown h.0) (versions_before chains place)) is.tells h.1 gone);
   }
 
+  not_ended : room.stage ≡ Record → (new : WorldState) (answer : Move) → answer ≢ Done → RowsStay old new × Stops actor index old new answer
+      → PutsBack chains place actor undo room room old new answer
+  not_ended at new answer other why =
+      stopped_at chains place actor undo room old is 0 room (record { stage = refl; newest = refl; whole = is.whole }) new answer other why.0
+      (subst (λ (s : Stage). StopsAt actor undo s old new answer) (sym at) why.1)
+
+  -- the call was done, and all is; or the room is as it was
+  last_step : (new : WorldState) (Call : Move → Type 0) → (Call Done → PutsPair index undo.key (was_before undo) old new) → room.stage ≡ Record
+      → ((answer : Move) → answer ≢ Done → Call answer → RowsStay old new × Stops actor index old new answer)
+      → (answer : Move) → Call answer → (after : WorkRoom) (reached : Move) → Ended answer room after reached
+      → PutsBack chains place actor undo room after old new reached
+  last_step new Call done at other Done call after reached on =
+      put_as chains place actor undo room old is 0 (at_stage Find room) after new Done reached on.0 on.1 (ended at new (done call))
+  last_step new Call done at other answer call after reached on =
+      put_as chains place actor undo room old is 0 room after new answer reached on.0 on.1 (not_ended at new answer (λ e. cc) (other answer (λ e. cc) call))
+
   pub remove_record : room.stage ≡ Record → undo.kind ≡ 1 → (new : WorldState) (answer : Move)
       → Calls index (λ b a. Removes actor undo.key b a answer) old new → (after : WorkRoom) (reached : Move) → Ended answer room after reached
       → PutsBack chains place actor undo room after old new reached
-  remove_record at kind new answer calls after reached on = by_answer (done_or_not answer) (end_or_not answer) where
-    there : IsTold old → is_some (value_of undo.key ((rows_of old).pairs index)) ≡ true
-    there told = ap is_some (hold Record at told).1.newest.there
-
-    gone : Calls index (λ b a. Removes actor undo.key b a Done) old new → PutsPair index undo.key (was_before undo) old new
-    gone c = subst (λ (v : Option (List ℕ)). PutsPair index undo.key v old new) (sym (before_new undo kind)) (removed_if undo.key c c.index_is.here.2)
-
-    by_answer : (answer ≡ Done) ⊎ (answer ≢ Done) → (answer ≡ End) ⊎ (answer ≢ End) → PutsBack chains place actor undo room after old new reached
-    by_answer (inl done) is_end =
-        let to = subst (λ (a : Move). Ended a room after reached) done on in
-        put_as chains place actor undo room old is 0 (at_stage Find room) after new Done reached to.0 to.1
-        (ended at new (gone (subst (λ (a : Move). Calls index (λ b a'. Removes actor undo.key b a' a) old new) done calls)))
-    by_answer (inr other) (inl is_end) =
-        let to = ended_other answer room after reached on other in
-        let at_end = subst (λ (a : Move). Calls index (λ b a'. Removes actor undo.key b a' a) old new) is_end calls in
-        let End_stops : Move → Type 0 = λ a. StopsAt actor undo Record old new a in
-        put_as chains place actor undo room old is 0 room after new answer reached to.0 to.1
-        (stopped_at chains place actor undo room old is 0 room same_room new answer other
-        (stays_if calls (remove_keeps actor undo.key (old.indexes index) (new.indexes index) answer calls.index_is.here other))
-        (subst (λ (s : Stage). StopsAt actor undo s old new answer) (sym at)
-        (subst End_stops (sym is_end) (absent_stops actor undo.key old new index there at_end.index_is.here))))
-    by_answer (inr other) (inr not_end) =
-        let to = ended_other answer room after reached on other in
-        put_as chains place actor undo room old is 0 room after new answer reached to.0 to.1
-        (stopped_at chains place actor undo room old is 0 room same_room new answer other
-        (stays_if calls (remove_keeps actor undo.key (old.indexes index) (new.indexes index) answer calls.index_is.here other))
-        (subst (λ (s : Stage). StopsAt actor undo s old new answer) (sym at)
-        (remove_stops actor undo.key old new index answer calls.index_is.here other not_end)))
+  remove_record at kind new =
+      last_step new (λ answer. Calls index (λ b a. Removes actor undo.key b a answer) old new)
+      (λ calls. subst (λ (v : Option (List ℕ)). PutsPair index undo.key v old new) (sym (before_new undo kind))
+      (removed_if undo.key calls calls.index_is.here.2)) at
+      (λ answer other calls. (
+        stays_if calls (remove_keeps actor undo.key (old.indexes index) (new.indexes index) answer calls.index_is.here other),
+        remove_hinders answer other calls.index_is.here,
+      ))
+    where
+      remove_hinders : (answer : Move) → answer ≢ Done → Removes actor undo.key (old.indexes index) (new.indexes index) answer
+          → Stops actor index old new answer
+      remove_hinders End other h = absent_stops actor undo.key old new index (λ told. ap is_some (hold Record at told).1.newest.there) h
+      remove_hinders answer other h = remove_stops actor undo.key old new index answer h other (λ e. cc)
 
   pub replace_record : room.stage ≡ Record → undo.kind ≢ 1 → (new : WorldState) (answer : Move)
       → Changes index actor None (λ b a ans. ReplacesWith None actor undo.key undo.value b a ans) old new answer → (after : WorkRoom) (reached : Move)
       → Ended answer room after reached
       → PutsBack chains place actor undo room after old new reached
-  replace_record at kind new answer changes after reached on = by_answer (done_or_not answer) where
-    there : IsTold old → IsThereAs undo.key undo.value old index
-    there told =
-        let h = hold Record at told in
-        let read =
-        newest_read undo is.schema place old.schemas is.tells (rows_of old).pairs (rows_of old).kept chains room.newest.items h.0 h.1.coded_but.clustered
-        h.1.newest in (
-          room.newest.items,
-          h.1.newest.there,
-          as_long undo is.schema (rows_of old).kept room.newest.items h.0 (versions_before chains place)
-              h.1.newest.code_is read.1 h.1.newest.before kind,
-        )
-
-    put : Changes index actor None (λ b a ans. ReplacesWith None actor undo.key undo.value b a ans) old new Done
-        → PutsPair index undo.key (was_before undo) old new
-    put c =
-        subst (λ (v : Option (List ℕ)). PutsPair index undo.key v old new) (sym (not_new undo kind)) (puts_if undo.key (Some undo.value) c c.index_is.here.1)
-
-    by_answer : (answer ≡ Done) ⊎ (answer ≢ Done) → PutsBack chains place actor undo room after old new reached
-    by_answer (inl done) =
-        let to = subst (λ (a : Move). Ended a room after reached) done on in
-        put_as chains place actor undo room old is 0 (at_stage Find room) after new Done reached to.0 to.1
-        (ended at new (put (subst (λ (a : Move). Changes index actor None (λ b a' ans. ReplacesWith None actor undo.key undo.value b a' ans) old new a) done
-        changes)))
-    by_answer (inr other) =
-        let to = ended_other answer room after reached on other in
-        put_as chains place actor undo room old is 0 room after new answer reached to.0 to.1
-        (stopped_at chains place actor undo room old is 0 room same_room new answer other
-        (change_stays_if changes (replace_keeps actor undo.key undo.value (old.indexes index) (new.indexes index) answer changes.index_is.here other))
-        (subst (λ (s : Stage). StopsAt actor undo s old new answer) (sym at)
-        (replace_stops actor undo.key undo.value old new index answer there changes.index_is.here other)))
+  replace_record at kind new =
+      last_step new (Changes index actor None (λ b a ans. ReplacesWith None actor undo.key undo.value b a ans) old new)
+      (λ changes. subst (λ (v : Option (List ℕ)). PutsPair index undo.key v old new) (sym (not_new undo kind))
+      (puts_if undo.key (Some undo.value) changes changes.index_is.here.1)) at
+      (λ answer other changes. (
+        change_stays_if changes (replace_keeps actor undo.key undo.value (old.indexes index) (new.indexes index) answer changes.index_is.here other),
+        replace_stops actor undo.key undo.value old new index answer there changes.index_is.here other,
+      ))
+    where
+      there : IsTold old → IsThereAs undo.key undo.value old index
+      there told =
+          let h = hold Record at told in
+          let read =
+          newest_read undo is.schema place old.schemas is.tells (rows_of old).pairs (rows_of old).kept chains room.newest.items h.0 h.1.coded_but.clustered
+          h.1.newest in (
+            room.newest.items,
+            h.1.newest.there,
+            as_long undo is.schema (rows_of old).kept room.newest.items h.0 (versions_before chains place) h.1.newest.code_is read.1 h.1.newest.before kind,
+          )
 
 pub not_done_test : (answer : Move) → answer ≢ Done → is_done answer ≡ false
-not_done_test Done other = absurd (other refl)
-not_done_test End other = refl
-not_done_test Step other = refl
-not_done_test Again other = refl
-not_done_test TooDeep other = refl
-not_done_test Failed other = refl
-not_done_test NoMemory other = refl
-not_done_test (At key value) other = refl
-not_done_test (Latch by) other = refl
-not_done_test (Full need free) other = refl
-not_done_test (Bad page rule) other = refl
+not_done_test Done differs = absurd (differs refl)
+not_done_test other differs = refl

@@ -1,6 +1,7 @@
 -- A walk along older versions, in search of one that has the newest row's value in a key's column.
 use Rattle.std.proofs.Common.{◌≡◌, ◌≢◌, ◌⊎◌, inl, inr, ℕ, ◌+◌, ◌<◌, Bool, true, false, List, [], ◌∷◌, Option, Some, refl, sym, ap, subst, ◌∙◌, arith, length}
 use Rattle.std.specs.Prelude.{option_map, IsTrue, ◌==◌, ◌||◌, is_some}
+use Rattle.std.proofs.Math.Bool.{or-true}
 use Rattle.std.proofs.lemmas.Bool.{true≢false, eq-eqb}
 use Rattle.inno_types.specs.declared.value.Value.{Value}
 use Rattle.inno_types.specs.declared.value.Schema.{Schema}
@@ -21,14 +22,10 @@ use Rattle.undo_apply.proofs.Columns.{key_at, column_is, entry_is}
 
 -- ---- pointers
 
-or_true : (b : Bool) → b || true ≡ true
-or_true true = refl
-or_true false = refl
-
 pub walk_leads : (schema : Schema) (key : List ℕ) (versions : Versions) (pointer : ℕ) (left : List Version)
     → LeadTo schema key versions.kept_at pointer left → IsTrue (leads pointer versions)
 walk_leads schema key versions pointer [] is = ap (λ (b : Bool). b || is_some (versions.kept_at pointer)) (eq-eqb pointer 0 is)
-walk_leads schema key versions pointer (version ∷ rest) is = ap (λ (o : Option Kept). pointer == 0 || is_some o) is.1.there ∙ or_true (pointer == 0)
+walk_leads schema key versions pointer (version ∷ rest) is = ap (λ (o : Option Kept). pointer == 0 || is_some o) is.1.there ∙ or-true (pointer == 0)
 
 -- the version that was read behind a pointer
 pub record IsRead (schema : Schema) (key read : List ℕ) (kept : ℕ → Option Kept) (left : List Version) : Type 0 where

@@ -94,15 +94,11 @@ pub record GoesOn (chains : Chains) (place : Place) (undo : Undo) (room next : W
 
 -- the index that a stage calls
 abbrev pub index_at : Undo → Stage → ℕ
-index_at undo Find = clustered_index undo.table
-index_at undo (Key which) = clustered_index undo.table
-index_at undo (Walk which pointer) = clustered_index undo.table
 index_at undo (Mark which) = key_index undo.table which
 index_at undo (Await which) = key_index undo.table which
 index_at undo (Remove which) = key_index undo.table which
 index_at undo (Unmark which) = key_index undo.table which
-index_at undo AwaitRecords = clustered_index undo.table
-index_at undo Record = clustered_index undo.table
+index_at undo other = clustered_index undo.table
 
 -- Why a call of an index has not done what it was asked. Want of memory or pages, and pairs that are missing against what
 -- is known, come only where not all is told.

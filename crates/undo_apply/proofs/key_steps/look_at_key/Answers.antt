@@ -1,5 +1,4 @@
-use Rattle.std.proofs.Common.{◌≡◌, ◌∙◌, ℕ, ◌^◌, ◌<◌, ◌≤◌, Bool, List, ◌++◌, subst, refl, sym, arith}
-use Rattle.row_codec.specs.Rows.{head_code, IsRecordOf}
+use Rattle.std.proofs.Common.{◌≡◌, ◌∙◌, ◌<◌, ◌≤◌, subst, refl, sym, arith}
 use Rattle.store_api.specs.declared.moves.Move.TheVariants.{Step}
 use Rattle.undo_apply.specs.declared.work_room.WorkRoom.{WorkRoom}
 use Rattle.undo_apply.specs.declared.work_room.Stage.{Stage}
@@ -36,9 +35,7 @@ returns-then-is_marked g c = λ chains place actor is.
     let less : c.args.which < c.number_of_keys.result = omega (arith, c.if-from-number_of_keys.false, c.from.ensures) in
     let within =
     within_key chains place actor c.args.undo.now room old is c.args.which c.requires.stage c.number_of_keys.result c.number_of_keys.ensures less in
-    let mark =
-    subst (λ (v : List ℕ). (marked : Bool) (writer pointer : ℕ) (fields : List ℕ) → v ≡ head_code marked writer pointer ++ fields → c.is_marked.result ≡
-    marked) c.deref.ensures.value c.is_marked.ensures in
+    let mark = rw c.deref.ensures.value at c.is_marked.ensures in
     let to = c.go_to-then-is_marked in
     let at = subst (λ (s : Stage). to.new.room ≡ at_stage s room) c.after_entry.ensures to.ensures.room in
     put_as chains place actor c.args.undo.now room old is c.args.which _ to.new.room old Step to.result to.ensures.step at
@@ -61,22 +58,14 @@ returns-then-have_one_entry g c = λ chains place actor is.
     let room = c.args.room.now in
     let less : c.args.which < c.number_of_keys.result = omega (arith, c.if-from-number_of_keys.false, c.from.ensures) in
     let within = within_key chains place actor undo room old is c.args.which c.requires.stage c.number_of_keys.result c.number_of_keys.ensures less in
-    let mark =
-    subst (λ (v : List ℕ). (marked : Bool) (writer pointer : ℕ) (fields : List ℕ) → v ≡ head_code marked writer pointer ++ fields → c.is_marked.result ≡
-    marked) c.deref.ensures.value c.is_marked.ensures in
+    let mark = rw c.deref.ensures.value at c.is_marked.ensures in
     let entry = c.have_one_entry.new.entries in
     let to = c.go_to-then-have_one_entry in
     let had = sym c.had_row.ensures ∙ c.if-had_row.true in
     put_as chains place actor undo room old is c.args.which (at_stage (Unmark c.args.which) (record room { entries = entry })) to.new.room old Step to.result
     to.ensures.step to.ensures.room
     (look_same chains place actor undo room old is c.args.which c.requires.stage within c.is_marked.result mark c.if-is_marked.false had entry
-    c.have_one_entry.result
-    (λ schema first second there f s record_f record_s short short_too.
-    let both =
-    c.have_one_entry.ensures schema first second there f s
-    (subst (λ (v : List ℕ). IsRecordOf schema first undo.key v) (sym c.deref-then-had_row.ensures.value) record_f)
-    (subst (λ (v : List ℕ). IsRecordOf schema second undo.key v) (sym c.as_slice.ensures) record_s) short short_too in
-    both) c.if-have_one_entry.true)
+    c.have_one_entry.result (rw (c.deref-then-had_row.ensures.value, c.as_slice.ensures) at c.have_one_entry.ensures) c.if-have_one_entry.true)
 
 pub returns : goal.returns
 returns g c = λ chains place actor is.
@@ -86,12 +75,8 @@ returns g c = λ chains place actor is.
     let mid = c.else-had_row.room in
     let less : c.args.which < c.number_of_keys.result = omega (arith, c.if-from-number_of_keys.false, c.from.ensures) in
     let within = within_key chains place actor undo room old is c.args.which c.requires.stage c.number_of_keys.result c.number_of_keys.ensures less in
-    let mark =
-    subst (λ (v : List ℕ). (marked : Bool) (writer pointer : ℕ) (fields : List ℕ) → v ≡ head_code marked writer pointer ++ fields → c.is_marked.result ≡
-    marked) c.deref.ensures.value c.is_marked.ensures in
-    let pointer =
-    subst (λ (v : List ℕ). (marked : Bool) (writer pointer : ℕ) (fields : List ℕ) → pointer < 2 ^ 64 → v ≡ head_code marked writer pointer ++ fields →
-    c.pointer_of-pointer.result ≡ pointer) c.deref-2.ensures.value c.pointer_of-pointer.ensures in
+    let mark = rw c.deref.ensures.value at c.is_marked.ensures in
+    let pointer = rw c.deref-2.ensures.value at c.pointer_of-pointer.ensures in
     let leaves : Leaves chains place actor undo room old is c.args.which mid
     = elim c.else-had_row.branch [
       | else-had_row-via-then-had_row+else-have_one_entry w ↦ subst (λ (m : WorkRoom). Leaves chains place actor undo room old is c.args.which m)

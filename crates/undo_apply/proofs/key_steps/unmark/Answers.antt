@@ -1,35 +1,19 @@
-use Rattle.std.proofs.Common.{ℕ, ◌+◌, ◌*◌, List, None, subst}
-use Rattle.world.specs.Indexes.{Changes, ReplacesWith}
-use Rattle.undo_apply.proofs.KeySteps.{Writes, unmark_step, unmark_unwritten}
+use Rattle.std.proofs.Common.{ℕ, None, subst}
 use Rattle.row_changes.specs.Awaited.{AwaitsAt}
 use Rattle.row_changes.proofs.Awaited.{awaits_at, replace_with_here}
+use Rattle.undo_apply.proofs.KeySteps.{unmark_step, unmark_unwritten}
 use Rattle.undo_apply.proofs.key_steps.unmark.Goals as goal
 
 pub returns-clause-puts : goal.returns-clause-puts
 returns-clause-puts g c = λ chains place is.
-    let old = g.W.World.state c.args.world.now in
-    let new = g.W.World.state c.replace-answer.new.self in
-    let undo = c.args.undo.now in
-    let room = c.args.room.now in
-    let entry = c.write_entry.new.entries in
-    let writes = subst (λ (v : List ℕ). Writes old undo c.args.which v entry c.write_entry.result) c.as_slice.ensures c.write_entry.ensures in
-    let by_index =
-    subst (λ (i : ℕ). Changes i c.args.actor None (λ b a ans. ReplacesWith None c.args.actor c.entry.result.now room.unmarked b a ans) old new
-    c.replace-answer.result) c.entries_of.ensures c.replace-answer.ensures in
-    let changes =
-    subst (λ (e : List ℕ). Changes (8 * undo.table + (1 + c.args.which)) c.args.actor None
-    (λ b a ans. ReplacesWith None c.args.actor e room.unmarked b a ans) old new c.replace-answer.result) c.entry.ensures by_index in
-    unmark_step chains place c.args.actor undo room old is c.args.which c.requires.stage entry c.write_entry.result writes new c.replace-answer.result
-    changes c.go_on.new.room c.go_on.result c.go_on.ensures
+    unmark_step chains place c.args.actor c.args.undo.now c.args.room.now (g.W.World.state c.args.world.now) is c.args.which c.requires.stage
+    c.write_entry.new.entries c.write_entry.result (rw c.as_slice.ensures at c.write_entry.ensures) (g.W.World.state c.replace-answer.new.self)
+    c.replace-answer.result (rw (c.entries_of.ensures, c.entry.ensures) at c.replace-answer.ensures) c.go_on.new.room c.go_on.result c.go_on.ensures
 
 pub returns-then-not-write_entry-clause-puts : goal.returns-then-not-write_entry-clause-puts
 returns-then-not-write_entry-clause-puts g c = λ chains place is.
-    let old = g.W.World.state c.args.world.now in
-    let undo = c.args.undo.now in
-    let entry = c.write_entry.new.entries in
-    let writes = subst (λ (v : List ℕ). Writes old undo c.args.which v entry c.write_entry.result) c.as_slice.ensures c.write_entry.ensures in
-    unmark_unwritten chains place c.args.actor undo c.args.room.now old is c.args.which c.requires.stage entry c.write_entry.result writes
-    c.if-not-write_entry.true
+    unmark_unwritten chains place c.args.actor c.args.undo.now c.args.room.now (g.W.World.state c.args.world.now) is c.args.which c.requires.stage
+    c.write_entry.new.entries c.write_entry.result (rw c.as_slice.ensures at c.write_entry.ensures) c.if-not-write_entry.true
 
 pub returns-clause-awaits : goal.returns-clause-awaits
 returns-clause-awaits g c =

@@ -1,14 +1,11 @@
-use Rattle.std.proofs.Common.{Bool, subst, Ok}
 use Rattle.store_api.specs.declared.moves.Move.TheVariants.{Step, Again, Failed, Bad}
-use Rattle.store_api.specs.declared.visits.Visit.{Visit}
-use Rattle.row_versions.specs.Calls.{ShowsBytes, IsUnseen}
+use Rattle.row_changes.proofs.Changing.{unchanged_stays}
 use Rattle.undo_apply.specs.declared.work_room.Stage.TheVariants.{Walk, Await}
 use Rattle.undo_apply.specs.Moves.{at_stage}
 use Rattle.undo_apply.proofs.Telling.{schemas_stay}
 use Rattle.undo_apply.proofs.Columns.{has_key_at}
-use Rattle.undo_apply.proofs.Goes.{unchanged_stays}
 use Rattle.undo_apply.proofs.KeySteps.{fitting, put_as}
-use Rattle.undo_apply.proofs.Looks.{older_leaves, walk_pointer, walk_over, walk_stopped, walk_looks}
+use Rattle.undo_apply.proofs.Looks.{walk_pointer, walk_over, walk_stopped, walk_looks}
 use Rattle.undo_apply.proofs.key_steps.walk.Goals as goal
 
 pub value-requires-clause-pointer : goal.value-requires-clause-pointer
@@ -29,56 +26,34 @@ look_at_version-requires g c =
 
 pub returns-in-Ok-true-clause-puts : goal.returns-in-Ok-true-clause-puts
 returns-in-Ok-true-clause-puts g c = λ chains place actor is.
-    let old = g.W.World.state c.args.world.now in
-    let new = g.W.World.state c.value.new.self in
-    let read = c.value.new.into in
-    let mid = record c.args.room.now { older = read } in
-    let leaves = older_leaves chains place actor c.args.undo.now c.args.room.now old is c.args.which read c.value.ensures.room in
-    let shows =
-    subst (λ (b : Bool). ShowsBytes c.args.pointer read.items old.versions new.versions (Ok b)) c.in-Ok-true.field-0-test c.in-Ok-true.ensures.answer in
-    walk_looks chains place actor c.args.undo.now c.args.room.now old is c.args.which c.args.pointer c.requires.stage mid leaves new c.value.ensures.rest
-    shows.0 shows.1 c.look_at_version.new.room c.look_at_version.result c.look_at_version.ensures
+    let shows = rw c.in-Ok-true.field-0-test at c.in-Ok-true.ensures.answer in
+    walk_looks chains place actor c.args.undo.now c.args.room.now (g.W.World.state c.args.world.now) is c.args.which c.args.pointer c.requires.stage
+    c.value.new.into c.value.ensures.room (g.W.World.state c.value.new.self) c.value.ensures.rest shows.0 shows.1
+    c.look_at_version.new.room c.look_at_version.result c.look_at_version.ensures
 
 pub returns-in-Ok-false-clause-puts : goal.returns-in-Ok-false-clause-puts
 returns-in-Ok-false-clause-puts g c = λ chains place actor is.
-    let old = g.W.World.state c.args.world.now in
-    let new = g.W.World.state c.value.new.self in
-    let read = c.value.new.into in
-    let mid = record c.args.room.now { older = read } in
-    let leaves = older_leaves chains place actor c.args.undo.now c.args.room.now old is c.args.which read c.value.ensures.room in
-    let shows =
-    subst (λ (b : Bool). ShowsBytes c.args.pointer read.items old.versions new.versions (Ok b)) c.in-Ok-false.field-0-test c.in-Ok-false.ensures.answer in
-    put_as chains place actor c.args.undo.now c.args.room.now old is c.args.which (at_stage (Await c.args.which) mid) c.go_to.new.room new Step
+    let shows = rw c.in-Ok-false.field-0-test at c.in-Ok-false.ensures.answer in
+    put_as chains place actor c.args.undo.now c.args.room.now (g.W.World.state c.args.world.now) is c.args.which
+    (at_stage (Await c.args.which) (record c.args.room.now { older = c.value.new.into })) c.go_to.new.room (g.W.World.state c.value.new.self) Step
     c.go_to.result c.go_to.ensures.step c.go_to.ensures.room
-    (walk_over chains place actor c.args.undo.now c.args.room.now old is c.args.which c.args.pointer c.requires.stage mid leaves new c.value.ensures.rest
-    shows.0)
+    (walk_over chains place actor c.args.undo.now c.args.room.now (g.W.World.state c.args.world.now) is c.args.which c.args.pointer c.requires.stage
+    c.value.new.into c.value.ensures.room (g.W.World.state c.value.new.self) c.value.ensures.rest shows.0)
 
 pub returns-in-Err-Failed-clause-puts : goal.returns-in-Err-Failed-clause-puts
 returns-in-Err-Failed-clause-puts g c = λ chains place actor is.
-    let old = g.W.World.state c.args.world.now in
-    let new = g.W.World.state c.value.new.self in
-    let read = c.value.new.into in
-    let leaves = older_leaves chains place actor c.args.undo.now c.args.room.now old is c.args.which read c.value.ensures.room in
-    let why = subst (λ (v : Visit). IsUnseen old.versions new.versions v) c.in-Err-Failed.field-0-is c.in-Err-Failed.ensures.answer in
-    walk_stopped chains place actor c.args.undo.now c.args.room.now old is c.args.which c.args.pointer c.requires.stage
-    (record c.args.room.now { older = read }) leaves new c.value.ensures.rest Failed (λ e. cc) why
+    walk_stopped chains place actor c.args.undo.now c.args.room.now (g.W.World.state c.args.world.now) is c.args.which c.args.pointer c.requires.stage
+    c.value.new.into c.value.ensures.room (g.W.World.state c.value.new.self) c.value.ensures.rest Failed (λ e. cc)
+    (rw c.in-Err-Failed.field-0-is at c.in-Err-Failed.ensures.answer)
 
 pub returns-in-Err-Again-clause-puts : goal.returns-in-Err-Again-clause-puts
 returns-in-Err-Again-clause-puts g c = λ chains place actor is.
-    let old = g.W.World.state c.args.world.now in
-    let new = g.W.World.state c.value.new.self in
-    let read = c.value.new.into in
-    let leaves = older_leaves chains place actor c.args.undo.now c.args.room.now old is c.args.which read c.value.ensures.room in
-    let why = subst (λ (v : Visit). IsUnseen old.versions new.versions v) c.in-Err-Again.field-0-is c.in-Err-Again.ensures.answer in
-    walk_stopped chains place actor c.args.undo.now c.args.room.now old is c.args.which c.args.pointer c.requires.stage
-    (record c.args.room.now { older = read }) leaves new c.value.ensures.rest Again (λ e. cc) why
+    walk_stopped chains place actor c.args.undo.now c.args.room.now (g.W.World.state c.args.world.now) is c.args.which c.args.pointer c.requires.stage
+    c.value.new.into c.value.ensures.room (g.W.World.state c.value.new.self) c.value.ensures.rest Again (λ e. cc)
+    (rw c.in-Err-Again.field-0-is at c.in-Err-Again.ensures.answer)
 
 pub returns-in-Err-Bad-clause-puts : goal.returns-in-Err-Bad-clause-puts
 returns-in-Err-Bad-clause-puts g c = λ chains place actor is.
-    let old = g.W.World.state c.args.world.now in
-    let new = g.W.World.state c.value.new.self in
-    let read = c.value.new.into in
-    let leaves = older_leaves chains place actor c.args.undo.now c.args.room.now old is c.args.which read c.value.ensures.room in
-    let why = subst (λ (v : Visit). IsUnseen old.versions new.versions v) c.in-Err-Bad.field-0-is c.in-Err-Bad.ensures.answer in
-    walk_stopped chains place actor c.args.undo.now c.args.room.now old is c.args.which c.args.pointer c.requires.stage
-    (record c.args.room.now { older = read }) leaves new c.value.ensures.rest (Bad c.in-Err-Bad.page c.in-Err-Bad.rule) (λ e. cc) why
+    walk_stopped chains place actor c.args.undo.now c.args.room.now (g.W.World.state c.args.world.now) is c.args.which c.args.pointer c.requires.stage
+    c.value.new.into c.value.ensures.room (g.W.World.state c.value.new.self) c.value.ensures.rest (Bad c.in-Err-Bad.page c.in-Err-Bad.rule) (λ e. cc)
+    (rw c.in-Err-Bad.field-0-is at c.in-Err-Bad.ensures.answer)

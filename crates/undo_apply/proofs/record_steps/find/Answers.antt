@@ -1,8 +1,6 @@
-use Rattle.std.proofs.Common.{◌≡◌, ◌∙◌, ℕ, List, Some, subst, sym}
+use Rattle.std.proofs.Common.{◌≡◌, ◌∙◌, List, Some, ℕ, subst, sym}
 use Rattle.std.proofs.lemmas.Bool.{true≢false}
-use Rattle.store_api.specs.declared.moves.Move.TheVariants.{Done, End, Step}
-use Rattle.entries.specs.Calls.{Fetches}
-use Rattle.world.specs.Indexes.{Calls}
+use Rattle.store_api.specs.declared.moves.Move.TheVariants.{Step}
 use Rattle.undo_apply.specs.declared.work_room.Stage.TheVariants.{Key}
 use Rattle.undo_apply.specs.Standing.{was_before}
 use Rattle.undo_apply.specs.Moves.{at_stage}
@@ -12,49 +10,31 @@ use Rattle.undo_apply.proofs.record_steps.find.Goals as goal
 
 pub returns-then-is_version_before-clause-puts : goal.returns-then-is_version_before-clause-puts
 returns-then-is_version_before-clause-puts g c = λ chains place is.
-    let old = g.W.World.state c.args.world.now in
-    let new = g.W.World.state c.fetch.new.self in
-    let read = c.fetch.new.into in
-    let calls =
-    subst (λ (i : ℕ). Calls i (λ b a. Fetches c.args.actor c.args.undo.now.key read.items b a Done) old new) c.records_of.ensures
-    c.in-Done.ensures.answer in
     let same =
     subst (λ (v : List ℕ). Some v ≡ was_before c.args.undo.now) c.as_slice.ensures.value (c.is_version_before.ensures.0 c.if-is_version_before.true) in
-    find_again chains place c.args.actor c.args.undo.now c.args.room.now old is c.requires.stage read c.fetch.ensures.room new calls same
+    find_again chains place c.args.actor c.args.undo.now c.args.room.now (g.W.World.state c.args.world.now) is c.requires.stage c.fetch.new.into
+    c.fetch.ensures.room (g.W.World.state c.fetch.new.self) (rw c.records_of.ensures at c.in-Done.ensures.answer) same
 
 pub returns-else-is_version_before-clause-puts : goal.returns-else-is_version_before-clause-puts
 returns-else-is_version_before-clause-puts g c = λ chains place is.
-    let old = g.W.World.state c.args.world.now in
-    let new = g.W.World.state c.fetch.new.self in
     let read = c.fetch.new.into in
     let room = c.args.room.now in
-    let calls =
-    subst (λ (i : ℕ). Calls i (λ b a. Fetches c.args.actor c.args.undo.now.key read.items b a Done) old new) c.records_of.ensures
-    c.in-Done.ensures.answer in
     let differs =
     λ (same : Some read.items ≡ was_before c.args.undo.now). true≢false
     (sym (c.is_version_before.ensures.1 (subst (λ (v : List ℕ). Some v ≡ was_before c.args.undo.now) (sym c.as_slice.ensures.value) same)) ∙
     c.if-is_version_before.false) in
-    put_as chains place c.args.actor c.args.undo.now room old is 0 (at_stage (Key 0) (record room { newest = read })) c.go_to.new.room new Step
-    c.go_to.result c.go_to.ensures.step c.go_to.ensures.room
-    (find_on chains place c.args.actor c.args.undo.now room old is c.requires.stage read c.fetch.ensures.room new calls differs)
+    put_as chains place c.args.actor c.args.undo.now room (g.W.World.state c.args.world.now) is 0 (at_stage (Key 0) (record room { newest = read }))
+    c.go_to.new.room (g.W.World.state c.fetch.new.self) Step c.go_to.result c.go_to.ensures.step c.go_to.ensures.room
+    (find_on chains place c.args.actor c.args.undo.now c.args.room.now (g.W.World.state c.args.world.now) is c.requires.stage c.fetch.new.into
+    c.fetch.ensures.room (g.W.World.state c.fetch.new.self) (rw c.records_of.ensures at c.in-Done.ensures.answer) differs)
 
 pub returns-in-End-clause-puts : goal.returns-in-End-clause-puts
 returns-in-End-clause-puts g c = λ chains place is.
-    let old = g.W.World.state c.args.world.now in
-    let new = g.W.World.state c.fetch.new.self in
-    let read = c.fetch.new.into in
-    let calls =
-    subst (λ (i : ℕ). Calls i (λ b a. Fetches c.args.actor c.args.undo.now.key read.items b a End) old new) c.records_of.ensures c.in-End.ensures.answer in
-    find_none chains place c.args.actor c.args.undo.now c.args.room.now old is c.requires.stage read c.fetch.ensures.room new calls
+    find_none chains place c.args.actor c.args.undo.now c.args.room.now (g.W.World.state c.args.world.now) is c.requires.stage c.fetch.new.into
+    c.fetch.ensures.room (g.W.World.state c.fetch.new.self) (rw c.records_of.ensures at c.in-End.ensures.answer)
 
 pub returns-in_default-clause-puts : goal.returns-in_default-clause-puts
 returns-in_default-clause-puts g c = λ chains place is.
-    let old = g.W.World.state c.args.world.now in
-    let new = g.W.World.state c.fetch.new.self in
-    let read = c.fetch.new.into in
-    let calls =
-    subst (λ (i : ℕ). Calls i (λ b a. Fetches c.args.actor c.args.undo.now.key read.items b a c.fetch.result) old new) c.records_of.ensures
-    c.fetch.ensures.answer in
-    find_stopped chains place c.args.actor c.args.undo.now c.args.room.now old is c.requires.stage read c.fetch.ensures.room new c.fetch.result calls
+    find_stopped chains place c.args.actor c.args.undo.now c.args.room.now (g.W.World.state c.args.world.now) is c.requires.stage c.fetch.new.into
+    c.fetch.ensures.room (g.W.World.state c.fetch.new.self) c.fetch.result (rw c.records_of.ensures at c.fetch.ensures.answer)
     (c.fetch.ensures.untouched (not_done_test c.fetch.result c.in_default.not-Done)) c.in_default.not-Done c.in_default.not-End
