@@ -69,21 +69,6 @@ has_key_at schemas state undo schema place which same tells within =
       few = omega (arith, within, few);
     }
 
-pub index_of_key : (schemas : List Schema) (undo : Undo) (schema : Schema) (place : Place) (which : ℕ) → TellsOf undo schema place schemas
-    → which < length schema.keys → IsIndex schemas (8 * undo.table + (1 + which))
-index_of_key schemas undo schema place which tells within =
-    let few = few_keys schema tells.storable in
-    record {
-      table = undo.table;
-      which = 1 + which;
-      number = refl;
-      schema = schema;
-      there = tells.there;
-      key = omega (arith, within);
-      few = omega
-          (arith, within, few);
-    }
-
 pub index_of_rows : (schemas : List Schema) (undo : Undo) (schema : Schema) (place : Place) → TellsOf undo schema place schemas
     → IsIndex schemas (8 * undo.table)
 index_of_rows schemas undo schema place tells =

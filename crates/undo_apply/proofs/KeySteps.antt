@@ -220,10 +220,6 @@ module _ (chains : Chains) (place : Place) (actor : ℕ) (undo : Undo) (room : W
   rows_now new entry value now version puts same value_is told =
       rows_after puts told ∙ (λ i. record (rows_of old) { pairs = pairs_after (key_index undo.table which) (same i) (value_is i) (rows_of old).pairs })
 
-  one_pair : (new : WorldState) (entry : List ℕ) (value : Option (List ℕ)) → which < keys → PutsPair (key_index undo.table which) entry value old new
-      → ChangesOneEntry is.schema undo old new
-  one_pair new entry value within puts = inr (which, within, entry, value, puts)
-
   -- ---- the newest row's entry
 
   abbrev Changing : List ℕ → List ℕ → WorldState → Move → Type 0
@@ -291,7 +287,7 @@ module _ (chains : Chains) (place : Place) (actor : ℕ) (undo : Undo) (room : W
   mark_done at entry result writes new changes =
       let within = fitting (Mark which) at in
       let puts : PutsPair (key_index undo.table which) entry (Some room.marked) old new = puts_if entry (Some room.marked) changes changes.index_is.here.1 in
-      went_to (record room { entries = entry }) (written_leaves entry) following new (schemas_after puts) (one_pair new entry (Some room.marked) within puts)
+      went_to (record room { entries = entry }) (written_leaves entry) following new (schemas_after puts) (inr (which, within, entry, Some room.marked, puts))
       (next_fits chains place undo is.schema which keys within (had_row undo) refl)
       (λ told.
       let h = held (Mark which) at (told_before_put puts told) in
@@ -322,7 +318,8 @@ module _ (chains : Chains) (place : Place) (actor : ℕ) (undo : Undo) (room : W
       → (after : WorkRoom) (reached : Move) → WentOnOrEnded (Remove which) answer mid after reached → PutsBack chains place actor undo room after old new
       reached
   await_step at mid leaves =
-      await_keys (Await which) (Remove which) (key_index undo.table which) at (fitting (Await which) at) (λ rows h. h) (omega arith) (λ new answer h. h) mid leaves
+      await_keys (Await which) (Remove which) (key_index undo.table which) at (fitting (Await which) at) (λ rows h. h) (omega arith) (λ new answer h. h) mid
+      leaves
 
   -- ---- the newest row's entry is removed
 
@@ -353,7 +350,7 @@ module _ (chains : Chains) (place : Place) (actor : ℕ) (undo : Undo) (room : W
   remove_done at entry result writes new calls =
       let within = fitting (Remove which) at in
       let puts : PutsPair (key_index undo.table which) entry None old new = removed_if entry calls calls.index_is.here.2 in
-      went_to (record room { entries = entry }) (written_leaves entry) following new (schemas_after puts) (one_pair new entry None within puts)
+      went_to (record room { entries = entry }) (written_leaves entry) following new (schemas_after puts) (inr (which, within, entry, None, puts))
       (next_fits chains place undo is.schema which keys within (had_row undo) refl)
       (λ told. remove_holds at entry result writes (told_before_put puts told) (rows_of new)
       (λ version same. rows_now new entry None None version puts same refl told))
@@ -443,7 +440,7 @@ module _ (chains : Chains) (place : Place) (actor : ℕ) (undo : Undo) (room : W
       let puts : PutsPair (key_index undo.table which) entry (Some room.unmarked) old new =
       puts_if entry (Some room.unmarked) changes changes.index_is.here.1 in
       went_to (record room { entries = entry }) (written_leaves entry) (Key (which + 1)) new (schemas_after puts)
-      (one_pair new entry (Some room.unmarked) within puts) (omega (arith, within))
+      (inr (which, within, entry, Some room.unmarked, puts)) (omega (arith, within))
       (λ told.
       let before_told = told_before_put puts told in
       let h = held (Unmark which) at before_told in

@@ -1,29 +1,9 @@
--- One list more of each length.
-use Rattle.std.proofs.Common.{◌≡◌, ⊎_elim, ℕ, zero, suc, ◌+◌, ◌<◌, List, [], ◌∷◌, ◌++◌, length, length-append, arith, refl, sym, ap, subst, ◌∙◌}
+-- One list of each length.
+use Rattle.std.proofs.Common.{◌≡◌, ⊎_elim, ℕ, ◌<◌, List, [], length, arith, sym, ap, subst, ◌∙◌}
 use Rattle.std.specs.Prelude.{slice_index_or, slice_set}
 use Rattle.std.proofs.lemmas.List.{get_or-set_other, get_or-set_same, length-set}
 use Rattle.std.proofs.lemmas.Bool.{cases_eq}
 use Rattle.undo_apply.specs.Lengths.{AreOfEachLength}
-
-before : (lists : List (List ℕ)) (list : List ℕ) (n : ℕ) → n < length lists → slice_index_or (lists ++ list ∷ []) n [] ≡ slice_index_or lists n []
-before [] list n within = absurd (omega (arith, within))
-before (first ∷ lists) list zero within = refl
-before (first ∷ lists) list (suc n) within = before lists list n (omega (arith, within))
-
-last : (lists : List (List ℕ)) (list : List ℕ) → slice_index_or (lists ++ list ∷ []) (length lists) [] ≡ list
-last [] list = refl
-last (first ∷ lists) list = last lists list
-
-pub one_more : (lists : List (List ℕ)) (list : List ℕ) (count : ℕ) → AreOfEachLength count lists → length list ≡ count
-    → AreOfEachLength (count + 1) (lists ++ list ∷ [])
-one_more lists list count are is = record {
-  count = omega (arith, are.count, length-append lists (list ∷ []));
-  each = λ n within. ⊎_elim
-      (λ e. ap (λ (k : ℕ). length (slice_index_or (lists ++ list ∷ []) k [])) (e ∙ sym are.count) ∙ (ap length (last lists list) ∙ (is ∙ sym e)))
-      (λ differs. let less : n < count = omega (arith, differs, within) in let inside : n < length lists = omega (arith, less, are.count) in ap length
-      (before lists list n inside) ∙ are.each n less)
-      (cases_eq n count);
-}
 
 -- a list that was taken out and is put back, as long as it was
 pub given_again : (size : ℕ) (lists : List (List ℕ)) (list : List ℕ) → length list < size → AreOfEachLength size lists
