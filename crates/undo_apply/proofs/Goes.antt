@@ -32,16 +32,12 @@ whole_again old new whole newest older next marked unmarked =
 
 -- ---- what is known after a step
 
-pub tells_still : (undo : Undo) (schema : Schema) (place : Place) (old new : List Schema) → new ≡ old → TellsOf undo schema place old
-    → TellsOf undo schema place new
-tells_still undo schema place old new same tells = subst (λ (s : List Schema). TellsOf undo schema place s) (sym same) tells
-
 module _ (chains : Chains) (place : Place) (actor : ℕ) (undo : Undo) (room : WorkRoom) (old : WorldState) (is : IsPuttingBack chains place undo room old) where
   pub is_back : (next : WorkRoom) (new : WorldState) → new.schemas ≡ old.schemas → IsWhole next → FitsKeys (length is.schema.keys) undo next.stage
       → (IsTold new → StageHolds chains place undo is.schema (rows_of new) next.newest.items next.stage) → IsPuttingBack chains place undo next new
   is_back next new schemas whole fits holds = record {
     schema = is.schema;
-    tells = tells_still undo is.schema place old.schemas new.schemas schemas is.tells;
+    tells = subst (λ (s : List Schema). TellsOf undo is.schema place s) (sym schemas) is.tells;
     whole = whole;
     fits = fits;
     holds = holds;
@@ -90,7 +86,7 @@ pub others_leave : (chains : Chains) (place : Place) (undo : Undo) (room : WorkR
     → LeavesRows old new → IsPuttingBack chains place undo room new
 others_leave chains place undo room old new is leaves = record {
   schema = is.schema;
-  tells = tells_still undo is.schema place old.schemas new.schemas leaves.schemas is.tells;
+  tells = subst (λ (s : List Schema). TellsOf undo is.schema place s) (sym leaves.schemas) is.tells;
   whole = is.whole;
   fits = is.fits;
   holds =

@@ -19,7 +19,7 @@ use Rattle.row_versions.specs.Chains.{Chains}
 use Rattle.secondary.specs.Entries.{entry_of}
 use Rattle.law_stored_rows.specs.Edits.{key_index, with_value}
 use Rattle.law_stored_rows.specs.Entries.{value_in}
-use Rattle.law_stored_rows.specs.Records.{shown, IsCodeOf}
+use Rattle.law_stored_rows.specs.Records.{shown, IsCodeOf, LeadTo}
 use Rattle.world.specs.State.{WorldState}
 use Rattle.world.specs.Indexes.{Calls, Changes, ReplacesWith}
 use Rattle.row_changes.specs.Pairs.{RowsStay, PutsPair}
@@ -49,17 +49,30 @@ module _ (chains : Chains) (place : Place) (undo : Undo) (schema : Schema) where
   abbrev Clear : Rows → List ℕ → Coded → ℕ → Type 0
   Clear rows bytes coded which = IsUnderWay chains place undo schema rows bytes coded which (IsCleared before)
 
+  -- the older versions, and whether there was a row
+  pub what_stood : (rows : Rows) (bytes : List ℕ) (coded : Coded) (done : ℕ) (Says : List Version → Type 0) → TellsOf undo schema place rows.schemas
+      → IsUnderWay chains place undo schema rows bytes coded done Says
+      → LeadTo schema undo.key rows.kept coded.pointer before × (WasThere undo schema before ⊎ WasNot undo before)
+  what_stood rows bytes coded done Says tells way =
+      let read = newest_read undo schema place rows.schemas tells rows.pairs rows.kept chains bytes coded way.coded_but.clustered way.newest in
+      (read.1, what_was undo schema rows.kept coded.pointer before way.newest.before read.1)
+
+  pub was_there : (rows : Rows) (bytes : List ℕ) (coded : Coded) (done : ℕ) (Says : List Version → Type 0) → TellsOf undo schema place rows.schemas
+      → IsUnderWay chains place undo schema rows bytes coded done Says → had_row undo ≡ true → WasThere undo schema before
+  was_there rows bytes coded done Says tells way had =
+      ⊎_elim (λ was. was) (λ (was : WasNot undo before). absurd (true≢false (sym had ∙ was.had))) (what_stood rows bytes coded done Says tells way).1
+
   -- what comes once a key is clear
   pub next_holds : (rows : Rows) (bytes : List ℕ) (coded : Coded) (which : ℕ) → TellsOf undo schema place rows.schemas → Clear rows bytes coded which
       → (b : Bool) → had_row undo ≡ b
       → StageHolds chains place undo schema rows bytes (cond b (Unmark which) (Key (which + 1)))
   next_holds rows bytes coded which tells way true had = (coded, way)
-  next_holds rows bytes coded which tells way false had =
-      let read = newest_read undo schema place rows.schemas tells rows.pairs rows.kept chains bytes coded way.coded_but.clustered way.newest in
-      not_there (what_was undo schema rows.kept coded.pointer before way.newest.before read.1) where
-        not_there : WasThere undo schema before ⊎ WasNot undo before → StageHolds chains place undo schema rows bytes (Key (which + 1))
-        not_there (inl was) = absurd (true≢false (sym was.had ∙ had))
-        not_there (inr was) = (coded, passed chains place undo schema rows tells bytes coded which was way)
+  next_holds rows bytes coded which tells way false had = (
+    coded,
+    ⊎_elim (λ (was : WasThere undo schema before). absurd (true≢false (sym was.had ∙ had)))
+        (λ (was : WasNot undo before). passed chains place undo schema rows tells bytes coded which was way)
+        (what_stood rows bytes coded which (IsCleared before) tells way).1,
+  )
 
   pub next_fits : (which : ℕ) (keys : ℕ) → which < keys → (b : Bool) → had_row undo ≡ b → FitsKeys keys undo (cond b (Unmark which) (Key (which + 1)))
   next_fits which keys within true had = (within, had)
@@ -399,14 +412,8 @@ module _ (chains : Chains) (place : Place) (actor : ℕ) (undo : Undo) (room : W
   former_is : room.stage ≡ Unmark which → IsTold old → WasThere undo is.schema (versions_before chains place)
   former_is at told =
       let h = held (Unmark which) at told in
-      let read =
-      newest_read undo is.schema place old.schemas is.tells (rows_of old).pairs (rows_of old).kept chains room.newest.items h.0 h.1.coded_but.clustered
-      h.1.newest in
-      there (what_was undo is.schema (rows_of old).kept h.0.pointer (versions_before chains place) h.1.newest.before read.1) where
-        there : WasThere undo is.schema (versions_before chains place) ⊎ WasNot undo (versions_before chains place)
-            → WasThere undo is.schema (versions_before chains place)
-        there (inl was) = was
-        there (inr was) = absurd (true≢false (sym (fitting (Unmark which) at).1 ∙ was.had))
+      was_there chains place undo is.schema (rows_of old) room.newest.items h.0 which (IsCleared (versions_before chains place)) is.tells h.1
+      (fitting (Unmark which) at).1
 
   pub unmark_unwritten : room.stage ≡ Unmark which → Unwritten undo.value
   unmark_unwritten at =

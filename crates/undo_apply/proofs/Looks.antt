@@ -1,9 +1,8 @@
 -- The steps that look at a key and at older versions.
-use Rattle.std.proofs.Common.{◌≡◌, ◌≢◌, ◌⊎◌, inl, inr, ⊎_elim, ℕ, ◌+◌, ◌^◌, ◌<◌, ◌≤◌, Bool, true, false, cond, List, ◌++◌, Option, Some, refl, sym, ap, subst}
+use Rattle.std.proofs.Common.{◌≡◌, ◌≢◌, ◌⊎◌, inl, inr, ℕ, ◌+◌, ◌^◌, ◌<◌, ◌≤◌, Bool, true, false, cond, List, ◌++◌, Option, Some, refl, sym, ap, subst}
 use Rattle.std.proofs.Common.{◌∙◌, arith, length, slice_get}
 use Rattle.std.specs.Prelude.{IsTrue, option_map, vec_capacity, Vec}
 use Rattle.std.specs.declared.alloc.Global.{Global}
-use Rattle.std.proofs.lemmas.Bool.{true≢false}
 use Rattle.inno_types.specs.declared.value.Schema.{Schema}
 use Rattle.store_api.specs.declared.answers.Undo.{Undo}
 use Rattle.store_api.specs.declared.answers.Version.{Version as Coded}
@@ -16,7 +15,7 @@ use Rattle.row_versions.specs.declared.place.Place.{Place}
 use Rattle.row_versions.specs.declared.version.Version.{Version}
 use Rattle.row_versions.specs.Chains.{Chains}
 use Rattle.secondary.specs.Entries.{entry_of}
-use Rattle.law_stored_rows.specs.Records.{IsCodeOf, LeadTo}
+use Rattle.law_stored_rows.specs.Records.{IsCodeOf, LeadTo, shown}
 use Rattle.world.specs.State.{WorldState}
 use Rattle.world.specs.Undoing.{IsUnchanged}
 use Rattle.row_changes.specs.Pairs.{RowsStay}
@@ -27,21 +26,15 @@ use Rattle.undo_apply.specs.declared.work_room.Stage.TheVariants.{Key, Walk, Mar
 use Rattle.undo_apply.specs.Rooms.{IsWhole, steps_left}
 use Rattle.world.specs.Told.{IsTold, TellsTogether}
 use Rattle.undo_apply.specs.Told.{Rows, rows_of}
-use Rattle.undo_apply.specs.Standing.{had_row, versions_before, HasWalked, some_has}
+use Rattle.undo_apply.specs.Standing.{had_row, versions_before, IsLagging, HasWalked, some_has}
 use Rattle.undo_apply.specs.Moves.{at_stage, LooksAt, LooksOn}
 use Rattle.undo_apply.specs.Stages.{FitsKeys, StageHolds, LagsAt, IsPuttingBack, Nears, PutsBack, StopsAt, StopsWalk}
 use Rattle.undo_apply.proofs.Telling.{schemas_stay, told_before, rows_stay}
-use Rattle.undo_apply.proofs.Places.{newest_read, what_was, WasThere, WasNot}
 use Rattle.undo_apply.proofs.Columns.{entry_short}
 use Rattle.undo_apply.proofs.Taken.{clear_unless_row, clear_of_same}
 use Rattle.undo_apply.proofs.Walks.{IsRead, version_read, values_same, found_here, passed_here, walk_begins, walk_ends, walk_leads, walk_shortens}
 use Rattle.undo_apply.proofs.Goes.{whole_again, went}
-use Rattle.undo_apply.proofs.KeySteps.{held, fitting, Leaves, written_leaves, went_to, stopped_at, next_holds, next_fits, next_nears}
-
--- what a record's head is
-pub head_is : (schema : Schema) (key bytes : List ℕ) (coded : Coded) → IsCodeOf schema key bytes coded
-    → bytes ≡ head_code coded.marked coded.writer coded.pointer ++ others_code schema.primary schema.columns coded.row
-head_is schema key bytes coded code = code.record_is.value_is
+use Rattle.undo_apply.proofs.KeySteps.{held, fitting, Leaves, written_leaves, went_to, stopped_at, what_stood, was_there, next_holds, next_fits, next_nears}
 
 module _ (chains : Chains) (place : Place) (actor : ℕ) (undo : Undo) (room : WorkRoom) (old : WorldState) (is : IsPuttingBack chains place undo room old)
     (which : ℕ) where
@@ -108,6 +101,10 @@ module _ (chains : Chains) (place : Place) (actor : ℕ) (undo : Undo) (room : W
   abbrev MarkIs : Bool → Type 0
   MarkIs result = (marked : Bool) (writer pointer : ℕ) (fields : List ℕ) → room.newest.items ≡ head_code marked writer pointer ++ fields → result ≡ marked
 
+  mark_of : (coded : Coded) → IsCodeOf is.schema undo.key room.newest.items coded → (marked : Bool) → MarkIs marked → coded.marked ≡ marked
+  mark_of coded code marked mark =
+      sym (mark coded.marked coded.writer coded.pointer (others_code is.schema.primary is.schema.columns coded.row) code.record_is.value_is)
+
   pub look_gone : room.stage ≡ Key which → which < keys → (marked : Bool) → MarkIs marked → marked ≡ true
       → PutsBack chains place actor undo room (at_stage (cond (had_row undo) (Unmark which) (Key (which + 1))) room) old old Step
   look_gone at within marked mark is_marked =
@@ -115,9 +112,7 @@ module _ (chains : Chains) (place : Place) (actor : ℕ) (undo : Undo) (room : W
       (next_fits chains place undo is.schema which keys within (had_row undo) refl)
       (λ told.
       let h = hold (Key which) at told in
-      let gone : h.0.marked ≡ true =
-      sym (mark h.0.marked h.0.writer h.0.pointer (others_code is.schema.primary is.schema.columns h.0.row)
-      (head_is is.schema undo.key room.newest.items h.0 h.1.newest.code_is)) ∙ is_marked in
+      let gone = mark_of h.0 h.1.newest.code_is marked mark ∙ is_marked in
       let clear = clear_unless_row chains place undo is.schema (rows_of old) is.tells room.newest.items h.0 which gone h.1 in
       next_holds chains place undo is.schema (rows_of old) room.newest.items h.0 which is.tells clear (had_row undo) refl)
       (inl (let less = next_nears chains place undo is.schema which keys within (had_row undo) in let from = ap (steps_left keys) at in omega
@@ -133,21 +128,6 @@ module _ (chains : Chains) (place : Place) (actor : ℕ) (undo : Undo) (room : W
       → (IsTrue result → entry_of schema (which + 1) first.row undo.key ≡ entry_of schema (which + 1) second.row undo.key) ×
       (entry_of schema (which + 1) first.row undo.key ≡ entry_of schema (which + 1) second.row undo.key → IsTrue result)
 
-  plain_is : IsTold old → (coded : Coded) → IsCodeOf is.schema undo.key room.newest.items coded → (marked : Bool) → MarkIs marked → marked ≡ false
-      → coded.marked ≡ false
-  plain_is told coded code marked mark not_marked =
-      sym (mark coded.marked coded.writer coded.pointer (others_code is.schema.primary is.schema.columns coded.row)
-      (head_is is.schema undo.key room.newest.items coded code)) ∙ not_marked
-
-  was_there : room.stage ≡ Key which → IsTold old → had_row undo ≡ true → WasThere undo is.schema before
-  was_there at told had =
-      let h = hold (Key which) at told in
-      let read =
-      newest_read undo is.schema place old.schemas is.tells (rows_of old).pairs (rows_of old).kept chains room.newest.items h.0 h.1.coded_but.clustered
-      h.1.newest in
-      ⊎_elim (λ was. was) (λ (was : WasNot undo before). absurd (true≢false (sym had ∙ was.had)))
-      (what_was undo is.schema (rows_of old).kept h.0.pointer before h.1.newest.before read.1)
-
   pub look_same : room.stage ≡ Key which → which < keys → (marked : Bool) → MarkIs marked → marked ≡ false → had_row undo ≡ true
       → (entry : List ℕ) (same : Bool) → OneEntry same → same ≡ true
       → PutsBack chains place actor undo room (at_stage (Unmark which) (record room { entries = entry })) old old Step
@@ -157,7 +137,7 @@ module _ (chains : Chains) (place : Place) (actor : ℕ) (undo : Undo) (room : W
       let h = hold (Key which) at told in
       let coded = h.0 in
       let code = h.1.newest.code_is in
-      let was = was_there at told had in
+      let was = was_there chains place undo is.schema (rows_of old) room.newest.items coded which (IsLagging (shown coded) before) is.tells h.1 had in
       let short = entry_short old.schemas undo is.schema place which coded room.newest.items is.tells within code in
       let short_too = entry_short old.schemas undo is.schema place which was.former undo.value is.tells within was.code_is in
       let entries =
@@ -165,7 +145,7 @@ module _ (chains : Chains) (place : Place) (actor : ℕ) (undo : Undo) (room : W
       let values = values_same is.schema undo.key which is.tells.storable within room.newest.items undo.value coded was.former code was.code_is entries in (
         coded,
         clear_of_same chains place undo is.schema (rows_of old) is.tells room.newest.items coded which was within
-            (plain_is told coded code marked mark not_marked) (sym values) h.1,
+            (mark_of coded code marked mark ∙ not_marked) (sym values) h.1,
       ))
       (inl (let from = ap (steps_left keys) at in omega (arith, from)))
 
@@ -184,16 +164,15 @@ module _ (chains : Chains) (place : Place) (actor : ℕ) (undo : Undo) (room : W
       let h = hold (Key which) at told in
       let coded = h.0 in
       let code = h.1.newest.code_is in
-      let read =
-      newest_read undo is.schema place old.schemas is.tells (rows_of old).pairs (rows_of old).kept chains room.newest.items coded h.1.coded_but.clustered
-      h.1.newest in
+      let leads =
+      (what_stood chains place undo is.schema (rows_of old) room.newest.items coded which (IsLagging (shown coded) before) is.tells h.1).0 in
       let same : pointer ≡ coded.pointer =
       pointer_is coded.marked coded.writer coded.pointer (others_code is.schema.primary is.schema.columns coded.row) code.numbers.pointer
-      (head_is is.schema undo.key room.newest.items coded code) in
-      let walk = walk_begins is.schema undo.key (rows_of old).kept which coded before read.1 in (
+      code.record_is.value_is in
+      let walk = walk_begins is.schema undo.key (rows_of old).kept which coded before leads in (
         coded,
         h.1,
-        plain_is told coded code marked mark not_marked,
+        mark_of coded code marked mark ∙ not_marked,
         subst (λ (p : ℕ). HasWalked is.schema undo.key (rows_of old).kept which p coded before)
             (sym same) walk,
       ))

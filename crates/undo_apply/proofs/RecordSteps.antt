@@ -31,11 +31,11 @@ use Rattle.undo_apply.specs.Standing.{LeadsBack, was_before, versions_before, Is
 use Rattle.undo_apply.specs.Moves.{WentOnOrEnded, Ended, at_stage}
 use Rattle.undo_apply.specs.Stages.{StageHolds, IsPuttingBack, PutsBack, Stops, StopsAt}
 use Rattle.undo_apply.proofs.Telling.{schemas_stay, told_before, told_before_put, rows_stay, rows_after}
-use Rattle.undo_apply.proofs.Places.{newest_read, not_new, before_new}
+use Rattle.undo_apply.proofs.Places.{not_new, before_new}
 use Rattle.undo_apply.proofs.Ends.{ends, stands}
 use Rattle.undo_apply.proofs.Calls.{told_of, IsThereAs, replace_stops, remove_stops, absent_stops, fetch_stops}
 use Rattle.undo_apply.proofs.Goes.{whole_again, went, hindered}
-use Rattle.undo_apply.proofs.KeySteps.{held, Leaves, stopped_at, put_as, removed_if, await_keys}
+use Rattle.undo_apply.proofs.KeySteps.{what_stood, held, Leaves, stopped_at, put_as, removed_if, await_keys}
 
 -- the version before has as many bytes as the newest
 pub as_long : (undo : Undo) (schema : Schema) (kept : ℕ → Option Kept) (bytes : List ℕ) (coded : Coded) (before : List Version)
@@ -226,12 +226,12 @@ module _ (chains : Chains) (place : Place) (actor : ℕ) (undo : Undo) (room : W
       there : IsTold old → IsThereAs undo.key undo.value old index
       there told =
           let h = hold Record at told in
-          let read =
-          newest_read undo is.schema place old.schemas is.tells (rows_of old).pairs (rows_of old).kept chains room.newest.items h.0 h.1.coded_but.clustered
-          h.1.newest in (
+          let stood =
+          what_stood chains place undo is.schema (rows_of old) room.newest.items h.0 keys (IsLagging (shown h.0) (versions_before chains place)) is.tells
+          h.1 in (
             room.newest.items,
             h.1.newest.there,
-            as_long undo is.schema (rows_of old).kept room.newest.items h.0 (versions_before chains place) h.1.newest.code_is read.1 h.1.newest.before kind,
+            as_long undo is.schema (rows_of old).kept room.newest.items h.0 (versions_before chains place) h.1.newest.code_is stood.0 h.1.newest.before kind,
           )
 
 pub not_done_test : (answer : Move) → answer ≢ Done → is_done answer ≡ false

@@ -28,10 +28,6 @@ pub set_others : (said : ℕ → List Version) (which : ℕ) (versions : List Ve
 set_others said which versions other differs = cond-false (other == which) versions (said other) (ne_eqb other which differs)
 
 module _ (newest : Version) (before : List Version) (said : ℕ → List Version) (which : ℕ) where
-  pub here_is : (Was Now : List Version → Type 0) → (Was (said which) → Now (said which)) → SayBefore which Was newest before said
-      → SayBefore which Now newest before said
-  here_is Was Now step says = record { first = says.first; here = step says.here; others = says.others }
-
   pub here_now : (Was Now : List Version → Type 0) (versions : List Version) → Now versions → SayBefore which Was newest before said
       → SayBefore which Now newest before (set_said said which versions)
   here_now Was Now versions now says = record {

@@ -29,7 +29,7 @@ use Rattle.undo_apply.specs.Standing.{some_has}
 use Rattle.undo_apply.proofs.Telling.{pairs_after}
 use Rattle.undo_apply.proofs.Places.{place_is, WasThere, WasNot}
 use Rattle.undo_apply.proofs.Columns.{IsKeyAt, key_at, column_is, entry_is, few_keys}
-use Rattle.undo_apply.proofs.Says.{set_said, set_here, set_others, here_is, here_now, one_done, says_place, sets_there, but_alike}
+use Rattle.undo_apply.proofs.Says.{set_said, set_here, set_others, here_now, one_done, says_place, sets_there, but_alike}
 
 -- a version without a row
 abbrev gone : Version
@@ -214,21 +214,28 @@ module _ (chains : Chains) (place : Place) (undo : Undo) (schema : Schema) (rows
         alike key said (inl same) = λ value. ap (entry_said key.column value) same
         alike key said (inr (away, none, same)) = λ value. ap (entry_said key.column value) same ∙ sym (without_row key.column away before none was.first value)
 
+  here_too : (bytes : List ℕ) (coded : Coded) (which : ℕ) (Was Now : List Version → Type 0) (way : UnderWay rows bytes coded which Was)
+      → (Was (way.said which) → Now (way.said which)) → UnderWay rows bytes coded which Now
+  here_too bytes coded which Was Now way step =
+      let says = way.says in
+      record {
+        newest = way.newest;
+        said = way.said;
+        coded_but = way.coded_but;
+        says = record { first = says.first; here = step says.here; others = says.others };
+      }
+
   -- Where the newest version has no row, the key is clear.
   pub clear_unless_row : (bytes : List ℕ) (coded : Coded) (which : ℕ) → coded.marked ≡ true
       → UnderWay rows bytes coded which (IsLagging (shown coded) before) → UnderWay rows bytes coded which (IsCleared before)
-  clear_unless_row bytes coded which is_marked way = record {
-    newest = way.newest;
-    said = way.said;
-    coded_but = way.coded_but;
-    says = here_is (shown coded) before way.said which (IsLagging (shown coded) before) (IsCleared before) (clear (way.said which)) way.says;
-  } where
-    none : row_shown coded.marked coded.row ≡ None
-    none = ap (λ (m : Bool). row_shown m coded.row) is_marked
+  clear_unless_row bytes coded which is_marked way =
+      here_too bytes coded which (IsLagging (shown coded) before) (IsCleared before) way (clear (way.said which)) where
+        none : row_shown coded.marked coded.row ≡ None
+        none = ap (λ (m : Bool). row_shown m coded.row) is_marked
 
-    clear : (said : List Version) → IsLagging (shown coded) before said → IsCleared before said
-    clear said (inl cleared) = cleared
-    clear said (inr same) = inr (shown coded, none, same)
+        clear : (said : List Version) → IsLagging (shown coded) before said → IsCleared before said
+        clear said (inl cleared) = cleared
+        clear said (inr same) = inr (shown coded, none, same)
 
   -- Where the newest row has the value of the row before, the key is clear.
   pub clear_of_same : (bytes : List ℕ) (coded : Coded) (which : ℕ) (was : WasThere undo schema before) → which < length schema.keys → coded.marked ≡ false
@@ -246,14 +253,8 @@ module _ (chains : Chains) (place : Place) (undo : Undo) (schema : Schema) (rows
         λ value. sym (value_again key.column was.former.row (shown coded) before coded.row was.first shown_row one value)
 
     by_said : (said : List Version) → way.said which ≡ said → IsLagging (shown coded) before said → UnderWay rows bytes coded which (IsCleared before)
-    by_said said is (inl cleared) = record {
-      newest = way.newest;
-      said = way.said;
-      coded_but = way.coded_but;
-      says =
-          here_is (shown coded) before way.said which (IsLagging (shown coded) before) (IsCleared before)
-          (λ lags. subst (λ (v : List Version). IsCleared before v) (sym is) cleared) way.says;
-    }
+    by_said said is (inl cleared) =
+        here_too bytes coded which (IsLagging (shown coded) before) (IsCleared before) way (λ lags. subst (IsCleared before) (sym is) cleared)
     by_said said is (inr with_newest) =
         said_now bytes coded which which (IsLagging (shown coded) before) (IsCleared before) before way
         (λ key key_is. subst (λ (v : List Version). TellAlike key.column v before) (sym (is ∙ with_newest)) (alike key key_is))
