@@ -22,7 +22,7 @@ use Rattle.desks.specs.Desks.{doing_at, with_doing}
 use Rattle.desks.specs.Holding.{IsHeld}
 use Rattle.law_held_steps.specs.Moving.{MovesPlaces}
 use Rattle.law_held_steps.specs.Leaving.{LeavesIndexes, LeavesTable}
-use Rattle.law_held_steps.specs.Making.{doing_after, given_up}
+use Rattle.law_held_steps.specs.Making.{doing_after}
 use Rattle.law_held_steps.proofs.Desks.{doing_elsewhere}
 use Rattle.world_lists.specs.Between.{IsKept, AwaitsWriter, IsAwaitedFor, AwaitsOnly, AwaitsNobody, can_await, table_at}
 use Rattle.world_lists.specs.Parts.{StepsChange, LeavesIfOver}
@@ -44,33 +44,6 @@ same_no_more old new is = no_more_in old new old is refl refl
 
 -- ---- desks
 
--- who is awaited may write still, and has the same under way
-pub awaits_on : (old new : WorldState) (writer later : Option ℕ) (desks now : List Desk) (undone : ℕ) → AwaitsWriter old writer desks undone
-    → AwaitsNoMore old new
-    → ((by : ℕ) → writer ≡ Some by → can_await (doing_at by desks) ≡ true → (later ≡ Some by) × (doing_at by now ≡ doing_at by desks))
-    → AwaitsWriter new later now undone
-awaits_on old new writer later desks now undone awaits more stays = record { each = go }
-  where
-    go : (index by : ℕ) → (new.indexes index).awaited ≡ Some by → IsAwaitedFor new later now undone index by
-    go index by is =
-        let was = awaits.each index by (more.fewer index by is) in
-        let on = stays by was.writes was.can in
-        record {
-          writes = on.0;
-          can = ap can_await on.1 ∙ was.can;
-          of_table = subst (λ (schemas : List Schema). IsOfTable (table_at undone (doing_at by now)) schemas index) (sym more.schemas)
-              (subst (λ (doing : Doing). IsOfTable (table_at undone doing) old.schemas index) (sym on.1) was.of_table);
-        }
-
--- a session that is not awaited may have another thing under way, or the right to write no longer
-pub awaits_beside : (s : ℕ) (old new : WorldState) (writer later : Option ℕ) (desks now : List Desk) (undone : ℕ) → AwaitsWriter old writer desks undone
-    → AwaitsNoMore old new → can_await (doing_at s desks) ≡ false → ((by : ℕ) → by ≢ s → writer ≡ Some by → later ≡ Some by)
-    → ((by : ℕ) → by ≢ s → doing_at by now ≡ doing_at by desks) → AwaitsWriter new later now undone
-awaits_beside s old new writer later desks now undone awaits more rest rights others =
-    awaits_on old new writer later desks now undone awaits more
-    (λ by writes can. let differs : by ≢ s = λ same. (let no : true ≡ false = sym can ∙ (ap (λ n. can_await (doing_at n desks)) same ∙ rest) in cc) in
-    (rights by differs writes, others by differs))
-
 -- where who may write is not awaited, nobody is
 pub awaits_none : (s : ℕ) (old : WorldState) (writer : Option ℕ) (desks : List Desk) (undone : ℕ) → AwaitsWriter old writer desks undone
     → writer ≡ Some s → can_await (doing_at s desks) ≡ false → AwaitsNobody old
@@ -80,10 +53,6 @@ awaits_none s old writer desks undone awaits mine rest index by is =
     let no : true ≡ false = sym was.can ∙ (ap (λ n. can_await (doing_at n desks)) one ∙ rest) in
     cc
 
-pub nobody_then : (old new : WorldState) → AwaitsNobody old → ((index by : ℕ) → (new.indexes index).awaited ≡ Some by → (old.indexes index).awaited ≡ Some by)
-    → AwaitsNobody new
-nobody_then old new nobody fewer index by is = nobody index by (fewer index by is)
-
 pub awaits_of_nobody : (new : WorldState) (writer : Option ℕ) (desks : List Desk) (undone : ℕ) → AwaitsNobody new → AwaitsWriter new writer desks undone
 awaits_of_nobody new writer desks undone nobody = record { each = λ index by is. absurd (nobody index by is) }
 
@@ -91,59 +60,64 @@ awaits_of_nobody new writer desks undone nobody = record { each = λ index by is
 
 module _ (old new : WorldState) (writer : Option ℕ) (desks : List Desk) (cuts : ℕ) (undo : UndoRoom) (room : WorkRoom)
     (kept : IsKept old writer desks cuts undo room) (more : AwaitsNoMore old new) where
-  -- nobody has another thing under way
-  pub kept_on : IsHeld new writer desks cuts undo room → IsKept new writer desks cuts undo room
-  kept_on held = record {
-    held = held;
-    record_room = kept.record_room;
-    awaits = awaits_on old new writer writer desks desks undo.table kept.awaits more (λ by writes can. (writes, refl));
-  }
+  -- who is awaited may write still, and has the same under way
+  kept_if : (later : Option ℕ) (now : List Desk)
+      → ((by : ℕ) → writer ≡ Some by → can_await (doing_at by desks) ≡ true → (later ≡ Some by) × (doing_at by now ≡ doing_at by desks))
+      → IsHeld new later now cuts undo room → IsKept new later now cuts undo room
+  kept_if later now stays held = record { held = held; record_room = kept.record_room; awaits = record { each = go } }
+    where
+      go : (index by : ℕ) → (new.indexes index).awaited ≡ Some by → IsAwaitedFor new later now undo.table index by
+      go index by is =
+          let was = kept.awaits.each index by (more.fewer index by is) in
+          let on = stays by was.writes was.can in
+          record {
+            writes = on.0;
+            can = ap can_await on.1 ∙ was.can;
+            of_table = subst (λ (schemas : List Schema). IsOfTable (table_at undo.table (doing_at by now)) schemas index) (sym more.schemas)
+                (subst (λ (doing : Doing). IsOfTable (table_at undo.table doing) old.schemas index) (sym on.1) was.of_table);
+          }
+
+  -- a session that is not awaited may have another thing under way, or the right to write no longer
+  kept_but : (s : ℕ) (later : Option ℕ) (now : List Desk) → can_await (doing_at s desks) ≡ false
+      → ((by : ℕ) → by ≢ s → writer ≡ Some by → later ≡ Some by) → ((by : ℕ) → by ≢ s → doing_at by now ≡ doing_at by desks)
+      → IsHeld new later now cuts undo room → IsKept new later now cuts undo room
+  kept_but s later now rest rights others =
+      kept_if later now
+      (λ by writes can. let differs : by ≢ s = λ same. (let no : true ≡ false = sym can ∙ (ap (λ n. can_await (doing_at n desks)) same ∙ rest) in cc) in
+      (rights by differs writes, others by differs))
 
   pub kept_by : (now : List Desk) → ((by : ℕ) → doing_at by now ≡ doing_at by desks) → IsHeld new writer now cuts undo room
       → IsKept new writer now cuts undo room
-  kept_by now same held = record {
-    held = held;
-    record_room = kept.record_room;
-    awaits = awaits_on old new writer writer desks now undo.table kept.awaits more (λ by writes can. (writes, same by));
-  }
+  kept_by now same = kept_if writer now (λ by writes can. (writes, same by))
 
-  -- one session has, which is not awaited
+  pub kept_on : IsHeld new writer desks cuts undo room → IsKept new writer desks cuts undo room
+  kept_on = kept_by desks (λ by. refl)
+
+  -- one session has another thing under way
   pub kept_beside : (s : ℕ) (doing : Doing) (now : List Desk) → can_await (doing_at s desks) ≡ false → now ≡ with_doing s doing desks
       → IsHeld new writer now cuts undo room → IsKept new writer now cuts undo room
-  kept_beside s doing now rest gives held = record {
-    held = held;
-    record_room = kept.record_room;
-    awaits = awaits_beside s old new writer writer desks now undo.table kept.awaits more rest (λ by differs writes. writes)
-        (λ by differs. ap (doing_at by) gives ∙ doing_elsewhere s by doing desks differs);
-  }
+  kept_beside s doing now rest gives =
+      kept_but s writer now rest (λ by differs writes. writes) (λ by differs. ap (doing_at by) gives ∙ doing_elsewhere s by doing desks differs)
 
   -- or may write no longer
   pub kept_closed : (s : ℕ) (later : Option ℕ) → doing_at s desks ≡ Nothing → later ≡ writer_without writer s → IsHeld new later desks cuts undo room
       → IsKept new later desks cuts undo room
-  kept_closed s later rest is held = record {
-    held = held;
-    record_room = kept.record_room;
-    awaits = awaits_beside s old new writer later desks desks undo.table kept.awaits more (ap can_await rest)
-        (λ by differs writes. is ∙ without_stays s writer by differs writes) (λ by differs. refl);
-  }
+  kept_closed s later rest is =
+      kept_but s later desks (ap can_await rest) (λ by differs writes. is ∙ without_stays writer by differs writes) (λ by differs. refl)
     where
-      without_stays : (s : ℕ) (writer : Option ℕ) (by : ℕ) → by ≢ s → writer ≡ Some by → writer_without writer s ≡ Some by
-      without_stays s None by differs writes = absurd (cc)
-      without_stays s (Some w) by differs writes = ⊎_elim
+      without_stays : (writer : Option ℕ) (by : ℕ) → by ≢ s → writer ≡ Some by → writer_without writer s ≡ Some by
+      without_stays None by differs writes = absurd (cc)
+      without_stays (Some w) by differs writes = ⊎_elim
           (λ t. absurd (differs (let one : w ≡ by = cc in sym one ∙ t.1)))
           (λ f. ap (λ (mine : Bool). if mine then None else Some w) f.0 ∙ writes) (eqb_tells w s)
 
--- ---- the right to write is taken
-
+-- the right to write is taken
 pub kept_locked : (s : ℕ) (state : WorldState) (writer : Option ℕ) (desks : List Desk) (cuts : ℕ) (undo : UndoRoom) (room : WorkRoom)
     → IsKept state writer desks cuts undo room → writer_without writer s ≡ None → IsHeld state (Some s) desks cuts undo room
     → IsKept state (Some s) desks cuts undo room
-kept_locked s state writer desks cuts undo room kept free held = record {
-  held = held;
-  record_room = kept.record_room;
-  awaits = awaits_on state state writer (Some s) desks desks undo.table kept.awaits (same_no_more state state refl)
-      (λ by writes can. (is_mine by writer free writes, refl));
-}
+kept_locked s state writer desks cuts undo room kept free =
+    kept_if state state writer desks cuts undo room kept (same_no_more state state refl) (Some s) desks
+    (λ by writes can. (is_mine by writer free writes, refl))
   where
     is_mine : (by : ℕ) (writer : Option ℕ) → writer_without writer s ≡ None → writer ≡ Some by → Some s ≡ Some by
     is_mine by None free writes = absurd (cc)
@@ -196,12 +170,9 @@ table_on s chains old new (Record change key after) (Keys next) is = is.0.2
 table_on s chains old new (Keys change) (Record next key after) is = absurd (is.0)
 table_on s chains old new (Keys change) (Keys next) is = is.0.table_is
 
-over_can : (change : RowChange) → can_await (given_up change) ≡ false
-over_can (Record change key after) = refl
-over_can (Keys change) = refl
-
 module _ (s : ℕ) (old new : WorldState) (desks : List Desk) (undone : ℕ) (change : RowChange)
-    (only : AwaitsOnly s (table_of change) old) (chains : Chains) (is_changing : IsChangingRow s chains old change) (schemas : new.schemas ≡ old.schemas) where
+    (only : AwaitsOnly s (table_of change) old) (chains : Chains) (is_changing : IsChangingRow s chains old change)
+    (schemas : new.schemas ≡ old.schemas) where
   came : (mid : WorldState) (came : Reached RowChange) → (now : List Desk) → doing_at s now ≡ doing_after change came → mid.schemas ≡ old.schemas
       → AwaitsIn s (table_of change) old mid → LeavesIndexes s mid new → LeavesIfOver s (table_of change) mid new came
       → ChangesRow s chains old mid change came → AwaitsWriter new (Some s) now undone
@@ -236,7 +207,6 @@ pub created_kept : (old new : WorldState) (writer : Option ℕ) (desks : List De
 created_kept old new writer desks cuts undo room kept s mine rest same held = record {
   held = held;
   record_room = kept.record_room;
-  awaits = awaits_of_nobody new writer desks undo.table
-      (nobody_then old new (awaits_none s old writer desks undo.table kept.awaits mine rest)
-      (λ index by is. sym (ap (λ (at : Index). at.awaited) (same index)) ∙ is));
+  awaits = awaits_of_nobody new writer desks undo.table (λ index by is. awaits_none s old writer desks undo.table kept.awaits mine rest index by
+      (sym (ap (λ (at : Index). at.awaited) (same index)) ∙ is));
 }

@@ -1,51 +1,46 @@
--- What an entry of a session leaves of the lists that it finds at rest.
-use Rattle.std.proofs.Common.{◌≡◌, ◌≢◌, ℕ, ◌+◌, ◌-◌, ◌<◌, ◌^◌, true, false, Option, Some, None, List, [], ◌∷◌, length, refl, sym, ap, subst, ◌∙◌, inl, inr}
-use Rattle.std.proofs.Common.{arith, get_or}
-use Rattle.std.proofs.lemmas.List.{length-map, get_or-set_other}
-use Rattle.std.proofs.lemmas.Bool.Decides.{eqb_tells}
-use Rattle.std.specs.Prelude.{Result, Ok, Err, OnOk, OnErr, is_ok, if◌then◌else◌, slice_get, slice_set, slice_index_or, is_some}
+-- What a call has made of the lists that it found: what holds of them still, and what callers see.
+use Rattle.std.proofs.Common.{◌≡◌, ℕ, ◌+◌, ◌<◌, ◌^◌, true, false, Option, Some, None, List, ◌∷◌, ◌++◌, length, refl, sym, ap, subst, ◌∙◌, arith, [], ◌-◌}
+use Rattle.std.proofs.lemmas.List.{length-map, length-set}
+use Rattle.std.specs.Prelude.{Result, Ok, Err, OnOk, OnErr, is_ok, if◌then◌else◌, slice_set, slice_index_or, slice_get}
 use Rattle.inno_types.specs.declared.value.Schema.{Schema}
 use Rattle.inno_types.specs.declared.reply.Item.{Item}
 use Rattle.inno_types.specs.declared.reply.Reply.{Reply}
 use Rattle.inno_types.specs.declared.stmt.Stmt.{Stmt}
 use Rattle.inno_model.specs.declared.event.Event.{Event}
-use Rattle.inno_model.specs.declared.event.Event.TheVariants.{Started, Ended, View, Committed, Acked, RolledBack, Signal}
-use Rattle.inno_model.specs.Past.{own, txn, started, under_way, of_item, IsOpen, awaits_ack}
-use Rattle.inno_model.proofs.Commits.{begins_few}
-use Rattle.sql_history.specs.Settings.{Setting, at_first, set_by}
+use Rattle.inno_model.specs.declared.event.Event.TheVariants.{Started, Ended, View, Committed, Acked, RolledBack, Signal, Begin}
+use Rattle.inno_model.specs.Past.{own, txn, started, under_way, IsOpen, begins, IsClosed}
+use Rattle.sql_history.specs.Settings.{Setting, at_first, at_end, set_by, saved, at_begin}
 use Rattle.sql_history.specs.Counts.{rows_of_reply}
-use Rattle.txn_table.specs.Txns.{Txns}
+use Rattle.txn_table.specs.Txns.{ids_of, Txns}
 use Rattle.law_past_agreement.specs.Order.{MayCome}
-use Rattle.world.specs.State.{WorldState, Session, Work, IsSession, HasWork, txn_of}
+use Rattle.store_api.specs.declared.answers.Standing.{Standing}
+use Rattle.world.specs.State.{WorldState, Session, Work, IsSession, HasWork, standing_of}
 use Rattle.world.specs.Told.{IsTold}
-use Rattle.world.specs.Sessions.{change_txn, with_save}
+use Rattle.world.specs.Sessions.{change_txn, with_save, view_added, begun, with_room, fresh_work, begin_added}
 use Rattle.world.specs.Endings.{IsCommitted, IsRolledBack}
 use Rattle.world.specs.declared.undo_room.UndoRoom.{UndoRoom}
-use Rattle.law_world_agreement.specs.Steps.{viewed}
+use Rattle.law_world_agreement.specs.Steps.{viewed, opened, session_begun}
 use Rattle.undo_apply.specs.declared.work_room.WorkRoom.{WorkRoom}
-use Rattle.world.specs.EngineCalls.{item_started, item_ended, acknowledged, signalled, with_setting}
-use Rattle.row_changes.specs.Records.{IsListed}
-use Rattle.law_logged_changes.proofs.Listed.{listed_of}
+use Rattle.world.specs.EngineCalls.{joined as with_joined, item_started, item_ended, acknowledged, signalled, with_setting}
 use Rattle.shared_lists.specs.Tasks.{Idle}
-use Rattle.shared_lists.specs.State.{Lists, task_of, Adds, Closes, Stays, writer_without}
+use Rattle.shared_lists.specs.State.{Lists, task_of, IsNow, Adds, Closes, Stays, writer_without}
 use Rattle.desks.specs.declared.desk.Desk.{Desk}
-use Rattle.desks.specs.declared.desk.Doing.TheVariants.{Nothing}
-use Rattle.desks.specs.Desks.{fresh_desk, desk_at, doing_at, with_start}
+use Rattle.desks.specs.Desks.{fresh_desk, doing_at, with_start}
 use Rattle.desks.specs.Holding.{IsHeld}
 use Rattle.desks.specs.Shown.{seen_of, shown}
-use Rattle.law_held_steps.specs.SeenEntries.{settings_of}
-use Rattle.desks.proofs.Showing.{task_is}
-use Rattle.law_held_steps.proofs.SeenEntries.{left_same, rests_of, now_of, settings_by}
-use Rattle.law_held_steps.proofs.Items.{started_held, ended_held, acked_held, signal_held, unentered_held}
-use Rattle.law_held_steps.proofs.Transactions.{txn_here, txn_elsewhere, viewed_held, saved_held, committed_held, rolled_back_held}
-use Rattle.law_held_steps.proofs.EntrySessions.{start_here}
-use Rattle.world_lists.proofs.Answering.{desk_read, few_more}
 use Rattle.desks.specs.Undoing.{undo_left_in}
-use Rattle.world_lists.proofs.Standings.{there, open_has, txn_is}
-
-pub never_none : (works : Option Work) (work : Work) → works ≡ Some work → txn_of works ≡ None → ⊥
-never_none None work some none = cc
-never_none (Some other) work some none = cc
+use Rattle.desks.proofs.Showing.{task_is}
+use Rattle.law_held_steps.specs.SeenEntries.{settings_of}
+use Rattle.law_held_steps.proofs.SeenEntries.{left_same, now_of, settings_by, settings_same, settings_now}
+use Rattle.law_held_steps.proofs.Joining.{joined_held, one_more}
+use Rattle.law_held_steps.proofs.Items.{started_held, ended_held, acked_held, signal_held, unentered_held}
+use Rattle.law_held_steps.proofs.Transactions.{txn_here, txn_elsewhere, viewed_held, saved_held, committed_held, rolled_back_held, opened_held}
+use Rattle.world_lists.specs.Between.{IsKept}
+use Rattle.world_lists.proofs.Awaiting.{kept_on, kept_by, kept_closed, no_more_in}
+use Rattle.world_lists.proofs.Calls.{past_here, joined_here, its_session, its_work, its_listed, its_txn, its_own, at_rest, doing_started, closed_none}
+use Rattle.inno_types.specs.declared.lock.Level.{Level}
+use Rattle.inno_model.proofs.Commits.{begins_few}
+use Rattle.law_world_agreement.proofs.Opening.{set_here, set_other}
 
 -- what follows from the answer either way
 pub by_result : {T E : Type 0} {P Q R : Type 0} (result : Result T E) → OnOk result P → OnErr result Q → (P → R) → (Q → R) → R
@@ -56,10 +51,6 @@ pub when_ok : {T E : Type 0} {P R : Type 0} (result : Result T E) → OnOk resul
 when_ok (Ok x) ok done = done ok
 when_ok (Err e) ok done = tt
 
-pub when_err : {T E : Type 0} {P R : Type 0} (result : Result T E) → OnErr result P → (P → R) → OnErr result R
-when_err (Ok x) err failed = tt
-when_err (Err e) err failed = failed err
-
 pub on_err : {T E : Type 0} {P : Type 0} (result : Result T E) → P → OnErr result P
 on_err (Ok x) holds = tt
 on_err (Err e) holds = holds
@@ -68,191 +59,69 @@ pub of_ok : {T E : Type 0} {P : Type 0} (result : Result T E) (value : T) → re
 of_ok (Ok x) value is holds = holds
 of_ok (Err e) value is holds = absurd (cc)
 
-pub pushed : {X : Type 0} {T E : Type 0} (result : Result T E) (value : T) (items more less : X) → result ≡ Ok value
-    → items ≡ (if is_ok result then more else less) → items ≡ more
-pushed (Ok x) value items more less is items_are = items_are
-pushed (Err e) value items more less is items_are = absurd (cc)
+pub pushed : {T E : Type 0} (result : Result T E) {value : T} {items before desks : List Desk} → result ≡ Ok value
+    → items ≡ (if is_ok result then before ++ fresh_desk ∷ [] else before) → before ≡ desks → items ≡ desks ++ fresh_desk ∷ []
+pushed (Ok x) is items_are same = items_are ∙ ap (λ (xs : List Desk). xs ++ fresh_desk ∷ []) same
+pushed (Err e) is items_are same = absurd (cc)
 
-module _ (s : ℕ) (old : WorldState) (writer : Option ℕ) (desks : List Desk) (cuts : ℕ) (undo : UndoRoom) (room : WorkRoom) (lists : Lists)
-    (held : IsHeld old writer desks cuts undo room) (view_is : seen_of undo.table room.stage old writer desks ≡ lists) where
-  pub joined_here : s < length lists.state.names → s < length old.names
-  joined_here joined = subst (λ (l : Lists). s < length l.state.names) (sym view_is) joined
+module _ (s : ℕ) {old : WorldState} {writer : Option ℕ} {desks : List Desk} {cuts : ℕ} {undo : UndoRoom} {room : WorkRoom} {lists : Lists}
+    (kept : IsKept old writer desks cuts undo room) (view : seen_of undo.table room.stage old writer desks ≡ lists) where
+  -- ---- what holds still
 
-  pub past_here : (P : List Event → Type 0) → P lists.state.past → P old.past
-  past_here P given = subst (λ (l : Lists). P l.state.past) (sym view_is) given
+  pub kept_as : {new target : WorldState} → new ≡ target → target.indexes ≡ old.indexes → target.schemas ≡ old.schemas
+      → IsHeld target writer desks cuts undo room → IsKept new writer desks cuts undo room
+  kept_as {new} {target} is indexes schemas held =
+      kept_on old new writer desks cuts undo room kept (no_more_in old new target is indexes schemas)
+      (subst (λ (w : WorldState). IsHeld w writer desks cuts undo room) (sym is) held)
 
-  pub its_session : s < length lists.state.names → (session : Session) × IsSession s session old
-  its_session joined = there old writer desks cuts undo room held s (joined_here joined)
-
-  pub its_work : s < length lists.state.names → IsOpen s lists.state.past → (session : Session) × (work : Work) × HasWork s session work old
-  its_work joined is_open =
-      let found = its_session joined in
-      let has = open_has old writer desks cuts undo room held s found.0 found.1 (past_here (IsOpen s) is_open) in
-      (found.0, has.0, has.1)
-
-  pub at_rest : task_of s lists.state ≡ Idle → doing_at s desks ≡ Nothing
-  at_rest idle = rests_of s undo.table room.stage old writer desks (subst (λ (l : Lists). task_of s l.state ≡ Idle) (sym view_is) idle)
+  pub few_by : (e : Event) {new target : WorldState} → new ≡ target → target.past ≡ e ∷ old.past → length new.past < 2 ^ 63 → length old.past + 1 < 2 ^ 63
+  few_by e is past few = omega (arith, few, ap length (ap (λ (w : WorldState). w.past) is ∙ past))
 
   -- ---- what callers see
 
-  pub adds : (e : Event) (new target : WorldState) (now : List Desk) → new ≡ target → target.names ≡ old.names → target.past ≡ e ∷ old.past
-      → target.schemas ≡ old.schemas → target.versions ≡ old.versions
-      → ((u : ℕ) → doing_at u now ≡ doing_at u desks) → Adds e s lists.state (seen_of undo.table room.stage new writer now).state
-  adds e new target now is names past schemas versions doing =
-      subst (λ (l : Lists). Adds e s l.state (seen_of undo.table room.stage new writer now).state) view_is
-      (now_of s undo.table room.stage old new writer writer desks now (e ∷ old.past)
-      (ap (λ (w : WorldState). w.names) is ∙ names) (ap (λ (w : WorldState). w.past) is ∙ past) (ap (λ (w : WorldState). w.schemas) is ∙ schemas)
+  seen_now : (past : List Event → List Event) (later : Option ℕ → Option ℕ) (now : List Desk) {new target : WorldState} → new ≡ target
+      → target.names ≡ old.names → target.past ≡ past old.past → target.schemas ≡ old.schemas → target.versions ≡ old.versions
+      → ((u : ℕ) → doing_at u now ≡ doing_at u desks)
+      → IsNow (past lists.state.past) s (task_of s lists.state) (later lists.state.writer) lists.state
+      (seen_of undo.table room.stage new (later writer) now).state
+  seen_now past later now {new} is names past_is schemas versions doing =
+      subst (λ (l : Lists). IsNow (past l.state.past) s (task_of s l.state) (later l.state.writer) l.state
+      (seen_of undo.table room.stage new (later writer) now).state) view
+      (now_of s undo.table room.stage old new writer (later writer) desks now (past old.past)
+      (ap (λ (w : WorldState). w.names) is ∙ names) (ap (λ (w : WorldState). w.past) is ∙ past_is) (ap (λ (w : WorldState). w.schemas) is ∙ schemas)
       (ap (λ (w : WorldState). w.versions) is ∙ versions) doing)
 
-  pub closes : (e : Event) (new target : WorldState) → new ≡ target → target.names ≡ old.names → target.past ≡ e ∷ old.past → target.schemas ≡ old.schemas
-      → target.versions ≡ old.versions
-      → Closes e s lists.state (seen_of undo.table room.stage new (writer_without writer s) desks).state
-  closes e new target is names past schemas versions =
-      subst (λ (l : Lists). Closes e s l.state (seen_of undo.table room.stage new (writer_without writer s) desks).state) view_is
-      (now_of s undo.table room.stage old new writer (writer_without writer s) desks desks (e ∷ old.past)
-      (ap (λ (w : WorldState). w.names) is ∙ names) (ap (λ (w : WorldState). w.past) is ∙ past) (ap (λ (w : WorldState). w.schemas) is ∙ schemas)
-      (ap (λ (w : WorldState). w.versions) is ∙ versions) (λ u. refl))
+  pub adds : (e : Event) {new target : WorldState} → new ≡ target → target.names ≡ old.names → target.past ≡ e ∷ old.past
+      → target.schemas ≡ old.schemas → target.versions ≡ old.versions → Adds e s lists.state (seen_of undo.table room.stage new writer desks).state
+  adds e is names past schemas versions = seen_now (λ h. e ∷ h) (λ w. w) desks is names past schemas versions (λ u. refl)
 
-  pub stays : (new target : WorldState) → new ≡ target → target.names ≡ old.names → target.past ≡ old.past → target.schemas ≡ old.schemas
-      → target.versions ≡ old.versions
-      → Stays s lists.state (seen_of undo.table room.stage new writer desks).state
-  stays new target is names past schemas versions =
-      subst (λ (l : Lists). Stays s l.state (seen_of undo.table room.stage new writer desks).state) view_is
-      (now_of s undo.table room.stage old new writer writer desks desks old.past
-      (ap (λ (w : WorldState). w.names) is ∙ names) (ap (λ (w : WorldState). w.past) is ∙ past) (ap (λ (w : WorldState). w.schemas) is ∙ schemas)
-      (ap (λ (w : WorldState). w.versions) is ∙ versions) (λ u. refl))
+  pub closes : (e : Event) {later : Option ℕ} → later ≡ writer_without writer s → {new target : WorldState} → new ≡ target → target.names ≡ old.names
+      → target.past ≡ e ∷ old.past → target.schemas ≡ old.schemas → target.versions ≡ old.versions
+      → Closes e s lists.state (seen_of undo.table room.stage new later desks).state
+  closes e later_is {new} is names past schemas versions =
+      subst (λ (w : Option ℕ). Closes e s lists.state (seen_of undo.table room.stage new w desks).state) (sym later_is)
+      (seen_now (λ h. e ∷ h) (λ w. writer_without w s) desks is names past schemas versions (λ u. refl))
 
-  pub stays_same : (new : WorldState) → new ≡ old → Stays s lists.state (seen_of undo.table room.stage new writer desks).state
-  stays_same new is = stays new old is refl refl refl refl
+  pub stays : {new target : WorldState} → new ≡ target → target.names ≡ old.names → target.past ≡ old.past → target.schemas ≡ old.schemas
+      → target.versions ≡ old.versions → Stays s lists.state (seen_of undo.table room.stage new writer desks).state
+  stays is names past schemas versions = seen_now (λ h. h) (λ w. w) desks is names past schemas versions (λ u. refl)
 
-  -- a session with the same setting, or with another one
-  pub unset : (new : WorldState) (sessions : List Session) → new.sessions ≡ sessions → settings_of sessions ≡ settings_of old.sessions
-      → settings_of new.sessions ≡ lists.settings
-  unset new sessions is same = ap settings_of is ∙ same ∙ ap (λ (l : Lists). l.settings) view_is
+  pub stays_same : {new : WorldState} → new ≡ old → Stays s lists.state (seen_of undo.table room.stage new writer desks).state
+  stays_same is = stays is refl refl refl refl
 
-  pub reset : (new : WorldState) (sessions : List Session) (f : Setting → Setting) → new.sessions ≡ sessions
-      → settings_of sessions ≡ slice_set (settings_of old.sessions) s (f (slice_index_or (settings_of old.sessions) s at_first))
+  -- sessions with the same settings, or its own with another one
+  pub unset_as : {new target : WorldState} → new ≡ target → settings_of target.sessions ≡ settings_of old.sessions → settings_of new.sessions ≡ lists.settings
+  unset_as is same = ap (λ (w : WorldState). settings_of w.sessions) is ∙ same ∙ ap (λ (l : Lists). l.settings) view
+
+  pub reset_as : (f : Setting → Setting) {new target : WorldState} → new ≡ target
+      → settings_of target.sessions ≡ slice_set (settings_of old.sessions) s (f (slice_index_or (settings_of old.sessions) s at_first))
       → settings_of new.sessions ≡ slice_set lists.settings s (f (slice_index_or lists.settings s at_first))
-  reset new sessions f is set = ap settings_of is ∙ set ∙ ap (λ (l : Lists). slice_set l.settings s (f (slice_index_or l.settings s at_first))) view_is
+  reset_as f is set =
+      ap (λ (w : WorldState). settings_of w.sessions) is ∙ set
+      ∙ ap (λ (l : Lists). slice_set l.settings s (f (slice_index_or l.settings s at_first))) view
 
-  pub same_rows : (new target : WorldState) → new ≡ target → target.rows ≡ old.rows → new.rows ≡ lists.rows
-  same_rows new target is same = ap (λ (w : WorldState). w.rows) is ∙ same ∙ ap (λ (l : Lists). l.rows) view_is
-
-  -- ---- what is held
-
-  module _ (idle : task_of s lists.state ≡ Idle) (told : IsTold old) (joined : s < length lists.state.names) (session : Session)
-      (is : IsSession s session old) (new : WorldState) where
-    few_by : (e : Event) (target : WorldState) → new ≡ target → target.past ≡ e ∷ old.past → length new.past < 2 ^ 63 → length old.past + 1 < 2 ^ 63
-    few_by e target new_is past few = few_more old.past e new few (ap (λ (w : WorldState). w.past) new_is ∙ past)
-
-    pub acked_made : (moment : ℕ) → MayCome lists.state.past (Acked s moment) → length new.past < 2 ^ 63 → new ≡ acknowledged s moment session old
-        → IsHeld new writer desks cuts undo room
-    acked_made moment may few new_is =
-        subst (λ (w : WorldState). IsHeld w writer desks cuts undo room) (sym new_is)
-        (acked_held writer cuts undo room old desks held s (at_rest idle) told session is moment (joined_here joined)
-        (past_here (λ h. MayCome h (Acked s moment)) may) (few_by (Acked s moment) (acknowledged s moment session old) new_is refl few))
-
-    pub signal_made : (name : List ℕ) → length new.past < 2 ^ 63 → new ≡ signalled name old → IsHeld new writer desks cuts undo room
-    signal_made name few new_is =
-        subst (λ (w : WorldState). IsHeld w writer desks cuts undo room) (sym new_is)
-        (signal_held writer cuts undo room old desks held s (at_rest idle) told session is name (joined_here joined)
-        (few_by (Signal name) (signalled name old) new_is refl few))
-
-    pub ended_made : (j : ℕ) (reply : Reply) → MayCome lists.state.past (Ended s j reply) → length new.past < 2 ^ 63
-        → new ≡ item_ended s j reply session old → IsHeld new writer desks cuts undo room
-    ended_made j reply may few new_is =
-        subst (λ (w : WorldState). IsHeld w writer desks cuts undo room) (sym new_is)
-        (ended_held writer cuts undo room old desks held s (at_rest idle) told session is j reply (old.rows + rows_of_reply reply) (joined_here joined)
-        (past_here (λ h. MayCome h (Ended s j reply)) may) (few_by (Ended s j reply) (item_ended s j reply session old) new_is refl few))
-
-    pub started_made : (j : ℕ) (item : Item) → under_way s lists.state.past ≡ None → j ≡ started s lists.state.past + 1 → length new.past < 2 ^ 63
-        → new ≡ item_started s j item session old → IsHeld new writer (with_start s desks) cuts undo room
-    started_made j item none j_is few new_is =
-        subst (λ (w : WorldState). IsHeld w writer (with_start s desks) cuts undo room) (sym new_is)
-        (started_held writer cuts undo room old desks held s (at_rest idle) told session is j item (joined_here joined)
-        (past_here (λ h. under_way s h ≡ None) none) (past_here (λ h. j ≡ started s h + 1) j_is)
-        (few_by (Started s j item) (item_started s j item session old) new_is refl few))
-
-    pub set_made : (stmt : Stmt) → new ≡ with_setting s stmt session old → IsHeld new writer desks cuts undo room
-    set_made stmt new_is =
-        subst (λ (w : WorldState). IsHeld w writer desks cuts undo room) (sym new_is)
-        (unentered_held writer cuts undo room old desks held s (at_rest idle) told session is
-        (record session { setting = set_by stmt 0 false session.setting }) refl refl refl)
-
-    pub saved_made : (name : List ℕ) (count : ℕ) (work : Work) → session.work ≡ Some work → new ≡ with_save work.txn name count old
-        → IsHeld new writer desks cuts undo room
-    saved_made name count work has new_is =
-        subst (λ (w : WorldState). IsHeld w writer desks cuts undo room) (sym new_is)
-        (saved_held writer cuts undo room old desks held s (at_rest idle) told session is work has name count)
-
-    pub viewed_made : (work : Work) → session.work ≡ Some work → length new.past < 2 ^ 63 → new ≡ viewed s session work old
-        → IsHeld new writer desks cuts undo room
-    viewed_made work has few new_is =
-        subst (λ (w : WorldState). IsHeld w writer desks cuts undo room) (sym new_is)
-        (viewed_held writer cuts undo room old desks held s (at_rest idle) told session is work has
-        (few_by (View s) (viewed s session work old) new_is refl few))
-
-    pub committed_made : length new.past < 2 ^ 63 → IsCommitted s old new → IsHeld new (writer_without writer s) desks cuts undo room
-    committed_made few ends =
-        committed_held writer cuts undo room old new desks held s (at_rest idle) told
-        (few_more old.past (Committed s) new few (ap (λ (w : WorldState). w.past) ends.rest)) ends
-
-    pub rolled_back_made : own s lists.state.past ≡ [] → length new.past < 2 ^ 63 → IsRolledBack s old new
-        → IsHeld new (writer_without writer s) desks cuts undo room
-    rolled_back_made none few ends =
-        rolled_back_held writer cuts undo room old new desks held s (at_rest idle) told
-        (few_more old.past (RolledBack s) new few (ap (λ (w : WorldState). w.past) ends.rest)) (past_here (λ h. own s h ≡ []) none) ends
-
-  -- the session's open transaction is among the open ones
-  pub its_listed : (session : Session) (work : Work) → HasWork s session work old → IsListed s work old
-  its_listed session work has = listed_of held.chains writer old s session work held.agrees has
-
-  pub few_begun : old.txns.begun < 2 ^ 64 - 1
-  few_begun = omega (arith, ap (λ (t : Txns). t.begun) held.agrees.lists.txns_are, begins_few old.past, held.agrees.lists.small)
-
-  pub its_txn : (session : Session) (work : Work) → HasWork s session work old → txn s lists.state.past ≡ work.txn
-  its_txn session work has =
-      sym (ap (λ (l : Lists). txn s l.state.past) view_is) ∙ txn_is old writer desks cuts undo room held s session has.session_is work.txn
-      (ap txn_of has.work_is)
-
-  -- ---- what sessions have set, where a transaction's session is another now
-
-  pub txn_settings : (session : Session) (work : Work) → HasWork s session work old
-      → (base : List Session) (first : Session) (now : Work) (F : Session → Session) (f : Setting → Setting)
-      → length base ≡ length old.sessions → slice_get base s ≡ Some first → first.work ≡ Some now → now.txn ≡ work.txn →
-      ((u : ℕ) → u ≢ s → slice_get base u ≡ slice_get old.sessions u)
-      → (F first).setting ≡ f session.setting
-      → settings_of (change_txn work.txn F base) ≡ slice_set (settings_of old.sessions) s (f (slice_index_or (settings_of old.sessions) s at_first))
-  txn_settings session work has base first now F f long here its same others set =
-      settings_by old.sessions (change_txn work.txn F base) s session (F first) f (length-map base _ ∙ long) has.session_is
-      (txn_here s work.txn first now F base here its same) set
-      (λ u differ. txn_elsewhere work.txn u F base
-      (λ x other there' theirs is. differ ((its_listed session work has).alone u x other
-      (record { session_is = sym (others u differ) ∙ there'; work_is = theirs }) is)) ∙ others u differ)
-
-  -- ---- what is read of desks
-
-  module _ (joined : s < length lists.state.names) where
-    within : s < length desks
-    within = omega (arith, joined_here joined, held.count)
-
-    pub desk_started : (read : Desk) → read ≡ get_or desks s read → read.started ≡ started s lists.state.past
-    desk_started read is =
-        ap (λ (desk : Desk). desk.started) (desk_read desks s read within is) ∙ sym (held.started s) ∙ ap (λ (l : Lists). started s l.state.past) view_is
-
-    pub desks_started : (read other : Desk) → read ≡ get_or desks s read → other ≡ get_or desks s other
-        → slice_set desks s (record { started = read.started + 1; doing = other.doing }) ≡ with_start s desks
-    desks_started read other is other_is =
-        ap (λ (desk : Desk). slice_set desks s (record { started = desk.started + 1; doing = other.doing })) (desk_read desks s read within is)
-        ∙ ap (λ (desk : Desk). slice_set desks s (record { started = (desk_at s desks).started + 1; doing = desk.doing }))
-        (desk_read desks s other within other_is)
-
-    pub doing_started : (u : ℕ) → doing_at u (with_start s desks) ≡ doing_at u desks
-    doing_started u = elim (eqb_tells u s) [
-      | inl same ↦ ap (λ v. doing_at v (with_start s desks)) same.1 ∙ ap (λ (desk : Desk). desk.doing) (start_here desks s within) ∙ ap
-          (λ v. doing_at v desks) (sym same.1)
-      | inr differ ↦ ap (λ (desk : Desk). desk.doing) (get_or-set_other desks s u _ fresh_desk differ.1)
-    ]
+  pub same_rows : {new target : WorldState} → new ≡ target → target.rows ≡ old.rows → new.rows ≡ lists.rows
+  same_rows is same = ap (λ (w : WorldState). w.rows) is ∙ same ∙ ap (λ (l : Lists). l.rows) view
 
   -- what the sessions have under way, whoever has joined
   pub tasks_same : (new : WorldState) (now : List Desk) → new.schemas ≡ old.schemas → new.versions ≡ old.versions
@@ -264,15 +133,360 @@ module _ (s : ℕ) (old : WorldState) (writer : Option ℕ) (desks : List Desk) 
       ∙ ap (λ (x : List Schema). shown x (undo_left_in undo.table room.stage old) (doing_at u now)) schemas
       ∙ ap (shown old.schemas (undo_left_in undo.table room.stage old)) (doing u)
       ∙ sym (task_is u (undo_left_in undo.table room.stage old) old writer desks)
-      ∙ ap (λ (l : Lists). task_of u l.state) view_is
+      ∙ ap (λ (l : Lists). task_of u l.state) view
 
-  -- ---- a session has room for its entries
+  -- ---- another session
 
-  pub may_ack : (session : Session) (moment : ℕ) → IsSession s session old → MayCome lists.state.past (Acked s moment) → session.can_ack ≡ true
-  may_ack session moment is may = held.has_room.acks s session is (past_here (λ h. awaits_ack (of_item s h) ≡ true) may.0)
+  module _ (now : List Desk) (now_is : now ≡ desks ++ fresh_desk ∷ []) (name : List ℕ) {new : WorldState} (made : new ≡ with_joined name old) where
+    as_before : (u : ℕ) → doing_at u now ≡ doing_at u desks
+    as_before u = ap (doing_at u) now_is ∙ ap (λ (desk : Desk). desk.doing) (one_more desks u)
 
-  pub may_reply : (session : Session) → IsSession s session old → (item : Item) → under_way s lists.state.past ≡ Some item → session.can_reply ≡ true
-  may_reply session is item busy = held.has_room.replies s session is (ap is_some (past_here (λ h. under_way s h ≡ Some item) busy))
+    pub joined_kept : IsTold old → length old.names < 68 → IsKept new writer now cuts undo room
+    joined_kept told few =
+        kept_by old new writer desks cuts undo room kept (no_more_in old new (with_joined name old) made refl refl) now as_before
+        (subst (λ (w : WorldState). IsHeld w writer now cuts undo room) (sym made)
+        (subst (λ (ds : List Desk). IsHeld (with_joined name old) writer ds cuts undo room) (sym now_is)
+        (joined_held writer cuts undo room old desks kept.held told name few)))
 
-  pub may_end : (session : Session) (work : Work) → HasWork s session work old → work.can_end ≡ true
-  may_end session work has = held.has_room.ends s session work has
+    pub joined_tasks : (u : ℕ) → task_of u (seen_of undo.table room.stage new writer now).state ≡ task_of u lists.state
+    joined_tasks = tasks_same new now (ap (λ (w : WorldState). w.schemas) made) (ap (λ (w : WorldState). w.versions) made) as_before
+
+  module _ (joined : s < length lists.state.names) where
+    abbrev mine : Session
+    mine = (its_session s kept view joined).0
+
+    its : IsSession s mine old
+    its = (its_session s kept view joined).1
+
+    -- ---- an acknowledgement
+
+    module _ (moment : ℕ) {new : WorldState} (made : (session : Session) → IsSession s session old → new ≡ acknowledged s moment session old) where
+      pub acked_kept : task_of s lists.state ≡ Idle → IsTold old → MayCome lists.state.past (Acked s moment) → length new.past < 2 ^ 63
+          → IsKept new writer desks cuts undo room
+      acked_kept idle told may few =
+          kept_as (made mine its) refl refl
+          (acked_held writer cuts undo room old desks kept.held s (at_rest s kept view idle) told mine its moment (joined_here s kept view joined)
+          (past_here s kept view (λ h. MayCome h (Acked s moment)) may) (few_by (Acked s moment) (made mine its) refl few))
+
+      pub acked_adds : Adds (Acked s moment) s lists.state (seen_of undo.table room.stage new writer desks).state
+      acked_adds = adds (Acked s moment) (made mine its) refl refl refl refl
+
+      pub acked_unset : settings_of new.sessions ≡ lists.settings
+      acked_unset = unset_as (made mine its) (settings_same old.sessions s mine (record mine { can_ack = false }) its refl)
+
+      pub acked_rows : new.rows ≡ lists.rows
+      acked_rows = same_rows (made mine its) refl
+
+    -- ---- a signal
+
+    module _ (name : List ℕ) {new : WorldState} (made : new ≡ signalled name old) where
+      pub signal_kept : task_of s lists.state ≡ Idle → IsTold old → length new.past < 2 ^ 63 → IsKept new writer desks cuts undo room
+      signal_kept idle told few =
+          kept_as made refl refl
+          (signal_held writer cuts undo room old desks kept.held s (at_rest s kept view idle) told mine its name (joined_here s kept view joined)
+          (few_by (Signal name) made refl few))
+
+    -- ---- the end of an item
+
+    module _ (count : ℕ) (count_is : count ≡ started s lists.state.past) (reply : Reply) {new : WorldState}
+        (made : (session : Session) → IsSession s session old → new ≡ item_ended s count reply session old) where
+      ended_is : new ≡ item_ended s (started s lists.state.past) reply mine old
+      ended_is = made mine its ∙ ap (λ n. item_ended s n reply mine old) count_is
+
+      pub ended_kept : task_of s lists.state ≡ Idle → IsTold old → MayCome lists.state.past (Ended s (started s lists.state.past) reply)
+          → length new.past < 2 ^ 63 → IsKept new writer desks cuts undo room
+      ended_kept idle told may few =
+          let count = started s lists.state.past in
+          kept_as ended_is refl refl
+          (ended_held writer cuts undo room old desks kept.held s (at_rest s kept view idle) told mine its count reply (old.rows + rows_of_reply reply)
+          (joined_here s kept view joined) (past_here s kept view (λ h. MayCome h (Ended s count reply)) may)
+          (few_by (Ended s count reply) ended_is refl few))
+
+      pub ended_adds : Adds (Ended s (started s lists.state.past) reply) s lists.state (seen_of undo.table room.stage new writer desks).state
+      ended_adds = adds (Ended s (started s lists.state.past) reply) ended_is refl refl refl refl
+
+      pub ended_unset : settings_of new.sessions ≡ lists.settings
+      ended_unset = unset_as ended_is (settings_same old.sessions s mine (record mine { can_reply = false }) its refl)
+
+      pub ended_rows : new.rows ≡ lists.rows + rows_of_reply reply
+      ended_rows = ap (λ (w : WorldState). w.rows) ended_is ∙ ap (λ (l : Lists). l.rows + rows_of_reply reply) view
+
+    -- ---- the start of one
+
+    module _ (count : ℕ) (count_is : count ≡ started s lists.state.past + 1) (item : Item) {new : WorldState}
+        (made : (session : Session) → IsSession s session old → new ≡ item_started s count item session old) where
+      started_is : new ≡ item_started s (started s lists.state.past + 1) item mine old
+      started_is = made mine its ∙ ap (λ n. item_started s n item mine old) count_is
+
+      module _ {now : List Desk} (now_is : now ≡ with_start s desks) where
+        same_doing : (u : ℕ) → doing_at u now ≡ doing_at u desks
+        same_doing u = ap (doing_at u) now_is ∙ doing_started s kept view joined u
+
+        pub started_kept : task_of s lists.state ≡ Idle → IsTold old → under_way s lists.state.past ≡ None → length new.past < 2 ^ 63
+            → IsKept new writer now cuts undo room
+        started_kept idle told none few =
+            let j = started s lists.state.past + 1 in
+            kept_by old new writer desks cuts undo room kept (no_more_in old new (item_started s j item mine old) started_is refl refl) now same_doing
+            (subst (λ (ds : List Desk). IsHeld new writer ds cuts undo room) (sym now_is)
+            (subst (λ (w : WorldState). IsHeld w writer (with_start s desks) cuts undo room) (sym started_is)
+            (started_held writer cuts undo room old desks kept.held s (at_rest s kept view idle) told mine its j item (joined_here s kept view joined)
+            (past_here s kept view (λ h. under_way s h ≡ None) none) (past_here s kept view (λ h. j ≡ started s h + 1) refl)
+            (few_by (Started s j item) started_is refl few))))
+
+        pub started_adds : Adds (Started s (started s lists.state.past + 1) item) s lists.state (seen_of undo.table room.stage new writer now).state
+        started_adds =
+            seen_now (λ h. Started s (started s lists.state.past + 1) item ∷ h) (λ w. w) now started_is refl refl refl refl same_doing
+
+      pub started_unset : settings_of new.sessions ≡ lists.settings
+      started_unset = unset_as started_is (settings_same old.sessions s mine (record mine { can_reply = true }) its refl)
+
+      pub started_rows : new.rows ≡ lists.rows
+      started_rows = same_rows started_is refl
+
+    -- ---- what a session sets
+
+    module _ (stmt : Stmt) {new : WorldState} (made : (session : Session) → IsSession s session old → new ≡ with_setting s stmt session old) where
+      abbrev after : Session
+      after = record mine { setting = set_by stmt 0 false mine.setting }
+
+      pub set_kept : task_of s lists.state ≡ Idle → IsTold old → IsKept new writer desks cuts undo room
+      set_kept idle told =
+          kept_as (made mine its) refl refl
+          (unentered_held writer cuts undo room old desks kept.held s (at_rest s kept view idle) told mine its after refl refl refl)
+
+      pub set_stays : Stays s lists.state (seen_of undo.table room.stage new writer desks).state
+      set_stays = stays (made mine its) refl refl refl refl
+
+      pub set_reset : settings_of new.sessions ≡ slice_set lists.settings s (set_by stmt 0 false (slice_index_or lists.settings s at_first))
+      set_reset = reset_as (set_by stmt 0 false) (made mine its) (settings_now old.sessions s mine after (set_by stmt 0 false) its refl)
+
+      pub set_rows : new.rows ≡ lists.rows
+      set_rows = same_rows (made mine its) refl
+
+    module _ (is_open : IsOpen s lists.state.past) where
+      abbrev holder : Session
+      holder = (its_work s kept view joined is_open).0
+
+      abbrev work : Work
+      work = (its_work s kept view joined is_open).1
+
+      has : HasWork s holder work old
+      has = (its_work s kept view joined is_open).2
+
+      -- ---- a view
+
+      module _ {active : List ℕ} (active_is : active ≡ ids_of old.txns.open_txns) {next : ℕ} (next_is : next ≡ old.txns.next) {new : WorldState}
+          (made : (session : Session) (work : Work) → HasWork s session work old → new ≡ view_added s active next session work old) where
+        viewed_is : new ≡ viewed s holder work old
+        viewed_is =
+            made holder work has ∙ ap (λ (a : List ℕ). view_added s a next holder work old) active_is
+            ∙ ap (λ n. view_added s (ids_of old.txns.open_txns) n holder work old) next_is
+
+        pub viewed_kept : task_of s lists.state ≡ Idle → IsTold old → length new.past < 2 ^ 63 → IsKept new writer desks cuts undo room
+        viewed_kept idle told few =
+            kept_as viewed_is refl refl
+            (viewed_held writer cuts undo room old desks kept.held s (at_rest s kept view idle) told holder has.session_is work has.work_is
+            (few_by (View s) viewed_is refl few))
+
+        pub viewed_adds : Adds (View s) s lists.state (seen_of undo.table room.stage new writer desks).state
+        viewed_adds = adds (View s) viewed_is refl refl refl refl
+
+        pub viewed_unset : settings_of new.sessions ≡ lists.settings
+        viewed_unset =
+            let after : Session = record holder
+            { work = Some (record work { view = Some (record { active = ids_of old.txns.open_txns; next = old.txns.next }) }) } in
+            unset_as viewed_is (settings_same old.sessions s holder after has.session_is refl)
+
+        pub viewed_rows : new.rows ≡ lists.rows
+        viewed_rows = same_rows viewed_is refl
+
+      -- ---- a savepoint, unless there was no memory for it
+
+      module _ (name : List ℕ) where
+        abbrev saves : Setting → Setting
+        saves setting = record setting { saves = saved name (length (own s lists.state.past)) true setting.saves }
+
+        abbrev target : WorldState
+        target = with_save work.txn name (length (own s lists.state.past)) old
+
+        module _ {number : ℕ} (number_is : number ≡ txn s lists.state.past) {read : Standing}
+            (read_is : (session : Session) → IsSession s session old → read ≡ standing_of session) (new : WorldState) where
+          saved_is : new ≡ with_save number name read.own old → new ≡ target
+          saved_is done =
+              done ∙ ap (λ n. with_save n name read.own old) (number_is ∙ its_txn s kept view has)
+              ∙ ap (λ n. with_save work.txn name n old) (ap (λ (t : Standing). t.own) (read_is holder has.session_is) ∙ its_own s kept view has.session_is)
+
+          pub saved_reset : new ≡ with_save number name read.own old
+              → settings_of new.sessions ≡ slice_set lists.settings s (saves (slice_index_or lists.settings s at_first))
+          saved_reset done =
+              let change : Session → Session = λ x. record x { setting = saves x.setting } in
+              reset_as saves (saved_is done)
+              (settings_by old.sessions (change_txn work.txn change old.sessions) s holder (change holder) saves (length-map old.sessions _) has.session_is
+              (txn_here s work.txn holder work change old.sessions has.session_is has.work_is refl) refl
+              (λ u differ. txn_elsewhere work.txn u change old.sessions
+              (λ x other there theirs is. differ ((its_listed s kept view has).alone u x other (record { session_is = there; work_is = theirs }) is))))
+
+          module _ {T E : Type 0} (result : Result T E) (ok : OnOk result (new ≡ with_save number name read.own old)) (err : OnErr result (new ≡ old)) where
+            pub saved_kept : task_of s lists.state ≡ Idle → IsTold old → IsKept new writer desks cuts undo room
+            saved_kept idle told =
+                by_result result ok err
+                (λ done. kept_as (saved_is done) refl refl
+                (saved_held writer cuts undo room old desks kept.held s (at_rest s kept view idle) told holder has.session_is work has.work_is name
+                (length (own s lists.state.past))))
+                (λ failed. kept_as failed refl refl kept.held)
+
+            pub saved_stays : Stays s lists.state (seen_of undo.table room.stage new writer desks).state
+            saved_stays = by_result result ok err (λ done. stays (saved_is done) refl refl refl refl) stays_same
+
+  -- ---- the end of a transaction
+
+  module _ (idle : task_of s lists.state ≡ Idle) (told : IsTold old) {later : Option ℕ} (later_is : later ≡ writer_without writer s) {new : WorldState} where
+    closed : {target : WorldState} → new ≡ target → target.indexes ≡ old.indexes → target.schemas ≡ old.schemas
+        → IsHeld new (writer_without writer s) desks cuts undo room → IsKept new later desks cuts undo room
+    closed {target} is indexes schemas held =
+        kept_closed old new writer desks cuts undo room kept (no_more_in old new target is indexes schemas) s later (at_rest s kept view idle) later_is
+        (subst (λ (w : Option ℕ). IsHeld new w desks cuts undo room) (sym later_is) held)
+
+    pub committed_kept : length new.past < 2 ^ 63 → IsCommitted s old new → IsKept new later desks cuts undo room
+    committed_kept few ends =
+        closed ends.rest refl refl
+        (committed_held writer cuts undo room old new desks kept.held s (at_rest s kept view idle) told (few_by (Committed s) ends.rest refl few) ends)
+
+    pub rolled_back_kept : own s lists.state.past ≡ [] → length new.past < 2 ^ 63 → IsRolledBack s old new → IsKept new later desks cuts undo room
+    rolled_back_kept none few ends =
+        closed ends.rest refl refl
+        (rolled_back_held writer cuts undo room old new desks kept.held s (at_rest s kept view idle) told (few_by (RolledBack s) ends.rest refl few)
+        (past_here s kept view (λ h. own s h ≡ []) none) ends)
+
+  -- its session has the settings that come back at the end
+  pub committed_reset : {new : WorldState} → IsCommitted s old new
+      → settings_of new.sessions ≡ slice_set lists.settings s (at_end (slice_index_or lists.settings s at_first))
+  committed_reset ends =
+      let after : Session = record ends.session { setting = at_end ends.session.setting; work = None; can_ack = true } in
+      reset_as at_end ends.rest (settings_now old.sessions s ends.session after at_end ends.has_work.session_is refl)
+
+  pub rolled_back_reset : {new : WorldState} → IsRolledBack s old new
+      → settings_of new.sessions ≡ slice_set lists.settings s (at_end (slice_index_or lists.settings s at_first))
+  rolled_back_reset ends =
+      let after : Session = record ends.session { setting = at_end ends.session.setting; work = None } in
+      reset_as at_end ends.rest (settings_now old.sessions s ends.session after at_end ends.has_work.session_is refl)
+
+-- ---- a transaction opens: room is taken for there_was entries, it begins, and the history tells it
+
+module _ (s : ℕ) {old : WorldState} {writer : Option ℕ} {desks : List Desk} {cuts : ℕ} {undo : UndoRoom} {room : WorkRoom} {lists : Lists}
+    (kept : IsKept old writer desks cuts undo room) (view : seen_of undo.table room.stage old writer desks ≡ lists) (joined : s < length lists.state.names)
+    {mid : WorldState} (made : (session : Session) → IsSession s session old → mid ≡ with_room s session old) where
+  abbrev was : Session
+  was = (its_session s kept view joined).0
+
+  there_was : IsSession s was old
+  there_was = (its_session s kept view joined).1
+
+  abbrev roomed : Session
+  roomed = record was { can_begin = true; can_change = true }
+
+  mid_is : mid ≡ with_room s was old
+  mid_is = made was there_was
+
+  here : IsSession s roomed mid
+  here = ap (λ (w : WorldState). slice_get w.sessions s) mid_is ∙ set_here old.sessions s was roomed there_was
+
+  is_none : IsClosed s lists.state.past → roomed.work ≡ None
+  is_none closed = closed_none kept.held s there_was (past_here s kept view (IsClosed s) closed)
+
+  pub is_closed : IsClosed s lists.state.past → (session : Session) × IsSession s session mid × (session.work ≡ None)
+  is_closed closed = (roomed, here, is_none closed)
+
+  pub few_begun : mid.txns.begun < 2 ^ 64 - 1
+  few_begun =
+      omega (
+        arith,
+        ap (λ (w : WorldState). w.txns.begun) mid_is,
+        ap (λ (t : Txns). t.begun) kept.held.agrees.lists.txns_are,
+        begins_few old.past,
+        kept.held.agrees.lists.small,
+      )
+
+  mid_held : task_of s lists.state ≡ Idle → IsTold old → IsHeld (with_room s was old) writer desks cuts undo room
+  mid_held idle told = unentered_held writer cuts undo room old desks kept.held s (at_rest s kept view idle) told was there_was roomed refl refl refl
+
+  -- ---- it finds no memory to begin
+
+  module _ {new : WorldState} (same : new ≡ mid) where
+    pub roomed_kept : task_of s lists.state ≡ Idle → IsTold old → IsKept new writer desks cuts undo room
+    roomed_kept idle told = kept_as s kept view (same ∙ mid_is) refl refl (mid_held idle told)
+
+    pub roomed_stays : Stays s lists.state (seen_of undo.table room.stage new writer desks).state
+    roomed_stays = stays s kept view (same ∙ mid_is) refl refl refl refl
+
+    pub roomed_unset : settings_of new.sessions ≡ lists.settings
+    roomed_unset = unset_as s kept view (same ∙ mid_is) (settings_same old.sessions s was roomed there_was refl)
+
+    pub roomed_rows : new.rows ≡ lists.rows
+    roomed_rows = same_rows s kept view (same ∙ mid_is) refl
+
+  -- ---- it begins
+
+  module _ (level : Level) {number : ℕ} (number_is : number ≡ mid.txns.begun + 1) {next : WorldState}
+      (began : (session : Session) → IsSession s session mid → next ≡ begun s level session mid) where
+    abbrev first : Session
+    first = session_begun level roomed mid
+
+    abbrev fresh : Work
+    fresh = fresh_work (mid.txns.begun + 1) level
+
+    has_begun : HasWork s first fresh next
+    has_begun = record {
+      session_is = ap (λ (w : WorldState). slice_get w.sessions s) (began roomed here) ∙ set_here mid.sessions s roomed first here;
+      work_is = refl;
+    }
+
+    pub may_tell : (session : Session) × (work : Work) × HasWork s session work next × (work.txn ≡ number) × (work.level ≡ level)
+    may_tell = (first, fresh, has_begun, sym number_is, refl)
+
+    pub surely : {P : Type 0} → ((session : Session) → IsSession s session next → session.can_begin ≡ true → P) → P
+    surely sure = sure first has_begun.session_is refl
+
+    module _ {new : WorldState}
+        (told_of : (session : Session) (work : Work) → HasWork s session work next → new ≡ begin_added s number level session work next) where
+      new_is : new ≡ opened s level roomed mid
+      new_is =
+          told_of first fresh has_begun ∙ ap (λ n. begin_added s n level first fresh next) number_is
+          ∙ ap (λ (w : WorldState). begin_added s (mid.txns.begun + 1) level first fresh w) (began roomed here)
+
+      pub opened_kept : task_of s lists.state ≡ Idle → IsTold old → IsTold mid → IsClosed s lists.state.past → length new.past < 2 ^ 63
+          → IsKept new writer desks cuts undo room
+      opened_kept idle told told_mid closed few =
+          kept_as s kept view new_is (ap (λ (w : WorldState). w.indexes) mid_is) (ap (λ (w : WorldState). w.schemas) mid_is)
+          (opened_held writer cuts undo room mid desks
+          (subst (λ (w : WorldState). IsHeld w writer desks cuts undo room) (sym mid_is) (mid_held idle told)) s (at_rest s kept view idle)
+          told_mid roomed here level (is_none closed)
+          (subst (λ h. IsClosed s h) (sym (ap (λ (w : WorldState). w.past) mid_is)) (past_here s kept view (IsClosed s) closed))
+          (omega (arith, few, ap length (ap (λ (w : WorldState). w.past) new_is))))
+
+      count_is : mid.txns.begun + 1 ≡ begins lists.state.past + 1
+      count_is =
+          ap (λ (w : WorldState). w.txns.begun + 1) mid_is ∙ ap (λ (t : Txns). t.begun + 1) kept.held.agrees.lists.txns_are
+          ∙ ap (λ (l : Lists). begins l.state.past + 1) view
+
+      pub opened_adds : Adds (Begin s (begins lists.state.past + 1) level) s lists.state (seen_of undo.table room.stage new writer desks).state
+      opened_adds =
+          adds s kept view (Begin s (begins lists.state.past + 1) level) new_is (ap (λ (w : WorldState). w.names) mid_is)
+          (ap (λ n. Begin s n level ∷ mid.past) count_is ∙ ap (λ (w : WorldState). Begin s (begins lists.state.past + 1) level ∷ w.past) mid_is)
+          (ap (λ (w : WorldState). w.schemas) mid_is) (ap (λ (w : WorldState). w.versions) mid_is)
+
+      pub opened_reset : settings_of new.sessions ≡ slice_set lists.settings s (at_begin (slice_index_or lists.settings s at_first))
+      opened_reset =
+          let target : WorldState = opened s level roomed mid in
+          let base : List Session = slice_set mid.sessions s first in
+          let last : Session = record first { can_begin = false; work = Some (record fresh { can_end = true }) } in
+          reset_as s kept view at_begin new_is
+          (settings_by old.sessions target.sessions s was last at_begin
+          (length-set base s last ∙ length-set mid.sessions s first ∙ ap (λ (w : WorldState). length w.sessions) mid_is
+          ∙ length-set old.sessions s roomed)
+          there_was (set_here base s first last (set_here mid.sessions s roomed first here)) refl
+          (λ u differ. set_other base s u last differ ∙ set_other mid.sessions s u first differ
+          ∙ ap (λ (w : WorldState). slice_get w.sessions u) mid_is ∙ set_other old.sessions s u roomed differ))
+
+      pub opened_rows : new.rows ≡ lists.rows
+      opened_rows = same_rows s kept view new_is (ap (λ (w : WorldState). w.rows) mid_is)

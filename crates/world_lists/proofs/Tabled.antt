@@ -1,13 +1,13 @@
 -- What making a table leaves of the lists.
-use Rattle.std.proofs.Common.{◌≡◌, ◌≢◌, ℕ, ◌+◌, ◌-◌, ◌<◌, ◌^◌, true, Some, List, [], ◌∷◌, ◌++◌, length, refl, sym, ap, subst, ◌∙◌, inl, inr}
+use Rattle.std.proofs.Common.{◌≡◌, ◌≢◌, ℕ, ◌+◌, ◌-◌, ◌<◌, ◌^◌, true, Some, List, ◌∷◌, ◌++◌, length, Option, refl, sym, ap, subst, ◌∙◌, arith, inl, inr, []}
 use Rattle.std.specs.Prelude.{slice_get}
 use Rattle.std.proofs.lemmas.Bool.Decides.{eqb_tells}
 use Rattle.std.proofs.lemmas.List.{length-set, set-get_or}
 use Rattle.inno_types.specs.declared.value.Schema.{Schema}
 use Rattle.inno_db.specs.declared.change.Change.TheVariants.{Create}
-use Rattle.inno_model.specs.declared.event.Event.{Event}
 use Rattle.inno_model.specs.declared.event.Event.TheVariants.{Changed}
-use Rattle.inno_model.specs.Past.{own}
+use Rattle.inno_model.specs.Past.{own, txn}
+use Rattle.store_api.specs.declared.answers.Standing.{Standing}
 use Rattle.law_stored_rows.specs.Storable.{IsStorable}
 use Rattle.sql_history.specs.Settings.{at_first}
 use Rattle.txn_table.specs.Txns.{Txns, is_there, id_at}
@@ -18,11 +18,11 @@ use Rattle.world.specs.declared.undo_room.UndoRoom.{UndoRoom}
 use Rattle.law_world_agreement.specs.Steps.{IsChangedBy}
 use Rattle.law_world_agreement.proofs.Opening.{set_here, set_other}
 use Rattle.undo_apply.specs.declared.work_room.WorkRoom.{WorkRoom}
-use Rattle.undo_apply.specs.declared.work_room.Stage.{Stage}
 use Rattle.world.specs.EngineCalls.{MakesTable}
 use Rattle.row_changes.specs.Records.{IsListed, id_for, txns_with_id}
 use Rattle.row_changes.specs.Entering.{GivesId}
 use Rattle.row_changes.proofs.Ids.{gives_new_id, keeps_id}
+use Rattle.shared_lists.specs.Tasks.{Idle}
 use Rattle.shared_lists.specs.State.{Lists, task_of, Adds}
 use Rattle.desks.specs.declared.desk.Desk.{Desk}
 use Rattle.desks.specs.declared.desk.Doing.{Doing}
@@ -33,13 +33,14 @@ use Rattle.desks.specs.Undoing.{undo_left_in}
 use Rattle.desks.specs.Holding.{IsHeld}
 use Rattle.law_held_steps.specs.SeenEntries.{settings_of}
 use Rattle.desks.proofs.Showing.{task_is}
-use Rattle.law_held_steps.proofs.SeenEntries.{settings_same, setting_at, settings_set}
 use Rattle.law_held_steps.proofs.Tables.{LeavesRooms, created_held}
-use Rattle.world_lists.proofs.Answering.{few_more}
+use Rattle.world_lists.specs.Between.{IsKept, can_await}
+use Rattle.world_lists.proofs.Awaiting.{created_kept}
+use Rattle.world_lists.proofs.Calls.{one_some, past_here, its_listed, its_txn, at_rest, writer_now}
 
 -- ---- the session's transaction in the new world
 
-module _ (s : ℕ) (schema : Schema) (old mid : WorldState) (makes : MakesTable s schema old mid) (listed : IsListed s makes.work old) where
+module _ {s : ℕ} {schema : Schema} {old mid : WorldState} (makes : MakesTable s schema old mid) (listed : IsListed s makes.work old) where
   abbrev pub work1 : Work
   work1 = record makes.work { own = makes.work.own + 1 }
 
@@ -69,20 +70,16 @@ module _ (s : ℕ) (schema : Schema) (old mid : WorldState) (makes : MakesTable 
     ];
   }
 
-  -- what was read of the transaction's id, before the table was made
-  pub id_was : (id : ℕ) → ((session : Session) → IsSession s session old → id ≡ (standing_of session).id) → id ≡ makes.work.id
-  id_was id read = read makes.session makes.has_work.session_is ∙ ap id_of makes.has_work.work_is
-
   -- its id is given then, where it had none
-  pub given : (new : WorldState) (id txn : ℕ) → id ≡ makes.work.id → txn ≡ makes.work.txn → (id ≡ 0 → new ≡ identified txn mid) → (id ≢ 0 → new ≡ mid)
-      → GivesId s session1 work1 mid new
-  given new id txn id_is txn_is first later = elim (eqb_tells id 0) [
-    | inl none ↦ gives_new_id s session1 work1 mid new has1 listed1 (sym id_is ∙ none.1) (first none.1 ∙ ap (λ n. identified n mid) txn_is)
+  pub given : {new : WorldState} {id number : ℕ} → id ≡ makes.work.id → number ≡ makes.work.txn → (id ≡ 0 → new ≡ identified number mid)
+      → (id ≢ 0 → new ≡ mid) → GivesId s session1 work1 mid new
+  given {new} {id} {number} id_is number_is first later = elim (eqb_tells id 0) [
+    | inl none ↦ gives_new_id s session1 work1 mid new has1 listed1 (sym id_is ∙ none.1) (first none.1 ∙ ap (λ n. identified n mid) number_is)
     | inr has ↦ subst (λ (w : WorldState). GivesId s session1 work1 mid w) (sym (later has.1))
         (keeps_id s session1 work1 mid has1 (λ none. has.1 (id_is ∙ none)))
   ]
 
-  module _ (new : WorldState) (gives : GivesId s session1 work1 mid new) where
+  module _ {new : WorldState} (gives : GivesId s session1 work1 mid new) where
     abbrev work_now : Work
     work_now = record work1 { id = id_for work1.id mid.txns.next }
 
@@ -138,7 +135,8 @@ module _ (s : ℕ) (schema : Schema) (old mid : WorldState) (makes : MakesTable 
     -- what sessions have set is as it was
     pub settings_are : settings_of new.sessions ≡ settings_of old.sessions
     settings_are =
-        Rattle.law_held_steps.proofs.SeenEntries.settings_by old.sessions new.sessions s makes.session session_now (λ x. x) same_count makes.has_work.session_is
+        Rattle.law_held_steps.proofs.SeenEntries.settings_by old.sessions new.sessions s makes.session session_now (λ x. x) same_count
+        makes.has_work.session_is
         gives.now refl same_else
         ∙ set-get_or (settings_of old.sessions) s at_first
 
@@ -151,7 +149,7 @@ module _ (s : ℕ) (schema : Schema) (old mid : WorldState) (makes : MakesTable 
         (ap (λ (w : WorldState). w.versions) gives.rest ∙ ap (λ (w : WorldState). w.versions) makes.rest)
         (λ which within. ap (λ (w : WorldState). w.indexes (Rattle.world.specs.State.index_of (length old.schemas) which)) gives.rest ∙ makes.empty which
         within)
-        storable (few_more old.past (Changed s (Create schema)) new few past_is) none
+        storable (omega (arith, few, ap length past_is)) none
 
 -- ---- what callers see
 
@@ -163,23 +161,75 @@ quiet_shown schemas others left other (Changing change) quiet = absurd (cc)
 quiet_shown schemas others left other Lagging quiet = absurd (cc)
 quiet_shown schemas others left other Undoing quiet = absurd (cc)
 
-some_number : (a b : ℕ) → Some a ≡ Some b → a ≡ b
-some_number a b same = cc
+-- ---- a call that makes a table
 
-module _ (s table : ℕ) (stage : Stage) (old : WorldState) (desks : List Desk) (lists : Lists) (view_is : seen_of table stage old (Some s) desks ≡ lists)
-    (quiet : (u : ℕ) → Some s ≢ Some u → is_quiet_doing (doing_at u desks) ≡ true) (rests : doing_at s desks ≡ Nothing) where
-  all_quiet : (u : ℕ) → is_quiet_doing (doing_at u desks) ≡ true
-  all_quiet u = elim (eqb_tells u s) [
-    | inl same ↦ ap (λ v. is_quiet_doing (doing_at v desks)) same.1 ∙ ap is_quiet_doing rests
-    | inr differ ↦ quiet u (λ same. differ.1 (sym (some_number s u same)))
-  ]
+module _ (s : ℕ) {old : WorldState} {writer : Option ℕ} {desks : List Desk} {cuts : ℕ} {undo : UndoRoom} {room : WorkRoom} {lists : Lists}
+    (kept : IsKept old writer desks cuts undo room) (view : seen_of undo.table room.stage old writer desks ≡ lists)
+    {schema : Schema} {mid : WorldState} (makes : MakesTable s schema old mid) {number : ℕ} (number_is : number ≡ txn s lists.state.past) where
+  listed : IsListed s makes.work old
+  listed = its_listed s kept view makes.has_work
 
-  pub table_seen : (e : Event) (new : WorldState) → new.names ≡ old.names → new.past ≡ e ∷ old.past
-      → Adds e s lists.state (seen_of table stage new (Some s) desks).state
-  table_seen e new names past =
-      let same : (u : ℕ) → task_of u (seen_of table stage new (Some s) desks).state ≡ task_of u (seen_of table stage old (Some s) desks).state
-      = λ u. task_is u (undo_left_in table stage new) new (Some s) desks
-      ∙ quiet_shown new.schemas old.schemas (undo_left_in table stage new) (undo_left_in table stage old) (doing_at u desks) (all_quiet u)
-      ∙ sym (task_is u (undo_left_in table stage old) old (Some s) desks) in
-      subst (λ (l : Lists). Adds e s l.state (seen_of table stage new (Some s) desks).state) view_is
-      (record { names_are = names; past_is = past; writer_is = refl; task_is = same s; others = λ u differ. same u })
+  number_now : number ≡ makes.work.txn
+  number_now = number_is ∙ its_txn s kept view makes.has_work
+
+  pub has_txn : is_there number mid.txns.open_txns
+  has_txn = subst (λ n. is_there n mid.txns.open_txns) (sym number_now) (listed1 makes listed).there
+
+  pub few_ids : mid.txns.next < 2 ^ 64 - 1
+  few_ids = (listed1 makes listed).few
+
+  module _ {read : Standing} (read_is : (session : Session) → IsSession s session old → read ≡ standing_of session) where
+    -- what was read of the transaction's id, before the table was made
+    id_is : read.id ≡ makes.work.id
+    id_is = ap (λ (t : Standing). t.id) (read_is makes.session makes.has_work.session_is) ∙ ap id_of makes.has_work.work_is
+
+    pub has_id : id_at number mid.txns.open_txns ≡ read.id
+    has_id = ap (λ n. id_at n mid.txns.open_txns) number_now ∙ (listed1 makes listed).id ∙ sym id_is
+
+    module _ {new : WorldState} (first : read.id ≡ 0 → new ≡ identified number mid) (later : read.id ≢ 0 → new ≡ mid) where
+      gives : GivesId s (session1 makes listed) (work1 makes listed) mid new
+      gives = given makes listed id_is number_now first later
+
+      pub table_unset : settings_of new.sessions ≡ lists.settings
+      table_unset = settings_are makes listed gives ∙ ap (λ (l : Lists). l.settings) view
+
+      pub table_rows : new.rows ≡ lists.rows
+      table_rows = rows_are makes listed gives ∙ ap (λ (l : Lists). l.rows) view
+
+      module _ (locked : lists.state.writer ≡ Some s) (idle : task_of s lists.state ≡ Idle) where
+        its : writer ≡ Some s
+        its = writer_now s kept view locked
+
+        rests : doing_at s desks ≡ Nothing
+        rests = at_rest s kept view idle
+
+        pub table_kept : IsTold old → IsTold new → IsStorable schema → length new.past < 2 ^ 63 → own s lists.state.past ≡ []
+            → IsKept new writer desks cuts undo room
+        table_kept told told_now storable few none =
+            created_kept old new writer desks cuts undo room kept s its (ap can_await rests)
+            (λ index. ap (λ (w : WorldState). w.indexes index) gives.rest ∙ makes.same index)
+            (subst (λ (w : Option ℕ). IsHeld new w desks cuts undo room) (sym its)
+            (created_now makes listed gives cuts undo room desks (subst (λ (w : Option ℕ). IsHeld old w desks cuts undo room) its kept.held) rests
+            told told_now storable few (past_here s kept view (λ h. own s h ≡ []) none)))
+
+        all_quiet : (u : ℕ) → is_quiet_doing (doing_at u desks) ≡ true
+        all_quiet u = elim (eqb_tells u s) [
+          | inl same ↦ ap (λ v. is_quiet_doing (doing_at v desks)) same.1 ∙ ap is_quiet_doing rests
+          | inr differ ↦ kept.held.quiet u (λ same. differ.1 (sym (one_some s u (sym its ∙ same))))
+        ]
+
+        pub table_adds : Adds (Changed s (Create schema)) s lists.state (seen_of undo.table room.stage new writer desks).state
+        table_adds =
+            let seen : WorldState → Lists = λ state. seen_of undo.table room.stage state writer desks in
+            let left : WorldState → ℕ = undo_left_in undo.table room.stage in
+            let same : (u : ℕ) → task_of u (seen new).state ≡ task_of u (seen old).state
+            = λ u. task_is u (left new) new writer desks ∙ quiet_shown new.schemas old.schemas (left new) (left old) (doing_at u desks) (all_quiet u)
+            ∙ sym (task_is u (left old) old writer desks) in
+            subst (λ (l : Lists). Adds (Changed s (Create schema)) s l.state (seen new).state) view
+            (record {
+              names_are = names_are makes listed gives;
+              past_is = past_is makes listed gives;
+              writer_is = refl;
+              task_is = same s;
+              others = λ u differ. same u;
+            })

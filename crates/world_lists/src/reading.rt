@@ -14,7 +14,7 @@ use desks::{Desk, Doing};
 use inno_types::{Ids, Rows, Schema};
 use read_view::ReadView;
 use row_search::{FoundRow, Reached, RowSearch, Sight};
-use shared_lists::Searched;
+use shared_lists::{Reading, Searched};
 use sql_plan::Plan;
 use std::alloc::Global;
 use store_api::NoMemory;
@@ -35,7 +35,7 @@ pub fn is_quiet(writer: Option<u32>, desks: &[Desk]) -> bool
 }
 
 /// How a session sees rows by the view of its transaction.
-pub fn own_sight<W: EngineWorld>(alloc: Global, world: &W, session: u32) -> Result<Sight, NoMemory>
+fn own_sight<W: EngineWorld>(alloc: Global, world: &W, session: u32) -> Result<Sight, NoMemory>
     requires { HasView session (W.state world.now) }
     ensures { IfOk result (λ sight. (view : _) × (reader : _) × (sight ≡ Sight.View view reader) × IsOwnView (W.state world.now) session view reader) }
 {
@@ -48,6 +48,23 @@ pub fn own_sight<W: EngineWorld>(alloc: Global, world: &W, session: u32) -> Resu
             Ok(Sight::View { view, own })
         }
         _ => Err(NoMemory),
+    }
+}
+
+/// How a session sees rows that reads so.
+pub fn sight_by<W: EngineWorld>(
+    alloc: Global,
+    world: &W,
+    session: u32,
+    reading: Reading,
+) -> Result<Sight, NoMemory>
+    requires { reading ≡ Reading.View → HasView session (W.state world.now) }
+    ensures view { reading ≡ Reading.View → IfOk result (λ sight. (view : _) × (reader : _) × (sight ≡ Sight.View view reader) × IsOwnView (W.state world.now) session view reader) }
+    ensures newest { reading ≡ Reading.Newest → IfOk result (λ sight. sight ≡ Sight.Newest) }
+{
+    match reading {
+        Reading::View => own_sight(alloc, world, session),
+        Reading::Newest => Ok(Sight::Newest),
     }
 }
 

@@ -2,14 +2,14 @@
 
 use crate::keys::key_of_edit;
 use crate::lists::{WorldLists, is_short};
-use crate::reading::{found_rows, is_quiet, newest_rows, own_sight, rows_of, taken_up};
+use crate::reading::{found_rows, is_quiet, newest_rows, rows_of, sight_by, taken_up};
 use crate::undoing::{change_at_desk, drop_change, edit_of, is_undoing, take_newest_back};
 use desks::{Desk, Doing, TableSearch, give_doing, take_doing};
 use inno_db::Change;
 use inno_model::History;
 use inno_types::{Bytes, Ids, Item, Level, Listed, Reply, Rows, Schema, Stmt};
 use row_changes::RowChange;
-use row_search::{Reached, RowSearch, Sight};
+use row_search::{Reached, RowSearch};
 use shared_lists::{Changed, Reading, Searched, SharedLists, Undone};
 use sql_history::SessionSettings;
 use sql_plan::Plan;
@@ -84,6 +84,7 @@ impl<W: EngineWorld> SharedLists for WorldLists<W> {
     fn start(&mut self, session: u32, item: Item) -> Result<(), NoMemory> {
         let before = self.desks[session as usize].started;
         if before == u32::MAX {
+            drop(item);
             return Err(NoMemory);
         }
         self.world.start(session, before + 1, item)?;
@@ -183,10 +184,7 @@ impl<W: EngineWorld> SharedLists for WorldLists<W> {
         reading: Reading,
     ) -> Result<(), NoMemory> {
         let schema = self.world.tables().as_slice()[table as usize].copied()?;
-        let sight = match reading {
-            Reading::View => own_sight(self.alloc, &self.world, session)?,
-            Reading::Newest => Sight::Newest,
-        };
+        let sight = sight_by(self.alloc, &self.world, session, reading)?;
         let unique = plan.unique;
         let on = TableSearch {
             search: RowSearch::new(self.alloc, table, plan, sight),

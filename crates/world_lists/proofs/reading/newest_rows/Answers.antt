@@ -1,89 +1,52 @@
 use Rattle.row_search.specs.declared.sight.Sight.TheVariants.{Newest}
-use Rattle.world.specs.State.{WorldState}
-use Rattle.law_held_steps.specs.Newest.{IsReadingNewest}
 use Rattle.law_held_steps.proofs.Begins.{new_search}
 use Rattle.law_held_steps.proofs.Places.{moves_then}
 use Rattle.law_held_steps.proofs.AtOnce.{reading_begins, reading_steps, reading_goes_on, reading_nears, reading_waits, reading_ends}
 use Rattle.world_lists.proofs.reading.newest_rows.Goals as goal
 
 pub reading-init : goal.reading-init
-reading-init g c = λ chains tells.
+reading-init g c =
+    λ chains tells.
     reading_begins chains c.args.session c.args.table c.args.plan c.args.schema.now (g.W.World.state c.args.world.now) c.new-search.result tells
     (new_search c.args.table c.args.plan Newest c.new-search.result c.new-search.ensures.search c.new-search.ensures.finds c.new-search.ensures.begins)
 
 pub step-requires-clause-searching : goal.step-requires-clause-searching
 step-requires-clause-searching g c =
-    let first : WorldState = g.W.World.state c.args.world.now in
-    let is : IsReadingNewest c.requires.0 c.args.session c.args.table c.args.plan c.args.schema.now first (g.W.World.state c.reading.world)
-    c.reading.search =
-    c.reading.invariant c.requires.0 c.requires.1 in
-    (reading_steps c.requires.0 c.args.session c.args.table c.args.plan c.args.schema.now first (g.W.World.state c.reading.world) c.reading.search is
-    (g.met.W.EngineWorld.tells c.reading.world).told).searching
+    (reading_steps _ _ _ _ _ _ _ _ (c.reading.invariant c.requires.0 c.requires.1) (g.met.W.EngineWorld.tells c.reading.world).told).searching
 
 pub step-requires-clause-table : goal.step-requires-clause-table
 step-requires-clause-table g c =
-    let first : WorldState = g.W.World.state c.args.world.now in
-    let is : IsReadingNewest c.requires.0 c.args.session c.args.table c.args.plan c.args.schema.now first (g.W.World.state c.reading.world)
-    c.reading.search =
-    c.reading.invariant c.requires.0 c.requires.1 in
-    (reading_steps c.requires.0 c.args.session c.args.table c.args.plan c.args.schema.now first (g.W.World.state c.reading.world) c.reading.search is
-    (g.met.W.EngineWorld.tells c.reading.world).told).table
+    (reading_steps _ _ _ _ _ _ _ _ (c.reading.invariant c.requires.0 c.requires.1) (g.met.W.EngineWorld.tells c.reading.world).told).table
 
 pub returns-in-Done-clause-moves : goal.returns-in-Done-clause-moves
 returns-in-Done-clause-moves g c =
-    let first : WorldState = g.W.World.state c.args.world.now in
-    let is : IsReadingNewest c.requires.0 c.args.session c.args.table c.args.plan c.args.schema.now first (g.W.World.state c.reading.world)
-    c.reading.search =
-    c.reading.invariant c.requires.0 c.requires.1 in
-    (reading_ends c.requires.0 c.args.session c.args.table c.args.plan c.args.schema.now first (g.W.World.state c.reading.world)
-    (g.W.World.state c.step.new.world) c.reading.search c.in-Done.found.items is c.in-Done.ensures).1
+    (reading_ends _ _ _ _ _ _ _ _ _ _ (c.reading.invariant c.requires.0 c.requires.1) c.in-Done.ensures).1
 
 pub returns-in-Done-clause-found : goal.returns-in-Done-clause-found
-returns-in-Done-clause-found g c = λ chains tells.
-    (reading_ends chains c.args.session c.args.table c.args.plan c.args.schema.now (g.W.World.state c.args.world.now) (g.W.World.state c.reading.world)
-    (g.W.World.state c.step.new.world) c.reading.search c.in-Done.found.items
-    (c.reading.invariant chains tells) c.in-Done.ensures).0
+returns-in-Done-clause-found g c =
+    λ chains tells.
+    (reading_ends _ _ _ _ _ _ _ _ _ _ (c.reading.invariant chains tells) c.in-Done.ensures).0
 
 pub give_up-requires : goal.give_up-requires
 give_up-requires g c =
-    let first : WorldState = g.W.World.state c.args.world.now in
-    let is : IsReadingNewest c.requires.0 c.args.session c.args.table c.args.plan c.args.schema.now first (g.W.World.state c.reading.world)
-    c.reading.search =
-    c.reading.invariant c.requires.0 c.requires.1 in
-    let now : IsReadingNewest c.requires.0 c.args.session c.args.table c.args.plan c.args.schema.now first (g.W.World.state c.step.new.world)
-    c.in-Hindered.stuck
-    =
-    reading_waits c.requires.0 c.args.session c.args.table c.args.plan c.args.schema.now first (g.W.World.state c.reading.world)
-    (g.W.World.state c.step.new.world) c.reading.search c.in-Hindered.stuck c.in-Hindered._why is c.in-Hindered.ensures
-    (g.met.W.EngineWorld.tells c.step.new.world).told in
-    reading_steps c.requires.0 c.args.session c.args.table c.args.plan c.args.schema.now first (g.W.World.state c.step.new.world) c.in-Hindered.stuck now
+    reading_steps _ _ _ _ _ _ _ _ (reading_waits _ _ _ _ _ _ _ _ _ _ _ (c.reading.invariant c.requires.0 c.requires.1) c.in-Hindered.ensures
+    (g.met.W.EngineWorld.tells c.step.new.world).told)
     (g.met.W.EngineWorld.tells c.step.new.world).told
 
 pub returns-in-Hindered-clause-moves : goal.returns-in-Hindered-clause-moves
 returns-in-Hindered-clause-moves g c =
-    let first : WorldState = g.W.World.state c.args.world.now in
-    let is : IsReadingNewest c.requires.0 c.args.session c.args.table c.args.plan c.args.schema.now first (g.W.World.state c.reading.world)
-    c.reading.search =
-    c.reading.invariant c.requires.0 c.requires.1 in
-    let now : IsReadingNewest c.requires.0 c.args.session c.args.table c.args.plan c.args.schema.now first (g.W.World.state c.step.new.world)
-    c.in-Hindered.stuck
-    =
-    reading_waits c.requires.0 c.args.session c.args.table c.args.plan c.args.schema.now first (g.W.World.state c.reading.world)
-    (g.W.World.state c.step.new.world) c.reading.search c.in-Hindered.stuck c.in-Hindered._why is c.in-Hindered.ensures
-    (g.met.W.EngineWorld.tells c.step.new.world).told in
-    moves_then c.args.session first (g.W.World.state c.step.new.world) (g.W.World.state c.give_up.new.world) now.moves c.give_up.ensures
+    moves_then c.args.session _ _ _ (reading_waits _ _ _ _ _ _ _ _ _ _ _ (c.reading.invariant c.requires.0 c.requires.1) c.in-Hindered.ensures
+    (g.met.W.EngineWorld.tells c.step.new.world).told).moves
+    c.give_up.ensures
 
 pub reading-preserved : goal.reading-preserved
-reading-preserved g c = λ chains tells.
-    reading_goes_on chains c.args.session c.args.table c.args.plan c.args.schema.now (g.W.World.state c.args.world.now) (g.W.World.state c.reading.world)
-    (g.W.World.state c.step.new.world) c.reading.search c.in-Went.next
-    (c.reading.invariant chains tells) c.in-Went.ensures (g.met.W.EngineWorld.tells c.step.new.world).told
+reading-preserved g c =
+    λ chains tells.
+    reading_goes_on _ _ _ _ _ _ _ _ _ _ (c.reading.invariant chains tells) c.in-Went.ensures (g.met.W.EngineWorld.tells c.step.new.world).told
 
 pub reading-smaller : goal.reading-smaller
 reading-smaller g c =
-    reading_nears c.requires.0 c.args.session c.args.table c.args.plan c.args.schema.now (g.W.World.state c.args.world.now)
-    (g.W.World.state c.reading.world) (g.W.World.state c.step.new.world) c.reading.search c.in-Went.next
-    (c.reading.invariant c.requires.0 c.requires.1) c.in-Went.ensures (g.met.W.EngineWorld.tells c.step.new.world).told
+    reading_nears _ _ _ _ _ _ _ _ _ _ (c.reading.invariant c.requires.0 c.requires.1) c.in-Went.ensures (g.met.W.EngineWorld.tells c.step.new.world).told
 
 -- the world tells each record as one of its table
 pub returns-in-Malformed-clause-moves : goal.returns-in-Malformed-clause-moves

@@ -1,7 +1,7 @@
 use Rattle.std.proofs.Common.{◌≡◌, ◌+◌, ◌≤◌, length, sym, ap, subst, arith}
 use Rattle.inno_types.specs.declared.value.Schema.{Schema}
 use Rattle.law_held_steps.proofs.Left.{one_more_below, all_gone}
-use Rattle.world_lists.proofs.ChangeBegin.{one_there, item_of}
+use Rattle.world_lists.proofs.Changing.{one_there, item_of}
 use Rattle.world_lists.proofs.undoing.leave_table.Goals as goal
 
 pub loop-which-preserved : goal.loop-which-preserved
@@ -14,8 +14,7 @@ returns-clause-gone g c =
     let old = g.W.World.state c.args.world.now in
     let found = c.index-as_slice-table.result in
     let one : c.requires.0 ≡ found =
-    one_there old.schemas c.args.table c.requires.0 found c.requires.1
-    (item_of old.schemas c.tables.result.now c.as_slice.result.now c.args.table found c.index-as_slice-table.is c.as_slice.ensures c.tables.ensures) in
+    one_there old.schemas c.args.table c.requires.1 (item_of c.args.table c.index-as_slice-table.is c.as_slice.ensures c.tables.ensures) in
     let long = c.len-keys.ensures in
     let all = c.loop-which-test.false in
     let same = ap (λ (schema : Schema). length schema.keys) c.index-as_slice-table.is in

@@ -10,7 +10,8 @@ pub invariant_of-result : goal.invariant_of-result
 invariant_of-result g c =
     record {
       held =
-          subst (λ (desks : List Desk). IsHeld (g.W.World.state c.args.world) None desks 0 c.in_ok-new.field-0 c.in_ok-new-3.field-0) (sym c.new.ensures.items)
+          subst (λ (desks : List Desk). IsHeld (g.W.World.state c.args.world) None desks 0 c.in_ok-new.field-0 c.in_ok-new-3.field-0)
+          (sym c.new.ensures.items)
           (first_held (g.W.World.state c.args.world) c.in_ok-new.field-0 c.in_ok-new-3.field-0 c.requires.fresh c.in_ok-new-3.ensures.whole
           c.in_ok-new-3.ensures.stage);
       record_room = c.in_ok-new.ensures;

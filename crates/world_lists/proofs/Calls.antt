@@ -1,0 +1,246 @@
+-- What a call finds of the lists: its session with its transaction, as the past says, what it has under way, and its desk.
+use Rattle.std.proofs.Common.{◌≡◌, ℕ, ◌+◌, ◌<◌, Bool, true, Option, Some, None, List, length, sym, ap, subst, ◌∙◌, arith, get_or, inl, inr, zero, suc}
+use Rattle.std.proofs.Common.{false, ◌∷◌, map, refl, [], ◌≤◌}
+use Rattle.std.proofs.lemmas.Bool.Decides.{eqb_tells}
+use Rattle.std.proofs.lemmas.List.{get_or-set_other}
+use Rattle.std.specs.Prelude.{slice_set, slice_index_or, is_some, slice_get, option_map}
+use Rattle.inno_types.specs.declared.reply.Item.{Item}
+use Rattle.inno_model.specs.declared.event.Event.{Event}
+use Rattle.inno_model.specs.declared.event.Event.TheVariants.{Acked}
+use Rattle.inno_model.specs.Past.{own, level, txn, view_of, started, under_way, of_item, IsOpen, awaits_ack}
+use Rattle.sql_history.specs.Settings.{Setting, at_first}
+use Rattle.law_past_agreement.specs.Order.{MayCome}
+use Rattle.store_api.specs.declared.answers.Standing.{Standing}
+use Rattle.world.specs.State.{WorldState, Session, Work, IsSession, HasWork, standing_of, txn_of, Seen, own_of, level_of}
+use Rattle.world.specs.declared.undo_room.UndoRoom.{UndoRoom}
+use Rattle.undo_apply.specs.declared.work_room.WorkRoom.{WorkRoom}
+use Rattle.row_changes.specs.Records.{IsListed}
+use Rattle.law_logged_changes.proofs.Listed.{listed_of}
+use Rattle.shared_lists.specs.Tasks.{Idle}
+use Rattle.shared_lists.specs.State.{Lists, task_of}
+use Rattle.desks.specs.declared.desk.Desk.{Desk}
+use Rattle.desks.specs.declared.desk.Doing.TheVariants.{Nothing}
+use Rattle.desks.specs.Desks.{fresh_desk, desk_at, doing_at, with_start}
+use Rattle.desks.specs.Shown.{seen_of}
+use Rattle.law_held_steps.proofs.SeenEntries.{rests_of, setting_at}
+use Rattle.law_held_steps.proofs.EntrySessions.{start_here}
+use Rattle.world_lists.specs.Between.{IsKept}
+use Rattle.law_past_agreement.specs.Rows.{place_in}
+use Rattle.law_past_agreement.specs.Agreement.{IsIdle, IsWorkOf, ViewAgrees, owed_by, owed_by_txn, owed_by_item}
+use Rattle.law_world_agreement.specs.Agreement.{sight_of, work_at}
+use Rattle.law_world_agreement.proofs.Opening.{idle_of}
+use Rattle.law_world_agreement.proofs.Ending.{work_of}
+use Rattle.desks.specs.Holding.{IsHeld}
+use Rattle.std.proofs.lemmas.Bool.{cases_lt}
+use Rattle.inno_types.specs.declared.lock.Level.{Level}
+use Rattle.std.proofs.lemmas.Option.{slice_get-get_or}
+
+pub one_some : {X : Type 0} (a b : X) → Some a ≡ Some b → a ≡ b
+one_some a b same = cc
+
+desk_read : (desks : List Desk) (s : ℕ) (read : Desk) → s < length desks → read ≡ get_or desks s read → read ≡ desk_at s desks
+desk_read desks s read within is =
+    is ∙ one_some (get_or desks s read) (desk_at s desks) (sym (slice_get-get_or desks s read within) ∙ slice_get-get_or desks s fresh_desk within)
+
+-- ---- who hasn't joined is owed nothing
+
+owes : (l : Option Level) (changes : ℕ) (waits : Bool) (item : ℕ) → owed_by_txn l changes waits + item ≡ 0 → is_some l ≡ true → ⊥
+owes (Some l) changes waits item none is = omega (arith, none)
+owes None changes waits item none is = cc
+
+joined_of_open : (state : WorldState) (w : ℕ) → (length state.names ≤ w → owed_by state.past w ≡ 0) → IsOpen w state.past → w < length state.names
+joined_of_open state w strangers open_is = elim (cases_lt w (length state.names)) [
+  | inl joined ↦ joined
+  | inr stranger ↦ absurd (owes (level w state.past) (length (own w state.past)) (awaits_ack (of_item w state.past)) (owed_by_item (under_way w state.past))
+      (strangers stranger) open_is)
+]
+
+-- ---- what is read of a session is what the past says
+
+there_at : (sessions : List Session) (s : ℕ) → s < length sessions → (session : Session) × (slice_get sessions s ≡ Some session)
+there_at [] s within = absurd (omega (arith, within))
+there_at (first ∷ sessions) zero within = (first, refl)
+there_at (first ∷ sessions) (suc s) within = there_at sessions s (omega (arith, within))
+
+none_some : {X : Type 0} (x : X) → None ≡ Some x → ⊥
+none_some x same = cc
+
+module _ {state : WorldState} {writer : Option ℕ} {desks : List Desk} {cuts : ℕ} {undo : UndoRoom} {room : WorkRoom}
+    (held : IsHeld state writer desks cuts undo room) where
+  there : (s : ℕ) → s < length state.names → (session : Session) × IsSession s session state
+  there s joined = there_at state.sessions s (omega (arith, joined, held.agrees.count))
+
+  module _ (s : ℕ) {session : Session} (is : IsSession s session state) where
+    has : (work : Work) → session.work ≡ Some work → HasWork s session work state
+    has work work_is = record { session_is = is; work_is = work_is }
+
+    work_says : (work : Work) → session.work ≡ Some work → IsWorkOf state.schemas state.past s
+        (work_at (map (place_in state.schemas) (own s state.past)) work)
+    work_says work work_is = work_of held.chains writer state s session work held.agrees (has work work_is)
+
+    idle_says : session.work ≡ None → IsIdle state.past s
+    idle_says none = idle_of held.chains writer state s session held.agrees is none
+
+    by_work : {P : Type 0} → (session.work ≡ None → P) → ((work : Work) → session.work ≡ Some work → P) → P
+    by_work {P} none some = go session.work refl
+      where
+        go : (work : Option Work) → session.work ≡ work → P
+        go None was = none was
+        go (Some work) was = some work was
+
+    level_is : (n : ℕ) → (standing_of session).txn ≡ Some n → level s state.past ≡ Some (standing_of session).level
+    level_is n some =
+        by_work (λ none. absurd (none_some n (sym (ap txn_of none) ∙ some)))
+        (λ work was. (work_says work was).level_is ∙ ap (λ (w : Option Work). Some (level_of session.setting w)) (sym was))
+
+    none_is : (standing_of session).txn ≡ None → IsIdle state.past s
+    none_is none = by_work idle_says (λ work was. absurd (none_some work.txn (sym none ∙ ap txn_of was)))
+
+    txn_is : (n : ℕ) → (standing_of session).txn ≡ Some n → txn s state.past ≡ n
+    txn_is n some =
+        by_work (λ none. absurd (none_some n (sym (ap txn_of none) ∙ some)))
+        (λ work was. (work_says work was).txn_is ∙ one_some work.txn n (sym (ap txn_of was) ∙ some))
+
+    own_is : (standing_of session).own ≡ length (own s state.past)
+    own_is =
+        by_work (λ none. ap own_of none ∙ sym (ap length (idle_says none).own_is))
+        (λ work was. ap own_of was ∙ held.agrees.own s session work (has work was))
+
+    open_has : IsOpen s state.past → (work : Work) × HasWork s session work state
+    open_has open_is =
+        by_work (λ none. absurd (let no : false ≡ true = sym (ap is_some (idle_says none).level_is) ∙ open_is in cc)) (λ work was. (work, has work was))
+
+    view_by : (view : Option Seen) → ViewAgrees state.past s (option_map sight_of view) → is_some view ≡ is_some (view_of s state.past)
+    view_by None agrees = sym (ap is_some agrees)
+    view_by (Some seen) agrees = sym (ap is_some agrees.1.is-view)
+
+    view_is : (work : Work) → session.work ≡ Some work → is_some work.view ≡ is_some (view_of s state.past)
+    view_is work work_is = view_by work.view (work_says work work_is).view_is
+
+    pub closed_none : level s state.past ≡ None → session.work ≡ None
+    closed_none closed = by_work (λ none. none) (λ work was. absurd (none_some work.level (sym closed ∙ (work_says work was).level_is)))
+
+  -- who has an open transaction has joined
+  pub open_joined : (w : ℕ) → IsOpen w state.past → w < length state.names
+  open_joined w open_is = joined_of_open state w (held.agrees.lists.strangers w) open_is
+
+module _ (s : ℕ) {state : WorldState} {writer : Option ℕ} {desks : List Desk} {cuts : ℕ} {undo : UndoRoom} {room : WorkRoom} {lists : Lists}
+    (kept : IsKept state writer desks cuts undo room) (view : seen_of undo.table room.stage state writer desks ≡ lists) where
+  pub past_here : (P : List Event → Type 0) → P lists.state.past → P state.past
+  past_here P given = subst (λ (l : Lists). P l.state.past) (sym view) given
+
+  pub joined_here : s < length lists.state.names → s < length state.names
+  joined_here joined = subst (λ (l : Lists). s < length l.state.names) (sym view) joined
+
+  pub at_desk : s < length lists.state.names → s < length desks
+  at_desk joined = omega (arith, joined_here joined, kept.held.count)
+
+  pub its_session : s < length lists.state.names → (session : Session) × IsSession s session state
+  its_session joined = there kept.held s (joined_here joined)
+
+  pub its_work : s < length lists.state.names → IsOpen s lists.state.past → (session : Session) × (work : Work) × HasWork s session work state
+  its_work joined is_open =
+      let (session, is) = its_session joined in
+      let (work, has) = open_has kept.held s is (past_here (IsOpen s) is_open) in (session, work, has)
+
+  pub at_rest : task_of s lists.state ≡ Idle → doing_at s desks ≡ Nothing
+  at_rest idle = rests_of s undo.table room.stage state writer desks (subst (λ (l : Lists). task_of s l.state ≡ Idle) (sym view) idle)
+
+  pub writer_now : lists.state.writer ≡ Some s → writer ≡ Some s
+  writer_now mine = ap (λ (l : Lists). l.state.writer) view ∙ mine
+
+  -- ---- its transaction
+
+  -- it is among the open ones
+  pub its_listed : {session : Session} {work : Work} → HasWork s session work state → IsListed s work state
+  its_listed {session} {work} has = listed_of kept.held.chains writer state s session work kept.held.agrees has
+
+  pub its_txn : {session : Session} {work : Work} → HasWork s session work state → txn s lists.state.past ≡ work.txn
+  its_txn {session} {work} has = sym (ap (λ (l : Lists). txn s l.state.past) view) ∙ txn_is kept.held s has.session_is work.txn (ap txn_of has.work_is)
+
+  pub its_own : {session : Session} → IsSession s session state → (standing_of session).own ≡ length (own s lists.state.past)
+  its_own is = own_is kept.held s is ∙ ap (λ (l : Lists). length (own s l.state.past)) view
+
+  -- ---- what is read of it
+
+  module _ (joined : s < length lists.state.names) {read : Standing}
+      (read_is : (session : Session) → IsSession s session state → read ≡ standing_of session) where
+    txn_read : (session : Session) → IsSession s session state → {n : Option ℕ} → read.txn ≡ n → (standing_of session).txn ≡ n
+    txn_read session is some = sym (ap (λ (t : Standing). t.txn) (read_is session is)) ∙ some
+
+    pub level_read : {n : ℕ} → read.txn ≡ Some n → Some read.level ≡ level s lists.state.past
+    level_read some =
+        let (session, is) = its_session joined in
+        ap (λ (t : Standing). Some t.level) (read_is session is)
+        ∙ sym (level_is kept.held s is _ (txn_read session is some)) ∙ ap (λ (l : Lists). level s l.state.past) view
+
+    pub no_level_read : read.txn ≡ None → None ≡ level s lists.state.past
+    no_level_read none =
+        let (session, is) = its_session joined in
+        sym (none_is kept.held s is (txn_read session is none)).level_is ∙ ap (λ (l : Lists). level s l.state.past) view
+
+    pub number_read : {n : ℕ} → read.txn ≡ Some n → n ≡ txn s lists.state.past
+    number_read some =
+        let (session, is) = its_session joined in
+        sym (txn_is kept.held s is _ (txn_read session is some)) ∙ ap (λ (l : Lists). txn s l.state.past) view
+
+    pub own_read : read.own ≡ length (own s lists.state.past)
+    own_read = let (session, is) = its_session joined in ap (λ (t : Standing). t.own) (read_is session is) ∙ its_own is
+
+    pub never_none : IsOpen s lists.state.past → read.txn ≡ None → ⊥
+    never_none is_open none =
+        let (session, work, has) = its_work joined is_open in
+        none_some work.txn (sym (txn_read session has.session_is none) ∙ ap txn_of has.work_is)
+
+  pub view_read : s < length lists.state.names → IsOpen s lists.state.past → {has : Bool}
+      → ((session : Session) (work : Work) → HasWork s session work state → has ≡ is_some work.view) → has ≡ is_some (view_of s lists.state.past)
+  view_read joined is_open read =
+      let (session, work, has) = its_work joined is_open in
+      read session work has ∙ view_is kept.held s has.session_is work has.work_is ∙ ap (λ (l : Lists). is_some (view_of s l.state.past)) view
+
+  pub setting_read : s < length lists.state.names → {setting : Setting} → ((session : Session) → IsSession s session state → setting ≡ session.setting)
+      → setting ≡ slice_index_or lists.settings s at_first
+  setting_read joined read =
+      let (session, is) = its_session joined in
+      read session is ∙ sym (setting_at state.sessions s session is) ∙ ap (λ (l : Lists). slice_index_or l.settings s at_first) view
+
+  -- ---- it has room for its entries
+
+  pub may_ack : s < length lists.state.names → (moment : ℕ) → MayCome lists.state.past (Acked s moment)
+      → (session : Session) × IsSession s session state × (session.can_ack ≡ true)
+  may_ack joined moment may =
+      let (session, is) = its_session joined in
+      (session, is, kept.held.has_room.acks s session is (past_here (λ h. awaits_ack (of_item s h) ≡ true) may.0))
+
+  pub may_reply : s < length lists.state.names → (item : Item) → under_way s lists.state.past ≡ Some item
+      → (session : Session) × IsSession s session state × (session.can_reply ≡ true)
+  may_reply joined item busy =
+      let (session, is) = its_session joined in
+      (session, is, kept.held.has_room.replies s session is (ap is_some (past_here (λ h. under_way s h ≡ Some item) busy)))
+
+  pub may_end : s < length lists.state.names → IsOpen s lists.state.past
+      → (session : Session) × (work : Work) × HasWork s session work state × (work.can_end ≡ true)
+  may_end joined is_open =
+      let (session, work, has) = its_work joined is_open in (session, work, has, kept.held.has_room.ends s session work has)
+
+  -- ---- what is read of desks
+
+  module _ (joined : s < length lists.state.names) where
+    pub desk_started : {read : Desk} → read ≡ get_or desks s read → read.started ≡ started s lists.state.past
+    desk_started {read} is =
+        ap (λ (desk : Desk). desk.started) (desk_read desks s read (at_desk joined) is)
+        ∙ sym (kept.held.started s) ∙ ap (λ (l : Lists). started s l.state.past) view
+
+    pub desks_started : {read other : Desk} → read ≡ get_or desks s read → other ≡ get_or desks s other
+        → slice_set desks s (record { started = read.started + 1; doing = other.doing }) ≡ with_start s desks
+    desks_started {read} {other} is other_is =
+        ap (λ (desk : Desk). slice_set desks s (record { started = desk.started + 1; doing = other.doing })) (desk_read desks s read (at_desk joined) is)
+        ∙ ap (λ (desk : Desk). slice_set desks s (record { started = (desk_at s desks).started + 1; doing = desk.doing }))
+        (desk_read desks s other (at_desk joined) other_is)
+
+    pub doing_started : (u : ℕ) → doing_at u (with_start s desks) ≡ doing_at u desks
+    doing_started u = elim (eqb_tells u s) [
+      | inl same ↦ ap (λ v. doing_at v (with_start s desks)) same.1 ∙ ap (λ (desk : Desk). desk.doing) (start_here desks s (at_desk joined)) ∙ ap
+          (λ v. doing_at v desks) (sym same.1)
+      | inr differ ↦ ap (λ (desk : Desk). desk.doing) (get_or-set_other desks s u _ fresh_desk differ.1)
+    ]

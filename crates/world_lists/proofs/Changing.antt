@@ -1,0 +1,424 @@
+-- A change of a row in held lists: how it begins, what each of its steps leaves, with the indexes that are left where it is over
+-- or was hindered, and a change that is given up.
+use Rattle.std.proofs.Common.{◌≡◌, ℕ, zero, suc, ◌+◌, ◌<◌, ◌^◌, false, true, List, ◌∷◌, length, Option, Some, refl, sym, ap, subst, ◌∙◌, arith, []}
+use Rattle.std.proofs.lemmas.Bool.{false≢true}
+use Rattle.std.specs.Prelude.{slice_get, slice_index_or}
+use Rattle.inno_types.specs.declared.value.Column.{Column}
+use Rattle.inno_types.specs.declared.value.Schema.{Schema}
+use Rattle.inno_db.specs.declared.change.Change.{Change}
+use Rattle.inno_model.specs.Past.{IsOpen}
+use Rattle.inno_model.specs.declared.event.Event.{Event}
+use Rattle.store_api.specs.declared.moves.Move.{Move}
+use Rattle.store_api.specs.declared.moves.Move.TheVariants.{NoMemory}
+use Rattle.row_versions.specs.Chains.{Chains}
+use Rattle.law_past_agreement.specs.Order.{created}
+use Rattle.key_codec.specs.Keys.{IsOfKind}
+use Rattle.world.specs.State.{WorldState}
+use Rattle.world.specs.Told.{IsTold}
+use Rattle.world.specs.Undoing.{read_into}
+use Rattle.world.specs.declared.undo_room.UndoRoom.{UndoRoom}
+use Rattle.row_changes.specs.Awaited.{AwaitsIn}
+use Rattle.row_changes.specs.declared.row_edit.RowEdit.{RowEdit}
+use Rattle.row_changes.specs.declared.row_change.RowChange.{RowChange}
+use Rattle.row_changes.specs.declared.row_change.RowChange.TheVariants.{Record, Keys}
+use Rattle.row_changes.specs.declared.reached.Reached.{Reached}
+use Rattle.row_changes.specs.declared.reached.Reached.TheVariants.{Went, Done, Hindered}
+use Rattle.row_changes.specs.Edits.{change_of}
+use Rattle.row_changes.specs.Records.{IsTable}
+use Rattle.row_changes.specs.Rows.{IsChangingRow, ChangesRow, table_of, primary_of}
+use Rattle.row_changes.proofs.Changing.{lacks_memory}
+use Rattle.law_logged_changes.proofs.ReadersLeft.{left_told}
+use Rattle.undo_apply.specs.declared.work_room.WorkRoom.{WorkRoom}
+use Rattle.shared_lists.specs.Fitting.{FitsWell}
+use Rattle.shared_lists.specs.declared.answers.Changed.{Changed}
+use Rattle.shared_lists.specs.declared.answers.Changed.TheVariants as answers
+use Rattle.shared_lists.specs.Tasks.{Task, Idle, asked, left_by, is_changing, steps_left}
+use Rattle.shared_lists.specs.State.{Lists, Turns, task_of}
+use Rattle.shared_lists.specs.Steps.{Changes, rows_entered}
+use Rattle.desks.specs.declared.desk.Desk.{Desk}
+use Rattle.desks.specs.declared.desk.Doing.{Doing}
+use Rattle.desks.specs.declared.desk.Doing.TheVariants.{Nothing, Searching, Changing, Lagging, Undoing}
+use Rattle.desks.specs.Desks.{doing_at, with_doing}
+use Rattle.desks.specs.Shown.{lists_of, shown, seen_of}
+use Rattle.desks.specs.Undoing.{undo_left_in}
+use Rattle.desks.specs.Holding.{IsHeld}
+use Rattle.desks.proofs.Showing.{task_is}
+use Rattle.law_held_steps.specs.Beginning.{IsEditable, IsKeyOfEdit, begun}
+use Rattle.law_held_steps.specs.Leaving.{is_searching, LeavesIndexes, LeavesTable}
+use Rattle.law_held_steps.specs.Making.{doing_after, Comes, LeavesLists, MakesChange}
+use Rattle.law_held_steps.proofs.Begun.{can_be_keyed, begins}
+use Rattle.law_held_steps.proofs.Beside.{rows_of_writer}
+use Rattle.law_held_steps.proofs.Desks.{doing_here, changes_at_a_desk}
+use Rattle.law_held_steps.proofs.Left.{held_left}
+use Rattle.law_held_steps.proofs.Made.{change_made}
+use Rattle.law_held_steps.proofs.Showing.{begun_turns, begun_task, went_shown, entered_shown, done_shown, given_up_shown, rows_shown, left_shown}
+use Rattle.world_lists.specs.Between.{IsKept, AwaitsWriter, can_await, table_at}
+use Rattle.world_lists.specs.Parts.{StepsChange, StepsAtDesk, HasChange, LeavesIfOver, doing_now, is_told, answer_for}
+use Rattle.world_lists.proofs.Awaiting.{kept_beside, same_no_more, change_awaits, only_mine}
+use Rattle.world_lists.proofs.Calls.{past_here, at_rest, at_desk, writer_now}
+
+-- ---- the table of a change
+
+-- the table is there, and has few keys
+abbrev pub HasTable : ℕ → WorldState → Type 0
+HasTable table state = (schema : Schema) × (slice_get state.schemas table ≡ Some schema) × (length schema.keys < 5)
+
+few_keys : (table : ℕ) (schema : Schema) (state : WorldState) → IsTable table schema state → HasTable table state
+few_keys table schema state is =
+    let few = is.storable.few in
+    let fewer : length schema.keys < 5 = omega arith in
+    (schema, is.there, fewer)
+
+table_there : (s : ℕ) (chains : Chains) (state : WorldState) (change : RowChange) → IsChangingRow s chains state change → HasTable (table_of change) state
+table_there s chains state (Record change key after) is = few_keys change.table is.0.schema state is.0.table
+table_there s chains state (Keys change) is = few_keys change.table is.schema state is.table
+
+still_changing : (s : ℕ) (chains : Chains) (old new : WorldState) (change same : RowChange) (why : Move)
+    → ChangesRow s chains old new change (Hindered same why) → IsChangingRow s chains new change
+still_changing s chains old new (Record change key after) same why is = is.1
+still_changing s chains old new (Keys change) same why is = is.1
+
+done_table : (s : ℕ) (chains : Chains) (old new : WorldState) (change : RowChange) → IsChangingRow s chains old change → ChangesRow s chains old new change Done
+    → HasTable (table_of change) new
+done_table s chains old new (Record change key after) is made = absurd made
+done_table s chains old new (Keys change) is made =
+    let had = table_there s chains old (Keys change) is in
+    (had.0, ap (λ (state : WorldState). slice_get state.schemas change.table) made.0.rest ∙ had.1, had.2)
+
+-- it is there where a change has come so far, and where one is given up
+module _ (s : ℕ) {table : ℕ} (change : RowChange) (table_is : table ≡ table_of change) (old : WorldState)
+    (may : (chains : Chains) × IsChangingRow s chains old change) where
+  pub table_dropped : HasTable table old
+  table_dropped = subst (λ n. HasTable n old) (sym table_is) (table_there s may.0 old change may.1)
+
+  module _ (new : WorldState) (came : Reached RowChange)
+      (made : (chains : Chains) → IsChangingRow s chains old change → ChangesRow s chains old new change came) where
+    pub table_left : {same : RowChange} {why : Move} → came ≡ Hindered same why → HasTable table new
+    table_left {same} {why} is =
+        let still = still_changing s may.0 old new change same why (subst (ChangesRow s may.0 old new change) is (made may.0 may.1)) in
+        subst (λ n. HasTable n new) (sym table_is) (table_there s may.0 new change still)
+
+    pub table_over : came ≡ Done → HasTable table new
+    table_over is =
+        subst (λ n. HasTable n new) (sym table_is)
+        (done_table s may.0 old new change may.1 (subst (ChangesRow s may.0 old new change) is (made may.0 may.1)))
+
+pub gone_by : {s table other : ℕ} {old new : WorldState} → table ≡ other → LeavesTable s table old new → LeavesTable s other old new
+gone_by {s} {old = old} {new = new} same gone = subst (λ n. LeavesTable s n old new) same gone
+
+-- ---- how far a change came
+
+pub answer_over : (change : RowChange) → answers.Done ≡ answer_for change Done
+answer_over (Record change key after) = refl
+answer_over (Keys change) = refl
+
+pub answer_hindered : (change same : RowChange) (why : Move) → answers.NoMemory ≡ answer_for change (Hindered same why)
+answer_hindered (Record change key after) same why = refl
+answer_hindered (Keys change) same why = refl
+
+-- one that goes on lies at its desk
+pub lies_there : (change next : RowChange) {answer : Changed} → answer ≡ answer_for change (Went next)
+    → doing_now change next answer ≡ doing_after change (Went next)
+lies_there (Record change key after) (Record next key' after') is = ap (doing_now (Record change key after) (Record next key' after')) is
+lies_there (Record change key after) (Keys next) is = ap (doing_now (Record change key after) (Keys next)) is
+lies_there (Keys change) (Record next key after) is = ap (doing_now (Keys change) (Record next key after)) is
+lies_there (Keys change) (Keys next) is = ap (doing_now (Keys change) (Keys next)) is
+
+pub step_of : {s : ℕ} (change : RowChange) {old mid new : WorldState} {doing : Doing} {answer : Changed} {came : Reached RowChange}
+    (reached : Reached RowChange) → AwaitsIn s (table_of change) old mid → LeavesIndexes s mid new → came ≡ reached
+    → ((chains : Chains) → IsChangingRow s chains old change → ChangesRow s chains old mid change came)
+    → LeavesIfOver s (table_of change) mid new reached → doing ≡ doing_after change reached → answer ≡ answer_for change reached
+    → StepsChange s change old new doing answer
+step_of {s} change {old} {mid} reached awaits left is made gone doing_is answer_is = record {
+  mid = mid;
+  reached = reached;
+  made = λ chains changing. subst (ChangesRow s chains old mid change) is (made chains changing);
+  awaits = awaits;
+  left = left;
+  gone = gone;
+  doing_is = doing_is;
+  answer_is = answer_is;
+}
+
+-- ---- a change that is given up
+
+-- one that the history doesn't tell is as where it found no memory
+pub dropped : (s : ℕ) (chains : Chains) (state : WorldState) (change : RowChange) → is_told change ≡ false → IsChangingRow s chains state change
+    → ChangesRow s chains state state change (Hindered change NoMemory)
+dropped s chains state (Record change key after) untold is =
+    let lacks = lacks_memory s state change is.0 in (refl, is, (lacks.1, lacks.3, lacks.4, lacks.5))
+dropped s chains state (Keys change) untold is = absurd (false≢true (sym untold))
+
+pub nothing_after : (change : RowChange) → is_told change ≡ false → Nothing ≡ doing_after change (Hindered change NoMemory)
+nothing_after (Record change key after) untold = refl
+nothing_after (Keys change) untold = absurd (false≢true (sym untold))
+
+-- the history doesn't tell it where the lists show it as asked for
+untold_as_asked : (s : ℕ) (state : WorldState) (writer : Option ℕ) (desks : List Desk) (left : ℕ) (change : RowChange) (told : Change)
+    → doing_at s desks ≡ Changing change → asked (task_of s (lists_of state writer desks left).state) ≡ Some told → is_told change ≡ false
+untold_as_asked s state writer desks left (Record change key after) told at asks = refl
+untold_as_asked s state writer desks left (Keys change) told at asks =
+    absurd (
+    let none = ap asked (task_is s left state writer desks ∙ ap (shown state.schemas left) at) in
+    let clash = sym none ∙ asks in cc)
+
+-- ---- the table that a change finds
+
+pub one_there : (schemas : List Schema) (n : ℕ) {schema found : Schema} → slice_get schemas n ≡ Some schema → found ≡ slice_index_or schemas n found
+    → schema ≡ found
+one_there [] n found is = absurd (cc)
+one_there (first ∷ schemas) zero {schema} {found} is at = let same : first ≡ schema = cc in let also : found ≡ first = at in cc
+one_there (first ∷ schemas) (suc n) is at = one_there schemas n is at
+
+-- the item of a slice that is the tables
+pub item_of : (n : ℕ) {schemas tables slice : List Schema} {found : Schema} → found ≡ slice_index_or slice n found → slice ≡ tables → tables ≡ schemas
+    → found ≡ slice_index_or schemas n found
+item_of n {found = found} at same also = at ∙ ap (λ (list : List Schema). slice_index_or list n found) (same ∙ also)
+
+-- ---- a change begins
+
+-- it has the change under way now, and nothing else has changed
+pub record Begins (s : ℕ) (change : Change) (old new : Lists) : Type 0 where
+  pub turns : Turns s (task_of s new.state) old.state new.state
+  pub changing : is_changing (task_of s new.state) ≡ true
+  pub asked_is : asked (task_of s new.state) ≡ Some change
+  pub few : steps_left (task_of s new.state) < 2 ^ 70
+  pub settings : new.settings ≡ old.settings
+  pub rows : new.rows ≡ old.rows
+
+module _ (s : ℕ) {state : WorldState} {writer : Option ℕ} {desks : List Desk} {cuts : ℕ} {undo : UndoRoom} {room : WorkRoom} {lists : Lists}
+    (kept : IsKept state writer desks cuts undo room) (view : seen_of undo.table room.stage state writer desks ≡ lists)
+    (locked : lists.state.writer ≡ Some s) {change : Change} (fits : FitsWell (created lists.state.past) change) (table : ℕ) (edit : RowEdit)
+    (is : change_of table edit ≡ change) {slice tables : List Schema} (slice_is : slice ≡ tables) (tables_are : tables ≡ state.schemas) where
+  held_mine : IsHeld state (Some s) desks cuts undo room
+  held_mine = subst (λ (w : Option ℕ). IsHeld state w desks cuts undo room) (writer_now s kept view locked) kept.held
+
+  fits_mine : FitsWell (created state.past) (change_of table edit)
+  fits_mine = subst (FitsWell (created state.past)) (sym is) (past_here s kept view (λ h. FitsWell (created h) change) fits)
+
+  can : IsEditable state table edit
+  can = can_be_keyed state s desks cuts undo room held_mine table edit fits_mine
+
+  pub edit_within : table < length slice
+  edit_within = subst (λ (schemas : List Schema). table < length schemas) (sym (slice_is ∙ tables_are)) can.within
+
+  module _ {found : Schema} (found_is : found ≡ slice_index_or slice table found) where
+    one : can.schema ≡ found
+    one = one_there state.schemas table can.there (item_of table found_is slice_is tables_are)
+
+    pub edit_keyed : (column : Column) × (slice_get found.columns found.primary ≡ Some column) × IsOfKind column.kind (primary_of found edit)
+    edit_keyed =
+        subst (λ (schema : Schema). (column : Column) × (slice_get schema.columns schema.primary ≡ Some column) × IsOfKind column.kind
+        (primary_of schema edit))
+        one (can.column, can.primary, can.of_kind)
+
+    module _ (idle : task_of s lists.state ≡ Idle) (key : List ℕ) (spelled : IsKeyOfEdit found edit key) {first : RowChange}
+        (is_first : first ≡ begun table edit key) {later : List Desk} (gives_first : later ≡ with_doing s (Changing first) desks) where
+      gives : later ≡ with_doing s (Changing (begun table edit key)) desks
+      gives = subst (λ (c : RowChange). later ≡ with_doing s (Changing c) desks) is_first gives_first
+
+      pub change_kept : IsOpen s lists.state.past → IsKept state writer later cuts undo room
+      change_kept is_open =
+          let rests = at_rest s kept view idle in
+          let there = subst (λ (schema : Schema). slice_get state.schemas table ≡ Some schema) one can.there in
+          kept_beside state state writer desks cuts undo room kept (same_no_more state state refl) s _ later (ap can_await rests) gives
+          (subst (λ (w : Option ℕ). IsHeld state w later cuts undo room) (sym (writer_now s kept view locked))
+          (subst (λ (ds : List Desk). IsHeld state (Some s) ds cuts undo room) (sym gives)
+          (begins state s desks cuts undo room held_mine table found edit key rests (past_here s kept view (IsOpen s) is_open) fits_mine there spelled)))
+
+      pub change_begins : s < length lists.state.names → Begins s change lists (seen_of undo.table room.stage state writer later)
+      change_begins joined =
+          let left = undo_left_in undo.table room.stage state in
+          let now : Lists = lists_of state (Some s) (with_doing s (Changing (begun table edit key)) desks) left in
+          let task = begun_task state s desks cuts undo room held_mine (at_desk s kept view joined) left table edit key now refl in
+          let mine : Begins s change (lists_of state (Some s) desks left) now
+          = record {
+            turns = begun_turns state s desks cuts undo room held_mine (at_desk s kept view joined) left left table edit key now refl;
+            changing = task.0;
+            asked_is = subst (λ (asks : Change). asked (task_of s now.state) ≡ Some asks) is task.1;
+            few = task.2;
+            settings = refl;
+            rows = refl;
+          } in
+          subst (λ (l : Lists). Begins s change l (lists_of state writer later left)) view
+          (subst (λ (w : Option ℕ). Begins s change (lists_of state w desks left) (lists_of state w later left)) (sym (writer_now s kept view locked))
+          (subst (λ (ds : List Desk). Begins s change (lists_of state (Some s) desks left) (lists_of state (Some s) ds left)) (sym gives) mine))
+
+-- ---- a step of a change
+
+-- One step, by its answer. What sessions have set is as it was.
+pub record ChangesIn (s : ℕ) (old new : Lists) (answer : Changed) : Type 0 where
+  pub changes : Changes s old.state new.state answer
+  pub settings : new.settings ≡ old.settings
+  pub rows : new.rows ≡ old.rows + rows_entered answer (task_of s old.state)
+
+all_of : {s : ℕ} {old new : Lists} {answer : Changed} → Changes s old.state new.state answer → new.settings ≡ old.settings
+    → new.rows ≡ old.rows + rows_entered answer (task_of s old.state) → ChangesIn s old new answer
+all_of changes settings rows = record { changes = changes; settings = settings; rows = rows }
+
+not_searching : (change : RowChange) (came : Reached RowChange) → is_searching (doing_after change came) ≡ false
+not_searching change (Went next) = refl
+not_searching change Done = refl
+not_searching (Record change key after) (Hindered same why) = refl
+not_searching (Keys change) (Hindered same why) = refl
+
+no_more : (new old : ℕ) → new ≡ old → new ≡ old + 0
+no_more new old same = omega arith
+
+-- what a step shows, by how far it came
+module _ (s : ℕ) (desks : List Desk) (cuts : ℕ) (undo : UndoRoom) (room : WorkRoom) (old new : WorldState) (left later : ℕ)
+    (held : IsHeld old (Some s) desks cuts undo room) (leaves : LeavesLists old new) where
+  abbrev Shows : RowChange → Reached RowChange → Type 0
+  Shows change came =
+      ChangesIn s (lists_of old (Some s) desks left) (lists_of new (Some s) (with_doing s (doing_after change came) desks) later) (answer_for change came)
+
+  came_shown : (change : RowChange) (came : Reached RowChange) → doing_at s desks ≡ Changing change → Comes s old new change came → Shows change came
+  came_shown (Record change key after) (Went (Record next key' after')) at comes =
+      all_of (went_shown s desks cuts undo room old new left later held leaves (Record change key after) at (Record next key' after') comes) leaves.settings
+      (no_more new.rows old.rows comes.adds.rows)
+  came_shown (Record change key after) (Went (Keys next)) at comes =
+      all_of (entered_shown s desks cuts undo room old new left later held leaves (Record change key after) at (Keys next) comes) leaves.settings
+      (rows_shown s desks old new (Record change key after) (Keys next) left at comes)
+  came_shown (Keys change) (Went (Record next key' after')) at comes = absurd comes
+  came_shown (Keys change) (Went (Keys next)) at comes =
+      all_of (went_shown s desks cuts undo room old new left later held leaves (Keys change) at (Keys next) comes) leaves.settings
+      (no_more new.rows old.rows comes.adds.rows)
+  came_shown (Record change key after) Done at comes = absurd (let none = comes.1 in cc)
+  came_shown (Keys change) Done at comes =
+      all_of (done_shown s desks cuts undo room old new left later held leaves (Keys change) at comes.0 comes.1) leaves.settings
+      (no_more new.rows old.rows comes.0.rows)
+  came_shown (Record change key after) (Hindered same why) at comes =
+      all_of (given_up_shown s desks cuts undo room old new left later held leaves (Record change key after) at comes.0) leaves.settings
+      (no_more new.rows old.rows comes.0.rows)
+  came_shown (Keys change) (Hindered same why) at comes =
+      all_of (given_up_shown s desks cuts undo room old new left later held leaves (Keys change) at comes.0) leaves.settings
+      (no_more new.rows old.rows comes.0.rows)
+
+module _ (s : ℕ) (desks : List Desk) (cuts : ℕ) (undo : UndoRoom) (room : WorkRoom) (old new : WorldState) (change : RowChange) (doing : Doing)
+    (answer : Changed) (step : StepsChange s change old new doing answer) (held : IsHeld old (Some s) desks cuts undo room)
+    (at : doing_at s desks ≡ Changing change) (was : IsTold old) (told : IsTold new) (few : length new.past < 2 ^ 63) where
+  told_mid : IsTold step.mid
+  told_mid =
+      left_told step.mid new (record {
+        schemas = ap (λ (state : WorldState). state.schemas) step.left.rest;
+        pairs = step.left.pairs;
+        versions = step.left.versions;
+      }) told
+
+  is_made : MakesChange s desks cuts undo room old step.mid change step.reached
+  is_made =
+      change_made s desks cuts undo room old step.mid change step.reached held at step.made was told_mid
+      (subst (λ (past : List Event). length past < 2 ^ 63) (ap (λ (state : WorldState). state.past) step.left.rest) few)
+
+  mid_same : step.mid.schemas ≡ old.schemas
+  mid_same = is_made.leaves.schemas
+
+  mine_awaits : AwaitsWriter old (Some s) desks undo.table → (later : List Desk) → doing_at s later ≡ doing → AwaitsWriter new (Some s) later undo.table
+  mine_awaits awaits later now =
+      change_awaits s old new desks undo.table change
+      (only_mine s old (Some s) desks undo.table (table_of change) awaits refl (ap (table_at undo.table) at))
+      held.chains (rows_of_writer s (Some s) held.chains old desks (read_into undo) room (Changing change) refl at held.rows).0
+      (ap (λ (state : WorldState). state.schemas) step.left.rest ∙ mid_same) doing answer later step now mid_same
+
+  abbrev desks_then : List Desk
+  desks_then = with_doing s (doing_after change step.reached) desks
+
+  none : is_searching (doing_at s desks_then) ≡ false
+  none = ap is_searching (doing_here s (doing_after change step.reached) desks (changes_at_a_desk s change desks at)) ∙ not_searching change step.reached
+
+  mine_held : IsHeld new (Some s) (with_doing s doing desks) cuts undo room
+  mine_held =
+      subst (λ (d : Doing). IsHeld new (Some s) (with_doing s d desks) cuts undo room) (sym step.doing_is)
+      (held_left s (Some s) step.mid new step.left desks_then cuts undo room is_made.held none told)
+
+  mine_shown : (left later : ℕ) → ChangesIn s (lists_of old (Some s) desks left) (lists_of new (Some s) (with_doing s doing desks) later) answer
+  mine_shown left later =
+      let before : Lists = lists_of old (Some s) desks left in
+      let shows = came_shown s desks cuts undo room old step.mid left later held is_made.leaves change step.reached at is_made.comes in
+      subst (λ (d : Doing). ChangesIn s before (lists_of new (Some s) (with_doing s d desks) later) answer) (sym step.doing_is)
+      (subst (λ (a : Changed). ChangesIn s before (lists_of new (Some s) desks_then later) a) (sym step.answer_is)
+      (subst (λ (now : Lists). ChangesIn s before now (answer_for change step.reached))
+      (sym (left_shown s (Some s) desks_then later step.mid new step.left none told))
+      shows))
+
+changing_shown : (schemas : List Schema) (left : ℕ) (doing : Doing) → is_changing (shown schemas left doing) ≡ true
+    → (change : RowChange) × (doing ≡ Changing change)
+changing_shown schemas left Nothing is = absurd (cc)
+changing_shown schemas left (Searching on) is = absurd (cc)
+changing_shown schemas left (Changing change) is = (change, refl)
+changing_shown schemas left Lagging is = absurd (cc)
+changing_shown schemas left Undoing is = absurd (cc)
+
+-- The session may write, and a step is made of the change at its desk.
+module _ (s : ℕ) {old : WorldState} {writer : Option ℕ} {desks : List Desk} {cuts : ℕ} {undo : UndoRoom} {room : WorkRoom} {lists : Lists}
+    (kept : IsKept old writer desks cuts undo room) (view : seen_of undo.table room.stage old writer desks ≡ lists)
+    (locked : lists.state.writer ≡ Some s) where
+  abbrev left : ℕ
+  left = undo_left_in undo.table room.stage old
+
+  its : writer ≡ Some s
+  its = writer_now s kept view locked
+
+  held_now : IsHeld old (Some s) desks cuts undo room
+  held_now = subst (λ (w : Option ℕ). IsHeld old w desks cuts undo room) its kept.held
+
+  module _ {new : WorldState} (was : IsTold old) (told : IsTold new) (few : length new.past < 2 ^ 63) {change : RowChange}
+      (at : doing_at s desks ≡ Changing change) {doing : Doing} {answer : Changed} (step : StepsChange s change old new doing answer)
+      {later : List Desk} (gives : later ≡ with_doing s doing desks) where
+    pub step_kept : IsKept new writer later cuts undo room
+    step_kept = record {
+      held = subst (λ (w : Option ℕ). IsHeld new w later cuts undo room) (sym its)
+          (subst (λ (ds : List Desk). IsHeld new (Some s) ds cuts undo room) (sym gives)
+          (mine_held s desks cuts undo room old new change doing answer step held_now at was told few));
+      record_room = kept.record_room;
+      awaits = subst (λ (w : Option ℕ). AwaitsWriter new w later undo.table) (sym its)
+          (mine_awaits s desks cuts undo room old new change doing answer step held_now at was told few
+          (subst (λ (w : Option ℕ). AwaitsWriter old w desks undo.table) its kept.awaits) later
+          (ap (doing_at s) gives ∙ doing_here s doing desks (changes_at_a_desk s change desks at)));
+    }
+
+    pub step_shown : ChangesIn s lists (seen_of undo.table room.stage new writer later) answer
+    step_shown =
+        let left_now = undo_left_in undo.table room.stage new in
+        subst (λ (l : Lists). ChangesIn s l (lists_of new writer later left_now) answer) view
+        (subst (λ (w : Option ℕ). ChangesIn s (lists_of old w desks left) (lists_of new w later left_now) answer) (sym its)
+        (subst (λ (ds : List Desk). ChangesIn s (lists_of old (Some s) desks left) (lists_of new (Some s) ds left_now) answer) (sym gives)
+        (mine_shown s desks cuts undo room old new change doing answer step held_now at was told few left left_now)))
+
+    -- a change that was asked for and is given up is nothing
+    pub step_stops : (asks : Change) → asked (task_of s lists.state) ≡ Some asks → answer ≡ answers.NoMemory
+        → Turns s Idle lists.state (seen_of undo.table room.stage new writer later).state
+    step_stops asks asked_is is =
+        subst (λ (o : Option Change). Turns s (left_by o) lists.state (seen_of undo.table room.stage new writer later).state) asked_is
+        (subst (Changes s lists.state (seen_of undo.table room.stage new writer later).state) is step_shown.changes)
+
+  -- the history doesn't tell a change that was asked for
+  pub asked_untold : {change : RowChange} → doing_at s desks ≡ Changing change → {asks : Change} → asked (task_of s lists.state) ≡ Some asks
+      → is_told change ≡ false
+  asked_untold {change} at {asks} asked_is =
+      untold_as_asked s old writer desks left change asks at (ap (λ (l : Lists). asked (task_of s l.state)) view ∙ asked_is)
+
+  module _ (changing : is_changing (task_of s lists.state) ≡ true) where
+    -- who shows that it changes a row has a change under way
+    pub may_change : HasChange s old desks
+    may_change =
+        let found =
+        changing_shown old.schemas left (doing_at s desks)
+        (subst (λ (t : Task). is_changing t ≡ true) (task_is s left old writer desks)
+        (subst (λ (l : Lists). is_changing (task_of s l.state) ≡ true) (sym view) changing)) in (
+          found.0,
+          found.1,
+          kept.held.chains,
+          (rows_of_writer s writer kept.held.chains old desks (read_into undo) room (Changing found.0) its found.1 kept.held.rows).0,
+        )
+
+    module _ {new : WorldState} (was : IsTold old) (told : IsTold new) (few : length new.past < 2 ^ 63) {later : List Desk} {answer : Changed}
+        (made : StepsAtDesk s old new desks later answer) where
+      pub desk_kept : IsKept new writer later cuts undo room
+      desk_kept = let step = made may_change.0 may_change.1 in step_kept was told few may_change.1 step.1 step.2
+
+      pub desk_shown : ChangesIn s lists (seen_of undo.table room.stage new writer later) answer
+      desk_shown = let step = made may_change.0 may_change.1 in step_shown was told few may_change.1 step.1 step.2
+
+pub none_entered : (new old : ℕ) → new ≡ old + 0 → new ≡ old
+none_entered new old same = omega (arith, same)

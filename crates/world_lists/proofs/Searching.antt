@@ -1,0 +1,336 @@
+-- Searches in held lists: what one needs that begins, what is held after each step, what callers see of it, and the newest rows
+-- of a table, which are read at once.
+use Rattle.std.proofs.Common.{◌≡◌, ◌≢◌, inl, inr, ℕ, ◌<◌, ◌==◌, true, false, not, List, map, length, get_or, Option, Some, None, slice_get, []}
+use Rattle.std.proofs.Common.{Result, Ok, Err, refl, sym, ap, subst, ◌∙◌, arith}
+use Rattle.std.specs.Prelude.{◌≤◌, is_some, IfSome, IfOk}
+use Rattle.std.proofs.lemmas.Bool.Decides.{eqb_tells}
+use Rattle.std.proofs.lemmas.Option.{slice_get_within, get_or_from_slice_get}
+use Rattle.inno_types.specs.Order.{IsBelow}
+use Rattle.inno_types.specs.declared.value.Value.{Value}
+use Rattle.inno_types.specs.declared.value.Schema.{Schema}
+use Rattle.inno_model.specs.declared.event.Event.{Event}
+use Rattle.inno_model.specs.Past.{own, view_of, IsOpen}
+use Rattle.store_api.specs.declared.moves.Move.{Move}
+use Rattle.entries.specs.Calls.{Leaves}
+use Rattle.read_view.specs.Sight.{Sight as ReadSight}
+use Rattle.row_versions.specs.Chains.{Chains}
+use Rattle.sql_plan.specs.declared.choice.Plan.{Plan}
+use Rattle.law_past_agreement.specs.Order.{created}
+use Rattle.law_past_agreement.specs.Agreement.{WriterAgrees}
+use Rattle.world.specs.State.{WorldState}
+use Rattle.world.specs.Told.{IsTold}
+use Rattle.world.specs.Indexes.{Calls}
+use Rattle.world.specs.declared.undo_room.UndoRoom.{UndoRoom}
+use Rattle.row_search.specs.declared.found.FoundRow.{FoundRow}
+use Rattle.row_search.specs.declared.search.RowSearch.{RowSearch}
+use Rattle.row_search.specs.declared.sight.Sight.{Sight}
+use Rattle.row_search.specs.declared.sight.Sight.TheVariants as sights
+use Rattle.row_search.specs.Steps.{GoesOn, Waits, Ends}
+use Rattle.undo_apply.specs.declared.work_room.WorkRoom.{WorkRoom}
+use Rattle.shared_lists.specs.declared.answers.Reading.{Reading}
+use Rattle.shared_lists.specs.declared.answers.Reading.TheVariants as readings
+use Rattle.shared_lists.specs.declared.answers.Searched.{Searched}
+use Rattle.shared_lists.specs.declared.answers.Searched.TheVariants as searched
+use Rattle.shared_lists.specs.Tasks as tasks
+use Rattle.shared_lists.specs.State.{State, Lists, Places, task_of, places_before, counted, Turns, Stays}
+use Rattle.shared_lists.specs.Steps.{AreFoundBy, Searches, AreNewestRows}
+use Rattle.desks.specs.declared.desk.Desk.{Desk}
+use Rattle.desks.specs.declared.desk.Doing.{Doing}
+use Rattle.desks.specs.declared.desk.Doing.TheVariants.{Nothing, Searching}
+use Rattle.desks.specs.declared.desk.TableSearch.{TableSearch}
+use Rattle.desks.specs.Desks.{doing_at, with_doing, is_quiet}
+use Rattle.desks.specs.Holding.{IsHeld, IsOwnView, SightHolds}
+use Rattle.desks.specs.Shown.{reading_of, seen_of}
+use Rattle.desks.specs.Undoing.{undo_left_in}
+use Rattle.desks.specs.Searching.{places_in, places_of}
+use Rattle.desks.proofs.Showing.{task_is, places_are}
+use Rattle.law_held_steps.specs.Begun.{HasView, IsBegun, IsNewSearch}
+use Rattle.law_held_steps.specs.Moving.{MovesPlaces}
+use Rattle.law_held_steps.specs.Newest.{plan_read, TellsTable, AreRead}
+use Rattle.law_held_steps.specs.TakenUp.{ComesAnew, IsTakenUp, MayStep, IsSearchOf, plan_of}
+use Rattle.law_held_steps.proofs.AtDesks.{doing_twice, doing_here}
+use Rattle.law_held_steps.proofs.AtOnce.{tells_held, are_newest}
+use Rattle.law_held_steps.proofs.Begins.{has_view, begun}
+use Rattle.law_held_steps.proofs.Callers.{turns_now, turns_to_search, search_shown, has_desk, searches_on, seen_stay}
+use Rattle.law_held_steps.proofs.Places.{moves_in_one, leaving_moves, moves_then}
+use Rattle.law_held_steps.proofs.Staying.{held_idle}
+use Rattle.law_held_steps.proofs.Stepping.{steps, went, nears, ended, waited, given_up}
+use Rattle.world_lists.specs.Between.{IsKept, can_await}
+use Rattle.world_lists.proofs.Awaiting.{kept_on, kept_beside, moves_no_more, same_no_more}
+use Rattle.world_lists.proofs.Calls.{open_joined, at_rest, at_desk, writer_now}
+
+-- ---- who reads
+
+-- The reader's sight is one that may be, and it is what was asked for.
+abbrev ReadsBy : ℕ → WorldState → Option ℕ → Reading → Sight → Type 0
+ReadsBy s state writer reading sight = SightHolds state writer s sight × (reading_of sight ≡ reading)
+
+reads_by : (s : ℕ) (state : WorldState) (writer : Option ℕ) (reading : Reading) {sight : Sight}
+    → (reading ≡ readings.View → (view : ReadSight) × (reader : ℕ) × (sight ≡ sights.View view reader) × IsOwnView state s view reader)
+    → (reading ≡ readings.Newest → sight ≡ sights.Newest) → (reading ≡ readings.Newest → writer ≡ Some s) → ReadsBy s state writer reading sight
+reads_by s state writer readings.View own newest mine =
+    let is = own refl in subst (ReadsBy s state writer readings.View) (sym is.2) (is.3, refl)
+reads_by s state writer readings.Newest own newest mine = subst (ReadsBy s state writer readings.Newest) (sym (newest refl)) (mine refl, refl)
+
+-- ---- answers
+
+nothing_changes : (s : ℕ) (state : State) → Stays s state state
+nothing_changes s state = record { names_are = refl; past_is = refl; writer_is = refl; task_is = refl; others = λ t differs. refl }
+
+no_search : (on : TableSearch) → Nothing ≡ Searching on → ⊥
+no_search on same = cc
+
+one_search : (on by : TableSearch) → Searching on ≡ Searching by → by ≡ on
+one_search on by same = cc
+
+-- what stands at desks after the session's task was taken and another given
+pub desks_given : (s : ℕ) (doing : Doing) (desks between after : List Desk) → between ≡ with_doing s Nothing desks → after ≡ with_doing s doing between
+    → after ≡ with_doing s doing desks
+desks_given s doing desks between after taken given = given ∙ (ap (with_doing s doing) taken ∙ doing_twice s Nothing doing desks)
+
+-- what holds of the rows that were found holds of those that are answered
+answered : {E : Type 0} (found : List (List Value)) (answer : Result (List (List Value)) E) (IsRight : List (List Value) → Type 0)
+    → IfOk answer (λ rows. rows ≡ found) → IsRight found → IfOk answer IsRight
+answered found (Ok rows) IsRight is right = subst IsRight (sym is) right
+answered found (Err why) IsRight is right = record {}
+
+-- what a search that is over answers, and what callers see of it
+over_by : (table : ℕ) (plan : Plan) (reading : Reading) (s : ℕ) (old new : State) (rows : List (List Value)) (answer : Searched)
+    → ((given : List (List Value)) → answer ≡ searched.Found given → given ≡ rows) → answer ≢ searched.Went
+    → Turns s tasks.Idle old new → AreFoundBy reading table plan old.past s rows → Searches table plan reading s old new answer
+over_by table plan reading s old new rows searched.Went is over turns found = absurd (over refl)
+over_by table plan reading s old new rows (searched.Found given) is over turns found =
+    (turns, subst (AreFoundBy reading table plan old.past s) (sym (is given refl)) found)
+over_by table plan reading s old new rows searched.NoMemory is over turns found = turns
+
+found_as : (table : ℕ) (plan : Plan) (reading : Reading) (s : ℕ) (past : List Event) (rows : List (List Value)) (on : TableSearch)
+    → IsSearchOf (Searching on) table plan reading
+    → AreFoundBy (reading_of on.search.scan.sight) on.search.scan.table (plan_of on) past s rows → AreFoundBy reading table plan past s rows
+found_as table plan reading s past rows on is found =
+    let one : is.0 ≡ on = one_search on is.0 is.1 in
+    let by : AreFoundBy (reading_of is.0.search.scan.sight) is.0.search.scan.table (plan_of is.0) past s rows
+    = subst (λ (t : TableSearch). AreFoundBy (reading_of t.search.scan.sight) t.search.scan.table (plan_of t) past s rows) (sym one) found in
+    subst (λ (r : Reading). AreFoundBy r table plan past s rows) (sym is.4)
+    (subst (λ (p : Plan). AreFoundBy (reading_of is.0.search.scan.sight) table p past s rows) (sym is.3)
+    (subst (λ (n : ℕ). AreFoundBy (reading_of is.0.search.scan.sight) n (plan_of is.0) past s rows) (sym is.2) by))
+
+module _ (s : ℕ) {old : WorldState} {writer : Option ℕ} {desks : List Desk} {cuts : ℕ} {undo : UndoRoom} {room : WorkRoom} {lists : Lists}
+    (kept : IsKept old writer desks cuts undo room) (view : seen_of undo.table room.stage old writer desks ≡ lists) where
+  pub writer_within : IfSome writer (λ w. w < length desks)
+  writer_within = by writer (kept.held.agrees.lists.writes) where
+    by : (who : Option ℕ) → WriterAgrees old.past who → IfSome who (λ w. w < length desks)
+    by None writes = record {}
+    by (Some w) writes = omega (arith, open_joined kept.held w writes.0, kept.held.count)
+
+  pub view_there : IsOpen s lists.state.past → is_some (view_of s lists.state.past) ≡ true → HasView s old
+  view_there is_open viewed =
+      has_view s kept.held.chains writer old kept.held.agrees (subst (λ (l : Lists). IsOpen s l.state.past) (sym view) is_open)
+      (subst (λ (l : Lists). is_some (view_of s l.state.past) ≡ true) (sym view) viewed)
+
+  -- ---- a table that is there, and the copy of its schema
+
+  module _ (table : ℕ) (plan : Plan)
+      (there : (schema : Schema) × (slice_get (created lists.state.past) table ≡ Some schema) × (plan.which ≤ length schema.keys))
+      {slice tables : List Schema} (slice_is : slice ≡ tables) (tables_are : tables ≡ old.schemas) where
+    is_there : slice_get slice table ≡ Some there.0
+    is_there =
+        ap (λ (list : List Schema). slice_get list table)
+        (slice_is ∙ tables_are ∙ kept.held.agrees.lists.tables ∙ ap (λ (l : Lists). created l.state.past) view) ∙ there.1
+
+    pub table_within : table < length slice
+    table_within = slice_get_within slice table there.0 is_there
+
+    module _ {copy found : Schema} (copy_is : copy ≡ found) (found_is : found ≡ get_or slice table found) where
+      same : copy ≡ there.0
+      same = copy_is ∙ found_is ∙ get_or_from_slice_get slice table there.0 found is_there
+
+      copied : slice_get old.schemas table ≡ Some copy
+      copied = ap (λ (list : List Schema). slice_get list table) (sym (slice_is ∙ tables_are)) ∙ is_there ∙ ap (λ (schema : Schema). Some schema) (sym same)
+
+      fits : plan.which ≤ length copy.keys
+      fits = subst (λ (schema : Schema). plan.which ≤ length schema.keys) (sym same) there.2
+
+      -- ---- a search that begins
+
+      module _ (reading : Reading) {sight : Sight}
+          (own_view : reading ≡ readings.View → (seen : ReadSight) × (reader : ℕ) × (sight ≡ sights.View seen reader) × IsOwnView old s seen reader)
+          (newest : reading ≡ readings.Newest → sight ≡ sights.Newest) (locked : reading ≡ readings.Newest → lists.state.writer ≡ Some s)
+          {search : RowSearch} (is_new : IsNewSearch table plan sight search) {after : List Desk}
+          (at : after ≡ with_doing s (Searching (record { search = search; schema = copy; unique = plan.unique; cuts = cuts })) desks) where
+        abbrev first : TableSearch
+        first = record { search = search; schema = copy; unique = plan.unique; cuts = cuts }
+
+        has_begun : IsBegun table plan sight copy cuts first
+        has_begun = record { search = is_new; schema_is = refl; unique_is = refl; cuts_is = refl }
+
+        reads : ReadsBy s old writer reading sight
+        reads = reads_by s old writer reading own_view newest (λ as_newest. writer_now s kept view (locked as_newest))
+
+        pub begun_kept : task_of s lists.state ≡ tasks.Idle → IsTold old → IsKept old writer after cuts undo room
+        begun_kept idle told =
+            let rests = at_rest s kept view idle in
+            kept_beside old old writer desks cuts undo room kept (same_no_more old old refl) s (Searching first) after (ap can_await rests) at
+            (subst (λ (d : List Desk). IsHeld old writer d cuts undo room) (sym at)
+            (begun s table old writer desks cuts undo room plan sight copy first kept.held told rests copied fits reads.0 has_begun))
+
+        pub begun_seen : s < length lists.state.names
+            → Turns s (tasks.Searching table plan reading) lists.state (seen_of undo.table room.stage old writer after).state
+        begun_seen joined =
+            subst (λ (l : Lists). Turns s (tasks.Searching table plan reading) l.state (seen_of undo.table room.stage old writer after).state) view
+            (subst (λ (r : Reading). Turns s (tasks.Searching table plan r) (seen_of undo.table room.stage old writer desks).state
+            (seen_of undo.table room.stage old writer after).state) reads.1
+            (subst (λ (d : List Desk). Turns s (tasks.Searching table plan (reading_of sight)) (seen_of undo.table room.stage old writer desks).state
+            (seen_of undo.table room.stage old writer d).state) (sym at)
+            (turns_to_search s undo.table room.stage writer desks old table cuts plan sight copy first (at_desk s kept view joined) has_begun)))
+
+      -- ---- the newest rows, read at once
+
+      module _ (told : IsTold old) {by : Plan} (by_is : by ≡ plan_read (is_quiet writer desks) plan) where
+        tells : TellsTable kept.held.chains table by copy old
+        tells =
+            subst (λ (p : Plan). TellsTable kept.held.chains table p copy old) (sym by_is)
+            (tells_held old writer desks cuts undo room table plan copy kept.held told copied fits)
+
+        pub tells_now : (chains : Chains) × TellsTable chains table by copy old
+        tells_now = (kept.held.chains, tells)
+
+        read_now : {rows : List FoundRow} → ((chains : Chains) → TellsTable chains table by copy old → AreRead chains table by copy old rows)
+            → (w : ℕ) → ((u : ℕ) → u ≢ w → own u lists.state.past ≡ [])
+            → AreNewestRows table plan lists.state.past w (map (λ (found : FoundRow). found.row) rows)
+        read_now {rows} read =
+            subst (λ (l : Lists). (w : ℕ) → ((u : ℕ) → u ≢ w → own u l.state.past ≡ []) → AreNewestRows table plan l.state.past w
+            (map (λ (found : FoundRow). found.row) rows)) view
+            (are_newest old writer desks cuts undo room table plan copy kept.held rows
+            (subst (λ (p : Plan). AreRead kept.held.chains table p copy old rows) by_is (read kept.held.chains tells)))
+
+        pub read_answered : {E : Type 0} (answer : Result (List (List Value)) E) {rows : List FoundRow}
+            → ((chains : Chains) → TellsTable chains table by copy old → AreRead chains table by copy old rows)
+            → IfOk answer (λ given. given ≡ map (λ (found : FoundRow). found.row) rows)
+            → IfOk answer (λ given. (w : ℕ) → ((u : ℕ) → u ≢ w → own u lists.state.past ≡ []) → AreNewestRows table plan lists.state.past w given)
+        read_answered answer {rows} read is =
+            answered (map (λ (found : FoundRow). found.row) rows) answer
+            (λ given. (w : ℕ) → ((u : ℕ) → u ≢ w → own u lists.state.past ≡ []) → AreNewestRows table plan lists.state.past w given) is (read_now read)
+
+  module _ (idle : task_of s lists.state ≡ tasks.Idle) {new : WorldState} (moves : MovesPlaces s old new) (told : IsTold new) where
+    pub nothing_kept : IsKept new writer desks cuts undo room
+    nothing_kept =
+        kept_on old new writer desks cuts undo room kept (moves_no_more s old new moves)
+        (held_idle s old new writer desks cuts undo room kept.held (at_rest s kept view idle) moves told)
+
+    pub nothing_seen : Stays s lists.state (seen_of undo.table room.stage new writer desks).state
+    nothing_seen =
+        subst (λ (l : Lists). Stays s lists.state l.state)
+        (sym (seen_stay s (undo_left_in undo.table room.stage old) old new writer desks moves undo.table room.stage refl told
+        (λ on is. no_search on (sym (at_rest s kept view idle) ∙ is)) ∙ view))
+        (nothing_changes s lists.state)
+
+  -- ---- a search under way
+
+  abbrev now_in : WorldState → List Desk → State
+  now_in state at = (seen_of undo.table room.stage state writer at).state
+
+  module _ {on : TableSearch} (was : Searching on ≡ doing_at s desks) where
+    is : doing_at s desks ≡ Searching on
+    is = sym was
+
+    -- who searches is not awaited
+    kept_now : {new : WorldState} {after : List Desk} (doing : Doing) → after ≡ with_doing s doing desks → MovesPlaces s old new
+        → IsHeld new writer (with_doing s doing desks) cuts undo room → IsKept new writer after cuts undo room
+    kept_now {new} {after} doing at moves held =
+        kept_beside old new writer desks cuts undo room kept (moves_no_more s old new moves) s doing after (ap can_await is) at
+        (subst (λ (d : List Desk). IsHeld new writer d cuts undo room) (sym at) held)
+
+    -- it is over, or given up
+    turns_idle : {new : WorldState} {after : List Desk} → after ≡ with_doing s Nothing desks → MovesPlaces s old new → IsTold new
+        → Turns s tasks.Idle lists.state (now_in new after)
+    turns_idle {new} {after} at moves told =
+        subst (λ (l : Lists). Turns s tasks.Idle l.state (now_in new after)) view
+        (subst (λ (d : List Desk). Turns s tasks.Idle (now_in old desks) (now_in new d)) (sym at)
+        (turns_now s undo.table room.stage old new writer desks Nothing (has_desk s desks on is) moves told))
+
+    search_of : (table : ℕ) (plan : Plan) (reading : Reading) → task_of s lists.state ≡ tasks.Searching table plan reading
+        → IsSearchOf (Searching on) table plan reading
+    search_of table plan reading task =
+        subst (λ (d : Doing). IsSearchOf d table plan reading) is
+        (search_shown (undo_left_in undo.table room.stage old) old.schemas (doing_at s desks) table plan reading
+        (sym (task_is s (undo_left_in undo.table room.stage old) old writer desks) ∙ (ap (λ (l : Lists). task_of s l.state) view ∙ task)))
+
+    -- it may come to its pair anew
+    module _ {search : RowSearch} (as_it_was : not (on.cuts == cuts) ≡ false → search ≡ on.search)
+        (comes : not (on.cuts == cuts) ≡ true → ComesAnew on.search search) where
+      taken_up : IsTakenUp cuts on search
+      taken_up = elim (eqb_tells on.cuts cuts) [
+        | inl same ↦ inl (same.1, as_it_was (ap not same.0))
+        | inr differs ↦ inr (differs.1, comes (ap not differs.0))
+      ]
+
+      pub may_step_now : IsTold old → MayStep s on.schema old search
+      may_step_now told = steps s old writer desks cuts undo room on kept.held is search taken_up told
+
+      module _ {new : WorldState} (told : IsTold new) where
+        module _ {next : RowSearch} (goes : GoesOn s on.schema old new search next) {between after : List Desk} (takes : between ≡ with_doing s Nothing desks)
+            (gives : after ≡ with_doing s (Searching (record on { search = next; cuts = cuts })) between) where
+          abbrev on_now : TableSearch
+          on_now = record on { search = next; cuts = cuts }
+
+          at : after ≡ with_doing s (Searching on_now) desks
+          at = desks_given s (Searching on_now) desks between after takes gives
+
+          pub went_kept : IsKept new writer after cuts undo room
+          went_kept =
+              kept_now (Searching on_now) at (moves_in_one s _ old new goes.moves)
+              (went s old writer desks cuts undo room on kept.held is search taken_up new told next goes).0
+
+          pub went_seen : Turns s (task_of s lists.state) lists.state (now_in new after)
+          went_seen =
+              let goes_on = went s old writer desks cuts undo room on kept.held is search taken_up new told next goes in
+              subst (λ (l : Lists). Turns s (task_of s l.state) l.state (now_in new after)) view
+              (subst (λ (d : List Desk). Turns s (task_of s (now_in old desks)) (now_in old desks) (now_in new d)) (sym at)
+              (searches_on s undo.table room.stage writer desks old new cuts on next is goes_on.1 goes_on.2 told))
+
+          pub went_nears : IsBelow (counted (places_before s (now_in new after))) (counted (places_before s lists.state))
+          went_nears =
+              let before : places_before s lists.state ≡ places_in s old on
+              = ap (λ (l : Lists). places_before s l.state) (sym view)
+              ∙ (places_are s (undo_left_in undo.table room.stage old) old writer desks ∙ ap (places_of s old) is) in
+              let now : places_before s (now_in new after) ≡ places_in s new on_now
+              = ap (λ (d : List Desk). places_before s (now_in new d)) at
+              ∙ (places_are s (undo_left_in undo.table room.stage new) new writer (with_doing s (Searching on_now) desks)
+              ∙ ap (places_of s new) (doing_here s (Searching on_now) desks (has_desk s desks on is))) in
+              subst (λ (p : Places). IsBelow (counted (places_before s (now_in new after))) (counted p)) (sym before)
+              (subst (λ (p : Places). IsBelow (counted p) (counted (places_in s old on))) (sym now)
+              (nears s old writer desks cuts undo room on kept.held is search taken_up new told next goes))
+
+        module _ {after : List Desk} (at : after ≡ with_doing s Nothing desks) where
+          module _ {found : List FoundRow} (ends : Ends s on.schema old new search found) where
+            pub ended_kept : IsKept new writer after cuts undo room
+            ended_kept =
+                kept_now Nothing at (leaving_moves s _ old new ends.leaves)
+                (ended s old writer desks cuts undo room on kept.held is search taken_up new told found ends).0
+
+            pub ended_seen : {answer : Searched}
+                → ((rows : List (List Value)) → answer ≡ searched.Found rows → rows ≡ map (λ (f : FoundRow). f.row) found) → answer ≢ searched.Went
+                → (table : ℕ) (plan : Plan) (reading : Reading) → task_of s lists.state ≡ tasks.Searching table plan reading
+                → Searches table plan reading s lists.state (now_in new after) answer
+            ended_seen {answer} rows over table plan reading task =
+                let on_end = ended s old writer desks cuts undo room on kept.held is search taken_up new told found ends in
+                over_by table plan reading s lists.state (now_in new after) (map (λ (f : FoundRow). f.row) found) answer rows over
+                (turns_idle at on_end.1 told)
+                (found_as table plan reading s lists.state.past (map (λ (f : FoundRow). f.row) found) on (search_of table plan reading task)
+                (subst (λ (l : Lists). AreFoundBy (reading_of on.search.scan.sight) on.search.scan.table (plan_of on) l.state.past s
+                (map (λ (f : FoundRow). f.row) found)) view on_end.2))
+
+          -- it was hindered, and is given up
+          module _ {stuck : RowSearch} {why : Move} (waits : Waits s on.schema old new search stuck why) {index : ℕ} {later : WorldState}
+              (leaves : Calls index (Leaves s) new later) (told_later : IsTold later) where
+            moves : MovesPlaces s old new
+            moves = (waited s old writer desks cuts undo room on kept.held is search taken_up new told stuck why waits).1
+
+            pub hindered_kept : IsKept later writer after cuts undo room
+            hindered_kept =
+                kept_now Nothing at (moves_then s old new later moves (leaving_moves s index new later leaves))
+                (given_up s old writer desks cuts undo room on kept.held is index new later moves leaves told_later).0
+
+            pub hindered_seen : Turns s tasks.Idle lists.state (now_in later after)
+            hindered_seen =
+                turns_idle at (given_up s old writer desks cuts undo room on kept.held is index new later moves leaves told_later).1 told_later
