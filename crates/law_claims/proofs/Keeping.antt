@@ -1,8 +1,8 @@
 -- What a session keeps stays kept, and others' steps leave it.
-use Rattle.std.proofs.Common.{◌≡◌, ◌≢◌, ◌∙◌, ap, sym, refl, subst, ℕ, ◌+◌, ◌⊎◌, Bool, true, false, eqb, cond, List, [], ◌∷◌, ◌++◌, Option, Some, None, inl, inr, arith}
+use Rattle.std.proofs.Common.{◌≡◌, ◌≢◌, ◌∙◌, ap, sym, refl, subst, ℕ, ◌+◌, ◌⊎◌, Bool, true, false, List, [], ◌∷◌, ◌++◌, Option, Some, inl, inr}
+use Rattle.std.proofs.Common.{arith}
 use Rattle.std.proofs.lemmas.Bool.Decides.{nat_tests, eqb_tells}
 use Rattle.std.proofs.lemmas.Bool.{false≢true}
-use Rattle.std.proofs.lemmas.List.{append_assoc}
 use Rattle.inno_types.specs.declared.value.Schema.{Schema}
 use Rattle.inno_db.specs.declared.change.Change.{Change}
 use Rattle.inno_db.specs.Database.{Database, Place}
@@ -18,7 +18,7 @@ use Rattle.shared_lists.specs.State.{State}
 use Rattle.sql_lists.specs.Steps.{changes_rows, MayWriteAlone}
 use Rattle.sql_lists.proofs.Moving.{AddingOne}
 use Rattle.sql_lists.proofs.Staying.{other_of, opening_stays, at_work, committed_more}
-use Rattle.law_claims.specs.Claims.{Claim, Tables, Row, Rows, Leaves, Keeps, Ground, RestsOn, KeepsGround, LeavesGround, GoesBeside}
+use Rattle.law_claims.specs.Claims.{Claim, Tables, Row, Leaves, Keeps, Ground, KeepsGround, LeavesGround, GoesBeside}
 use Rattle.law_claims.proofs.Standing.{changed_append, leaves_none, of_rows}
 
 -- ---- under the plain lock

@@ -1,12 +1,11 @@
 -- What holds over a database and stands on its ground holds behind others' changes, too, and stands there.
-use Rattle.std.proofs.Common.{◌≡◌, ◌∙◌, ap, sym, refl, subst, ℕ, Bool, true, false, List, [], ◌∷◌, ◌++◌, Option, Some, None, inl, inr}
+use Rattle.std.proofs.Common.{◌≡◌, ◌∙◌, ap, sym, refl, subst, ℕ, Bool, true, false, List, [], ◌∷◌, ◌++◌, None}
 use Rattle.std.proofs.lemmas.Bool.{false≢true}
 use Rattle.std.proofs.lemmas.List.Folds.{list_any-append}
 use Rattle.std.specs.Prelude.{◌||◌, slice_get}
 use Rattle.std.specs.FinMap.{get}
 use Rattle.inno_types.specs.declared.value.Value.{Value}
 use Rattle.inno_types.specs.declared.value.Schema.{Schema}
-use Rattle.inno_types.specs.declared.stmt.Filter.{Filter}
 use Rattle.inno_db.specs.declared.change.Change.{Change}
 use Rattle.inno_db.specs.declared.change.Change.TheVariants.{Create, Put, Remove}
 use Rattle.inno_db.specs.Database.{Database, Place}
@@ -15,7 +14,7 @@ use Rattle.inno_db.specs.Conditions.{matches}
 use Rattle.inno_db.specs.Names.{table_place}
 use Rattle.inno_model.specs.Past.{changed}
 use Rattle.law_db.specs.RowChanges.{AreOfTables}
-use Rattle.law_beside.specs.Beside.{is_change_at, touches, AreApart, AreOfRows, passed, IsUnmet, IsBesideSearch}
+use Rattle.law_beside.specs.Beside.{is_change_at, touches, AreApart, AreOfRows, passed, IsUnmet}
 use Rattle.law_beside.proofs.Apart.{schemas_stay, get_untouched, get_touched}
 use Rattle.law_claims.specs.Claims.{Claim, Tables, Row, Rows, Leaves, Ground, RestsOn, LeavesGround, Stands}
 

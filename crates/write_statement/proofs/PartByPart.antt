@@ -175,7 +175,8 @@ module _ (past : List Event) (writer : Option ℕ) (s : ℕ) (part : Part) (r : 
   here = current s past
 
   -- over what the statement acts on with others' changes
-  module _ (ground : Ground) (more : (claim : Claim) → RestsOn (base s past).schemas (ground_for r.searched (own s past)) claim → RestsOn (base s past).schemas ground claim)
+  module _ (ground : Ground) (more : (claim : Claim) → RestsOn (base s past).schemas (ground_for r.searched (own s past)) claim
+      → RestsOn (base s past).schemas ground claim)
       (among : (place : Place) → touches (base s past).schemas (own s past) place ≡ true → touches (base s past).schemas ground.changes place ≡ true)
       (others : List Change) (leaves : LeavesGround ground (base s past) others) where
     abbrev below : Database

@@ -31,6 +31,7 @@ use Rattle.inno_db.specs.Refusals.{refusal, refused_if, on_table, schema_at, sch
 use Rattle.inno_db.specs.Outcome.{outcome, unless_refused, on_rows, on_number, on_schema, insert_answer, counted, count_unless, inserted, nothing}
 use Rattle.inno_db.specs.Outcome.{is_same_value, has_key, new_row, row_for, put_then, then_written}
 use Rattle.inno_db.proofs.Keys.{IsKeyed, IsKeyed-apply, has_key-get, key_in-at}
+use Rattle.law_claims.proofs.Outcomes.{whole_is}
 use Rattle.write_statement.specs.Following.{counted_on, followed_by}
 
 -- ---- whether a key is there, whatever the order of the rows
@@ -172,14 +173,6 @@ one_more None change changes =
 one_more (Some error) change changes = refl
 
 module _ (table : List ℕ) (names : Option (List (List ℕ))) where
-  -- an INSERT that its text and the tables don't refuse
-  whole_is : (db : Database) (n : ℕ) (schema : Schema) (tuples : List (List Literal)) → table_place db.schemas table ≡ Some n
-      → slice_get db.schemas n ≡ Some schema → refusal db.schemas (Insert table names tuples) ≡ None
-      → outcome (Insert table names tuples) db ≡ counted (inserted n schema names (rows_of n db) tuples)
-  whole_is db n schema tuples at is none =
-      ap (λ r. unless_refused r (on_rows db table (insert_answer names tuples))) none
-      ∙ (ap (λ p. on_number db p (insert_answer names tuples)) at ∙ ap (λ s. on_schema n s (rows_of n db) (insert_answer names tuples)) is)
-
   module _ (db : Database) (tuple : List Literal) (tuples : List (List Literal)) (keyed : IsKeyed db)
       (none : refusal db.schemas (Insert table names (tuple ∷ tuples)) ≡ None) where
     abbrev IsSplit : Outcome → Outcome → Type 0
@@ -189,7 +182,7 @@ module _ (table : List ℕ) (names : Option (List (List ℕ))) where
       rest_is : (row : List Value)
           → outcome (Insert table names tuples) (apply_one db (Put n row)) ≡ counted (inserted n schema names (rows_of n db ++ row ∷ []) tuples)
       rest_is row =
-          whole_is (apply_one db (Put n row)) n schema tuples at is (parts_unrefused names tuple tuples db.schemas table none).1
+          whole_is (apply_one db (Put n row)) table names tuples n schema at is (parts_unrefused names tuple tuples db.schemas table none).1
           ∙ ap counted (inserted_alike n schema names (rows_of n (apply_one db (Put n row))) (rows_of n db ++ row ∷ [])
           (key_after db n schema row keyed is) tuples)
 
@@ -203,9 +196,9 @@ module _ (table : List ℕ) (names : Option (List (List ℕ))) where
 
       with_table : IsSplit (outcome (Insert table names (tuple ∷ tuples)) db) (outcome (Insert table names (tuple ∷ [])) db)
       with_table =
-          subst (λ (o : Outcome). IsSplit o (outcome (Insert table names (tuple ∷ [])) db)) (sym (whole_is db n schema (tuple ∷ tuples) at is none))
+          subst (λ (o : Outcome). IsSplit o (outcome (Insert table names (tuple ∷ [])) db)) (sym (whole_is db table names (tuple ∷ tuples) n schema at is none))
           (subst (IsSplit (counted (inserted n schema names (rows_of n db) (tuple ∷ tuples))))
-          (sym (whole_is db n schema (tuple ∷ []) at is (parts_unrefused names tuple tuples db.schemas table none).0))
+          (sym (whole_is db table names (tuple ∷ []) n schema at is (parts_unrefused names tuple tuples db.schemas table none).0))
           (by_row (row_for schema names (rows_of n db) tuple)))
 
     pub insert_split : IsSplit (outcome (Insert table names (tuple ∷ tuples)) db) (outcome (Insert table names (tuple ∷ [])) db)

@@ -8,7 +8,8 @@ use Rattle.write_statement.proofs.Turning.{turns_stayed, changing_given_up, begu
 use Rattle.write_statement.proofs.changing.begin.Goals as goal
 
 pub begin_change-requires-clause-locked : goal.begin_change-requires-clause-locked
-begin_change-requires-clause-locked g c = keeper_writes c.args.session Tables c.args.lists.now.past c.args.lists.now.writer (c.requires.changing.keeps Tables tt)
+begin_change-requires-clause-locked g c =
+    keeper_writes c.args.session Tables c.args.lists.now.past c.args.lists.now.writer (c.requires.changing.keeps Tables tt)
 
 pub begin_change-requires-clause-fits : goal.begin_change-requires-clause-fits
 begin_change-requires-clause-fits g c =

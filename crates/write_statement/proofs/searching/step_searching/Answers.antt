@@ -45,7 +45,8 @@ returns-in-Found-clause-steps g c =
     (c.search.ensures.searches c.args.part.table r.reading.plan Newest r.task_is)).0 in
     steps_on IsRunning c.args.session c.args.lists.now c.search.new.self c.answer_found.new.lists c.answer_found.result.0 c.answer_found.result.1
     (moves_turns c.args.session Idle c.args.lists.now c.search.new.self turns) turns.past_is
-    (idle_asks_no_more c.args.session c.args.lists.now c.search.new.self (ap asked turns.task_is)) (turns.writer_is ∙ keeper_writes c.args.session Tables c.args.lists.now.past c.args.lists.now.writer (r.reading.changing.keeps Tables tt))
+    (idle_asks_no_more c.args.session c.args.lists.now c.search.new.self (ap asked turns.task_is)) (turns.writer_is ∙
+    keeper_writes c.args.session Tables c.args.lists.now.past c.args.lists.now.writer (r.reading.changing.keeps Tables tt))
     c.answer_found.ensures.steps
 
 pub returns-in-NoMemory-clause-steps : goal.returns-in-NoMemory-clause-steps
