@@ -13,7 +13,7 @@ ghost use Rattle.law_held_steps.specs.TakenUp.{MayStep, ComesAnew};
 use desks::{Desk, Doing};
 use inno_types::{Ids, Rows, Schema};
 use read_view::ReadView;
-use row_search::{FoundRow, Reached, RowSearch, Sight};
+use row_search::{Came, FoundRow, RowSearch, Sight};
 use shared_lists::{Reading, Searched};
 use sql_plan::Plan;
 use std::alloc::Global;
@@ -68,12 +68,14 @@ pub fn sight_by<W: EngineWorld>(
     }
 }
 
-/// The search, which comes to its pair anew where older versions were dropped.
-pub fn taken_up(search: RowSearch, is_anew: bool) -> RowSearch
-    ensures as_it_was { is_anew ≡ false → result ≡ search }
-    ensures anew { is_anew ≡ true → ComesAnew search result }
+/// The search comes to its pair anew where older versions were dropped.
+pub fn take_up(search: &mut RowSearch, is_anew: bool)
+    ensures as_it_was { is_anew ≡ false → search.new ≡ search.old }
+    ensures anew { is_anew ≡ true → ComesAnew search.old search.new }
 {
-    if is_anew { search.anew() } else { search }
+    if is_anew {
+        search.come_anew();
+    }
 }
 
 /// The rows that were found.
@@ -113,11 +115,14 @@ pub fn newest_rows<W: EngineWorld>(
 {
     let mut search = RowSearch::new(alloc, table, plan, Sight::Newest);
     'reading: loop {
-        match search.step(alloc, world, session, schema) {
-            Reached::Went(next) => search = next,
-            Reached::Done(found) => return Ok(found),
-            Reached::Hindered(stuck, _why) => return Err(give_up(world, session, stuck, schema)),
-            Reached::Malformed(stuck) => return Err(give_up(world, session, stuck, schema)),
+        match search.advance(alloc, world, session, schema) {
+            Came::Went => {}
+            Came::Done(found) => {
+                drop(search);
+                return Ok(found);
+            }
+            Came::Hindered(_why) => return Err(give_up(world, session, search, schema)),
+            Came::Malformed => return Err(give_up(world, session, search, schema)),
         }
     }
 }

@@ -2,14 +2,14 @@
 
 use crate::keys::key_of_edit;
 use crate::lists::{WorldLists, is_short};
-use crate::reading::{found_rows, is_quiet, newest_rows, rows_of, sight_by, taken_up};
+use crate::reading::{found_rows, is_quiet, newest_rows, rows_of, sight_by, take_up};
 use crate::undoing::{change_at_desk, drop_change, edit_of, is_undoing, take_newest_back};
 use desks::{Desk, Doing, TableSearch, give_doing, take_doing};
 use inno_db::Change;
 use inno_model::History;
 use inno_types::{Bytes, Ids, Item, Level, Listed, Reply, Rows, Schema, Stmt};
 use row_changes::RowChange;
-use row_search::{Reached, RowSearch};
+use row_search::{Came, RowSearch};
 use shared_lists::{Changed, Reading, Searched, SharedLists, Undone};
 use sql_history::SessionSettings;
 use sql_plan::Plan;
@@ -197,33 +197,34 @@ impl<W: EngineWorld> SharedLists for WorldLists<W> {
     }
 
     fn search(&mut self, session: u32) -> Searched {
-        let Doing::Searching(on) = take_doing(&mut self.desks, session) else {
+        let Doing::Searching(mut on) = take_doing(&mut self.desks, session) else {
             unreachable!()
         };
-        let TableSearch {
-            search,
-            schema,
-            unique,
-            cuts,
-        } = on;
-        let search = taken_up(search, cuts != self.cuts);
-        match search.step(self.alloc, &mut self.world, session, &schema) {
-            Reached::Went(search) => {
-                let on = TableSearch {
-                    search,
-                    schema,
-                    unique,
-                    cuts: self.cuts,
-                };
+        take_up(&mut on.search, on.cuts != self.cuts);
+        match on
+            .search
+            .advance(self.alloc, &mut self.world, session, &on.schema)
+        {
+            Came::Went => {
+                on.cuts = self.cuts;
                 give_doing(&mut self.desks, session, Doing::Searching(on));
                 Searched::Went
             }
-            Reached::Done(found) => found_rows(self.alloc, found),
-            Reached::Hindered(search, _why) => {
+            Came::Done(found) => {
+                drop(on);
+                found_rows(self.alloc, found)
+            }
+            Came::Hindered(why) => {
+                drop(why);
+                let TableSearch { search, schema, .. } = on;
                 search.give_up(&mut self.world, session, &schema);
+                drop(schema);
                 Searched::NoMemory
             }
-            Reached::Malformed(_search) => Searched::NoMemory,
+            Came::Malformed => {
+                drop(on);
+                Searched::NoMemory
+            }
         }
     }
 

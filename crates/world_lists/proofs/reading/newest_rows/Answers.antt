@@ -10,12 +10,12 @@ reading-init g c =
     reading_begins chains c.args.session c.args.table c.args.plan c.args.schema.now (g.W.World.state c.args.world.now) c.new-search.result tells
     (new_search c.args.table c.args.plan Newest c.new-search.result c.new-search.ensures.search c.new-search.ensures.finds c.new-search.ensures.begins)
 
-pub step-requires-clause-searching : goal.step-requires-clause-searching
-step-requires-clause-searching g c =
+pub advance-requires-clause-searching : goal.advance-requires-clause-searching
+advance-requires-clause-searching g c =
     (reading_steps _ _ _ _ _ _ _ _ (c.reading.invariant c.requires.0 c.requires.1) (g.met.W.EngineWorld.tells c.reading.world).told).searching
 
-pub step-requires-clause-table : goal.step-requires-clause-table
-step-requires-clause-table g c =
+pub advance-requires-clause-table : goal.advance-requires-clause-table
+advance-requires-clause-table g c =
     (reading_steps _ _ _ _ _ _ _ _ (c.reading.invariant c.requires.0 c.requires.1) (g.met.W.EngineWorld.tells c.reading.world).told).table
 
 pub returns-in-Done-clause-moves : goal.returns-in-Done-clause-moves
@@ -30,23 +30,23 @@ returns-in-Done-clause-found g c =
 pub give_up-requires : goal.give_up-requires
 give_up-requires g c =
     reading_steps _ _ _ _ _ _ _ _ (reading_waits _ _ _ _ _ _ _ _ _ _ _ (c.reading.invariant c.requires.0 c.requires.1) c.in-Hindered.ensures
-    (g.met.W.EngineWorld.tells c.step.new.world).told)
-    (g.met.W.EngineWorld.tells c.step.new.world).told
+    (g.met.W.EngineWorld.tells c.advance.new.world).told)
+    (g.met.W.EngineWorld.tells c.advance.new.world).told
 
 pub returns-in-Hindered-clause-moves : goal.returns-in-Hindered-clause-moves
 returns-in-Hindered-clause-moves g c =
     moves_then c.args.session _ _ _ (reading_waits _ _ _ _ _ _ _ _ _ _ _ (c.reading.invariant c.requires.0 c.requires.1) c.in-Hindered.ensures
-    (g.met.W.EngineWorld.tells c.step.new.world).told).moves
+    (g.met.W.EngineWorld.tells c.advance.new.world).told).moves
     c.give_up.ensures
 
 pub reading-preserved : goal.reading-preserved
 reading-preserved g c =
     λ chains tells.
-    reading_goes_on _ _ _ _ _ _ _ _ _ _ (c.reading.invariant chains tells) c.in-Went.ensures (g.met.W.EngineWorld.tells c.step.new.world).told
+    reading_goes_on _ _ _ _ _ _ _ _ _ _ (c.reading.invariant chains tells) c.in-Went.ensures (g.met.W.EngineWorld.tells c.advance.new.world).told
 
 pub reading-smaller : goal.reading-smaller
 reading-smaller g c =
-    reading_nears _ _ _ _ _ _ _ _ _ _ (c.reading.invariant c.requires.0 c.requires.1) c.in-Went.ensures (g.met.W.EngineWorld.tells c.step.new.world).told
+    reading_nears _ _ _ _ _ _ _ _ _ _ (c.reading.invariant c.requires.0 c.requires.1) c.in-Went.ensures (g.met.W.EngineWorld.tells c.advance.new.world).told
 
 -- the world tells each record as one of its table
 pub returns-in-Malformed-clause-moves : goal.returns-in-Malformed-clause-moves

@@ -1,52 +1,52 @@
 use Rattle.world_lists.proofs.Searching.{may_step_now, went_kept, went_seen, went_nears, ended_kept, ended_seen, hindered_kept, hindered_seen}
 use Rattle.world_lists.proofs.steps.WorldListsSharedLists.search.Goals as goal
 
-pub step-requires-clause-searching : goal.step-requires-clause-searching
-step-requires-clause-searching g c =
-    (may_step_now c.args.session c.self.invariant c.self.view_is c.in-Searching.ensures.was c.taken_up-search.ensures.as_it_was
-    c.taken_up-search.ensures.anew (g.met.W.EngineWorld.tells c.self.inside.world).told).searching
+pub advance-requires-clause-searching : goal.advance-requires-clause-searching
+advance-requires-clause-searching g c =
+    (may_step_now c.args.session c.self.invariant c.self.view_is c.in-Searching.ensures.was c.take_up.ensures.as_it_was
+    c.take_up.ensures.anew (g.met.W.EngineWorld.tells c.self.inside.world).told).searching
 
-pub step-requires-clause-table : goal.step-requires-clause-table
-step-requires-clause-table g c =
-    (may_step_now c.args.session c.self.invariant c.self.view_is c.in-Searching.ensures.was c.taken_up-search.ensures.as_it_was
-    c.taken_up-search.ensures.anew (g.met.W.EngineWorld.tells c.self.inside.world).told).table
+pub advance-requires-clause-table : goal.advance-requires-clause-table
+advance-requires-clause-table g c =
+    (may_step_now c.args.session c.self.invariant c.self.view_is c.in-Searching.ensures.was c.take_up.ensures.as_it_was
+    c.take_up.ensures.anew (g.met.W.EngineWorld.tells c.self.inside.world).told).table
 
 pub invariant_of-self : goal.invariant_of-self
 invariant_of-self g c =
-    went_kept c.args.session c.self.invariant c.self.view_is c.in-Searching.ensures.was c.taken_up-search.ensures.as_it_was c.taken_up-search.ensures.anew
-    (g.met.W.EngineWorld.tells c.step.new.world).told c.in-Went.ensures c.take_doing.ensures.is c.give_doing.ensures
+    went_kept c.args.session c.self.invariant c.self.view_is c.in-Searching.ensures.was c.take_up.ensures.as_it_was c.take_up.ensures.anew
+    (g.met.W.EngineWorld.tells c.advance.new.world).told c.in-Went.ensures c.take_doing.ensures.is c.give_doing.ensures
 
 pub returns-in-Went-clause-searches : goal.returns-in-Went-clause-searches
 returns-in-Went-clause-searches g c =
     λ table plan reading task.
-    went_seen c.args.session c.self.invariant c.self.view_is c.in-Searching.ensures.was c.taken_up-search.ensures.as_it_was c.taken_up-search.ensures.anew
-    (g.met.W.EngineWorld.tells c.step.new.world).told c.in-Went.ensures c.take_doing.ensures.is c.give_doing.ensures
+    went_seen c.args.session c.self.invariant c.self.view_is c.in-Searching.ensures.was c.take_up.ensures.as_it_was c.take_up.ensures.anew
+    (g.met.W.EngineWorld.tells c.advance.new.world).told c.in-Went.ensures c.take_doing.ensures.is c.give_doing.ensures
 
 pub returns-in-Went-clause-nears : goal.returns-in-Went-clause-nears
 returns-in-Went-clause-nears g c =
     λ went.
-    went_nears c.args.session c.self.invariant c.self.view_is c.in-Searching.ensures.was c.taken_up-search.ensures.as_it_was c.taken_up-search.ensures.anew
-    (g.met.W.EngineWorld.tells c.step.new.world).told c.in-Went.ensures c.take_doing.ensures.is c.give_doing.ensures
+    went_nears c.args.session c.self.invariant c.self.view_is c.in-Searching.ensures.was c.take_up.ensures.as_it_was c.take_up.ensures.anew
+    (g.met.W.EngineWorld.tells c.advance.new.world).told c.in-Went.ensures c.take_doing.ensures.is c.give_doing.ensures
 
-pub invariant_of-self-in-Done-1 : goal.invariant_of-self-in-Done-1
-invariant_of-self-in-Done-1 g c =
-    ended_kept c.args.session c.self.invariant c.self.view_is c.in-Searching.ensures.was c.taken_up-search.ensures.as_it_was c.taken_up-search.ensures.anew
-    (g.met.W.EngineWorld.tells c.step.new.world).told c.take_doing.ensures.is c.in-Done.ensures
+pub invariant_of-self-in-Done : goal.invariant_of-self-in-Done
+invariant_of-self-in-Done g c =
+    ended_kept c.args.session c.self.invariant c.self.view_is c.in-Searching.ensures.was c.take_up.ensures.as_it_was c.take_up.ensures.anew
+    (g.met.W.EngineWorld.tells c.advance.new.world).told c.take_doing.ensures.is c.in-Done.ensures
 
 pub returns-in-Done-clause-searches : goal.returns-in-Done-clause-searches
 returns-in-Done-clause-searches g c =
-    ended_seen c.args.session c.self.invariant c.self.view_is c.in-Searching.ensures.was c.taken_up-search.ensures.as_it_was c.taken_up-search.ensures.anew
-    (g.met.W.EngineWorld.tells c.step.new.world).told c.take_doing.ensures.is c.in-Done.ensures c.found_rows.ensures.rows c.found_rows.ensures.over
+    ended_seen c.args.session c.self.invariant c.self.view_is c.in-Searching.ensures.was c.take_up.ensures.as_it_was c.take_up.ensures.anew
+    (g.met.W.EngineWorld.tells c.advance.new.world).told c.take_doing.ensures.is c.in-Done.ensures c.found_rows.ensures.rows c.found_rows.ensures.over
 
-pub invariant_of-self-in-Hindered-1 : goal.invariant_of-self-in-Hindered-1
-invariant_of-self-in-Hindered-1 g c =
-    hindered_kept c.args.session c.self.invariant c.self.view_is c.in-Searching.ensures.was c.taken_up-search.ensures.as_it_was c.taken_up-search.ensures.anew
-    (g.met.W.EngineWorld.tells c.step.new.world).told c.take_doing.ensures.is c.in-Hindered.ensures c.give_up.ensures
+pub invariant_of-self-in-Hindered : goal.invariant_of-self-in-Hindered
+invariant_of-self-in-Hindered g c =
+    hindered_kept c.args.session c.self.invariant c.self.view_is c.in-Searching.ensures.was c.take_up.ensures.as_it_was c.take_up.ensures.anew
+    (g.met.W.EngineWorld.tells c.advance.new.world).told c.take_doing.ensures.is c.in-Hindered.ensures c.give_up.ensures
     (g.met.W.EngineWorld.tells c.give_up.new.world).told
 
 pub returns-in-Hindered-clause-searches : goal.returns-in-Hindered-clause-searches
 returns-in-Hindered-clause-searches g c =
     λ table plan reading task.
-    hindered_seen c.args.session c.self.invariant c.self.view_is c.in-Searching.ensures.was c.taken_up-search.ensures.as_it_was c.taken_up-search.ensures.anew
-    (g.met.W.EngineWorld.tells c.step.new.world).told c.take_doing.ensures.is c.in-Hindered.ensures c.give_up.ensures
+    hindered_seen c.args.session c.self.invariant c.self.view_is c.in-Searching.ensures.was c.take_up.ensures.as_it_was c.take_up.ensures.anew
+    (g.met.W.EngineWorld.tells c.advance.new.world).told c.take_doing.ensures.is c.in-Hindered.ensures c.give_up.ensures
     (g.met.W.EngineWorld.tells c.give_up.new.world).told
