@@ -18,7 +18,7 @@ use Rattle.shared_lists.specs.State.{State}
 use Rattle.sql_lists.specs.Steps.{changes_rows, MayWriteAlone}
 use Rattle.sql_lists.proofs.Moving.{AddingOne}
 use Rattle.sql_lists.proofs.Staying.{other_of, opening_stays, at_work, committed_more}
-use Rattle.law_claims.specs.Claims.{Claim, Tables, Row, Leaves, Keeps, Ground, KeepsGround, LeavesGround, GoesBeside}
+use Rattle.law_claims.specs.Claims.{Claim, Tables, Row, Leaves, Keeps, Basis, KeepsBasis, LeavesBasis, GoesBeside}
 use Rattle.law_claims.proofs.Standing.{changed_append, leaves_none, of_rows}
 
 -- ---- under the plain lock
@@ -105,16 +105,16 @@ module _ (old new : State) (t s : ℕ) (differ : t ≢ s) (adding : AddingOne t 
         ];
       }
 
-  module _ (ground : Ground) (ground-kept : KeepsGround s (base s old.past).schemas ground old.past old.writer) (own-rows : AreOfRows (own_before s old.past))
+  module _ (basis : Basis) (basis-kept : KeepsBasis s (base s old.past).schemas basis old.past old.writer) (own-rows : AreOfRows (own_before s old.past))
       (among : (place : Place) → touches (base s old.past).schemas (own_before s old.past) place ≡ true
-      → touches (base s old.past).schemas ground.changes place ≡ true) where
+      → touches (base s old.past).schemas basis.changes place ≡ true) where
     abbrev h : List Event
     h = old.past
 
-    ground_left : (others : List Change) → (others ≡ []) ⊎ (others ≡ own t h) → LeavesGround ground (base s h) others
-    ground_left others (inl none) claim rests = subst (Leaves claim (base s h)) (sym none) (leaves_none claim (base s h))
-    ground_left others (inr own-is) claim rests =
-        subst (Leaves claim (base s h)) (sym own-is) (kept_is_left s claim h old.writer (ground-kept claim rests) (base s h) t differ)
+    basis_left : (others : List Change) → (others ≡ []) ⊎ (others ≡ own t h) → LeavesBasis basis (base s h) others
+    basis_left others (inl none) claim rests = subst (Leaves claim (base s h)) (sym none) (leaves_none claim (base s h))
+    basis_left others (inr own-is) claim rests =
+        subst (Leaves claim (base s h)) (sym own-is) (kept_is_left s claim h old.writer (basis-kept claim rests) (base s h) t differ)
 
     -- what was committed below, and the session's own changes above it
     abbrev below : Database
@@ -126,13 +126,13 @@ module _ (old new : State) (t s : ℕ) (differ : t ≢ s) (adding : AddingOne t 
     same_tables : below.schemas ≡ (base s h).schemas
     same_tables = sym (ap (λ (d : Database). d.schemas) base_below ∙ schemas_stay below (own_before s h) own-rows)
 
-    apart : (others : List Change) → LeavesGround ground (base s h) others → AreApart below.schemas (own_before s h) others
+    apart : (others : List Change) → LeavesBasis basis (base s h) others → AreApart below.schemas (own_before s h) others
     apart others leaves place mine =
         let mine-there = ap (λ (ss : List Schema). touches ss (own_before s h) place) (sym same_tables) ∙ mine in
         ap (λ (ss : List Schema). touches ss others place) same_tables ∙ leaves (Row place) (inl (among place mine-there))
 
     -- the others' changes may be made last
-    made_last : (others : List Change) → LeavesGround ground (base s h) others
+    made_last : (others : List Change) → LeavesBasis basis (base s h) others
         → changed (opening h) (own_before s h ++ (others ++ committed (commits h) h)) ≡ changed (base s h) others
     made_last others leaves =
         changed_append (opening h) (own_before s h) (others ++ committed (commits h) h)
@@ -140,7 +140,7 @@ module _ (old new : State) (t s : ℕ) (differ : t ≢ s) (adding : AddingOne t 
         ∙ (sym (beside_commutes below (own_before s h) others own-rows (of_rows (base s h).schemas others (leaves Tables tt)) (apart others leaves))
         ∙ ap (λ (d : Database). changed d others) (sym base_below)))
 
-    base_then : (e : Event) → IsNoOthers t e → LeavesGround ground (base s h) (committed_by e h)
+    base_then : (e : Event) → IsNoOthers t e → LeavesBasis basis (base s h) (committed_by e h)
         → base s (e ∷ h) ≡ changed (base s h) (committed_by e h)
     base_then e mine leaves =
         let other : is_of s e ≡ false = other_of e t s mine (λ is. differ (sym is)) in
@@ -148,12 +148,12 @@ module _ (old new : State) (t s : ℕ) (differ : t ≢ s) (adding : AddingOne t 
         ∙ (ap (λ changes. changed (opening h) (changes ++ committed (commits (e ∷ h)) (e ∷ h))) (at_work e h s other).own_is
         ∙ (ap (λ changes. changed (opening h) (own_before s h ++ changes)) (committed_then e h) ∙ made_last (committed_by e h) leaves))
 
-    pub goes_beside : GoesBeside ground s old.past new.past
+    pub goes_beside : GoesBeside basis s old.past new.past
     goes_beside = elim adding [
-      | inl same ↦ record { others = []; base_is = ap (base s) same; leaves = ground_left [] (inl refl) }
+      | inl same ↦ record { others = []; base_is = ap (base s) same; leaves = basis_left [] (inl refl) }
       | inr adds ↦
           let e = adds.0 in
-          let leaves = ground_left (committed_by e h)
+          let leaves = basis_left (committed_by e h)
           (committed_is e h t (λ changes. (changes ≡ []) ⊎ (changes ≡ own t h)) adds.1 (inl refl) (inr refl)) in
           record {
             others = committed_by e h;

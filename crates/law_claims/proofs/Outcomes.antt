@@ -1,4 +1,4 @@
--- Outcomes stand on their ground.
+-- Outcomes stand on their basis.
 use Rattle.std.proofs.Common.{◌≡◌, ◌∙◌, ap, sym, refl, subst, ℕ, ◌<◌, Bool, true, false, List, [], ◌∷◌, ◌++◌, Option, Some, None, is_some, Result, Ok, Err, inl}
 use Rattle.std.proofs.Common.{inr, length}
 use Rattle.std.proofs.lemmas.Bool.{false≢true}
@@ -29,7 +29,7 @@ use Rattle.law_beside.specs.Beside.{touches, AreOfRows, is_search}
 use Rattle.law_beside.proofs.Apart.{schemas_stay, get_untouched}
 use Rattle.law_beside.proofs.Searching.{search_beside, on_rows-alike, outcome-alike}
 use Rattle.law_beside.proofs.Inserting as inserting
-use Rattle.law_claims.specs.Claims.{Claim, Tables, Row, Rows, Leaves, Ground, SearchesFor, LeavesGround, IsRefusedAt}
+use Rattle.law_claims.specs.Claims.{Claim, Tables, Row, Rows, Leaves, Basis, SearchesFor, LeavesBasis, IsRefusedAt}
 use Rattle.law_claims.proofs.Standing.{of_rows}
 
 -- each row stands at its key behind changes of rows of the tables that are there
@@ -88,7 +88,7 @@ module _ (table : ℕ) (schema : Schema) (names : Option (List (List ℕ))) (som
               | false ↦ λ there is. cc
             ] refl
 
-module _ (db : Database) (others : List Change) (ground : Ground) (leaves : LeavesGround ground db others) where
+module _ (db : Database) (others : List Change) (basis : Basis) (leaves : LeavesBasis basis db others) where
   rows : AreOfRows others
   rows = of_rows db.schemas others (leaves Tables tt)
 
@@ -96,7 +96,7 @@ module _ (db : Database) (others : List Change) (ground : Ground) (leaves : Leav
   tables = schemas_stay db others rows
 
   -- an UPDATE or DELETE whose search is over
-  pub search_stands : (statement : Stmt) → is_search statement ≡ true → IsWriting statement → ground.searched ≡ Some statement
+  pub search_stands : (statement : Stmt) → is_search statement ≡ true → IsWriting statement → basis.searched ≡ Some statement
       → outcome statement (changed db others) ≡ outcome statement db
   search_stands (stmt.Insert name names tuples) search writes is = absurd (false≢true search)
   search_stands (stmt.Update name sets condition) search writes is =
@@ -111,7 +111,7 @@ module _ (db : Database) (others : List Change) (ground : Ground) (leaves : Leav
   pub counted_stands : (name : List ℕ) (names : Option (List (List ℕ))) (tuples : List (List Literal)) (n : ℕ)
       → (outcome (stmt.Insert name names tuples) db).reply ≡ Count n
       → ((place : Place) → touches db.schemas (outcome (stmt.Insert name names tuples) db).changes place ≡ true
-      → touches db.schemas ground.changes place ≡ true)
+      → touches db.schemas basis.changes place ≡ true)
       → outcome (stmt.Insert name names tuples) (changed db others) ≡ outcome (stmt.Insert name names tuples) db
   counted_stands name names tuples n counts among =
       inserting.insert_beside db others name names tuples n rows counts (λ place mine. leaves (Row place) (inl (among place mine)))
@@ -119,12 +119,12 @@ module _ (db : Database) (others : List Change) (ground : Ground) (leaves : Leav
   -- an INSERT whose tuple was refused
   module _ (keyed : IsKeyed db) (name : List ℕ) (names : Option (List (List ℕ))) (tuple : List Literal) (error : SqlError)
       (unrefused : refusal db.schemas (stmt.Insert name names (tuple ∷ [])) ≡ None)
-      (refused : (outcome (stmt.Insert name names (tuple ∷ [])) db).reply ≡ Fail error) (at : IsRefusedAt db.schemas name error ground) where
+      (refused : (outcome (stmt.Insert name names (tuple ∷ [])) db).reply ≡ Fail error) (at : IsRefusedAt db.schemas name error basis) where
     key_alike : (table : ℕ) (schema : Schema) → table_place db.schemas name ≡ Some table → slice_get db.schemas table ≡ Some schema → (row : List Value)
         → HaveKeyAlike table schema names (rows_of table db) (rows_of table (changed db others)) tuple error row
     key_alike table schema named is row there same =
         let key = key_of schema row in
-        let place = subst (λ (e : SqlError). IsRefusedAt db.schemas name e ground) same at table named in
+        let place = subst (λ (e : SqlError). IsRefusedAt db.schemas name e basis) same at table named in
         let left : get (changed db others).rows (table, key) ≡ get db.rows (table, key) =
         get_untouched db others (table, key) rows (leaves (Row (table, key)) (inr place)) in
         has_key-get (changed db others) table schema key (keyed_behind db others (leaves Tables tt) keyed)

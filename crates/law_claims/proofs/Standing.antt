@@ -1,4 +1,4 @@
--- What holds over a database and stands on its ground holds behind others' changes, too, and stands there.
+-- What holds over a database and stands on its basis holds behind others' changes, too, and stands there.
 use Rattle.std.proofs.Common.{◌≡◌, ◌∙◌, ap, sym, refl, subst, ℕ, Bool, true, false, List, [], ◌∷◌, ◌++◌, None}
 use Rattle.std.proofs.lemmas.Bool.{false≢true}
 use Rattle.std.proofs.lemmas.List.Folds.{list_any-append}
@@ -16,7 +16,7 @@ use Rattle.inno_model.specs.Past.{changed}
 use Rattle.law_db.specs.RowChanges.{AreOfTables}
 use Rattle.law_beside.specs.Beside.{is_change_at, touches, AreApart, AreOfRows, passed, IsUnmet}
 use Rattle.law_beside.proofs.Apart.{schemas_stay, get_untouched, get_touched}
-use Rattle.law_claims.specs.Claims.{Claim, Tables, Row, Rows, Leaves, Ground, RestsOn, LeavesGround, Stands}
+use Rattle.law_claims.specs.Claims.{Claim, Tables, Row, Rows, Leaves, Basis, RestsOn, LeavesBasis, Stands}
 
 -- ---- changes behind changes
 
@@ -96,8 +96,8 @@ module _ (db : Database) (later earlier : List Change) (rows : AreOfRows later) 
       (then table schema (ap (λ (ss : List Schema). table_place ss name) tables_stay ∙ named)
       (ap (λ (ss : List Schema). slice_get ss table) tables_stay ∙ is))
 
-pub rests_as : (some others : List Schema) → some ≡ others → (ground : Ground) (claim : Claim) → RestsOn some ground claim → RestsOn others ground claim
-rests_as some others same ground claim rests = subst (λ (ss : List Schema). RestsOn ss ground claim) same rests
+pub rests_as : (some others : List Schema) → some ≡ others → (basis : Basis) (claim : Claim) → RestsOn some basis claim → RestsOn others basis claim
+rests_as some others same basis claim rests = subst (λ (ss : List Schema). RestsOn ss basis claim) same rests
 
 -- no changes leave all
 pub leaves_none : (claim : Claim) (db : Database) → Leaves claim db []
@@ -105,34 +105,34 @@ leaves_none Tables db = tt
 leaves_none (Row place) db = refl
 leaves_none (Rows name condition) db = λ table schema named is key touched. absurd (false≢true touched)
 
--- changes that leave the ground, and then others that do
-pub ground_append : (ground : Ground) (db : Database) (later earlier : List Change) → LeavesGround ground db earlier
-    → LeavesGround ground (changed db earlier) later → LeavesGround ground db (later ++ earlier)
-ground_append ground db later earlier first then claim rests =
+-- changes that leave the basis, and then others that do
+pub basis_append : (basis : Basis) (db : Database) (later earlier : List Change) → LeavesBasis basis db earlier
+    → LeavesBasis basis (changed db earlier) later → LeavesBasis basis db (later ++ earlier)
+basis_append basis db later earlier first then claim rests =
     let more = of_rows db.schemas earlier (first Tables tt) in
     let rows = of_rows (changed db earlier).schemas later (then Tables tt) in
     leaves_append db later earlier rows more claim (first claim rests)
-    (then claim (rests_as db.schemas (changed db earlier).schemas (sym (schemas_stay db earlier more)) ground claim rests))
+    (then claim (rests_as db.schemas (changed db earlier).schemas (sym (schemas_stay db earlier more)) basis claim rests))
 
-module _ (ground : Ground) (Holds : Database → Type 0) where
+module _ (basis : Basis) (Holds : Database → Type 0) where
   -- it holds over the database itself
-  pub stands_now : (db : Database) → Stands ground Holds db → Holds db
+  pub stands_now : (db : Database) → Stands basis Holds db → Holds db
   stands_now db stands = stands [] (λ claim rests. leaves_none claim db)
 
   -- and stands behind others' changes
-  pub stands_then : (db : Database) (others : List Change) → Stands ground Holds db → LeavesGround ground db others → Stands ground Holds (changed db others)
+  pub stands_then : (db : Database) (others : List Change) → Stands basis Holds db → LeavesBasis basis db others → Stands basis Holds (changed db others)
   stands_then db others stands leaves = λ more beside.
-      subst Holds (changed_append db more others) (stands (more ++ others) (ground_append ground db more others leaves beside))
+      subst Holds (changed_append db more others) (stands (more ++ others) (basis_append basis db more others leaves beside))
 
--- what stands on less ground stands on more
-pub stands_on_more : (some more : Ground) (Holds : Database → Type 0) (db : Database)
+-- what stands on less basis stands on more
+pub stands_on_more : (some more : Basis) (Holds : Database → Type 0) (db : Database)
     → ((claim : Claim) → RestsOn db.schemas some claim → RestsOn db.schemas more claim) → Stands some Holds db → Stands more Holds db
 stands_on_more some more Holds db wider stands = λ others leaves. stands others (λ claim rests. leaves claim (wider claim rests))
 
 -- what follows from what stands
-pub stands_as : (ground : Ground) (This That : Database → Type 0) (db : Database) → ((d : Database) → This d → That d) → Stands ground This db
-    → Stands ground That db
-stands_as ground This That db follows stands = λ others leaves. follows (changed db others) (stands others leaves)
+pub stands_as : (basis : Basis) (This That : Database → Type 0) (db : Database) → ((d : Database) → This d → That d) → Stands basis This db
+    → Stands basis That db
+stands_as basis This That db follows stands = λ others leaves. follows (changed db others) (stands others leaves)
 
 -- ---- behind changes of one's own
 

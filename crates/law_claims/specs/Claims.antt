@@ -35,7 +35,7 @@ pub record Keeps (s : ℕ) (claim : Claim) (past : List Event) (writer : Option 
 
 -- What an outcome rests on: the places of these changes, the rows that the statement has searched for, where its search is over,
 -- and the row for which it was refused.
-pub record Ground : Type 0 where
+pub record Basis : Type 0 where
   pub changes : List Change
   pub searched : Option Stmt
   pub refused_at : Option Place
@@ -46,30 +46,30 @@ SearchesFor (Some (Update table sets filter)) name condition = (table ≡ name) 
 SearchesFor (Some (Delete table filter)) name condition = (table ≡ name) × (filter ≡ condition)
 SearchesFor other name condition = ⊥
 
-abbrev pub RestsOn : List Schema → Ground → Claim → Type 0
-RestsOn schemas ground Tables = Unit {0}
-RestsOn schemas ground (Row place) = (touches schemas ground.changes place ≡ true) ⊎ (ground.refused_at ≡ Some place)
-RestsOn schemas ground (Rows name condition) = SearchesFor ground.searched name condition
+abbrev pub RestsOn : List Schema → Basis → Claim → Type 0
+RestsOn schemas basis Tables = Unit {0}
+RestsOn schemas basis (Row place) = (touches schemas basis.changes place ≡ true) ⊎ (basis.refused_at ≡ Some place)
+RestsOn schemas basis (Rows name condition) = SearchesFor basis.searched name condition
 
 -- the session keeps all that it rests on
-abbrev pub KeepsGround : ℕ → List Schema → Ground → List Event → Option ℕ → Type 0
-KeepsGround s schemas ground past writer = (claim : Claim) → RestsOn schemas ground claim → Keeps s claim past writer
+abbrev pub KeepsBasis : ℕ → List Schema → Basis → List Event → Option ℕ → Type 0
+KeepsBasis s schemas basis past writer = (claim : Claim) → RestsOn schemas basis claim → Keeps s claim past writer
 
 -- and the changes leave all of that
-abbrev pub LeavesGround : Ground → Database → List Change → Type 0
-LeavesGround ground db others = (claim : Claim) → RestsOn db.schemas ground claim → Leaves claim db others
+abbrev pub LeavesBasis : Basis → Database → List Change → Type 0
+LeavesBasis basis db others = (claim : Claim) → RestsOn db.schemas basis claim → Leaves claim db others
 
--- where a row with the tuple's key refused it, the ground has that row's place
-abbrev pub IsRefusedAt : List Schema → List ℕ → SqlError → Ground → Type 0
-IsRefusedAt schemas name (Duplicate key) ground = (table : ℕ) → table_place schemas name ≡ Some table → ground.refused_at ≡ Some (table, key)
-IsRefusedAt schemas name other ground = Unit {0}
+-- where a row with the tuple's key refused it, the basis has that row's place
+abbrev pub IsRefusedAt : List Schema → List ℕ → SqlError → Basis → Type 0
+IsRefusedAt schemas name (Duplicate key) basis = (table : ℕ) → table_place schemas name ≡ Some table → basis.refused_at ≡ Some (table, key)
+IsRefusedAt schemas name other basis = Unit {0}
 
 -- What holds over a database, and over it with any changes that leave what it rests on.
-abbrev pub Stands : Ground → (Database → Type 0) → Database → Type 0
-Stands ground Holds db = (others : List Change) → LeavesGround ground db others → Holds (changed db others)
+abbrev pub Stands : Basis → (Database → Type 0) → Database → Type 0
+Stands basis Holds db = (others : List Change) → LeavesBasis basis db others → Holds (changed db others)
 
 -- What a session's statement acts on has gone on by changes that leave what its outcome rests on.
-pub record GoesBeside (ground : Ground) (s : ℕ) (old new : List Event) : Type 0 where
+pub record GoesBeside (basis : Basis) (s : ℕ) (old new : List Event) : Type 0 where
   pub others : List Change
   pub base_is : base s new ≡ changed (base s old) others
-  pub leaves : LeavesGround ground (base s old) others
+  pub leaves : LeavesBasis basis (base s old) others

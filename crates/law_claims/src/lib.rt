@@ -18,34 +18,34 @@ ghost use Rattle.inno_model.specs.declared.event.Event.{Event};
 ghost use Rattle.inno_model.specs.Past.{own, changed};
 ghost use Rattle.sql_history.specs.Legal.{IsWriting};
 ghost use Rattle.law_beside.specs.Beside.{touches, is_search};
-ghost use Rattle.law_claims.specs.Claims.{Claim, Leaves, Keeps, Ground, LeavesGround, IsRefusedAt};
+ghost use Rattle.law_claims.specs.Claims.{Claim, Leaves, Keeps, Basis, LeavesBasis, IsRefusedAt};
 
 /// What another session has changed leaves what is kept as it is, so a commit of it does.
 pub fn what_is_kept_is_left()
     ensures { (s other : ℕ) (claim : Claim) (past : List Event) (writer : Option ℕ) (db : Database) → Keeps s claim past writer → other ≢ s → Leaves claim db (own other past) }
 {}
 
-/// Changes that leave an outcome's ground, and then others that do, leave it together.
-pub fn what_leaves_the_ground_goes_together()
-    ensures { (ground : Ground) (db : Database) (later earlier : List Change) → LeavesGround ground db earlier → LeavesGround ground (changed db earlier) later → LeavesGround ground db (later ++ earlier) }
+/// Changes that leave an outcome's basis, and then others that do, leave it together.
+pub fn what_leaves_the_basis_goes_together()
+    ensures { (basis : Basis) (db : Database) (later earlier : List Change) → LeavesBasis basis db earlier → LeavesBasis basis (changed db earlier) later → LeavesBasis basis db (later ++ earlier) }
 {}
 
 /// What an UPDATE or DELETE comes to, once its search is over, is the same behind changes that leave the rows that it searched for.
 pub fn an_outcome_stands_on_the_rows_searched_for()
-    ensures { (statement : Stmt) (ground : Ground) (db : Database) (others : List Change) → is_search statement ≡ true → IsWriting statement → ground.searched ≡ Some statement → LeavesGround ground db others
+    ensures { (statement : Stmt) (basis : Basis) (db : Database) (others : List Change) → is_search statement ≡ true → IsWriting statement → basis.searched ≡ Some statement → LeavesBasis basis db others
         → outcome statement (changed db others) ≡ outcome statement db }
 {}
 
 /// What an INSERT that was counted comes to is the same behind changes that leave the places of its own.
 pub fn an_insert_stands_on_its_places()
-    ensures { (name : List ℕ) (columns : Option (List (List ℕ))) (tuples : List (List Literal)) (n : ℕ) (ground : Ground) (db : Database) (others : List Change) → (outcome (Insert name columns tuples) db).reply ≡ Count n
-        → ((place : Place) → touches db.schemas (outcome (Insert name columns tuples) db).changes place ≡ true → touches db.schemas ground.changes place ≡ true)
-        → LeavesGround ground db others → outcome (Insert name columns tuples) (changed db others) ≡ outcome (Insert name columns tuples) db }
+    ensures { (name : List ℕ) (columns : Option (List (List ℕ))) (tuples : List (List Literal)) (n : ℕ) (basis : Basis) (db : Database) (others : List Change) → (outcome (Insert name columns tuples) db).reply ≡ Count n
+        → ((place : Place) → touches db.schemas (outcome (Insert name columns tuples) db).changes place ≡ true → touches db.schemas basis.changes place ≡ true)
+        → LeavesBasis basis db others → outcome (Insert name columns tuples) (changed db others) ≡ outcome (Insert name columns tuples) db }
 {}
 
 /// And the refusal of a tuple is the same behind changes that leave the row for which it was refused.
 pub fn a_refusal_stands_on_the_row_that_is_there()
-    ensures { (name : List ℕ) (columns : Option (List (List ℕ))) (tuple : List Literal) (error : SqlError) (ground : Ground) (db : Database) (others : List Change) → IsKeyed db
-        → refusal db.schemas (Insert name columns (tuple ∷ [])) ≡ None → (outcome (Insert name columns (tuple ∷ [])) db).reply ≡ Fail error → IsRefusedAt db.schemas name error ground
-        → LeavesGround ground db others → outcome (Insert name columns (tuple ∷ [])) (changed db others) ≡ outcome (Insert name columns (tuple ∷ [])) db }
+    ensures { (name : List ℕ) (columns : Option (List (List ℕ))) (tuple : List Literal) (error : SqlError) (basis : Basis) (db : Database) (others : List Change) → IsKeyed db
+        → refusal db.schemas (Insert name columns (tuple ∷ [])) ≡ None → (outcome (Insert name columns (tuple ∷ [])) db).reply ≡ Fail error → IsRefusedAt db.schemas name error basis
+        → LeavesBasis basis db others → outcome (Insert name columns (tuple ∷ [])) (changed db others) ≡ outcome (Insert name columns (tuple ∷ [])) db }
 {}

@@ -24,7 +24,7 @@ use Rattle.write_statement.specs.Parts.{of_part}
 use Rattle.write_statement.specs.Settling.{is_count, IsSettledBy}
 use Rattle.write_statement.specs.Running.{IsChanging, AreEnough, IsRunning}
 use Rattle.write_statement.proofs.Found.{tables_now, current_keyed}
-use Rattle.write_statement.proofs.PartByPart.{refusal_ground, refusal_wider, part_refused, part_counted}
+use Rattle.write_statement.proofs.PartByPart.{refusal_basis, refusal_wider, part_refused, part_counted}
 use Rattle.write_statement.proofs.GivingUp.{keeps_reply, refused}
 use Rattle.write_statement.proofs.Moving.{steps_as}
 
@@ -50,9 +50,9 @@ module _ (s : ℕ) (state : State) (part : Part) (rows : List (List Value)) (r :
       let answer = is.2 ∙ ap (λ (o : Outcome). o.reply) enough.same in
       let tables = tables_now state.past s stands in
       let stands-so = part_refused state.past state.writer s part r tables keyed kept is.1 answer in
-      let ground = refusal_ground state.past state.writer s part r tables keyed kept is.1 answer in
-      let of-all = stands_now ground (λ db. (outcome r.statement db).reply ≡ kept) (base s state.past) stands-so in
-      let keeps = keeps_reply state.past state.writer s part (of_part part) [] r kept ground
+      let basis = refusal_basis state.past state.writer s part r tables keyed kept is.1 answer in
+      let of-all = stands_now basis (λ db. (outcome r.statement db).reply ≡ kept) (base s state.past) stands-so in
+      let keeps = keeps_reply state.past state.writer s part (of_part part) [] r kept basis
       (refusal_wider state.past state.writer s part r tables keyed kept is.1 answer) (λ place is. is) (λ is. stands-so) in
       steps_as IsRunning s state state m (machine.BackingOut (record { alone = part.alone; before = part.before; kept = kept; given = given }))
       advance.Went advance.Went state-is refl

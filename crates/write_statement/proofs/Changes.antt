@@ -35,7 +35,7 @@ use Rattle.write_statement.specs.declared.machine.Part.{Part}
 use Rattle.write_statement.specs.Parts.{IsCut, GoesOnWith, behind}
 use Rattle.law_claims.specs.Claims.{Tables, Row, RestsOn, Stands}
 use Rattle.law_claims.proofs.Keeping.{all_kept, kept_is_free, kept_by_own}
-use Rattle.write_statement.specs.Running.{IsChanging, ground_for}
+use Rattle.write_statement.specs.Running.{IsChanging, basis_for}
 use Rattle.write_statement.proofs.PartByPart.{goes_here}
 use Rattle.write_statement.proofs.Writing.{of_writing}
 use Rattle.write_statement.proofs.Own.{did_same, over_same, working_own}
@@ -154,11 +154,11 @@ module _ (past : List Event) (writer : Option ℕ) (s : ℕ) (part : Part) (next
     own_now = rw mine refl
 
     -- it was to be made, and is made
-    ground_now : (todo ++ change ∷ []) ++ own s past ≡ todo ++ own s after
-    ground_now = append_assoc todo (change ∷ []) (own s past) ∙ ap (λ (xs : List Change). todo ++ xs) (sym own_now)
+    basis_now : (todo ++ change ∷ []) ++ own s past ≡ todo ++ own s after
+    basis_now = append_assoc todo (change ∷ []) (own s past) ∙ ap (λ (xs : List Change). todo ++ xs) (sym own_now)
 
     abbrev StandsOn : List Change → List Change → Type 0
-    StandsOn changes all = Stands (ground_for r.searched changes) (λ db. GoesOnWith r.statement db all next) (base s past)
+    StandsOn changes all = Stands (basis_for r.searched changes) (λ db. GoesOnWith r.statement db all next) (base s past)
 
     told_next : r.made ++ reverse (todo ++ change ∷ []) ≡ (r.made ++ change ∷ []) ++ reverse todo
     told_next = ap (λ (xs : List Change). r.made ++ xs) (next_first todo change) ∙ sym (append_assoc r.made (change ∷ []) (reverse todo))
@@ -191,9 +191,9 @@ module _ (past : List Event) (writer : Option ℕ) (s : ℕ) (part : Part) (next
           searched_is = r.searched_is;
           keeps = λ claim rests.
               kept_by_own (events.Changed s change) s claim past writer mine
-              (r.keeps claim (subst (λ (changes : List Change). RestsOn (base s past).schemas (ground_for r.searched changes) claim) (sym ground_now) rests));
+              (r.keeps claim (subst (λ (changes : List Change). RestsOn (base s past).schemas (basis_for r.searched changes) claim) (sym basis_now) rests));
           goes = subst (StandsOn (todo ++ own s after)) told_next
-              (subst (λ (changes : List Change). StandsOn changes (r.made ++ reverse (todo ++ change ∷ []))) ground_now r.goes);
+              (subst (λ (changes : List Change). StandsOn changes (r.made ++ reverse (todo ++ change ∷ []))) basis_now r.goes);
         }
 
     -- and it stands behind those that stood before the statement

@@ -46,12 +46,12 @@ use Rattle.write_statement.specs.Going.{to_go}
 use Rattle.write_statement.specs.Settling.{is_count, is_refusal}
 use Rattle.write_statement.specs.Parts.{GoesOnWith}
 use Rattle.write_statement.specs.Running.{InTxn, IsWorking, IsEarly, IsChanging, KeepsReply, PutsRows, MayAnswer, IsBackingOut, MayGoBack, IsClosing}
-use Rattle.write_statement.specs.Running.{IsRunning, given_up, ground_for}
+use Rattle.write_statement.specs.Running.{IsRunning, given_up, basis_for}
 use Rattle.law_beside.specs.Beside.{touches}
-use Rattle.law_claims.specs.Claims.{Claim, Tables, Ground, RestsOn, Stands}
+use Rattle.law_claims.specs.Claims.{Claim, Tables, Basis, RestsOn, Stands}
 use Rattle.law_claims.proofs.Standing.{stands_now}
 use Rattle.law_claims.proofs.Keeping.{all_kept}
-use Rattle.write_statement.proofs.Grounds.{touched_later}
+use Rattle.write_statement.proofs.Bases.{touched_later}
 use Rattle.write_statement.proofs.PartByPart.{goes_here}
 use Rattle.write_statement.proofs.Writing.{of_writing, some_of}
 use Rattle.sql_lists.proofs.Moving.{moves_closes, moves_takes_back, below_first, below_second, fewer_stand}
@@ -96,14 +96,14 @@ module _ (g : List Event) (writer : Option ℕ) (s : ℕ) (part : Part) (next : 
   made_now = r.own_is ∙ ap (λ changes. reverse changes ++ own_before s g) (sym (first_made (base s g) (goes_here g writer s part next todo r)))
 
   -- what its reply rests on is kept: more than the changes that are made or to be made, where it is refused
-  module _ (kept : Reply) (ground : Ground)
-      (more : (claim : Claim) → RestsOn (base s g).schemas (ground_for r.searched (todo ++ own s g)) claim → RestsOn (base s g).schemas ground claim)
-      (among : (place : Place) → touches (base s g).schemas (own s g) place ≡ true → touches (base s g).schemas ground.changes place ≡ true)
-      (refuses : is_refusal kept ≡ true → Stands ground (λ db. (outcome r.statement db).reply ≡ kept) (base s g)) where
+  module _ (kept : Reply) (basis : Basis)
+      (more : (claim : Claim) → RestsOn (base s g).schemas (basis_for r.searched (todo ++ own s g)) claim → RestsOn (base s g).schemas basis claim)
+      (among : (place : Place) → touches (base s g).schemas (own s g) place ≡ true → touches (base s g).schemas basis.changes place ≡ true)
+      (refuses : is_refusal kept ≡ true → Stands basis (λ db. (outcome r.statement db).reply ≡ kept) (base s g)) where
     pub keeps_reply : KeepsReply s (length r.made) kept r.statement g writer
     keeps_reply =
         record {
-          ground = ground;
+          basis = basis;
           keeps = λ claim rests. all_kept s Tables claim g writer (r.keeps Tables tt);
           among = among;
           stands = λ others leaves. record {
@@ -111,14 +111,14 @@ module _ (g : List Event) (writer : Option ℕ) (s : ℕ) (part : Part) (next : 
                 first_made (changed (base s g) others) (r.goes others (λ claim rests. leaves claim (more claim rests)))
                 ∙ sym (first_made (base s g) (goes_here g writer s part next todo r));
             reply = λ is.
-                refuses is others leaves ∙ sym (stands_now ground (λ db. (outcome r.statement db).reply ≡ kept) (base s g) (refuses is));
+                refuses is others leaves ∙ sym (stands_now basis (λ db. (outcome r.statement db).reply ≡ kept) (base s g) (refuses is));
           };
         }
 
   -- where no refusal is told, nothing more
   unrefused_keeps : (kept : Reply) → is_refusal kept ≡ false → KeepsReply s (length r.made) kept r.statement g writer
   unrefused_keeps kept no-refusal =
-      keeps_reply kept (ground_for r.searched (todo ++ own s g)) (λ claim rests. rests) (touched_later (base s g).schemas todo (own s g))
+      keeps_reply kept (basis_for r.searched (todo ++ own s g)) (λ claim rests. rests) (touched_later (base s g).schemas todo (own s g))
       (λ is. absurd (false≢true (sym no-refusal ∙ is)))
 
   -- with another reply, for which it may be given up

@@ -11,7 +11,7 @@ pub mod Found
 pub mod Plans
 pub mod TupleByTuple
 pub mod Changed
-pub mod Grounds
+pub mod Bases
 pub mod PartByPart
 pub mod Changes
 pub mod Removing

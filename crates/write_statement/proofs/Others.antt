@@ -31,7 +31,7 @@ use Rattle.sql_lists.proofs.Moving.{AddingOne, stays_running}
 use Rattle.sql_lists.proofs.Staying.{other_of, not_starting, at_work, point_now, point_stays}
 use Rattle.law_beside.specs.Beside.{touches, AreOfRows}
 use Rattle.law_beside.proofs.Apart.{schemas_stay}
-use Rattle.law_claims.specs.Claims.{Tables, Ground, Keeps, KeepsGround, Stands, GoesBeside}
+use Rattle.law_claims.specs.Claims.{Tables, Basis, Keeps, KeepsBasis, Stands, GoesBeside}
 use Rattle.law_claims.proofs.Standing.{of_rows, rests_as, stands_then, stands_as}
 use Rattle.law_claims.proofs.Keeping.{kept_on, spares_rows, goes_beside}
 use Rattle.write_statement.specs.declared.machine.Part.{Part}
@@ -40,9 +40,9 @@ use Rattle.write_statement.specs.declared.machine.WriteStatement.{WriteStatement
 use Rattle.write_statement.specs.declared.machine.WriteStatement.TheVariants as machine
 use Rattle.write_statement.specs.Parts.{IsCut, GoesOnWith, behind, of_part, of_rest}
 use Rattle.write_statement.specs.Running.{Joins, HasOpened, InTxn, IsWorking, GoesOn, IsUnrefused, IsEarly, IsChanging, HasReply, IsReading, IsMaking}
-use Rattle.write_statement.specs.Running.{AnswersAlike, ground_for, IsFinishing, MovesOn, IsBackingOut, MayGoBack, MayAnswer, EndsTxn, IsClosing, IsRunning}
+use Rattle.write_statement.specs.Running.{AnswersAlike, basis_for, IsFinishing, MovesOn, IsBackingOut, MayGoBack, MayAnswer, EndsTxn, IsClosing, IsRunning}
 use Rattle.plain_sql.proofs.MoreTables.{more_tables}
-use Rattle.write_statement.proofs.Grounds.{later_rows, touched_later}
+use Rattle.write_statement.proofs.Bases.{later_rows, touched_later}
 use Rattle.write_statement.proofs.Writing.{reads_rows}
 use Rattle.write_statement.proofs.Replies.{reply_stays, reply_goes_on}
 use Rattle.write_statement.proofs.Ends.{rolls_back_on, txn_ends_on}
@@ -114,15 +114,15 @@ module _ (old new : State) (t s : ℕ) (differ : t ≢ s) (adding : AddingOne t 
       | inr a ↦ ap created a.2 ∙ no_table_more a.0 old.past t a.1 (spares_rows old new t s differ keeps Tables kept a.0 a.3)
     ]
 
-  module _ (ground : Ground) (kept : KeepsGround s (base s old.past).schemas ground old.past old.writer)
+  module _ (basis : Basis) (kept : KeepsBasis s (base s old.past).schemas basis old.past old.writer)
       (own-rows : AreOfRows (own_before s old.past)) (had : List Change) (own-parts : own s old.past ≡ had ++ own_before s old.past)
       (among : (place : Place) → touches (base s old.past).schemas (own s old.past) place ≡ true
-      → touches (base s old.past).schemas ground.changes place ≡ true) where
+      → touches (base s old.past).schemas basis.changes place ≡ true) where
     -- what the statement acts on goes on beside it
-    beside : GoesBeside ground s old.past new.past
+    beside : GoesBeside basis s old.past new.past
     beside =
         let schemas = (base s old.past).schemas in
-        goes_beside old new t s differ adding keeps ground kept own-rows (λ place before.
+        goes_beside old new t s differ adding keeps basis kept own-rows (λ place before.
         among place (ap (λ (cs : List Change). touches schemas cs place) own-parts ∙ touched_later schemas had (own_before s old.past) place before))
 
     schemas_are : (base s new.past).schemas ≡ (base s old.past).schemas
@@ -130,20 +130,20 @@ module _ (old new : State) (t s : ℕ) (differ : t ≢ s) (adding : AddingOne t 
         ap (λ (db : Database). db.schemas) beside.base_is
         ∙ schemas_stay (base s old.past) beside.others (of_rows (base s old.past).schemas beside.others (beside.leaves Tables tt))
 
-    keeps_on : KeepsGround s (base s new.past).schemas ground new.past new.writer
+    keeps_on : KeepsBasis s (base s new.past).schemas basis new.past new.writer
     keeps_on claim rests =
-        kept_on old new t s differ adding keeps claim (kept claim (rests_as (base s new.past).schemas (base s old.past).schemas schemas_are ground claim rests))
+        kept_on old new t s differ adding keeps claim (kept claim (rests_as (base s new.past).schemas (base s old.past).schemas schemas_are basis claim rests))
 
     among_on : (place : Place) → touches (base s new.past).schemas (own s new.past) place ≡ true
-        → touches (base s new.past).schemas ground.changes place ≡ true
+        → touches (base s new.past).schemas basis.changes place ≡ true
     among_on place mine =
-        ap (λ (schemas : List Schema). touches schemas ground.changes place) schemas_are
+        ap (λ (schemas : List Schema). touches schemas basis.changes place) schemas_are
         ∙ among place (ap (λ (cs : List Change). touches (base s old.past).schemas cs place) (sym own_is)
         ∙ (ap (λ (schemas : List Schema). touches schemas (own s new.past) place) (sym schemas_are) ∙ mine))
 
-    stands_on : (Holds : Database → Type 0) → Stands ground Holds (base s old.past) → Stands ground Holds (base s new.past)
+    stands_on : (Holds : Database → Type 0) → Stands basis Holds (base s old.past) → Stands basis Holds (base s new.past)
     stands_on Holds stands =
-        subst (Stands ground Holds) (sym beside.base_is) (stands_then ground Holds (base s old.past) beside.others stands beside.leaves)
+        subst (Stands basis Holds) (sym beside.base_is) (stands_then basis Holds (base s old.past) beside.others stands beside.leaves)
 
   -- ---- what refused it not
 
@@ -226,18 +226,18 @@ module _ (old new : State) (t s : ℕ) (differ : t ≢ s) (adding : AddingOne t 
   changing_on : (part : Part) (next : Database → Outcome) (todo : List Change) → IsChanging old.past old.writer s part next todo
       → IsChanging new.past new.writer s part next todo
   changing_on part next todo r =
-      let ground = ground_for r.searched (todo ++ own s old.past) in
+      let basis = basis_for r.searched (todo ++ own s old.past) in
       let rows = own_rows (reverse r.made) r.own_is r.working.rows_alone in
       let among = touched_later (base s old.past).schemas todo (own s old.past) in
       let Holds : Database → Type 0 = λ db. GoesOnWith r.statement db (r.made ++ reverse todo) next in
       let tables = tables_are (r.keeps Tables tt) in
-      let still = ap (λ (changes : List Change). ground_for r.searched (todo ++ changes)) (sym own_is) in
+      let still = ap (λ (changes : List Change). basis_for r.searched (todo ++ changes)) (sym own_is) in
       record {
         statement = r.statement;
         working = working_on r.statement part.alone r.working;
         goes_on = goes_on r.goes_on;
         before_is = r.before_is ∙ ap length (sym had_is);
-        tables = tables ∙ (r.tables ∙ sym (schemas_are ground r.keeps rows (reverse r.made) r.own_is among));
+        tables = tables ∙ (r.tables ∙ sym (schemas_are basis r.keeps rows (reverse r.made) r.own_is among));
         writes = r.writes;
         cut = subst (λ (schemas : List Schema). IsCut schemas part.stmt (behind part)) (sym tables) r.cut;
         table_is = ap (λ schemas. table_read schemas part.stmt) tables ∙ r.table_is;
@@ -246,11 +246,11 @@ module _ (old new : State) (t s : ℕ) (differ : t ≢ s) (adding : AddingOne t 
         searched = r.searched;
         searched_is = r.searched_is;
         keeps =
-            subst (λ (g : Ground). KeepsGround s (base s new.past).schemas g new.past new.writer) still
-            (keeps_on ground r.keeps rows (reverse r.made) r.own_is among);
+            subst (λ (g : Basis). KeepsBasis s (base s new.past).schemas g new.past new.writer) still
+            (keeps_on basis r.keeps rows (reverse r.made) r.own_is among);
         goes =
-            subst (λ (g : Ground). Stands g Holds (base s new.past)) still
-            (stands_on ground r.keeps rows (reverse r.made) r.own_is among Holds r.goes);
+            subst (λ (g : Basis). Stands g Holds (base s new.past)) still
+            (stands_on basis r.keeps rows (reverse r.made) r.own_is among Holds r.goes);
       }
 
   abbrev reading_on : (part : Part) → IsReading old.past old.writer s part → IsReading new.past new.writer s part
@@ -332,7 +332,7 @@ module _ (old new : State) (t s : ℕ) (differ : t ≢ s) (adding : AddingOne t 
               backing_with reply (inr (record { not_over = not-over; stays = inl (none.0, refl) }))
           | inr k ↦
               let rows = own_rows r.rest r.own_is r.working.rows_alone in
-              let goes = beside k.ground k.keeps rows r.rest r.own_is k.among in
+              let goes = beside k.basis k.keeps rows r.rest r.own_is k.among in
               let alike : AnswersAlike r.reply.count work.kept r.statement (base s new.past) (base s old.past) =
               subst (λ (db : Database). AnswersAlike r.reply.count work.kept r.statement db (base s old.past)) (sym goes.base_is)
               (k.stands goes.others goes.leaves) in
@@ -340,13 +340,13 @@ module _ (old new : State) (t s : ℕ) (differ : t ≢ s) (adding : AddingOne t 
               is-open r.statement work.kept r.backs r.reply alike (made_on m.not_over)) (inr (record {
                 not_over = not-over;
                 stays = inr (record {
-                  ground = k.ground;
-                  keeps = keeps_on k.ground k.keeps rows r.rest r.own_is k.among;
-                  among = among_on k.ground k.keeps rows r.rest r.own_is k.among;
-                  stands = stands_as k.ground (λ db. AnswersAlike r.reply.count work.kept r.statement db (base s old.past))
+                  basis = k.basis;
+                  keeps = keeps_on k.basis k.keeps rows r.rest r.own_is k.among;
+                  among = among_on k.basis k.keeps rows r.rest r.own_is k.among;
+                  stands = stands_as k.basis (λ db. AnswersAlike r.reply.count work.kept r.statement db (base s old.past))
                       (λ db. AnswersAlike r.reply.count work.kept r.statement db (base s new.past)) (base s new.past)
                       (λ db was. record { changes = was.changes ∙ sym alike.changes; reply = λ is. was.reply is ∙ sym (alike.reply is) })
-                      (stands_on k.ground k.keeps rows r.rest r.own_is k.among
+                      (stands_on k.basis k.keeps rows r.rest r.own_is k.among
                       (λ db. AnswersAlike r.reply.count work.kept r.statement db (base s old.past)) k.stands);
                 });
               }))

@@ -35,13 +35,13 @@ use Rattle.write_statement.specs.declared.machine.Part.{Part}
 use Rattle.law_db.specs.RowChanges.{AreOfTables}
 use Rattle.law_beside.specs.Beside.{touches}
 use Rattle.law_beside.proofs.Apart.{schemas_stay}
-use Rattle.law_claims.specs.Claims.{Claim, Tables, Ground, Keeps, RestsOn, LeavesGround, Stands}
+use Rattle.law_claims.specs.Claims.{Claim, Tables, Basis, Keeps, RestsOn, LeavesBasis, Stands}
 use Rattle.law_claims.proofs.Standing.{of_rows, stands_now, stands_as}
 use Rattle.law_claims.proofs.Keeping.{all_kept}
 use Rattle.law_claims.proofs.Outcomes.{keyed_behind}
-use Rattle.write_statement.specs.Running.{IsWorking, IsEarly, IsChanging, IsMade, ground_for, search_of, refused_at}
-use Rattle.write_statement.proofs.Grounds.{IsSearchOf, wider, touched_front, touched_later, touched_reverse, count_stands, refused_stands, others_behind}
-use Rattle.write_statement.proofs.Grounds.{same_tables, leaves_there}
+use Rattle.write_statement.specs.Running.{IsWorking, IsEarly, IsChanging, IsMade, basis_for, search_of, refused_at}
+use Rattle.write_statement.proofs.Bases.{IsSearchOf, wider, touched_front, touched_later, touched_reverse, count_stands, refused_stands, others_behind}
+use Rattle.write_statement.proofs.Bases.{same_tables, leaves_there}
 use Rattle.write_statement.proofs.Writing.{of_writing}
 use Rattle.write_statement.proofs.TupleByTuple.{insert_split, parts_unrefused}
 
@@ -167,7 +167,7 @@ module _ (statement : Stmt) (db : Database) (made : List Change) where
 pub goes_here : (past : List Event) (writer : Option ℕ) (s : ℕ) (part : Part) (next : Database → Outcome) (todo : List Change)
     (r : IsChanging past writer s part next todo) → GoesOnWith r.statement (base s past) (r.made ++ reverse todo) next
 goes_here past writer s part next todo r =
-    stands_now (ground_for r.searched (todo ++ own s past)) (λ db. GoesOnWith r.statement db (r.made ++ reverse todo) next) (base s past) r.goes
+    stands_now (basis_for r.searched (todo ++ own s past)) (λ db. GoesOnWith r.statement db (r.made ++ reverse todo) next) (base s past) r.goes
 
 module _ (past : List Event) (writer : Option ℕ) (s : ℕ) (part : Part) (r : IsChanging past writer s part (of_part part) [])
     (tables : created past ≡ (current s past).schemas) (keyed : IsKeyed (current s past)) where
@@ -175,10 +175,10 @@ module _ (past : List Event) (writer : Option ℕ) (s : ℕ) (part : Part) (r : 
   here = current s past
 
   -- over what the statement acts on with others' changes
-  module _ (ground : Ground) (more : (claim : Claim) → RestsOn (base s past).schemas (ground_for r.searched (own s past)) claim
-      → RestsOn (base s past).schemas ground claim)
-      (among : (place : Place) → touches (base s past).schemas (own s past) place ≡ true → touches (base s past).schemas ground.changes place ≡ true)
-      (others : List Change) (leaves : LeavesGround ground (base s past) others) where
+  module _ (basis : Basis) (more : (claim : Claim) → RestsOn (base s past).schemas (basis_for r.searched (own s past)) claim
+      → RestsOn (base s past).schemas basis claim)
+      (among : (place : Place) → touches (base s past).schemas (own s past) place ≡ true → touches (base s past).schemas basis.changes place ≡ true)
+      (others : List Change) (leaves : LeavesBasis basis (base s past) others) where
     abbrev below : Database
     below = changed (base s past) others
 
@@ -191,10 +191,10 @@ module _ (past : List Event) (writer : Option ℕ) (s : ℕ) (part : Part) (r : 
     there = apply below r.made
 
     there_is : there ≡ changed here others
-    there_is = others_behind past writer s part r ground others leaves among
+    there_is = others_behind past writer s part r basis others leaves among
 
     tables_left : AreOfTables here.schemas others
-    tables_left = leaves_there past writer s part r ground others leaves among Tables tt
+    tables_left = leaves_there past writer s part r basis others leaves among Tables tt
 
     keyed_there : IsKeyed there
     keyed_there = subst IsKeyed (sym there_is) (keyed_behind here others tables_left keyed)
@@ -227,8 +227,8 @@ module _ (past : List Event) (writer : Option ℕ) (s : ℕ) (part : Part) (r : 
   -- ---- it is counted
 
   module _ (todo : List Change) (counts : is_count (outcome part.stmt here).reply ≡ true) (changes : (outcome part.stmt here).changes ≡ reverse todo) where
-    abbrev after : Ground
-    after = ground_for (search_of part.stmt) (todo ++ own s past)
+    abbrev after : Basis
+    after = basis_for (search_of part.stmt) (todo ++ own s past)
 
     stands_counted : Stands after (λ db. GoesOnWith r.statement db (r.made ++ reverse todo) (of_rest part)) (base s past)
     stands_counted = λ others leaves.
@@ -268,24 +268,24 @@ module _ (past : List Event) (writer : Option ℕ) (s : ℕ) (part : Part) (r : 
   -- ---- it is refused
 
   module _ (kept : Reply) (refused : is_refusal kept ≡ true) (answer : kept ≡ (outcome part.stmt here).reply) where
-    abbrev pub refusal_ground : Ground
-    refusal_ground = record { changes = own s past; searched = search_of part.stmt; refused_at = refused_at part.table kept }
+    abbrev pub refusal_basis : Basis
+    refusal_basis = record { changes = own s past; searched = search_of part.stmt; refused_at = refused_at part.table kept }
 
-    pub refusal_wider : (claim : Claim) → RestsOn (base s past).schemas (ground_for r.searched (own s past)) claim
-        → RestsOn (base s past).schemas refusal_ground claim
+    pub refusal_wider : (claim : Claim) → RestsOn (base s past).schemas (basis_for r.searched (own s past)) claim
+        → RestsOn (base s past).schemas refusal_basis claim
     refusal_wider =
         wider (base s past).schemas part.stmt r.searched r.searched_is (own s past) (own s past) (λ place is. is) (refused_at part.table kept)
 
     -- that is the refusal of the whole, whatever others commit
-    pub part_refused : Stands refusal_ground (λ db. (outcome r.statement db).reply ≡ kept) (base s past)
+    pub part_refused : Stands refusal_basis (λ db. (outcome r.statement db).reply ≡ kept) (base s past)
     part_refused = λ others leaves.
         let among : (place : Place) → touches (base s past).schemas (own s past) place ≡ true
         → touches (base s past).schemas (own s past) place ≡ true = λ place is. is in
-        let there = leaves_there past writer s part r refusal_ground others leaves among in
+        let there = leaves_there past writer s part r refusal_basis others leaves among in
         let cut = subst (λ (schemas : List Schema). IsCut schemas part.stmt (behind part)) tables r.cut in
         let reads = subst (λ (schemas : List Schema). table_read schemas part.stmt ≡ Some part.table) tables r.table_is in
-        refused_there refusal_ground refusal_wider among others leaves
-        (refused_stands here others refusal_ground there part.table keyed kept refl part.stmt (behind part) r.writes refl cut
+        refused_there refusal_basis refusal_wider among others leaves
+        (refused_stands here others refusal_basis there part.table keyed kept refl part.stmt (behind part) r.writes refl cut
         (part_unrefused here.schemas part.stmt (behind part) cut) reads refused (sym answer)) kept refused (sym answer)
 
 -- ---- the first part
@@ -385,7 +385,7 @@ module _ (past : List Event) (writer : Option ℕ) (s : ℕ) (part : Part) (r : 
         searched_is = inl (none_searched (created past) part.stmt tuple (behind after) cut r.searched r.searched_is);
         keeps = r.keeps;
         goes = stands_as
-            (ground_for r.searched (own s past)) (λ db. GoesOnWith r.statement db (r.made ++ []) (of_rest part))
+            (basis_for r.searched (own s past)) (λ db. GoesOnWith r.statement db (r.made ++ []) (of_rest part))
             (λ db. GoesOnWith r.statement db (r.made ++ []) (of_part after)) (base s past) (λ db goes.
             subst (λ (st : Stmt). GoesOnWith r.statement db (r.made ++ []) (outcome (left_of st (behind after)))) (sym stmt-is)
             (next_goes (created past) r.statement db (r.made ++ []) part.stmt tuple (behind after) cut

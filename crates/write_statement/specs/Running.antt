@@ -33,7 +33,7 @@ use Rattle.shared_lists.specs.State.{State, task_of}
 use Rattle.shared_lists.specs.Steps.{AreRowsSeen}
 use Rattle.sql_plan.specs.declared.choice.Plan.{Plan}
 use Rattle.law_beside.specs.Beside.{touches}
-use Rattle.law_claims.specs.Claims.{Ground, KeepsGround, Stands}
+use Rattle.law_claims.specs.Claims.{Basis, KeepsBasis, Stands}
 use Rattle.sql_lists.specs.Steps.{HasRowsAlone, IsTaken}
 use Rattle.sql_plan.specs.Planning.{HoldsMatches}
 use Rattle.write_statement.specs.declared.machine.Part.{Part}
@@ -103,8 +103,8 @@ refused_at table (replies.Fail (Duplicate key)) = Some (table, key)
 refused_at table other = None
 
 -- What changes that are made or to be made rest on: their places; and the rows that the statement has searched for.
-abbrev pub ground_for : Option Stmt → List Change → Ground
-ground_for searched changes = record { changes = changes; searched = searched; refused_at = None }
+abbrev pub basis_for : Option Stmt → List Change → Basis
+basis_for searched changes = record { changes = changes; searched = searched; refused_at = None }
 
 -- the first so many changes, and the refusal if it is one
 pub record AnswersAlike (count : ℕ) (kept : Reply) (statement : Stmt) (some other : Database) : Type 0 where
@@ -113,10 +113,10 @@ pub record AnswersAlike (count : ℕ) (kept : Reply) (statement : Stmt) (some ot
 
 -- what the reply of a statement that has made so many changes rests on is kept
 pub record KeepsReply (s count : ℕ) (kept : Reply) (statement : Stmt) (past : List Event) (writer : Option ℕ) : Type 0 where
-  pub ground : Ground
-  pub keeps : KeepsGround s (base s past).schemas ground past writer
-  pub among : (place : Place) → touches (base s past).schemas (own s past) place ≡ true → touches (base s past).schemas ground.changes place ≡ true
-  pub stands : Stands ground (λ db. AnswersAlike count kept statement db (base s past)) (base s past)
+  pub basis : Basis
+  pub keeps : KeepsBasis s (base s past).schemas basis past writer
+  pub among : (place : Place) → touches (base s past).schemas (own s past) place ≡ true → touches (base s past).schemas basis.changes place ≡ true
+  pub stands : Stands basis (λ db. AnswersAlike count kept statement db (base s past)) (base s past)
 
 -- ---- its parts
 
@@ -136,8 +136,8 @@ pub record IsChanging (past : List Event) (writer : Option ℕ) (s : ℕ) (part 
   -- what all of them rest on is kept; and on that stands what comes behind them
   pub searched : Option Stmt
   pub searched_is : (searched ≡ None) ⊎ (searched ≡ search_of part.stmt)
-  pub keeps : KeepsGround s (base s past).schemas (ground_for searched (todo ++ own s past)) past writer
-  pub goes : Stands (ground_for searched (todo ++ own s past)) (λ db. GoesOnWith statement db (made ++ reverse todo) next) (base s past)
+  pub keeps : KeepsBasis s (base s past).schemas (basis_for searched (todo ++ own s past)) past writer
+  pub goes : Stands (basis_for searched (todo ++ own s past)) (λ db. GoesOnWith statement db (made ++ reverse todo) next) (base s past)
 
 -- The plan of its search leaves out no row of its table that the part's outcome depends on.
 pub record IsReading (past : List Event) (writer : Option ℕ) (s : ℕ) (part : Part) : Type 0 where

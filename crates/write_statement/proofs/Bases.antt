@@ -32,13 +32,13 @@ use Rattle.sql_history.specs.Legal.{IsWriting}
 use Rattle.law_beside.specs.Beside.{is_change_at, touches, AreApart, AreOfRows}
 use Rattle.law_beside.proofs.Apart.{schemas_stay, beside_commutes}
 use Rattle.law_beside.proofs.Searching.{on_rows-alike, outcome-alike}
-use Rattle.law_claims.specs.Claims.{Claim, Tables, Row, Rows, Leaves, Ground, RestsOn, LeavesGround, SearchesFor, IsRefusedAt}
+use Rattle.law_claims.specs.Claims.{Claim, Tables, Row, Rows, Leaves, Basis, RestsOn, LeavesBasis, SearchesFor, IsRefusedAt}
 use Rattle.law_claims.proofs.Standing.{of_rows, rests_as, touches_append, leaves_behind}
 use Rattle.law_claims.proofs.Outcomes.{search_stands, counted_stands, refusal_stands}
 use Rattle.write_statement.specs.declared.machine.Part.{Part}
 use Rattle.write_statement.specs.Settling.{is_count, is_refusal}
 use Rattle.write_statement.specs.Parts.{has_parts, IsCut, behind, of_part}
-use Rattle.write_statement.specs.Running.{IsChanging, ground_for, search_of, refused_at}
+use Rattle.write_statement.specs.Running.{IsChanging, basis_for, search_of, refused_at}
 use Rattle.write_statement.proofs.Changed.{changed_all, current_changed}
 
 -- ---- changes of rows
@@ -72,14 +72,14 @@ pub touched_reverse : (schemas : List Schema) (changes : List Change) (place : P
 touched_reverse schemas changes place =
     sym (list_any-IsPermutation (is_change_at schemas place) changes (reverse changes) (IsPermutation-reverse changes))
 
--- ---- more ground
+-- ---- more basis
 
 abbrev pub IsSearchOf : Option Stmt → Stmt → Type 0
 IsSearchOf searched statement = (searched ≡ None) ⊎ (searched ≡ search_of statement)
 
 pub wider : (schemas : List Schema) (statement : Stmt) (searched : Option Stmt) → IsSearchOf searched statement → (some more : List Change)
     → ((place : Place) → touches schemas some place ≡ true → touches schemas more place ≡ true) → (refused : Option Place) (claim : Claim)
-    → RestsOn schemas (ground_for searched some) claim
+    → RestsOn schemas (basis_for searched some) claim
     → RestsOn schemas (record { changes = more; searched = search_of statement; refused_at = refused }) claim
 wider schemas statement searched is some more among refused Tables rests = tt
 wider schemas statement searched is some more among refused (Row place) (inl touched) = inl (among place touched)
@@ -100,7 +100,7 @@ few_tuples schemas name names first second tuples (next ∷ later) cut = cut
 same_number : (a b : ℕ) → Some a ≡ Some b → a ≡ b
 same_number a b same = cc
 
-module _ (db : Database) (others : List Change) (ground : Ground) (leaves : LeavesGround ground db others) where
+module _ (db : Database) (others : List Change) (basis : Basis) (leaves : LeavesBasis basis db others) where
   tables : (changed db others).schemas ≡ db.schemas
   tables = schemas_stay db others (of_rows db.schemas others (leaves Tables tt))
 
@@ -109,16 +109,16 @@ module _ (db : Database) (others : List Change) (ground : Ground) (leaves : Leav
   count_of other is = absurd (false≢true is)
 
   -- it is counted
-  pub count_stands : (statement : Stmt) → IsWriting statement → ground.searched ≡ search_of statement → is_count (outcome statement db).reply ≡ true
-      → ((place : Place) → touches db.schemas (outcome statement db).changes place ≡ true → touches db.schemas ground.changes place ≡ true)
+  pub count_stands : (statement : Stmt) → IsWriting statement → basis.searched ≡ search_of statement → is_count (outcome statement db).reply ≡ true
+      → ((place : Place) → touches db.schemas (outcome statement db).changes place ≡ true → touches db.schemas basis.changes place ≡ true)
       → outcome statement (changed db others) ≡ outcome statement db
   count_stands (stmt.Insert name names tuples) writes searched counts among =
       let count = count_of (outcome (stmt.Insert name names tuples) db).reply counts in
-      counted_stands db others ground leaves name names tuples count.0 count.1 among
+      counted_stands db others basis leaves name names tuples count.0 count.1 among
   count_stands (stmt.Update name sets condition) writes searched counts among =
-      search_stands db others ground leaves (stmt.Update name sets condition) refl tt searched
+      search_stands db others basis leaves (stmt.Update name sets condition) refl tt searched
   count_stands (stmt.Delete name condition) writes searched counts among =
-      search_stands db others ground leaves (stmt.Delete name condition) refl tt searched
+      search_stands db others basis leaves (stmt.Delete name condition) refl tt searched
   count_stands other writes searched counts among = absurd writes
 
   error_of : (reply : Reply) → is_refusal reply ≡ true → (error : SqlError) × (reply ≡ replies.Fail error)
@@ -132,33 +132,33 @@ module _ (db : Database) (others : List Change) (ground : Ground) (leaves : Leav
       (on_rows-alike (changed db others) db name (insert_answer names []) tables (λ table schema named is. refl))
 
   -- it is refused
-  module _ (table : ℕ) (keyed : IsKeyed db) (kept : Reply) (at : ground.refused_at ≡ refused_at table kept) where
+  module _ (table : ℕ) (keyed : IsKeyed db) (kept : Reply) (at : basis.refused_at ≡ refused_at table kept) where
     at_place : (error : SqlError) → kept ≡ replies.Fail error → (name : List ℕ) → table_read db.schemas (stmt.Insert name None []) ≡ Some table
-        → IsRefusedAt db.schemas name error ground
+        → IsRefusedAt db.schemas name error basis
     at_place (errors.Duplicate key) is name reads = λ other named.
         at ∙ (ap (refused_at table) is ∙ ap (λ (n : ℕ). Some (n, key)) (same_number table other (sym reads ∙ named)))
     at_place other is name reads = tt
 
-    pub refused_stands : (statement : Stmt) (later : List (List Literal)) → IsWriting statement → ground.searched ≡ search_of statement
+    pub refused_stands : (statement : Stmt) (later : List (List Literal)) → IsWriting statement → basis.searched ≡ search_of statement
         → IsCut db.schemas statement later → refusal db.schemas statement ≡ None → table_read db.schemas statement ≡ Some table
         → is_refusal kept ≡ true → (outcome statement db).reply ≡ kept → outcome statement (changed db others) ≡ outcome statement db
     refused_stands (stmt.Insert name names []) later writes searched cut none reads refused reply = none_put name names
     refused_stands (stmt.Insert name names (tuple ∷ [])) later writes searched cut none reads refused reply =
         let error = error_of kept refused in
-        refusal_stands db others ground leaves keyed name names tuple error.0 none (reply ∙ error.1) (at_place error.0 error.1 name reads)
+        refusal_stands db others basis leaves keyed name names tuple error.0 none (reply ∙ error.1) (at_place error.0 error.1 name reads)
     refused_stands (stmt.Insert name names (first ∷ second ∷ tuples)) later writes searched cut none reads refused reply =
         absurd (few_tuples db.schemas name names first second tuples later cut)
     refused_stands (stmt.Update name sets condition) later writes searched cut none reads refused reply =
-        search_stands db others ground leaves (stmt.Update name sets condition) refl tt searched
+        search_stands db others basis leaves (stmt.Update name sets condition) refl tt searched
     refused_stands (stmt.Delete name condition) later writes searched cut none reads refused reply =
-        search_stands db others ground leaves (stmt.Delete name condition) refl tt searched
+        search_stands db others basis leaves (stmt.Delete name condition) refl tt searched
     refused_stands other later writes searched cut none reads refused reply = absurd writes
 
 -- ---- behind the changes that are made
 
 module _ (past : List Event) (writer : Option ℕ) (s : ℕ) (part : Part) (r : IsChanging past writer s part (of_part part) [])
-    (ground : Ground) (others : List Change) (leaves : LeavesGround ground (base s past) others)
-    (among : (place : Place) → touches (base s past).schemas (own s past) place ≡ true → touches (base s past).schemas ground.changes place ≡ true) where
+    (basis : Basis) (others : List Change) (leaves : LeavesBasis basis (base s past) others)
+    (among : (place : Place) → touches (base s past).schemas (own s past) place ≡ true → touches (base s past).schemas basis.changes place ≡ true) where
   others_rows : AreOfRows others
   others_rows = of_rows (base s past).schemas others (leaves Tables tt)
 
@@ -185,9 +185,9 @@ module _ (past : List Event) (writer : Option ℕ) (s : ℕ) (part : Part) (r : 
   pub same_tables : (current s past).schemas ≡ (base s past).schemas
   same_tables = ap (λ (d : Database). d.schemas) now_is ∙ schemas_stay (base s past) (reverse r.made) made_rows
 
-  -- and leave the ground there
-  pub leaves_there : LeavesGround ground (current s past) others
+  -- and leave the basis there
+  pub leaves_there : LeavesBasis basis (current s past) others
   leaves_there claim rests =
-      let was = leaves claim (rests_as (current s past).schemas (base s past).schemas same_tables ground claim rests) in
+      let was = leaves claim (rests_as (current s past).schemas (base s past).schemas same_tables basis claim rests) in
       subst (λ (d : Database). Leaves claim d others) (sym now_is)
       (leaves_behind (base s past) (reverse r.made) others made_rows others_rows made_apart claim was)
