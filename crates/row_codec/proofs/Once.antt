@@ -16,6 +16,8 @@ use Rattle.key_codec.specs.Keys.{IsOfKind, Has64Bits, padded, key_code}
 use Rattle.key_codec.specs.Numbers.{u64_bytes}
 use Rattle.key_codec.proofs.Once.{same_u64, same_padded, same_key}
 use Rattle.row_codec.specs.Rows.{FitsColumn, IsRowOf, IsStored, IsRecordOf, IsVersion, body_code, field_code, fields_code, others_code, mark_code, head_code}
+use Rattle.row_codec.specs.declared.read.Head.{Head}
+use Rattle.row_codec.specs.Heads.{IsHeadOf, version_head}
 use Rattle.row_codec.specs.Reads.{Reads}
 use Rattle.row_codec.proofs.Parts.{same_fronts, length-field_code, length-head_code}
 use Rattle.row_codec.proofs.Joined.{length-row, Reads-one_rest}
@@ -87,6 +89,16 @@ same_head a b m n i j m_fits n_fits i_fits j_fits e =
     let numbers : u64_bytes m ++ u64_bytes i ≡ u64_bytes n ++ u64_bytes j = cc in
     let parts = same_fronts (u64_bytes m) (u64_bytes n) (u64_bytes i) (u64_bytes j) (length-u64_bytes m ∙ sym (length-u64_bytes n)) numbers in
     (mark a b marks, same_u64 m n m_fits n_fits parts.0, same_u64 i j i_fits j_fits parts.1)
+
+-- the head that is read of a version's record is that version's
+pub head_of_record : (schema : Schema) (version : Version) (key value fields : List ℕ) (head : Head) → head.writer < 2 ^ 64 → head.pointer < 2 ^ 64
+    → IsHeadOf head fields value → IsVersion version → IsRecordOf schema version key value → head ≡ version_head version
+head_of_record schema version key value fields head writer_fits pointer_fits read fits is =
+    let one = same_fronts (head_code head.marked head.writer head.pointer) (head_code version.marked version.writer version.pointer)
+    fields (others_code schema.primary schema.columns version.row)
+    (length-head_code head.marked head.writer head.pointer ∙ sym (length-head_code version.marked version.writer version.pointer)) (sym read ∙ is.value_is) in
+    let same = same_head head.marked version.marked head.writer version.writer head.pointer version.pointer writer_fits fits.writer pointer_fits fits.pointer one.0 in
+    λ i. record { marked = same.0 i; writer = same.1 i; pointer = same.2 i }
 
 -- a row is what stands before the primary value, that value, and what stands behind it
 row_around : (schema : Schema) (row : List Value) → schema.primary < length row → row ≡ take schema.primary row ++ key_of schema row ∷ drop (suc schema.primary) row

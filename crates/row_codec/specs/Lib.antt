@@ -1,3 +1,4 @@
+pub mod Heads
 pub mod Reads
 pub mod Refused
 pub mod Rows

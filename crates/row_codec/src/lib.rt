@@ -10,6 +10,6 @@ mod refused;
 mod write;
 
 pub use laws::{one_length, one_version};
-pub use read::decode;
+pub use read::{Head, decode, read_head};
 pub use refused::RowBad;
 pub use write::encode;

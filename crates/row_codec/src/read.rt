@@ -1,13 +1,15 @@
 //! Reads a clustered record as the version that it stands for. Nothing is handed out where bytes are refused.
 //! The key is read by `key_codec`.
 
-ghost use Rattle.std.specs.Prelude.{◌≡◌, ℕ, List, Bool, ◌+◌, ◌≤◌, ◌∷◌, ◌++◌, length, All, IfOk, IfSome, IfNone, Err, remove};
+ghost use Rattle.std.specs.Prelude.{◌≡◌, ℕ, List, Bool, ◌+◌, ◌≤◌, ◌∷◌, ◌++◌, length, All, IfOk, IfSome, IfNone, Some, Err, remove};
+ghost use Rattle.inno_types.specs.declared.value.Schema.{Schema};
 ghost use Rattle.inno_types.specs.declared.value.Value.{Value};
 ghost use Rattle.store_api.specs.declared.answers.Version.{Version};
 ghost use Rattle.key_codec.specs.Keys.{Has64Bits};
 ghost use Rattle.key_codec.specs.Numbers.{u64_bytes};
+ghost use Rattle.row_codec.specs.Heads.{IsHeadOf, version_head};
 ghost use Rattle.row_codec.specs.Refused.{IsOrNoMemory};
-ghost use Rattle.row_codec.specs.Rows.{IsStored, IsRecordOf, IsVersion, head_code, mark_code};
+ghost use Rattle.row_codec.specs.Rows.{IsStored, IsRecordOf, IsVersion, mark_code};
 
 use crate::fields::{around, fields_of};
 use crate::refused::RowBad;
@@ -15,6 +17,15 @@ use inno_types::{Row, Schema};
 use key_codec::{get_key, u64_of};
 use std::alloc::Global;
 use store_api::Version;
+
+/// What stands before the fields of a record: whether the version is deleted, who wrote it, and where the version before it
+/// is kept (0 for none).
+#[derive(Clone, Copy)]
+pub struct Head {
+    pub marked: bool,
+    pub writer: u64,
+    pub pointer: u64,
+}
 
 fn mark_of(byte: u8) -> Option<bool>
     ensures found { IfSome result (λ marked. byte ≡ mark_code marked) }
@@ -40,17 +51,35 @@ fn number_of(bytes: &[u8]) -> Option<(u64, &[u8])>
     Some((number, rest))
 }
 
-/// The mark, the writer and the roll pointer at the front of the bytes, and the bytes behind them.
-fn head_of(bytes: &[u8]) -> Option<(bool, u64, u64, &[u8])>
-    ensures found { IfSome result (λ read. bytes.now ≡ head_code read.0 read.1 read.2 ++ read.3.now) }
-    ensures none { IfNone result ((marked : Bool) (writer pointer : ℕ) (rest : List ℕ)
-        → bytes.now ≡ head_code marked writer pointer ++ rest → ⊥) }
+/// The head at the front of the bytes, and the bytes behind it.
+fn head_of(bytes: &[u8]) -> Option<(Head, &[u8])>
+    ensures found { IfSome result (λ read. IsHeadOf read.0 read.1.now bytes.now) }
+    ensures none { IfNone result ((head : Head) (fields : List ℕ) → IsHeadOf head fields bytes.now → ⊥) }
 {
     let (mark, behind) = bytes.split_first()?;
     let marked = mark_of(*mark)?;
     let (writer, behind) = number_of(behind)?;
     let (pointer, behind) = number_of(behind)?;
-    Some((marked, writer, pointer, behind))
+    let head = Head {
+        marked,
+        writer,
+        pointer,
+    };
+    Some((head, behind))
+}
+
+/// The head of the record whose value has these bytes. Its fields are not looked at, so no memory is taken.
+pub fn read_head(value: &[u8]) -> Option<Head>
+    // What is read stands at the front of the bytes.
+    ensures found { IfSome result (λ head. (fields : List ℕ) × IsHeadOf head fields value.now) }
+    // Where the bytes are a version's record, it is the head of that version.
+    ensures back { (schema : Schema) (version : Version) (key : List ℕ) → IsVersion version
+        → IsRecordOf schema version key value.now → result ≡ Some (version_head version) }
+    // Bytes are refused only where no head stands at their front.
+    ensures none { IfNone result ((head : Head) (fields : List ℕ) → IsHeadOf head fields value.now → ⊥) }
+{
+    let (head, _) = head_of(value)?;
+    Some(head)
 }
 
 /// The row of these fields whose primary value has this key.
@@ -89,12 +118,12 @@ pub fn decode(alloc: Global, schema: &Schema, key: &[u8], value: &[u8]) -> Resul
     ensures shape { result ≡ Err RowBad.Shape → (version : Version)
         → IsRecordOf schema.now version key.now value.now → ⊥ }
 {
-    let (marked, writer, pointer, fields) = head_of(value).ok_or(RowBad::Shape)?;
+    let (head, fields) = head_of(value).ok_or(RowBad::Shape)?;
     let row = row_of(alloc, schema, key, fields)?;
     Ok(Version {
         row,
-        writer,
-        pointer,
-        marked,
+        writer: head.writer,
+        pointer: head.pointer,
+        marked: head.marked,
     })
 }
