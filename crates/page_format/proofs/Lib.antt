@@ -8,5 +8,6 @@ pub mod Orders
 pub mod Pieces
 pub mod Places
 pub mod Rising
+pub mod Searching
 pub mod Sealed
 pub mod Decided

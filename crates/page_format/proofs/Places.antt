@@ -1,10 +1,7 @@
--- The record at a place of a page, and where a key is looked for.
-use Rattle.std.proofs.Common.{◌≡◌, ℕ, zero, suc, ◌+◌, ◌*◌, ◌<◌, ◌≤◌, List, [], length, take, drop, get_or, sym, ap, subst, ◌∙◌, arith}
-use Rattle.std.specs.declared.cmp.Ordering.TheVariants.{Less}
-use Rattle.std.proofs.lemmas.List.{drop-drop, take-take, take_more}
-use Rattle.std.proofs.lemmas.List.Elements.{All-push}
+-- The record at a place of a page.
+use Rattle.std.proofs.Common.{◌≡◌, ℕ, zero, suc, ◌+◌, ◌*◌, ◌<◌, ◌≤◌, List, [], take, drop, get_or, sym, ap, ◌∙◌, arith}
+use Rattle.std.proofs.lemmas.List.{drop-drop, take-take}
 use Rattle.page_format.specs.Words.{pieces, records_of, record_len_of, count_of}
-use Rattle.page_format.specs.Found.{key_cmp, AreBelow}
 
 get_or-pieces : (width n i : ℕ) (bytes : List ℕ) → i < n → get_or (pieces width n bytes) i [] ≡ take width (drop (i * width) bytes)
 get_or-pieces width zero i bytes inside = absurd (omega (arith, inside))
@@ -23,6 +20,3 @@ pub front_of : (bytes : List ℕ) (i n : ℕ) → i < count_of bytes → n ≤ r
 front_of bytes i n inside short =
     let here = get_or-pieces (record_len_of bytes) (count_of bytes) i (drop 208 bytes) inside in
     sym (ap (take n) here ∙ take-take n (record_len_of bytes) (drop (i * record_len_of bytes) (drop 208 bytes)) short ∙ ap (take n) (drop-drop (i * record_len_of bytes) 208 bytes))
-
-pub below_more : (key : List ℕ) (rs : List (List ℕ)) (i : ℕ) → i < length rs → AreBelow key (take i rs) → key_cmp key (get_or rs i []) ≡ Less → AreBelow key (take (i + 1) rs)
-below_more key rs i inside below less = subst (λ (l : List (List ℕ)). AreBelow key l) (sym (take_more rs i [] inside)) (All-push (λ (r : List ℕ). key_cmp key r ≡ Less) (take i rs) (get_or rs i []) below less)

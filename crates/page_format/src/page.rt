@@ -118,6 +118,7 @@ impl Page {
     /// Where a key stands among the records, by their first bytes.
     pub fn find(&self, key: &[u8]) -> Found
         requires fields { HasTreeFields self.now }
+        requires rising { AreRising (records_of self.now) }
         requires key { length key.now ≤ record_len_of self.now }
         ensures { IsFound (records_of self.now) key.now result }
     {

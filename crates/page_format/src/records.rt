@@ -1,10 +1,11 @@
 //! Edits of the records of a tree page, on its bytes.
 //! The calls of `Page` are these.
 
-ghost use Rattle.std.specs.Prelude.{◌≡◌, ℕ, ◌+◌, ◌*◌, ◌≤◌, ◌<◌, ◌++◌, length, take, drop, insert, remove};
+ghost use Rattle.std.specs.Prelude.{◌≡◌, ◌≢◌, ℕ, ◌+◌, ◌*◌, ◌≤◌, ◌<◌, ◌++◌, [], length, take, drop, insert, remove, slice_index_or};
+ghost use Rattle.std.specs.declared.cmp.Ordering.TheVariants.{Less};
 ghost use Rattle.std.specs.Int.{w16, to_be_bytes};
 ghost use Rattle.page_format.specs.Changes.{KeepsFields, with_byte};
-ghost use Rattle.page_format.specs.Found.{IsFound};
+ghost use Rattle.page_format.specs.Found.{key_cmp, AreBelow, IsFound};
 ghost use Rattle.page_format.specs.Words.{count_of, record_len_of, records_of};
 ghost use Rattle.page_format.specs.Shape.{HasTreeFields, AreRising};
 
@@ -90,24 +91,56 @@ pub fn mark_record(bytes: &mut [u8], i: u16, key_len: u8, mark: u8)
     write_over(bytes, at, &[mark]);
 }
 
-/// Where a key stands among the records.
+/// How the record of that number stands to a key, by its first bytes.
+fn compare_at(bytes: &[u8], i: u16, key: &[u8]) -> Ordering
+    requires size { length bytes.now ≡ 4096 }
+    requires fields { HasTreeFields bytes.now }
+    requires place { i < count_of bytes.now }
+    requires key { length key.now ≤ record_len_of bytes.now }
+    ensures { result ≡ key_cmp key.now (slice_index_or (records_of bytes.now) i []) }
+{
+    let at = place_of(bytes, i);
+    behind(bytes, at).split_at(key.len()).0.cmp(key)
+}
+
+/// How many records begin below a key. It halves the records in question each time.
+fn count_below(bytes: &[u8], key: &[u8]) -> u16
+    requires size { length bytes.now ≡ 4096 }
+    requires fields { HasTreeFields bytes.now }
+    requires rising { AreRising (records_of bytes.now) }
+    requires key { length key.now ≤ record_len_of bytes.now }
+    ensures within { result ≤ count_of bytes.now }
+    ensures below { AreBelow key.now (take result (records_of bytes.now)) }
+    ensures next { result < count_of bytes.now → key_cmp key.now (slice_index_or (records_of bytes.now) result []) ≢ Less }
+{
+    let mut low = 0;
+    let mut high = read_u16(bytes, COUNT);
+    while low < high {
+        let middle = low + (high - low) / 2;
+        match compare_at(bytes, middle, key) {
+            Ordering::Less => low = middle + 1,
+            _ => high = middle,
+        }
+    }
+    low
+}
+
+/// Where a key stands among the records, which rise.
 pub fn find_record(bytes: &[u8], key: &[u8]) -> Found
     requires size { length bytes.now ≡ 4096 }
     requires fields { HasTreeFields bytes.now }
+    requires rising { AreRising (records_of bytes.now) }
     requires key { length key.now ≤ record_len_of bytes.now }
     ensures { IsFound (records_of bytes.now) key.now result }
 {
-    let count = read_u16(bytes, COUNT);
-    for i in 0..count {
-        let at = place_of(bytes, i);
-        let (front, _) = behind(bytes, at).split_at(key.len());
-        match front.cmp(key) {
-            Ordering::Less => {}
-            Ordering::Equal => return Found::At(i),
-            Ordering::Greater => return Found::Before(i),
-        }
+    let place = count_below(bytes, key);
+    if place == read_u16(bytes, COUNT) {
+        return Found::Before(place);
     }
-    Found::Before(count)
+    match compare_at(bytes, place, key) {
+        Ordering::Equal => Found::At(place),
+        _ => Found::Before(place),
+    }
 }
 
 /// Keeps the records before a place.

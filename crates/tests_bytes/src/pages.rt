@@ -1,7 +1,8 @@
 //! Pages whose room, sum and number are known from outside, and one whose records are edited.
 
 ghost use Rattle.std.specs.Prelude.{◌≡◌, length, IfOk};
-ghost use Rattle.page_format.specs.Shape.{HasTreeFields};
+ghost use Rattle.page_format.specs.Shape.{HasTreeFields, AreRising};
+ghost use Rattle.page_format.specs.Words.{records_of};
 
 use page_format::{Found, Page, PageBad};
 use std::test::Fail;
@@ -28,7 +29,8 @@ fn leaf(count: u16, record_len: u16, step: u8) -> [u8; 4096] {
 
 fn tree_of(bytes: &[u8], number: u32) -> Result<Page, PageBad>
     requires { length bytes.now ≡ 4096 }
-    ensures { IfOk result HasTreeFields }
+    ensures fields { IfOk result HasTreeFields }
+    ensures rising { IfOk result (λ page. AreRising (records_of page)) }
 {
     let page = Page::read(bytes, number)?;
     if page.is_tree() {
