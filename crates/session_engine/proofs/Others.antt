@@ -27,6 +27,7 @@ use Rattle.read_statement.specs.declared.machine.ReadStatement.{ReadStatement}
 use Rattle.read_statement.specs.declared.machine.ReadStatement.TheVariants as reads
 use Rattle.read_statement.specs.Running.{IsRunning as IsReading}
 use Rattle.read_statement.proofs.Staying.{stays as read_on}
+use Rattle.giving_up.specs.declared.leaving.Leaving.TheVariants as leaving
 use Rattle.write_statement.specs.declared.machine.WriteStatement.{WriteStatement}
 use Rattle.write_statement.specs.declared.machine.WriteStatement.TheVariants as writes
 use Rattle.write_statement.specs.Running.{IsRunning as IsChangingRows}
@@ -159,15 +160,15 @@ read_item state s (reads.Failed alone) r none = (let x = r.0.early.takes.asks.1 
 
 write_item : (state : Lists) (s : ℕ) (m : WriteStatement) → IsChangingRows state s m → under_way s state.past ≢ None
 write_item state s (writes.Fresh stmt) r none = (let x = r.0.takes.asks.1 in cc)
-write_item state s writes.Unopened r none = (let x = r.0.taken.takes.asks.1 in cc)
+write_item state s (writes.Leaving leaving.Unopened) r none = (let x = r.0.taken.takes.asks.1 in cc)
 write_item state s (writes.Locking stmt alone) r none = (let x = r.0.working.takes.asks.1 in cc)
 write_item state s (writes.Searching part) r none = (let x = r.reading.changing.working.takes.asks.1 in cc)
 write_item state s (writes.Changing part todo) r none = (let x = r.0.working.takes.asks.1 in cc)
 write_item state s (writes.Making part todo rows) r none = (let x = r.changing.working.takes.asks.1 in cc)
 write_item state s (writes.Finishing part todo) r none = (let x = r.changing.working.takes.asks.1 in cc)
-write_item state s (writes.BackingOut work) r none = (let x = r.0.working.takes.asks.1 in cc)
-write_item state s (writes.Unacked kept given) r none = (let x = r.0.takes.asks.1 in cc)
-write_item state s (writes.Ending kept given) r none = (let x = r.0.takes.asks.1 in cc)
+write_item state s (writes.Leaving (leaving.BackingOut work)) r none = (let x = r.0.working.takes.asks.1 in cc)
+write_item state s (writes.Leaving (leaving.Unacked kept given)) r none = (let x = r.0.takes.asks.1 in cc)
+write_item state s (writes.Leaving (leaving.Ending kept given)) r none = (let x = r.0.takes.asks.1 in cc)
 
 -- a running statement has an item under way
 pub has_item : (state : Lists) (s : ℕ) (statement : Statement) → IsRunning state s statement → under_way s state.past ≢ None

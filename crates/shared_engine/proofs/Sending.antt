@@ -21,6 +21,7 @@ use Rattle.commit_log.proofs.commit_log.CommitLog.TheSendSync as log-sent
 use Rattle.transaction_statements.specs.contracts.statement.TransactionStatement as transaction
 use Rattle.create_statement.specs.contracts.machine.CreateStatement as creation
 use Rattle.read_statement.specs.contracts.machine.ReadStatement as reading
+use Rattle.giving_up.proofs.leaving.Leaving.TheSendSync as leaving-sent
 use Rattle.write_statement.specs.contracts.machine.WriteStatement as writing
 use Rattle.statement.specs.contracts.under_way.Statement as statement
 use Rattle.sql_lists.proofs.lists.SqlLists.TheSendSync as sql-sent
@@ -63,7 +64,7 @@ reading_part = enum_send (enums.shape reading.the_type) (search (sendable, cross
 
 writing_part : IsSend (writing.the_field).row
 writing_part = enum_send (enums.shape writing.the_type)
-    (search (sendable, crosses, stmt_part, reply-sent.the_field_send, change-sent.the_send) depth 60 fits 100000)
+    (search (sendable, crosses, stmt_part, leaving-sent.the_field_send, change-sent.the_send) depth 60 fits 100000)
 
 statement_part : IsSend (statement.the_field).row
 statement_part = enum_send (enums.shape statement.the_type)

@@ -25,12 +25,13 @@ use Rattle.read_statement.specs.declared.machine.ReadStatement.{ReadStatement}
 use Rattle.read_statement.specs.declared.machine.ReadStatement.TheVariants as readings
 use Rattle.read_statement.specs.Running as of_read
 use Rattle.read_statement.proofs.Items.{none_closed, turn_goes_on}
+use Rattle.giving_up.specs.declared.leaving.Leaving.TheVariants as leaving
 use Rattle.write_statement.specs.declared.machine.WriteStatement.{WriteStatement}
 use Rattle.write_statement.specs.declared.machine.WriteStatement.TheVariants as writings
 use Rattle.write_statement.specs.declared.machine.Part.{Part}
 use Rattle.write_statement.specs.Parts.{of_part, of_rest}
 use Rattle.write_statement.specs.Running as of_write
-use Rattle.write_statement.proofs.Writing.{sees_base}
+use Rattle.giving_up.proofs.Writing.{sees_base}
 use Rattle.write_statement.proofs.GivingUp.{changing_no_memory}
 use Rattle.statement.specs.declared.under_way.Statement.{Statement}
 use Rattle.statement.specs.declared.under_way.Statement.TheVariants as statements
@@ -138,17 +139,17 @@ changing state s part next todo c =
 
 pub of_writings : (state : State) (s : ℕ) (m : WriteStatement) → of_write.IsRunning state s m → MadeSome Spells s state.past
 of_writings state s (writings.Fresh statement) r = inl (none_yet s state.past r.0.nothing)
-of_writings state s writings.Unopened r = inl (none_yet s state.past r.0.taken.nothing)
+of_writings state s (writings.Leaving leaving.Unopened) r = inl (none_yet s state.past r.0.taken.nothing)
 of_writings state s (writings.Locking statement alone) r = early s state.past statement alone r.0
 of_writings state s (writings.Searching part) r = changing state s part (of_part part) [] r.reading.changing
 of_writings state s (writings.Changing part todo) r = changing state s part (of_rest part) todo.items r.0
 of_writings state s (writings.Making part todo rows) r = changing state s part (of_rest part) (todo.items ++ r.change ∷ []) r.changing
 of_writings state s (writings.Finishing part todo) r = changing state s part (of_rest part) todo.items r.changing
-of_writings state s (writings.BackingOut work) r =
+of_writings state s (writings.Leaving (leaving.BackingOut work)) r =
     replied s state.past r.0.statement r.0.working.takes r.0.working.writes r.0.reply.was_open r.0.reply.count r.0.reply.made
-of_writings state s (writings.Unacked kept given) r =
+of_writings state s (writings.Leaving (leaving.Unacked kept given)) r =
     replied s state.past r.0.statement r.0.takes r.0.writes r.0.reply.was_open r.0.reply.count r.0.reply.made
-of_writings state s (writings.Ending kept given) r =
+of_writings state s (writings.Leaving (leaving.Ending kept given)) r =
     replied s state.past r.0.statement r.0.takes r.0.writes r.0.reply.was_open r.0.reply.count r.0.reply.made
 
 -- ---- whichever

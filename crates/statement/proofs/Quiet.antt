@@ -18,6 +18,8 @@ use Rattle.transaction_statements.specs.Going as to_transaction
 use Rattle.read_statement.specs.declared.machine.ReadStatement.{ReadStatement}
 use Rattle.read_statement.specs.declared.machine.ReadStatement.TheVariants as readings
 use Rattle.read_statement.specs.Running as of_read
+use Rattle.giving_up.specs.declared.leaving.Leaving.TheVariants as leaving
+use Rattle.giving_up.specs.Leaving.{IsWorking}
 use Rattle.write_statement.specs.declared.machine.WriteStatement.{WriteStatement}
 use Rattle.write_statement.specs.declared.machine.WriteStatement.TheVariants as writings
 use Rattle.write_statement.specs.Running as of_write
@@ -111,24 +113,24 @@ reading_tells_none s old new m after a r steps =
 abbrev AsksForNone : ℕ → State → Type 0
 AsksForNone s old = asked (task_of s old) ≡ None
 
-works_none : (s : ℕ) (old : State) (statement : Stmt) (alone : Bool) → of_write.IsWorking s statement alone old.past → AsksForNone s old → IntendsNone s old
+works_none : (s : ℕ) (old : State) (statement : Stmt) (alone : Bool) → IsWorking s statement alone old.past → AsksForNone s old → IntendsNone s old
 works_none s old statement alone working none = intends_none s old statement working.takes.asks (writing_makes_none statement working.writes) none
 
 writing_intends_none : (s : ℕ) (old new : State) (m after : WriteStatement) → of_write.IsRunning old s m
     → IsBelow (to_write.to_go s new after) (to_write.to_go s old m) → AsksForNone s old → IntendsNone s old
 writing_intends_none s old new (writings.Fresh statement) after r nears none =
     intends_none s old statement r.0.takes.asks (writing_makes_none statement r.1) none
-writing_intends_none s old new writings.Unopened after r nears none = absurd (below_none (to_write.to_go s new after) nears)
+writing_intends_none s old new (writings.Leaving leaving.Unopened) after r nears none = absurd (below_none (to_write.to_go s new after) nears)
 writing_intends_none s old new (writings.Locking statement alone) after r nears none = works_none s old statement alone r.0.working none
 writing_intends_none s old new (writings.Searching part) after r nears none =
     works_none s old r.reading.changing.statement part.alone r.reading.changing.working none
 writing_intends_none s old new (writings.Changing part todo) after r nears none = works_none s old r.0.statement part.alone r.0.working none
 writing_intends_none s old new (writings.Making part todo rows) after r nears none = works_none s old r.changing.statement part.alone r.changing.working none
 writing_intends_none s old new (writings.Finishing part todo) after r nears none = works_none s old r.changing.statement part.alone r.changing.working none
-writing_intends_none s old new (writings.BackingOut work) after r nears none = works_none s old r.0.statement work.alone r.0.working none
-writing_intends_none s old new (writings.Unacked kept given) after r nears none =
+writing_intends_none s old new (writings.Leaving (leaving.BackingOut work)) after r nears none = works_none s old r.0.statement work.alone r.0.working none
+writing_intends_none s old new (writings.Leaving (leaving.Unacked kept given)) after r nears none =
     intends_none s old r.0.statement r.0.takes.asks (writing_makes_none r.0.statement r.0.writes) none
-writing_intends_none s old new (writings.Ending kept given) after r nears none =
+writing_intends_none s old new (writings.Leaving (leaving.Ending kept given)) after r nears none =
     intends_none s old r.0.statement r.0.takes.asks (writing_makes_none r.0.statement r.0.writes) none
 
 pub writing_tells_none : (s : ℕ) (old new : State) (m after : WriteStatement) (a : Advance) → of_write.wants_room m ≡ false → of_write.IsRunning old s m

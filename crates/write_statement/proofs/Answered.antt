@@ -18,15 +18,17 @@ use Rattle.sql_lists.specs.declared.advance.Advance.TheVariants as advance
 use Rattle.sql_lists.proofs.Moving.{moves_none}
 use Rattle.write_statement.specs.declared.machine.Part.{Part}
 use Rattle.write_statement.specs.declared.machine.WriteStatement.{WriteStatement}
+use Rattle.giving_up.specs.declared.leaving.Leaving.TheVariants as leaving
 use Rattle.write_statement.specs.declared.machine.WriteStatement.TheVariants as machine
 use Rattle.write_statement.specs.declared.settling.Settled.TheVariants as settled
 use Rattle.write_statement.specs.Parts.{of_part}
-use Rattle.write_statement.specs.Settling.{is_count, IsSettledBy}
+use Rattle.giving_up.specs.Replies.{is_count}
+use Rattle.write_statement.specs.Settling.{IsSettledBy}
 use Rattle.write_statement.specs.Running.{IsChanging, AreEnough, IsRunning}
 use Rattle.write_statement.proofs.Found.{tables_now, current_keyed}
 use Rattle.write_statement.proofs.PartByPart.{refusal_basis, refusal_wider, part_refused, part_counted}
 use Rattle.write_statement.proofs.GivingUp.{keeps_reply, refused}
-use Rattle.write_statement.proofs.Moving.{steps_as}
+use Rattle.giving_up.proofs.Moving.{steps_as}
 
 module _ (s : ℕ) (state : State) (part : Part) (rows : List (List Value)) (r : IsChanging state.past state.writer s part (of_part part) [])
     (idle : task_of s state ≡ Idle) (enough : AreEnough s part.stmt rows state.past) (stands : AreStanding state.past) (fits : FitsThen state.past)
@@ -43,7 +45,7 @@ module _ (s : ℕ) (state : State) (part : Part) (rows : List (List Value)) (r :
       )
 
   pub refused_then : (kept given : Reply) (m : WriteStatement) → IsSettledBy part.stmt enough.db (settled.Refused kept given)
-      → m ≡ machine.BackingOut (record { alone = part.alone; before = part.before; kept = kept; given = given })
+      → m ≡ machine.Leaving (leaving.BackingOut (record { alone = part.alone; before = part.before; kept = kept; given = given }))
       → Steps IsRunning s state state m advance.Went
   refused_then kept given m is state-is =
       let keyed = current_keyed state.past state.writer s part (of_part part) [] r fits ordered in-order in
@@ -54,6 +56,7 @@ module _ (s : ℕ) (state : State) (part : Part) (rows : List (List Value)) (r :
       let of-all = stands_now basis (λ db. (outcome r.statement db).reply ≡ kept) (base s state.past) stands-so in
       let keeps = keeps_reply state.past state.writer s part (of_part part) [] r kept basis
       (refusal_wider state.past state.writer s part r tables keyed kept is.1 answer) (λ place is. is) (λ is. stands-so) in
-      steps_as IsRunning s state state m (machine.BackingOut (record { alone = part.alone; before = part.before; kept = kept; given = given }))
+      steps_as IsRunning s state state m
+      (machine.Leaving (leaving.BackingOut (record { alone = part.alone; before = part.before; kept = kept; given = given })))
       advance.Went advance.Went state-is refl
       (moves_none s state, (refused state.past state.writer s part (of_part part) [] r kept given is.0 is.1 (sym of-all) keeps, inl idle), refl)

@@ -1,11 +1,9 @@
 -- What a part's changes rest on, and that what is settled of a part stands on that.
-use Rattle.std.proofs.Common.{◌≡◌, ℕ, Bool, true, false, Option, Some, None, List, [], ◌∷◌, ◌++◌, reverse, refl, sym, ap, subst, ◌∙◌, ◌⊎◌, inl, inr}
+use Rattle.std.proofs.Common.{◌≡◌, ℕ, true, Option, Some, None, List, [], ◌∷◌, reverse, refl, sym, ap, subst, ◌∙◌, ◌⊎◌, inl, inr}
 use Rattle.std.proofs.Common.{arith}
 use Rattle.std.proofs.lemmas.Bool.Decides.{nat_tests}
 use Rattle.std.proofs.lemmas.Bool.{false≢true}
-use Rattle.std.proofs.lemmas.List.{append-nil}
 use Rattle.std.proofs.lemmas.List.Sorted.{list_any-IsPermutation, IsPermutation-reverse}
-use Rattle.std.specs.Prelude.{◌||◌}
 use Rattle.std.specs.List.{AllByRecursion}
 use Rattle.inno_types.specs.declared.value.Schema.{Schema}
 use Rattle.inno_types.specs.declared.stmt.Literal.{Literal}
@@ -16,8 +14,6 @@ use Rattle.inno_types.specs.declared.reply.Reply.TheVariants as replies
 use Rattle.inno_types.specs.declared.reply.SqlError.{SqlError}
 use Rattle.inno_types.specs.declared.reply.SqlError.TheVariants as errors
 use Rattle.inno_db.specs.declared.change.Change.{Change}
-use Rattle.inno_db.specs.declared.change.Change.TheVariants.{Create, Put, Remove}
-use Rattle.inno_db.specs.declared.outcome.Outcome.{Outcome}
 use Rattle.inno_db.specs.Database.{Database, Place}
 use Rattle.inno_db.specs.Changes.{apply}
 use Rattle.inno_db.specs.Refusals.{refusal}
@@ -26,47 +22,21 @@ use Rattle.inno_db.proofs.Keys.{IsKeyed}
 use Rattle.inno_db.proofs.Outcomes.{table_read}
 use Rattle.inno_model.specs.declared.event.Event.{Event}
 use Rattle.inno_model.specs.Past.{own, changed, current}
-use Rattle.law_past_agreement.specs.Order.{created, IsOfRow}
+use Rattle.law_past_agreement.specs.Order.{IsOfRow}
 use Rattle.sql_history.specs.Items.{own_before, base}
 use Rattle.sql_history.specs.Legal.{IsWriting}
 use Rattle.law_beside.specs.Beside.{is_change_at, touches, AreApart, AreOfRows}
 use Rattle.law_beside.proofs.Apart.{schemas_stay, beside_commutes}
 use Rattle.law_beside.proofs.Searching.{on_rows-alike, outcome-alike}
 use Rattle.law_claims.specs.Claims.{Claim, Tables, Row, Rows, Leaves, Basis, RestsOn, LeavesBasis, SearchesFor, IsRefusedAt}
-use Rattle.law_claims.proofs.Standing.{of_rows, rests_as, touches_append, leaves_behind}
+use Rattle.law_claims.proofs.Standing.{of_rows, rests_as, leaves_behind}
 use Rattle.law_claims.proofs.Outcomes.{search_stands, counted_stands, refusal_stands}
+use Rattle.giving_up.proofs.Touched.{front_rows, touched_front}
 use Rattle.write_statement.specs.declared.machine.Part.{Part}
-use Rattle.write_statement.specs.Settling.{is_count, is_refusal}
+use Rattle.giving_up.specs.Replies.{is_count, is_refusal}
 use Rattle.write_statement.specs.Parts.{has_parts, IsCut, behind, of_part}
 use Rattle.write_statement.specs.Running.{IsChanging, basis_for, search_of, refused_at}
 use Rattle.write_statement.proofs.Changed.{changed_all, current_changed}
-
--- ---- changes of rows
-
-pub front_rows : (front later : List Change) → AllByRecursion IsOfRow (front ++ later) → AreOfRows front
-front_rows [] later all = tt
-front_rows (Create schema ∷ front) later all = absurd all.0
-front_rows (Put table row ∷ front) later all = front_rows front later all.1
-front_rows (Remove table key ∷ front) later all = front_rows front later all.1
-
-pub later_rows : (front later : List Change) → AllByRecursion IsOfRow (front ++ later) → AreOfRows later
-later_rows [] later all = front_rows later [] (subst (AllByRecursion IsOfRow) (sym (append-nil later)) all)
-later_rows (change ∷ front) later all = later_rows front later all.1
-
--- ---- places
-
-pub touched_front : (schemas : List Schema) (front later : List Change) (place : Place) → touches schemas front place ≡ true
-    → touches schemas (front ++ later) place ≡ true
-touched_front schemas front later place is = touches_append schemas front later place ∙ ap (λ b. b || touches schemas later place) is
-
-or_true : (a : Bool) → (a || true) ≡ true
-or_true true = refl
-or_true false = refl
-
-pub touched_later : (schemas : List Schema) (front later : List Change) (place : Place) → touches schemas later place ≡ true
-    → touches schemas (front ++ later) place ≡ true
-touched_later schemas front later place is =
-    touches_append schemas front later place ∙ (ap (λ b. touches schemas front place || b) is ∙ or_true (touches schemas front place))
 
 pub touched_reverse : (schemas : List Schema) (changes : List Change) (place : Place) → touches schemas (reverse changes) place ≡ touches schemas changes place
 touched_reverse schemas changes place =

@@ -1,5 +1,5 @@
 -- Making the changes of an outcome, one by one.
-use Rattle.std.proofs.Common.{◌≡◌, ◌≢◌, ℕ, ◌+◌, ◌<◌, ◌≤◌, true, eqb, Option, List, [], ◌∷◌, ◌++◌, length, take, reverse, refl, sym, ap, subst, ◌∙◌, inl, inr}
+use Rattle.std.proofs.Common.{◌≡◌, ℕ, ◌+◌, ◌<◌, ◌≤◌, true, eqb, Option, List, [], ◌∷◌, ◌++◌, length, take, reverse, refl, sym, ap, subst, ◌∙◌, inl, inr}
 use Rattle.std.proofs.Common.{arith}
 use Rattle.std.proofs.lemmas.Bool.Decides.{nat_tests}
 use Rattle.std.proofs.lemmas.List.{append_assoc, length-append, reverse-append, take-append-le, take_all}
@@ -37,8 +37,8 @@ use Rattle.law_claims.specs.Claims.{Tables, Row, RestsOn, Stands}
 use Rattle.law_claims.proofs.Keeping.{all_kept, kept_is_free, kept_by_own}
 use Rattle.write_statement.specs.Running.{IsChanging, basis_for}
 use Rattle.write_statement.proofs.PartByPart.{goes_here}
-use Rattle.write_statement.proofs.Writing.{of_writing}
-use Rattle.write_statement.proofs.Own.{did_same, over_same, working_own}
+use Rattle.giving_up.proofs.Writing.{of_writing}
+use Rattle.giving_up.proofs.Own.{did_same, over_same, working_own}
 
 -- ---- lists
 

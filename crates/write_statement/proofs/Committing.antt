@@ -26,17 +26,18 @@ use Rattle.shared_lists.specs.State.{State, Closes, task_of}
 use Rattle.sql_lists.specs.Kept.{MayReply, OwesAck}
 use Rattle.sql_lists.specs.Going.{NearsAcked}
 use Rattle.sql_lists.specs.Steps.{Moves, GoesOnAcked}
-use Rattle.sql_lists.proofs.Staying.{point_now, point_stays}
+use Rattle.sql_lists.proofs.Staying.{point_now}
 use Rattle.write_statement.specs.declared.machine.WriteStatement.{WriteStatement}
 use Rattle.write_statement.specs.declared.machine.WriteStatement.TheVariants as machine
 use Rattle.write_statement.specs.Going.{to_go}
-use Rattle.write_statement.specs.Running.{InTxn, IsMade, HasReply, IsClosing, IsRunning, owes_ack, acked}
-use Rattle.write_statement.proofs.Writing.{of_writing, some_of, sees_base}
-use Rattle.sql_lists.proofs.Moving.{moves_closes, below_phase}
-use Rattle.write_statement.proofs.Replies.{reply_stays}
-use Rattle.write_statement.proofs.Ends.{rolls_back_on, txn_ends_on}
-use Rattle.write_statement.proofs.Own.{acked_of, did_same, did_now, over_now, over_still, entries_are, some_on, takes_own, reply_closed}
-use Rattle.write_statement.proofs.MayReply.{may_reply, not_done}
+use Rattle.giving_up.specs.Replies.{HasReply}
+use Rattle.giving_up.specs.Leaving.{InTxn, IsClosing}
+use Rattle.write_statement.specs.Running.{IsMade, IsRunning, owes_ack, acked}
+use Rattle.giving_up.proofs.Writing.{of_writing, some_of, sees_base}
+use Rattle.sql_lists.proofs.Moving.{moves_closes}
+use Rattle.giving_up.proofs.Own.{acked_of, did_same, did_now, over_now, entries_are, takes_own, reply_closed}
+use Rattle.giving_up.proofs.MayReply.{may_reply}
+use Rattle.giving_up.proofs.Closing as of_leaving
 
 makes_all : (s n : ℕ) (kept : Reply) (changes : List Change) (at : List Event) → kept ≡ replies.Count n → HasMade (length changes) s changes at
     → MakesFor kept s changes at
@@ -214,59 +215,16 @@ committed old new s alone before n r counts its-own idle closes-it =
       ap (started s) closes-it.past_is,
     )
 
--- ---- a transaction of its own that has ended
-
-module _ (past : List Event) (s moment : ℕ) (kept given : Reply) (c : IsClosing s kept given past) where
-  its : eqb s s ≡ true
-  its = grind (arith, nat_tests)
-
-  abbrev then_acked : List Event
-  then_acked = events.Acked s moment ∷ past
-
-  closing_acked : IsClosing s kept given then_acked
-  closing_acked =
-      let e = events.Acked s moment in
-      record {
-        same = c.same;
-        statement = c.statement;
-        takes = takes_own e past s its refl refl c.statement c.takes;
-        writes = c.writes;
-        over = over_still e past s its refl refl c.over;
-        no_victim = did_same e past s its refl refl is_victim refl ∙ c.no_victim;
-        rows_alone = c.rows_alone;
-        reply =
-            reply_stays s past then_acked (some_on e past s its refl refl) (point_stays e past s c.over (over_still e past s its refl refl c.over))
-            c.statement kept c.reply;
-        ends =
-            txn_ends_on past then_acked s refl refl refl (did_same e past s its refl refl begins_txn refl) (did_same e past s its refl refl commits_txn refl)
-            (did_same e past s its refl refl rolls_back_txn refl) (did_same e past s its refl refl undoes refl) kept c.takes.setting c.ends;
-        leaves =
-            λ no-count. rolls_back_on past then_acked s refl refl refl (did_same e past s its refl refl begins_txn refl)
-            (did_same e past s its refl refl commits_txn refl) (did_same e past s its refl refl rolls_back_txn refl)
-            (did_same e past s its refl refl undoes refl) (c.leaves no-count);
-      }
-
-  pub acknowledged_then : IsClosing s kept given then_acked × (awaits_ack (of_item s then_acked) ≡ false)
-  acknowledged_then = (closing_acked, ap awaits_ack (entries_are (events.Acked s moment) past s its refl refl))
-
-module _ (past : List Event) (s : ℕ) (kept given : Reply) (c : IsClosing s kept given past) where
-  pub closing_ends : awaits_ack (of_item s past) ≡ false → MayReply s kept past
-  closing_ends acks = may_reply s c.statement past c.takes c.writes c.no_victim kept c.reply c.ends (λ no-count. inl (c.leaves no-count)) acks
-
-  pub closing_not_done : kept ≡ replies.Done → ⊥
-  closing_not_done is = not_done s c.statement past kept c.reply is
+-- ---- its commit is acknowledged
 
 pub owes_it : (state : State) (s : ℕ) (m : WriteStatement) → owes_ack m ≡ true → IsRunning state s m → OwesAck s state.past
-owes_it state s (machine.Unacked _ given) owes r = record { owed = r.1; closed = r.2 }
+owes_it state s (machine.Leaving leaving) owes r = of_leaving.owes_it state s leaving owes r
 owes_it state s m owes r = absurd (false≢true owes)
 
 pub goes_on_acked : (m : WriteStatement) → owes_ack m ≡ true → GoesOnAcked IsRunning m (acked m)
-goes_on_acked (machine.Unacked kept given) owes old new s moment r adds =
-    let then =
-    subst (λ h. IsClosing s kept given h × (awaits_ack (of_item s h) ≡ false)) (sym adds.past_is) (acknowledged_then old.past s moment kept given r.0) in
-    (then.0, then.1, adds.task_is ∙ r.3)
-goes_on_acked m owes old new s moment r adds = absurd (false≢true owes)
+goes_on_acked (machine.Leaving leaving) owes = of_leaving.goes_on_acked leaving owes
+goes_on_acked m owes = absurd (false≢true owes)
 
 pub acked_nears : (m : WriteStatement) → owes_ack m ≡ true → NearsAcked to_go m (acked m)
-acked_nears (machine.Unacked kept given) owes old new s = below_phase 2 1 _ _ _ _ _ _ (omega arith)
-acked_nears m owes old new s = absurd (false≢true owes)
+acked_nears (machine.Leaving leaving) owes = of_leaving.acked_nears leaving owes
+acked_nears m owes = absurd (false≢true owes)

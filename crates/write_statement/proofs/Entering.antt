@@ -21,9 +21,11 @@ use Rattle.sql_lists.specs.declared.advance.Advance.TheVariants as advance
 use Rattle.sql_lists.proofs.Moving.{moves_turns, moves_goes_on, moves_enters}
 use Rattle.write_statement.specs.declared.machine.Part.{Part}
 use Rattle.write_statement.specs.declared.machine.WriteStatement.{WriteStatement}
+use Rattle.giving_up.specs.declared.leaving.Leaving.TheVariants as leaving
 use Rattle.write_statement.specs.declared.machine.WriteStatement.TheVariants as machine
 use Rattle.write_statement.specs.Parts.{of_rest}
-use Rattle.write_statement.specs.Running.{IsChanging, IsMaking, IsFinishing, IsRunning, given_up}
+use Rattle.giving_up.specs.Leaving.{given_up}
+use Rattle.write_statement.specs.Running.{IsChanging, IsMaking, IsFinishing, IsRunning}
 use Rattle.law_claims.specs.Claims.{Tables}
 use Rattle.law_claims.proofs.Keeping.{keeper_writes}
 use Rattle.write_statement.proofs.Changes.{with_entry, tabled, may_change, changing_then, stands_now}
@@ -120,7 +122,7 @@ module _ (s : ℕ) (old new : State) (part : Part) (todo : Vec Change Global) (r
 -- what the history doesn't tell was never made
 pub making_given_up : (s : ℕ) (old new : State) (part : Part) (todo : List Change) (rows : ℕ) (m : WriteStatement) (a : Advance)
     → IsMaking old.past old.writer (task_of s old) s part todo rows → Turns s (left_by (asked (task_of s old))) old new
-    → m ≡ machine.BackingOut (given_up part.alone part.before) → a ≡ advance.NoMemory → Steps IsRunning s old new m a
+    → m ≡ machine.Leaving (leaving.BackingOut (given_up part.alone part.before)) → a ≡ advance.NoMemory → Steps IsRunning s old new m a
 making_given_up s old new part todo rows m a r turns state answer =
     changing_given_up s old new (left_by (asked (task_of s old))) part (of_rest part) (todo ++ r.change ∷ []) m a r.changing turns
     (inl (ap left_by r.asked_is)) state answer
@@ -128,7 +130,7 @@ making_given_up s old new part todo rows m a r turns state answer =
 -- and what it tells is to be taken back
 pub finishing_given_up : (s : ℕ) (old new : State) (part : Part) (todo : List Change) (m : WriteStatement) (a : Advance)
     → IsFinishing old.past old.writer (task_of s old) s part todo → Turns s (left_by (asked (task_of s old))) old new
-    → m ≡ machine.BackingOut (given_up part.alone part.before) → a ≡ advance.NoMemory → Steps IsRunning s old new m a
+    → m ≡ machine.Leaving (leaving.BackingOut (given_up part.alone part.before)) → a ≡ advance.NoMemory → Steps IsRunning s old new m a
 finishing_given_up s old new part todo m a r turns state answer =
     changing_given_up s old new (left_by (asked (task_of s old))) part (of_rest part) todo m a r.changing turns
     (inr (subst MayTakeBack (sym (ap left_by r.told)) tt, r.stands)) state answer

@@ -6,73 +6,26 @@ use Rattle.std.specs.Prelude.{is_some}
 use Rattle.std.specs.List.{AllByRecursion, list_any}
 use Rattle.inno_types.specs.declared.stmt.Stmt.{Stmt}
 use Rattle.inno_types.specs.declared.lock.Level.{Level}
-use Rattle.inno_types.specs.declared.reply.Item.TheVariants.{Sql}
-use Rattle.inno_types.specs.declared.reply.Reply.TheVariants.{NoMemory}
 use Rattle.inno_model.specs.declared.event.Event.{Event}
 use Rattle.inno_model.specs.declared.event.Event.TheVariants as events
-use Rattle.inno_model.specs.Past.{is_of, before_item, of_item, did, begins_txn, commits_txn, rolls_back_txn, closes, begins, level, own, started, awaits_ack}
+use Rattle.inno_model.specs.Past.{is_of, before_item, of_item, begins_txn, commits_txn, rolls_back_txn, closes, begins, own, started}
 use Rattle.inno_model.specs.Past.{IsOpen, IsClosed}
 use Rattle.inno_model.specs.Moments.{starts, Sometime}
 use Rattle.inno_model.proofs.Untouched.{untouched}
 use Rattle.sql_grammar.specs.Grammar.{Spells}
-use Rattle.sql_history.specs.Items.{of_turn, before_turn, own_before, point, undoes}
+use Rattle.sql_history.specs.Items.{of_turn, before_turn, own_before, undoes}
 use Rattle.sql_history.specs.Settings.{Setting, HasSet, next_level}
 use Rattle.sql_history.specs.Statements.{refused_at_once}
-use Rattle.sql_history.specs.Legal.{Takes, IsWriting, MayBegin, BeginsBy, LeavesIt, WantsMemory}
+use Rattle.sql_history.specs.Legal.{Takes, IsWriting, MayBegin, BeginsBy}
 use Rattle.sql_history.specs.Waiting.{is_victim}
 use Rattle.law_past_agreement.specs.Order.{IsOfRow}
 use Rattle.shared_lists.specs.State.{State, Adds}
 use Rattle.sql_lists.specs.Steps.{IsTaken, Moves}
-use Rattle.sql_lists.specs.Kept.{MayReply}
-use Rattle.sql_lists.proofs.Staying.{at_work, point_now}
-use Rattle.write_statement.specs.Running.{HasOpened, InTxn, IsUnrefused, IsEarly}
-use Rattle.write_statement.proofs.Writing.{of_writing}
+use Rattle.giving_up.specs.Leaving.{HasOpened, InTxn}
+use Rattle.write_statement.specs.Running.{IsUnrefused, IsEarly}
+use Rattle.giving_up.proofs.Writing.{of_writing}
+use Rattle.giving_up.proofs.Nothing.{not_mine, own_nothing, level_nothing, turn_nothing, did_none, acked_none}
 use Rattle.sql_lists.proofs.Moving.{moves_adds}
-
--- ---- an item that has done nothing
-
-not_mine : (e : Event) (h : List Event) (s : ℕ) → starts s e ≡ false → of_item s (e ∷ h) ≡ [] → is_of s e ≡ false
-not_mine e h s goes none = grind (arith, nat_tests, goes, none)
-
-started_cases : {X : Type 0} (e : Event) (h : List Event) (s : ℕ) (f : List Event → X) → ((t j : ℕ) (item : _) → f (events.Started t j item ∷ h) ≡ f h)
-    → starts s e ≡ true → f (e ∷ h) ≡ f (before_item s (e ∷ h))
-started_cases (events.Started t j item) h s f same is = let here : h ≡ before_item s (events.Started t j item ∷ h) = rw is refl in same t j item ∙ ap f here
-started_cases e h s f same is = absurd (false≢true is)
-
-pub own_nothing : (s : ℕ) (h : List Event) → of_item s h ≡ [] → own s h ≡ own s (before_item s h)
-own_nothing s [] none = refl
-own_nothing s (e ∷ h) none = go (own_nothing s h) (starts s e) refl where
-  go : (of_item s h ≡ [] → own s h ≡ own s (before_item s h)) → (b : Bool) → starts s e ≡ b → own s (e ∷ h) ≡ own s (before_item s (e ∷ h))
-  go rest true is = started_cases e h s (own s) (λ t j item. refl) is
-  go rest false is =
-      let same = untouched e h s (not_mine e h s is none) in
-      same.own_is ∙ (rest (sym same.entries ∙ none) ∙ ap (own s) (sym same.before))
-
-pub level_nothing : (s : ℕ) (h : List Event) → of_item s h ≡ [] → level s h ≡ level s (before_item s h)
-level_nothing s [] none = refl
-level_nothing s (e ∷ h) none = go (level_nothing s h) (starts s e) refl where
-  go : (of_item s h ≡ [] → level s h ≡ level s (before_item s h)) → (b : Bool) → starts s e ≡ b → level s (e ∷ h) ≡ level s (before_item s (e ∷ h))
-  go rest true is = started_cases e h s (level s) (λ t j item. refl) is
-  go rest false is =
-      let same = untouched e h s (not_mine e h s is none) in
-      same.level_is ∙ (rest (sym same.entries ∙ none) ∙ ap (level s) (sym same.before))
-
-turn_started : (e : Event) (h : List Event) (s : ℕ) → starts s e ≡ true → (of_turn s (e ∷ h) ≡ []) × (before_turn s (e ∷ h) ≡ before_item s (e ∷ h))
-turn_started (events.Started t j item) h s is = (rw is refl, rw is refl)
-turn_started e h s is = absurd (false≢true is)
-
-turn_nothing : (s : ℕ) (h : List Event) → of_item s h ≡ [] → (of_turn s h ≡ []) × (before_turn s h ≡ before_item s h)
-turn_nothing s [] none = (refl, refl)
-turn_nothing s (e ∷ h) none = go (turn_nothing s h) (starts s e) refl where
-  go : (of_item s h ≡ [] → (of_turn s h ≡ []) × (before_turn s h ≡ before_item s h)) → (b : Bool) → starts s e ≡ b
-      → (of_turn s (e ∷ h) ≡ []) × (before_turn s (e ∷ h) ≡ before_item s (e ∷ h))
-  go rest true is = turn_started e h s is
-  go rest false is =
-      let mine = not_mine e h s is none in
-      let same = untouched e h s mine in
-      let turn = at_work e h s mine in
-      let before = rest (sym same.entries ∙ none) in
-      (turn.entries ∙ before.0, turn.before ∙ (before.1 ∙ sym same.before))
 
 set_back : (e : Event) (h : List Event) (s : ℕ) (x : Setting) → is_of s e ≡ false → HasSet Spells s (e ∷ h) x → HasSet Spells s h x
 set_back (events.Begin t n l) h s x other held = rw other at held
@@ -114,12 +67,6 @@ retake s statement h x writes taken held =
       not_refused = refused_alike s taken.takes.setting x h
           statement writes taken.takes.not_refused;
     }
-
-did_none : (test : Event → Bool) (s : ℕ) (h : List Event) → of_item s h ≡ [] → did test s h ≡ false
-did_none test s h none = ap (list_any test) none
-
-acked_none : (s : ℕ) (h : List Event) → of_item s h ≡ [] → awaits_ack (of_item s h) ≡ false
-acked_none s h none = ap awaits_ack none
 
 -- ---- in the transaction that was open
 
@@ -228,35 +175,6 @@ module _ (s n : ℕ) (l : Level) (statement : Stmt) (h : List Event) (x : Settin
         unchanged = nothing_own ∙ sym had;
         unrefused = unrefused;
       }
-
--- ---- where none can be opened
-
-leaves_nothing : (s : ℕ) (h : List Event) → of_item s h ≡ [] → LeavesIt Spells s h
-leaves_nothing s h none =
-    record {
-      own_stay = own_nothing s h none;
-      not_committed = did_none commits_txn s h none;
-      not_rolled_back = did_none rolls_back_txn s h none;
-      no_victim = did_none is_victim s h none;
-      begun = inl (did_none begins_txn s h none);
-    }
-
-made_nothing : (s : ℕ) (h : List Event) → of_item s h ≡ [] → own s (point s h) ≡ own_before s (point s h)
-made_nothing s h none =
-    let turn = turn_nothing s h none in
-    subst (λ p. own s p ≡ own_before s p) (sym (point_now h s (ap (list_any closes) turn.0))) (own_nothing s h none ∙ sym (ap (own s) turn.1))
-
-wants_memory : (s : ℕ) (h : List Event) → of_item s h ≡ [] → WantsMemory Spells s h
-wants_memory s h none = record { leaves = inr (inr (inr (leaves_nothing s h none))); made = inl (made_nothing s h none) }
-
-pub unopened_ends : (s : ℕ) (statement : Stmt) (h : List Event) → IsTaken s statement h → MayReply s NoMemory h
-unopened_ends s statement h taken =
-    record {
-      item = Sql taken.takes.asks.0;
-      asked = taken.takes.asks.1;
-      ends =
-          (acked_none s h taken.nothing, inl refl, inr (inr (wants_memory s h taken.nothing)));
-    }
 
 pub opened : (s n : ℕ) (l : Level) (statement : Stmt) (alone : Bool) (x : Setting) (old new : State) → IsWriting statement → IsTaken s statement old.past
     → IsUnrefused statement old.past → HasSet Spells s old.past x → IsClosed s old.past → own s old.past ≡ [] → x.autocommit ≡ alone

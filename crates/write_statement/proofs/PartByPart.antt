@@ -2,7 +2,7 @@
 use Rattle.std.proofs.Common.{◌≡◌, ℕ, ◌+◌, Bool, true, Option, Some, None, List, [], ◌∷◌, ◌++◌, length, reverse, refl, sym, ap, subst, ◌∙◌, arith}
 use Rattle.std.proofs.Common.{inl, inr}
 use Rattle.std.proofs.lemmas.Bool.{false≢true}
-use Rattle.std.proofs.lemmas.List.{append-nil, append_assoc, length-append, reverse-append}
+use Rattle.std.proofs.lemmas.List.{append-nil, append_assoc, length-append}
 use Rattle.std.specs.Prelude.{slice_get}
 use Rattle.inno_types.specs.declared.value.Value.{Value}
 use Rattle.inno_types.specs.declared.value.Schema.{Schema}
@@ -15,7 +15,7 @@ use Rattle.inno_db.specs.declared.change.Change.{Change}
 use Rattle.inno_db.specs.declared.outcome.Outcome.{Outcome}
 use Rattle.inno_db.specs.declared.outcome.Written.{Written}
 use Rattle.inno_db.specs.Database.{Database, Place, rows_of}
-use Rattle.inno_db.specs.Changes.{apply_one, apply}
+use Rattle.inno_db.specs.Changes.{apply}
 use Rattle.inno_db.specs.Names.{table_place}
 use Rattle.inno_db.specs.Refusals.{refusal}
 use Rattle.inno_db.specs.Outcome.{outcome, answer_to, unless_refused, counted, count_unless, on_rows, on_number, on_schema, insert_answer, update_answer}
@@ -29,7 +29,7 @@ use Rattle.law_past_agreement.specs.Order.{created}
 use Rattle.sql_history.specs.Items.{own_before, base}
 use Rattle.sql_history.specs.Legal.{IsWriting}
 use Rattle.write_statement.specs.Following.{counted_on, followed, followed_by}
-use Rattle.write_statement.specs.Settling.{is_count, is_refusal}
+use Rattle.giving_up.specs.Replies.{is_count, is_refusal}
 use Rattle.write_statement.specs.Parts.{with_tuple, left_of, rest_of, IsCut, behind, of_part, of_rest, GoesOnWith, IsFirstPart}
 use Rattle.write_statement.specs.declared.machine.Part.{Part}
 use Rattle.law_db.specs.RowChanges.{AreOfTables}
@@ -39,10 +39,12 @@ use Rattle.law_claims.specs.Claims.{Claim, Tables, Basis, Keeps, RestsOn, Leaves
 use Rattle.law_claims.proofs.Standing.{of_rows, stands_now, stands_as}
 use Rattle.law_claims.proofs.Keeping.{all_kept}
 use Rattle.law_claims.proofs.Outcomes.{keyed_behind}
-use Rattle.write_statement.specs.Running.{IsWorking, IsEarly, IsChanging, IsMade, basis_for, search_of, refused_at}
-use Rattle.write_statement.proofs.Bases.{IsSearchOf, wider, touched_front, touched_later, touched_reverse, count_stands, refused_stands, others_behind}
+use Rattle.giving_up.specs.Leaving.{IsWorking}
+use Rattle.write_statement.specs.Running.{IsEarly, IsChanging, IsMade, basis_for, search_of, refused_at}
+use Rattle.giving_up.proofs.Touched.{touched_front, touched_later}
+use Rattle.write_statement.proofs.Bases.{IsSearchOf, wider, touched_reverse, count_stands, refused_stands, others_behind}
 use Rattle.write_statement.proofs.Bases.{same_tables, leaves_there}
-use Rattle.write_statement.proofs.Writing.{of_writing}
+use Rattle.giving_up.proofs.Writing.{of_writing}
 use Rattle.write_statement.proofs.TupleByTuple.{insert_split, parts_unrefused}
 
 -- ---- a statement that changes rows counts its changes

@@ -27,11 +27,13 @@ use Rattle.sql_lists.specs.declared.advance.Advance.TheVariants as advance
 use Rattle.sql_lists.proofs.Moving.{moves_turns, moves_stays, moves_none, carried}
 use Rattle.write_statement.specs.declared.machine.Part.{Part}
 use Rattle.write_statement.specs.declared.machine.WriteStatement.{WriteStatement}
+use Rattle.giving_up.specs.declared.leaving.Leaving.TheVariants as leaving
 use Rattle.write_statement.specs.declared.machine.WriteStatement.TheVariants as machine
 use Rattle.sql_plan.specs.Planning.{IsPlanFor}
 use Rattle.write_statement.specs.Parts.{of_part, of_rest}
-use Rattle.write_statement.specs.Running.{IsEarly, IsReading, IsSearching, IsFound, IsChanging, IsBackingOut, MayGoBack, IsRunning, given_up}
-use Rattle.write_statement.proofs.Moving.{steps_as}
+use Rattle.giving_up.specs.Leaving.{IsBackingOut, MayGoBack, given_up}
+use Rattle.write_statement.specs.Running.{IsEarly, IsReading, IsSearching, IsFound, IsChanging, IsRunning}
+use Rattle.giving_up.proofs.Moving.{steps_as}
 use Rattle.write_statement.proofs.GivingUp.{early_no_memory, changing_no_memory, broken_off, overfull}
 
 pub turns_none : (s : ℕ) (state : State) → task_of s state ≡ Idle → Turns s Idle state state
@@ -46,9 +48,9 @@ turns_stayed s old new stays idle =
 
 pub early_given_up : (s : ℕ) (old new : State) (statement : Stmt) (alone : Bool) (before : ℕ) (m : WriteStatement) (a : Advance)
     → IsEarly s statement alone old.past → before ≡ length (own s old.past) → Turns s Idle old new
-    → m ≡ machine.BackingOut (given_up alone before) → a ≡ advance.NoMemory → Steps IsRunning s old new m a
+    → m ≡ machine.Leaving (leaving.BackingOut (given_up alone before)) → a ≡ advance.NoMemory → Steps IsRunning s old new m a
 early_given_up s old new statement alone before m a early before-is turns state answer =
-    steps_as IsRunning s old new m (machine.BackingOut (given_up alone before)) a advance.NoMemory state answer (
+    steps_as IsRunning s old new m (machine.Leaving (leaving.BackingOut (given_up alone before))) a advance.NoMemory state answer (
       moves_turns s Idle old new turns,
       early_no_memory new.past new.writer (task_of s new) s statement alone before (subst (IsEarly s statement alone) (sym turns.past_is) early)
           (before-is ∙ ap (λ h. length (own s h)) (sym turns.past_is)) turns.task_is,
@@ -58,7 +60,7 @@ early_given_up s old new statement alone before m a early before-is turns state 
 -- amid its changes
 pub changing_given_up : (s : ℕ) (old new : State) (task : Task) (part : Part) (next : Database → Outcome) (todo : List Change) (m : WriteStatement)
     (a : Advance) → IsChanging old.past old.writer s part next todo → Turns s task old new → MayGoBack part.before s old.past task
-    → m ≡ machine.BackingOut (given_up part.alone part.before) → a ≡ advance.NoMemory → Steps IsRunning s old new m a
+    → m ≡ machine.Leaving (leaving.BackingOut (given_up part.alone part.before)) → a ≡ advance.NoMemory → Steps IsRunning s old new m a
 changing_given_up s old new task part next todo m a r turns back state answer =
     let given : IsBackingOut new.past new.writer s (given_up part.alone part.before) =
     subst (λ h. IsBackingOut h new.writer s (given_up part.alone part.before)) (sym turns.past_is)
@@ -66,17 +68,18 @@ changing_given_up s old new task part next todo m a r turns back state answer =
     (changing_no_memory old.past old.writer s part next todo r)) in
     let goes : MayGoBack part.before s new.past (task_of s new) =
     subst (λ h. MayGoBack part.before s h (task_of s new)) (sym turns.past_is) (subst (MayGoBack part.before s old.past) (sym turns.task_is) back) in
-    steps_as IsRunning s old new m (machine.BackingOut (given_up part.alone part.before)) a advance.NoMemory state answer
+    steps_as IsRunning s old new m (machine.Leaving (leaving.BackingOut (given_up part.alone part.before))) a advance.NoMemory state answer
     (moves_turns s task old new turns, (given, goes), turns.past_is)
 
 -- its reply is that the history would hold too many rows
 pub broke_off : (s : ℕ) (state : State) (part : Part) (next : Database → Outcome) (todo : List Change) (change : Change) (table : ℕ) (row : List Value)
     (rows : ℕ) (m : WriteStatement) (a : Advance) → IsChanging state.past state.writer s part next (todo ++ change ∷ []) → task_of s state ≡ Idle
-    → change ≡ Put table row → most_rows < rows → rows ≡ rows_kept state.past + 1 → m ≡ machine.BackingOut (broken_off part rows) → a ≡ advance.Went
+    → change ≡ Put table row → most_rows < rows → rows ≡ rows_kept state.past + 1 → m ≡ machine.Leaving (leaving.BackingOut (broken_off part rows))
+    → a ≡ advance.Went
     → Steps IsRunning s state state m a
 broke_off s state part next todo change table row rows m a r idle puts many count answer-state answer =
     let here = subst (λ (x : Change). IsChanging state.past state.writer s part next (todo ++ x ∷ [])) puts r in
-    steps_as IsRunning s state state m (machine.BackingOut (broken_off part rows)) a advance.Went answer-state answer
+    steps_as IsRunning s state state m (machine.Leaving (leaving.BackingOut (broken_off part rows))) a advance.Went answer-state answer
     (moves_none s state, (overfull state.past state.writer s part next todo table row rows here many count, inl idle), refl)
 
 -- ---- a change is begun

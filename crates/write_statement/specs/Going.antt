@@ -1,12 +1,12 @@
 -- What the machine has before it at most, as fifteen numbers that get smaller.
 use Rattle.std.specs.Prelude.{ℕ, ◌+◌, ◌*◌, List, length}
-use Rattle.inno_model.specs.Past.{own}
-use Rattle.shared_lists.specs.Tasks.{steps_left, undo_to_go}
+use Rattle.shared_lists.specs.Tasks.{steps_left}
 use Rattle.shared_lists.specs.State.{State, task_of}
 use Rattle.sql_lists.specs.declared.advance.Advance.{Advance}
 use Rattle.sql_lists.specs.declared.advance.Advance.TheVariants as advance
 use Rattle.sql_lists.specs.Going.{left, to_search}
 use Rattle.inno_types.specs.Order.{IsBelow}
+use Rattle.giving_up.specs.Going.{to_leave}
 use Rattle.write_statement.specs.Parts.{tuples_of}
 use Rattle.write_statement.specs.declared.machine.WriteStatement.{WriteStatement}
 use Rattle.write_statement.specs.declared.machine.WriteStatement.TheVariants as machine
@@ -26,11 +26,7 @@ to_go s state (machine.Making part todo rows) =
     left (4 + 2 * length part.later.items) (3 * length todo.items + 2) (steps_left (task_of s state)) 0
 to_go s state (machine.Finishing part todo) =
     left (4 + 2 * length part.later.items) (3 * length todo.items + 1) (steps_left (task_of s state)) 0
--- the changes that it may yet take back
-to_go s state (machine.BackingOut work) = left 3 (length (own s state.past)) (undo_to_go (task_of s state)) 0
-to_go s state (machine.Unacked kept given) = left 2 0 0 0
-to_go s state (machine.Ending kept given) = left 1 0 0 0
-to_go s state machine.Unopened = left 0 0 0 0
+to_go s state (machine.Leaving leaving) = to_leave s state leaving
 
 -- A step that went, or that found no memory, leaves less than so much.
 abbrev pub IsNearer : List ℕ → ℕ → State → WriteStatement → Advance → Type 0

@@ -1,5 +1,5 @@
 -- What the machine knows between its steps: of the past, of who may write, and of what the session has under way.
-use Rattle.std.specs.Prelude.{◌≡◌, ◌≢◌, ℕ, ◌+◌, ◌<◌, ◌⊎◌, Bool, true, false, Option, Some, None, List, [], ◌∷◌, ◌++◌, length, reverse, take, slice_get}
+use Rattle.std.specs.Prelude.{◌≡◌, ℕ, ◌<◌, ◌⊎◌, Bool, true, false, Option, Some, None, List, [], ◌∷◌, ◌++◌, length, reverse, slice_get}
 use Rattle.inno_types.specs.declared.value.Value.{Value}
 use Rattle.inno_types.specs.declared.value.Schema.{Schema}
 use Rattle.inno_types.specs.declared.stmt.Stmt.{Stmt}
@@ -15,63 +15,25 @@ use Rattle.inno_db.specs.Refusals.{refusal}
 use Rattle.inno_db.proofs.Outcomes.{table_read}
 use Rattle.inno_model.specs.declared.event.Event.{Event}
 use Rattle.inno_model.specs.declared.event.Event.TheVariants.{Changed}
-use Rattle.inno_model.specs.Moments.{Sometime}
-use Rattle.inno_model.specs.Past.{before_item, of_item, did, begins_txn, commits_txn, rolls_back_txn, level, own, commits, current, awaits_ack, IsOpen}
-use Rattle.inno_model.specs.Past.{IsClosed}
-use Rattle.sql_grammar.specs.Grammar.{Spells}
-use Rattle.sql_history.specs.Items.{is_over, own_before, base, point, HasMade, undoes}
-use Rattle.sql_history.specs.Settings.{Setting, Either}
-use Rattle.sql_history.specs.Endings.{RollsBack, Goes, BacksOut}
-use Rattle.sql_history.specs.Legal.{Takes, IsWriting}
-use Rattle.sql_history.specs.Waiting.{is_victim}
-use Rattle.sql_history.specs.Counts.{rows_of_entry, rows_kept, most_rows}
+use Rattle.inno_model.specs.Past.{did, own, commits, current}
+use Rattle.sql_history.specs.Items.{is_over, own_before, base, undoes}
+use Rattle.sql_history.specs.Legal.{IsWriting}
+use Rattle.sql_history.specs.Counts.{rows_of_entry}
 use Rattle.law_past_agreement.specs.Order.{created, IsOfRow}
 use Rattle.plain_sql.specs.Finding.{IsReadFrom}
 use Rattle.shared_lists.specs.declared.answers.Reading.TheVariants.{Newest}
-use Rattle.shared_lists.specs.Tasks.{Task, Idle, Searching, is_changing, asked, MayTakeBack}
+use Rattle.shared_lists.specs.Tasks.{Task, Idle, Searching, is_changing, asked}
 use Rattle.shared_lists.specs.State.{State, task_of}
 use Rattle.shared_lists.specs.Steps.{AreRowsSeen}
 use Rattle.sql_plan.specs.declared.choice.Plan.{Plan}
-use Rattle.law_beside.specs.Beside.{touches}
 use Rattle.law_claims.specs.Claims.{Basis, KeepsBasis, Stands}
-use Rattle.sql_lists.specs.Steps.{HasRowsAlone, IsTaken}
+use Rattle.sql_lists.specs.Steps.{IsTaken}
 use Rattle.sql_plan.specs.Planning.{HoldsMatches}
 use Rattle.write_statement.specs.declared.machine.Part.{Part}
-use Rattle.write_statement.specs.declared.machine.Work.{Work}
 use Rattle.write_statement.specs.declared.machine.WriteStatement.{WriteStatement}
 use Rattle.write_statement.specs.declared.machine.WriteStatement.TheVariants as machine
-use Rattle.write_statement.specs.Settling.{is_count, is_refusal}
+use Rattle.giving_up.specs.Leaving.{IsWorking, IsLeaving, owes_ack as leaving_owes_ack, acked as leaving_acked}
 use Rattle.write_statement.specs.Parts.{IsCut, GoesOnWith, behind, of_part, of_rest}
-
--- ---- its transaction
-
--- The statement works in the transaction that was open before its item.
-pub record Joins (s : ℕ) (past : List Event) : Type 0 where
-  pub was_open : IsOpen s (before_item s past)
-  pub stays : level s past ≡ level s (before_item s past)
-  pub not_begun : did begins_txn s past ≡ false
-
--- Its item opened the transaction.
-pub record HasOpened (s : ℕ) (past : List Event) : Type 0 where
-  pub was_closed : IsClosed s (before_item s past)
-  pub had_none : own s (before_item s past) ≡ []
-  pub begun : did begins_txn s past ≡ true
-
-abbrev pub InTxn : Bool → Setting → ℕ → List Event → Type 0
-InTxn true setting s past = HasOpened s past × (setting.autocommit ≡ true)
-InTxn false setting s past = Joins s past ⊎ (HasOpened s past × (setting.autocommit ≡ false))
-
--- It has a transaction, which it has not ended.
-pub record IsWorking (s : ℕ) (statement : Stmt) (alone : Bool) (past : List Event) : Type 0 where
-  pub takes : Takes Spells s statement past
-  pub writes : IsWriting statement
-  pub in_txn : InTxn alone takes.setting s past
-  pub is_open : IsOpen s past
-  pub not_committed : did commits_txn s past ≡ false
-  pub not_rolled_back : did rolls_back_txn s past ≡ false
-  pub no_victim : did is_victim s past ≡ false
-  pub had : own_before s past ≡ own s (before_item s past)
-  pub rows_alone : HasRowsAlone s past
 
 -- It takes none of its changes back.
 pub record GoesOn (s : ℕ) (past : List Event) : Type 0 where
@@ -105,18 +67,6 @@ refused_at table other = None
 -- What changes that are made or to be made rest on: their places; and the rows that the statement has searched for.
 abbrev pub basis_for : Option Stmt → List Change → Basis
 basis_for searched changes = record { changes = changes; searched = searched; refused_at = None }
-
--- the first so many changes, and the refusal if it is one
-pub record AnswersAlike (count : ℕ) (kept : Reply) (statement : Stmt) (some other : Database) : Type 0 where
-  pub changes : take count (outcome statement some).changes ≡ take count (outcome statement other).changes
-  pub reply : is_refusal kept ≡ true → (outcome statement some).reply ≡ (outcome statement other).reply
-
--- what the reply of a statement that has made so many changes rests on is kept
-pub record KeepsReply (s count : ℕ) (kept : Reply) (statement : Stmt) (past : List Event) (writer : Option ℕ) : Type 0 where
-  pub basis : Basis
-  pub keeps : KeepsBasis s (base s past).schemas basis past writer
-  pub among : (place : Place) → touches (base s past).schemas (own s past) place ≡ true → touches (base s past).schemas basis.changes place ≡ true
-  pub stands : Stands basis (λ db. AnswersAlike count kept statement db (base s past)) (base s past)
 
 -- ---- its parts
 
@@ -189,78 +139,6 @@ pub record IsMade (past : List Event) (writer : Option ℕ) (s : ℕ) (alone : B
   pub answer : (outcome statement (base s past)).reply ≡ replies.Count (length (outcome statement (base s past)).changes)
   pub own_is : own s past ≡ reverse (outcome statement (base s past)).changes ++ own_before s past
 
--- ---- the end
-
--- what becomes of its transaction
-abbrev pub EndsTxn : Reply → Setting → ℕ → List Event → Type 0
-EndsTxn kept setting s past =
-    Either (is_count kept) (Goes (level s (before_item s past)) setting.autocommit s past) (BacksOut (level s (before_item s past)) setting.autocommit s past)
-
--- the statement puts rows
-abbrev pub PutsRows : Stmt → Type 0
-PutsRows (stmt.Insert table columns tuples) = Unit {0}
-PutsRows (stmt.Update table sets condition) = Unit {0}
-PutsRows other = ⊥
-
--- Why a statement may reply so that has made so many of its changes.
-abbrev pub MayAnswer : ℕ → Stmt → ℕ → Reply → List Event → Type 0
-MayAnswer s statement count (replies.Count n) past =
-    (replies.Count n ≡ (outcome statement (base s (point s past))).reply) × (count ≡ length (outcome statement (base s (point s past))).changes)
-MayAnswer s statement count (replies.Fail error) past = replies.Fail error ≡ (outcome statement (base s (point s past))).reply
-MayAnswer s statement count replies.NoMemory past = Unit {0}
-MayAnswer s statement count (replies.RunLimit rows) past = (most_rows < rows) × PutsRows statement × Sometime (λ h. rows ≡ rows_kept h + 1) s past
-MayAnswer s statement count other past = ⊥
-
--- At its point its transaction was open, and it had made so many of its changes.
-pub record HasReply (s : ℕ) (statement : Stmt) (kept : Reply) (past : List Event) : Type 0 where
-  pub was_open : IsOpen s (point s past)
-  pub count : ℕ
-  pub made : HasMade count s (outcome statement (base s (point s past))).changes (point s past)
-  pub answers : MayAnswer s statement count kept past
-
--- the point of a statement that is not over is its past, which goes on beside what its reply rests on
-pub record MovesOn (s count : ℕ) (kept : Reply) (statement : Stmt) (past : List Event) (writer : Option ℕ) : Type 0 where
-  pub not_over : is_over s past ≡ false
-  pub stays : ((kept ≡ replies.NoMemory) × (count ≡ 0)) ⊎ KeepsReply s count kept statement past writer
-
-pub record IsBackingOut (past : List Event) (writer : Option ℕ) (s : ℕ) (work : Work) : Type 0 where
-  pub statement : Stmt
-  pub working : IsWorking s statement work.alone past
-  pub before_is : work.before ≡ length (own_before s past)
-  pub same : work.given ≡ work.kept
-  pub backs : is_count work.kept ≡ false
-  pub reply : HasReply s statement work.kept past
-  pub moves : (is_over s past ≡ true) ⊎ MovesOn s reply.count work.kept statement past writer
-  -- its changes that stand
-  pub rest : List Change
-  pub own_is : own s past ≡ rest ++ own_before s past
-
--- Nothing is under way; or the newest change is to be taken back, or is being so, and is none of the first so many.
-abbrev pub MayGoBack : ℕ → ℕ → List Event → Task → Type 0
-MayGoBack before s past task = (task ≡ Idle) ⊎ (MayTakeBack task × (before < length (own s past)))
-
--- a statement that is given up for want of memory
-abbrev pub given_up : Bool → ℕ → Work
-given_up alone before = record { alone = alone; before = before; kept = replies.NoMemory; given = replies.NoMemory }
-
--- Its own transaction has ended.
-pub record IsClosing (s : ℕ) (kept given : Reply) (past : List Event) : Type 0 where
-  pub same : given ≡ kept
-  pub statement : Stmt
-  pub takes : Takes Spells s statement past
-  pub writes : IsWriting statement
-  pub over : is_over s past ≡ true
-  pub no_victim : did is_victim s past ≡ false
-  pub rows_alone : HasRowsAlone s past
-  pub reply : HasReply s statement kept past
-  pub ends : EndsTxn kept takes.setting s past
-  pub leaves : is_count kept ≡ false → RollsBack s past
-
--- no transaction could be opened
-pub record IsUnopened (s : ℕ) (past : List Event) : Type 0 where
-  pub statement : Stmt
-  pub taken : IsTaken s statement past
-
 -- it is about to tell a change to the history, for which an engine that logs its changes needs room in its log
 abbrev pub wants_room : WriteStatement → Bool
 wants_room (machine.Changing part todo) = true
@@ -269,23 +147,19 @@ wants_room other = false
 
 -- its commit is yet to be acknowledged
 abbrev pub owes_ack : WriteStatement → Bool
-owes_ack (machine.Unacked kept given) = true
+owes_ack (machine.Leaving leaving) = leaving_owes_ack leaving
 owes_ack other = false
 
 -- the statement behind that
 abbrev pub acked : WriteStatement → WriteStatement
-acked (machine.Unacked kept given) = machine.Ending kept given
+acked (machine.Leaving leaving) = machine.Leaving (leaving_acked leaving)
 acked other = other
 
 abbrev pub IsRunning : State → ℕ → WriteStatement → Type 0
 IsRunning state s (machine.Fresh stmt) = IsTaken s stmt state.past × IsWriting stmt × (task_of s state ≡ Idle) × IsUnrefused stmt state.past
-IsRunning state s machine.Unopened = IsUnopened s state.past × (task_of s state ≡ Idle)
 IsRunning state s (machine.Locking stmt alone) = IsEarly s stmt alone state.past × (task_of s state ≡ Idle)
 IsRunning state s (machine.Searching part) = IsSearching state.past state.writer (task_of s state) s part
 IsRunning state s (machine.Changing part todo) = IsChanging state.past state.writer s part (of_rest part) todo.items × (task_of s state ≡ Idle)
 IsRunning state s (machine.Making part todo rows) = IsMaking state.past state.writer (task_of s state) s part todo.items rows
 IsRunning state s (machine.Finishing part todo) = IsFinishing state.past state.writer (task_of s state) s part todo.items
-IsRunning state s (machine.BackingOut work) = IsBackingOut state.past state.writer s work × MayGoBack work.before s state.past (task_of s state)
-IsRunning state s (machine.Unacked kept given) =
-    IsClosing s kept given state.past × (awaits_ack (of_item s state.past) ≡ true) × IsClosed s state.past × (task_of s state ≡ Idle)
-IsRunning state s (machine.Ending kept given) = IsClosing s kept given state.past × (awaits_ack (of_item s state.past) ≡ false) × (task_of s state ≡ Idle)
+IsRunning state s (machine.Leaving leaving) = IsLeaving state s leaving

@@ -7,10 +7,12 @@ ghost use Rattle.sql_lists.specs.Steps.{Steps};
 ghost use Rattle.sql_lists.specs.Going.{left};
 ghost use Rattle.write_statement.specs.Going.{IsNearer};
 ghost use Rattle.write_statement.specs.Parts.{of_part};
-ghost use Rattle.write_statement.specs.Running.{IsChanging, AreEnough, IsRunning, given_up};
+ghost use Rattle.write_statement.specs.Running.{IsChanging, AreEnough, IsRunning};
+ghost use Rattle.giving_up.specs.Leaving.{given_up};
 
-use crate::machine::{Part, Work, WriteStatement};
+use crate::machine::{Part, WriteStatement};
 use crate::settling::{Settled, settle};
+use giving_up::{Leaving, Work};
 use inno_types::{Reply, Rows};
 use shared_lists::SharedLists;
 use sql_lists::{Advance, SqlLists};
@@ -41,7 +43,7 @@ pub fn answer<L: SharedLists>(
 
 /// What was made of the whole statement is to be taken back.
 pub fn refuse(part: Part, kept: Reply, given: Reply) -> WriteStatement
-    ensures { result ≡ WriteStatement.BackingOut (record { alone = part.alone; before = part.before; kept = kept; given = given }) }
+    ensures { result ≡ WriteStatement.Leaving (Leaving.BackingOut (record { alone = part.alone; before = part.before; kept = kept; given = given })) }
 {
     let work = Work {
         alone: part.alone,
@@ -50,12 +52,12 @@ pub fn refuse(part: Part, kept: Reply, given: Reply) -> WriteStatement
         given,
     };
     drop(part);
-    WriteStatement::BackingOut(work)
+    WriteStatement::Leaving(Leaving::BackingOut(work))
 }
 
 /// No memory was found, or no room.
 pub fn give_up(part: Part) -> (WriteStatement, Advance)
-    ensures state { result.0 ≡ WriteStatement.BackingOut (given_up part.alone part.before) }
+    ensures state { result.0 ≡ WriteStatement.Leaving (Leaving.BackingOut (given_up part.alone part.before)) }
     ensures answer { result.1 ≡ Advance.NoMemory }
 {
     let (alone, before) = (part.alone, part.before);
@@ -65,9 +67,12 @@ pub fn give_up(part: Part) -> (WriteStatement, Advance)
 
 /// No memory was found, where no part is at work.
 pub fn give_up_at(alone: bool, before: usize) -> (WriteStatement, Advance)
-    ensures state { result.0 ≡ WriteStatement.BackingOut (given_up alone before) }
+    ensures state { result.0 ≡ WriteStatement.Leaving (Leaving.BackingOut (given_up alone before)) }
     ensures answer { result.1 ≡ Advance.NoMemory }
 {
     let work = Work::given_up(alone, before);
-    (WriteStatement::BackingOut(work), Advance::NoMemory)
+    (
+        WriteStatement::Leaving(Leaving::BackingOut(work)),
+        Advance::NoMemory,
+    )
 }

@@ -13,10 +13,10 @@ ghost use Rattle.write_statement.specs.Parts.{of_rest};
 ghost use Rattle.write_statement.specs.Running.{IsRunning, IsChanging, IsMade};
 
 use crate::answering::{give_up, give_up_at, refuse};
-use crate::ending::end;
 use crate::machine::{Part, WriteStatement};
 use crate::opening::search_part;
 use crate::parting::with_tuple;
+use giving_up::{Leaving, end};
 use inno_db::Change;
 use inno_types::Reply;
 use shared_lists::SharedLists;
@@ -116,7 +116,7 @@ fn begin<L: SharedLists>(
 
 /// The history would hold too many rows with the next one: nothing of the statement is to stay.
 fn break_off(rows: u64, part: Part) -> (WriteStatement, Advance)
-    ensures state { result.0 ≡ WriteStatement.BackingOut (record { alone = part.alone; before = part.before; kept = Reply.RunLimit rows; given = Reply.RunLimit rows }) }
+    ensures state { result.0 ≡ WriteStatement.Leaving (Leaving.BackingOut (record { alone = part.alone; before = part.before; kept = Reply.RunLimit rows; given = Reply.RunLimit rows })) }
     ensures answer { result.1 ≡ Advance.Went }
 {
     let stopped = refuse(part, Reply::RunLimit { rows }, Reply::RunLimit { rows });
@@ -179,7 +179,9 @@ fn finish<L: SharedLists>(
     let (kept, given) = (Reply::Count(made), Reply::Count(made));
     if alone {
         lists.commit(session);
-        return (WriteStatement::Unacked { kept, given }, Advance::Went);
+        let leaving = Leaving::Unacked { kept, given };
+        return (WriteStatement::Leaving(leaving), Advance::Went);
     }
-    end(kept, given, session, lists)
+    let (leaving, answer) = end(kept, given, session, lists);
+    (WriteStatement::Leaving(leaving), answer)
 }

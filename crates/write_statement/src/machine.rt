@@ -12,27 +12,24 @@ ghost use Rattle.sql_lists.specs.Going.{Nears, NearsAcked};
 ghost use Rattle.write_statement.specs.Going.{to_go};
 ghost use Rattle.write_statement.specs.Running.{IsRunning, owes_ack, acked, wants_room};
 
-use crate::backing::step_backing;
 use crate::changing::{lack_room, step_changing};
-use crate::ending::{step_ending, step_unopened};
 use crate::making::{step_finishing, step_making, stop_making};
 use crate::opening::{step_fresh, step_locking};
 use crate::searching::step_searching;
+use giving_up::Leaving;
 use inno_db::Change;
-use inno_types::{Literals, Reply, Stmt};
+use inno_types::{Literals, Stmt};
 use shared_lists::SharedLists;
 use sql_lists::{Advance, SqlLists};
 use std::alloc::Global;
 
-/// A statement that changes rows. Of a reply the history is to keep one copy, and the caller is given the other.
+/// A statement that changes rows.
 #[derive(Drop)]
 pub enum WriteStatement {
     /// It has made no step.
     Fresh {
         stmt: Stmt,
     },
-    /// No transaction could be opened for it.
-    Unopened,
     /// It has a transaction, and is yet to take the right to write. `alone` says that the transaction is its own.
     Locking {
         stmt: Stmt,
@@ -56,17 +53,8 @@ pub enum WriteStatement {
         part: Part,
         todo: Vec<Change>,
     },
-    /// It takes its changes back.
-    BackingOut(Work),
-    /// Its own transaction is committed.
-    Unacked {
-        kept: Reply,
-        given: Reply,
-    },
-    Ending {
-        kept: Reply,
-        given: Reply,
-    },
+    /// It ends: it takes its changes back, or they stand.
+    Leaving(Leaving),
 }
 
 /// A part of a statement: an INSERT has one for each of its tuples, any other statement is one. The tuples of parts that are
@@ -79,29 +67,6 @@ pub struct Part {
     pub table: u8,
     pub alone: bool,
     pub before: usize,
-}
-
-/// A statement that was refused or given up. Its transaction had made so many changes before.
-#[derive(Drop)]
-pub struct Work {
-    pub alone: bool,
-    pub before: usize,
-    pub kept: Reply,
-    pub given: Reply,
-}
-
-impl Work {
-    /// A statement that is given up for want of memory.
-    pub fn given_up(alone: bool, before: usize) -> Self
-        ensures { result ≡ record { alone = alone; before = before; kept = Reply.NoMemory; given = Reply.NoMemory } }
-    {
-        Work {
-            alone,
-            before,
-            kept: Reply::NoMemory,
-            given: Reply::NoMemory,
-        }
-    }
 }
 
 impl WriteStatement {
@@ -122,7 +87,10 @@ impl WriteStatement {
     pub fn owes_ack(&self) -> bool
         ensures { result ≡ owes_ack self.now }
     {
-        matches!(self, WriteStatement::Unacked { .. })
+        match self {
+            WriteStatement::Leaving(leaving) => leaving.owes_ack(),
+            _ => false,
+        }
     }
 
     /// The statement after the acknowledgement of its commit.
@@ -130,7 +98,7 @@ impl WriteStatement {
         ensures { result ≡ acked self }
     {
         match self {
-            WriteStatement::Unacked { kept, given } => WriteStatement::Ending { kept, given },
+            WriteStatement::Leaving(leaving) => WriteStatement::Leaving(leaving.acked()),
             other => other,
         }
     }
@@ -184,7 +152,6 @@ impl WriteStatement {
     {
         match self {
             WriteStatement::Fresh { stmt } => step_fresh(stmt, session, lists),
-            WriteStatement::Unopened => step_unopened(session, lists),
             WriteStatement::Locking { stmt, alone } => step_locking(
                 alloc, stmt, alone, session, lists,
             ),
@@ -196,9 +163,10 @@ impl WriteStatement {
                 step_making(part, todo, rows, session, lists)
             }
             WriteStatement::Finishing { part, todo } => step_finishing(part, todo, session, lists),
-            WriteStatement::BackingOut(work) => step_backing(work, session, lists),
-            WriteStatement::Unacked { .. } => unreachable!(),
-            WriteStatement::Ending { kept, given } => step_ending(kept, given, session, lists),
+            WriteStatement::Leaving(leaving) => {
+                let (leaving, answer) = leaving.step(session, lists);
+                (WriteStatement::Leaving(leaving), answer)
+            }
         }
     }
 }

@@ -21,6 +21,7 @@ ghost use Rattle.write_statement.specs.Running.{IsChanging, IsRunning};
 use crate::answering::{give_up, give_up_at};
 use crate::machine::{Part, WriteStatement};
 use crate::parting::first_part;
+use giving_up::Leaving;
 use inno_types::{Listed, Schema, Stmt};
 use shared_lists::{Reading, SharedLists};
 use sql_lists::{Advance, SqlLists};
@@ -68,7 +69,10 @@ fn open<L: SharedLists>(
         Ok(()) => (WriteStatement::Locking { stmt, alone }, Advance::Went),
         Err(_) => {
             drop(stmt);
-            (WriteStatement::Unopened, Advance::NoMemory)
+            (
+                WriteStatement::Leaving(Leaving::Unopened),
+                Advance::NoMemory,
+            )
         }
     }
 }

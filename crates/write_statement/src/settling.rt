@@ -6,7 +6,8 @@ ghost use Rattle.inno_db.specs.Outcome.{outcome};
 ghost use Rattle.inno_db.specs.Refusals.{refusal};
 ghost use Rattle.inno_db.proofs.Outcomes.{table_read};
 ghost use Rattle.plain_sql.specs.Finding.{IsReadFrom};
-ghost use Rattle.write_statement.specs.Settling.{IsSettledBy, is_refusal};
+ghost use Rattle.giving_up.specs.Replies.{is_refusal};
+ghost use Rattle.write_statement.specs.Settling.{IsSettledBy};
 
 use inno_db::{Change, Outcome};
 use inno_types::{Listed, Reply, Rows, Schema, Stmt};

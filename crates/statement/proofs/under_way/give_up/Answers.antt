@@ -1,7 +1,7 @@
 use Rattle.statement.proofs.Looking.{wants_memory}
 use Rattle.std.proofs.Common.{refl}
 use Rattle.inno_types.specs.declared.reply.Reply.TheVariants.{NoMemory}
-use Rattle.write_statement.proofs.Moving.{ended}
+use Rattle.giving_up.proofs.Moving.{ended}
 use Rattle.statement.specs.declared.under_way.Statement.TheVariants.{Failed}
 use Rattle.statement.specs.Running.{IsRunning}
 use Rattle.statement.proofs.under_way.give_up.Goals as goal

@@ -1,7 +1,7 @@
 use Rattle.std.proofs.Common.{refl, ap}
 use Rattle.inno_types.specs.declared.reply.Reply.TheVariants.{Fail}
 use Rattle.sql_lists.proofs.Moving.{moves_none}
-use Rattle.write_statement.proofs.Moving.{ended}
+use Rattle.giving_up.proofs.Moving.{ended}
 use Rattle.statement.specs.declared.under_way.Statement.TheVariants.{Failed}
 use Rattle.statement.specs.Running.{IsRunning}
 use Rattle.statement.proofs.Looking.{refused_now}

@@ -2,7 +2,7 @@ use Rattle.statement.proofs.Looking.{no_statement}
 use Rattle.std.proofs.Common.{refl}
 use Rattle.inno_types.specs.declared.reply.Reply.TheVariants.{Fail}
 use Rattle.inno_types.specs.declared.reply.SqlError.TheVariants.{Syntax}
-use Rattle.write_statement.proofs.Moving.{ended}
+use Rattle.giving_up.proofs.Moving.{ended}
 use Rattle.statement.specs.declared.under_way.Statement.TheVariants.{Failed}
 use Rattle.statement.specs.Running.{IsRunning}
 use Rattle.statement.proofs.under_way.refuse_text.Goals as goal

@@ -15,8 +15,8 @@ returns-then-alone-clause-steps g c =
     (ap (λ n. n - c.args.before) many ∙ count_is c.args.lists.now.past c.args.lists.now.writer c.args.session c.args.alone c.args.before c.requires.made)
     c.if-alone.true c.requires.idle c.commit.ensures
 
-pub end-requires-clause-may : goal.end-requires-clause-may
-end-requires-clause-may g c =
+pub end-leaving-requires-clause-may : goal.end-leaving-requires-clause-may
+end-leaving-requires-clause-may g c =
     let many = c.change_count.ensures ∙ ap (λ (st : State). length (own c.args.session st.past)) c.lists.ensures.same in
     may_end c.args.lists.now.past c.args.lists.now.writer c.args.session c.args.alone c.args.before _ c.requires.made
     (ap (λ n. n - c.args.before) many ∙ count_is c.args.lists.now.past c.args.lists.now.writer c.args.session c.args.alone c.args.before c.requires.made)

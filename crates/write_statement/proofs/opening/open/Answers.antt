@@ -1,7 +1,7 @@
 use Rattle.std.proofs.Common.{◌≡◌, sym, ◌∙◌}
 use Rattle.shared_lists.specs.Tasks.{Idle}
 use Rattle.sql_lists.proofs.Moving.{moves_stays, carried}
-use Rattle.write_statement.specs.Running.{IsUnopened}
+use Rattle.giving_up.specs.Leaving.{IsUnopened}
 use Rattle.write_statement.proofs.Joining.{may_begin, opened}
 use Rattle.write_statement.proofs.opening.open.Goals as goal
 

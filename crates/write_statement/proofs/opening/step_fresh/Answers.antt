@@ -3,7 +3,7 @@ use Rattle.std.specs.Prelude.{is_some}
 use Rattle.inno_model.specs.Past.{level, own}
 use Rattle.shared_lists.specs.State.{State}
 use Rattle.sql_lists.proofs.Moving.{moves_none}
-use Rattle.write_statement.proofs.Writing.{none_of}
+use Rattle.giving_up.proofs.Writing.{none_of}
 use Rattle.write_statement.proofs.Joining.{joined}
 use Rattle.write_statement.proofs.opening.step_fresh.Goals as goal
 

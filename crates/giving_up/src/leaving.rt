@@ -1,0 +1,104 @@
+//! The states of a statement that ends, and its step.
+
+ghost use Rattle.std.specs.Prelude.{◌≡◌, ◌<◌, ℕ, length, true, false, None};
+ghost use Rattle.shared_lists.specs.Tasks.{asked};
+ghost use Rattle.shared_lists.specs.State.{State, task_of};
+ghost use Rattle.sql_lists.specs.Kept.{OwesAck};
+ghost use Rattle.sql_lists.specs.Steps.{Steps, StaysRunning, GoesOnAcked};
+ghost use Rattle.sql_lists.specs.Going.{Nears, NearsAcked};
+ghost use Rattle.giving_up.specs.Going.{to_leave};
+ghost use Rattle.giving_up.specs.Leaving.{IsLeaving, owes_ack, acked, given_up};
+
+use crate::backing::step_backing;
+use crate::ending::{step_ending, step_unopened};
+use inno_types::Reply;
+use shared_lists::SharedLists;
+use sql_lists::{Advance, SqlLists};
+
+/// A statement that ends. Of a reply the history is to keep one copy, and the caller is given the other.
+#[derive(Drop)]
+pub enum Leaving {
+    /// It takes its changes back.
+    BackingOut(Work),
+    /// Its own transaction is committed.
+    Unacked { kept: Reply, given: Reply },
+    /// Its own transaction has ended, and nothing awaits an acknowledgement.
+    Ending { kept: Reply, given: Reply },
+    /// No transaction could be opened for it.
+    Unopened,
+}
+
+/// A statement that was refused or given up. `alone` says that the transaction is its own, which had made so many changes before.
+#[derive(Drop)]
+pub struct Work {
+    pub alone: bool,
+    pub before: usize,
+    pub kept: Reply,
+    pub given: Reply,
+}
+
+impl Work {
+    /// A statement that is given up for want of memory.
+    pub fn given_up(alone: bool, before: usize) -> Self
+        ensures { result ≡ given_up alone before }
+    {
+        Work {
+            alone,
+            before,
+            kept: Reply::NoMemory,
+            given: Reply::NoMemory,
+        }
+    }
+}
+
+impl Leaving {
+    /// Whether the statement's commit is yet to be acknowledged. It makes no step before that.
+    pub fn owes_ack(&self) -> bool
+        ensures { result ≡ owes_ack self.now }
+    {
+        matches!(self, Leaving::Unacked { .. })
+    }
+
+    /// The statement after the acknowledgement of its commit.
+    pub fn acked(self) -> Self
+        ensures { result ≡ acked self }
+    {
+        match self {
+            Leaving::Unacked { kept, given } => Leaving::Ending { kept, given },
+            other => other,
+        }
+    }
+
+    /// One step towards the end of the session's statement.
+    pub fn step<L: SharedLists>(self, session: u32, lists: &mut SqlLists<L>) -> (Leaving, Advance)
+        requires joined { session < length lists.old.names }
+        requires leaving { IsLeaving lists.old session self }
+        requires acked { owes_ack self ≡ false }
+        ensures steps { Steps IsLeaving session lists.old lists.new result.0 result.1 }
+        ensures nears { Nears to_leave session lists.old self lists.new result.0 result.1 }
+    {
+        match self {
+            Leaving::BackingOut(work) => step_backing(work, session, lists),
+            Leaving::Unacked { .. } => unreachable!(),
+            Leaving::Ending { kept, given } => step_ending(kept, given, session, lists),
+            Leaving::Unopened => step_unopened(session, lists),
+        }
+    }
+}
+
+/// A commit that is owed stands in the past, and its acknowledgement brings the statement nearer to its end.
+pub fn a_commit_that_is_owed_is_acknowledged()
+    ensures owed { (state : State) (s : ℕ) (m : Leaving) → owes_ack m ≡ true → IsLeaving state s m → OwesAck s state.past }
+    ensures runs { (m : Leaving) → owes_ack m ≡ true → GoesOnAcked IsLeaving m (acked m) }
+    ensures nears { (m : Leaving) → owes_ack m ≡ true → NearsAcked to_leave m (acked m) }
+{}
+
+/// It has no change to tell.
+pub fn one_that_leaves_tells_no_change()
+    ensures { (state : State) (s : ℕ) (m : Leaving) → IsLeaving state s m → asked (task_of s state) ≡ None }
+{}
+
+/// An entry of another session leaves what is known of it.
+pub fn others_leave_it()
+    ensures { StaysRunning IsLeaving }
+{}
