@@ -7,6 +7,7 @@ pub mod Coming
 pub mod Ways
 pub mod Counts
 pub mod Given
+pub mod Glances
 pub mod Exits
 pub mod Visited
 pub mod AtPair
