@@ -5,7 +5,6 @@ use Rattle.std.specs.Prelude.{IsTrue, option_map}
 use Rattle.inno_types.specs.declared.value.Value.{Value}
 use Rattle.inno_types.specs.declared.value.Schema.{Schema}
 use Rattle.store_api.specs.declared.answers.Version.{Version as Coded}
-use Rattle.row_codec.specs.Rows.{IsRecordOf, IsVersion}
 use Rattle.entries.specs.Pairs.{Pair}
 use Rattle.inno_types.specs.Order.{IsBelow}
 use Rattle.row_versions.specs.declared.kept.Kept.{Kept}
@@ -34,6 +33,7 @@ use Rattle.row_search.specs.declared.found.FoundRow.{FoundRow}
 use Rattle.row_search.specs.Owners.{TellsSame, IsOwner}
 use Rattle.row_search.proofs.Keys.{IsHome, home, fits_in, keyed_is, key_there_at}
 use Rattle.row_search.specs.Steps.{IsSameScan, GoesOn}
+use Rattle.row_search.proofs.Called.{OfRecord}
 use Rattle.row_search.proofs.Worlds.{unchanged_itself, moves_itself}
 use Rattle.row_search.proofs.Ways.{IsOnWay, code_recorded, code_led, from_record, from_pointer, may_ask, nothing_led}
 use Rattle.row_search.proofs.Given.{searching_on}
@@ -46,15 +46,6 @@ use Rattle.row_search.proofs.Visited.{after_goes, glance_goes, follows_on, is_wa
 
 -- ---- look
 
--- whatever holds of each version with this record
-abbrev pub OfRecord : Schema → List ℕ → List ℕ → (Coded → Type 0) → Type 0
-OfRecord schema key bytes P = (version : Coded) → IsVersion version → IsRecordOf schema version key bytes → P version
-
-pub of_same : {P : Coded → Type 0} {schema : Schema} {key part bytes other : List ℕ} → key ≡ part → bytes ≡ other → OfRecord schema key bytes P
-    → OfRecord schema part other P
-of_same {P} {schema} {key} {part} {bytes} {other} e f told =
-    subst (λ (b : List ℕ). OfRecord schema part b P) f (subst (λ (k : List ℕ). OfRecord schema k bytes P) e told)
-
 module _ (actor : ℕ) (schema : Schema) (state : WorldState) (scan : Scan) (entry bytes : List ℕ)
     (is : IsSearching actor schema state (record { scan = scan; phase = Look entry bytes })) where
   abbrev start : RowSearch
@@ -62,9 +53,6 @@ module _ (actor : ℕ) (schema : Schema) (state : WorldState) (scan : Scan) (ent
 
   recorded : IsTrue state.versions.told → (version : Coded) × IsCodeOf schema (primary_part schema entry) bytes version
   recorded told = let h = is.phase.1 told in code_recorded schema (primary_part schema entry) bytes state.versions.kept_at h.0 h.1
-
-  pub look_reads : OfRecord schema (primary_part schema entry) bytes (λ _. ⊥) → IsTrue state.versions.told → ⊥
-  look_reads none told = let code = recorded told in none code.0 code.1.numbers code.1.record_is
 
   looked : (version : Coded) → IsCodeOf schema (primary_part schema entry) bytes version
       → GoesOn actor schema state state start (record { scan = scan; phase = phase_after entry (glance_at scan.sight version) })

@@ -2,6 +2,7 @@ pub mod KeyOrder
 pub mod Lists
 pub mod Rows
 pub mod Worlds
+pub mod Called
 pub mod Keys
 pub mod Coming
 pub mod Ways

@@ -137,7 +137,8 @@ module _ (actor : ℕ) (schema : Schema) (old new : WorldState) (scan : Scan) (e
       (left : (versions_at : Value → List Version) (shows : ShowsRows schema scan old versions_at) (n : List ℕ) → Finds schema old.versions.kept_at at_old
       versions_at (record { scan = scan; phase = phase })
       → HasToGo schema old.versions.kept_at at_old shows.searched phase n → HasLeft version shows.searched n) where
-    holds_after : (seen marked : Bool) → PhaseHolds actor schema scan new (phase_after entry (cond seen (cond marked Deleted (Row version.row)) (Older version.pointer)))
+    holds_after : (seen marked : Bool)
+        → PhaseHolds actor schema scan new (phase_after entry (cond seen (cond marked Deleted (Row version.row)) (Older version.pointer)))
     holds_after true true = some_at at
     holds_after true false = subst (λ (o : Option Pair). IsAtKey entry o) (sym place_is) at
     holds_after false marked = (
@@ -203,7 +204,8 @@ module _ (actor : ℕ) (schema : Schema) (old new : WorldState) (scan : Scan) (e
         below (inl lt) = inl lt
         below (inr both) = inr (both.0, inl both.1)
 
-    pub after_goes : GoesOn actor schema old new (record { scan = scan; phase = phase }) (record { scan = scan; phase = phase_after entry (glance_at scan.sight version) })
+    pub after_goes : GoesOn actor schema old new (record { scan = scan; phase = phase })
+        (record { scan = scan; phase = phase_after entry (glance_at scan.sight version) })
     after_goes =
         record {
           moves = moves;

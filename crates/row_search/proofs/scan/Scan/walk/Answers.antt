@@ -1,16 +1,13 @@
-use Rattle.std.proofs.Common.{refl, sym, ap, subst, ◌≡◌, ◌∙◌, Bool, true, false, Result, Ok, Err, rules}
+use Rattle.std.proofs.Common.{refl, ap, subst, ◌≡◌, ◌∙◌, Bool, true, false, Result, Ok, Err, rules}
 use Rattle.row_codec.specs.declared.refused.RowBad.{RowBad}
 use Rattle.row_codec.specs.declared.refused.RowBad.TheVariants.{Shape}
 use Rattle.row_codec.specs.Refused.{IsOrNoMemory}
 use Rattle.row_versions.specs.Calls.{ShowsBytes}
 use Rattle.row_search.specs.declared.glance.Glance.{Glance}
-use Rattle.row_search.specs.declared.scan.Scan.{Scan}
-use Rattle.row_search.specs.declared.phase.Phase.{Phase}
-use Rattle.row_search.specs.declared.phase.Phase.TheVariants.{Walk}
 use Rattle.row_search.specs.Ranges.{primary_part}
-use Rattle.row_search.specs.Steps.{GoesOn}
 use Rattle.row_search.specs.Visits.{glance_at}
-use Rattle.row_search.proofs.AtPair.{of_same, may_walk, walk_goes, walk_reads, walk_ends}
+use Rattle.row_search.proofs.AtPair.{may_walk, walk_goes, walk_reads, walk_ends}
+use Rattle.row_search.proofs.Called.{goes_so, of_same}
 use Rattle.row_search.proofs.scan.Scan.walk.Goals as goal
 
 pub value-read-requires-clause-pointer : goal.value-read-requires-clause-pointer
@@ -27,12 +24,9 @@ returns-in-Ok-found g c =
     let key_is : c.primary_of-key.result.now ≡ primary_part schema c.args.entry = c.primary_of-key.ensures ∙ ap (primary_part schema) c.as_slice.ensures in
     let shows : ShowsBytes c.args.pointer bytes old.versions new.versions (Ok true)
     = subst (λ (b : Bool). ShowsBytes c.args.pointer bytes old.versions new.versions (Ok b)) c.in-Ok-true.field-0-test c.in-Ok-true.ensures.answer in
-    subst (λ (s : Scan). GoesOn c.args.actor schema old new (record { scan = scan; phase = Walk c.args.entry c.args.pointer })
-    (record { scan = s; phase = c.after.result })) (sym c.after.ensures.same)
-    (subst (λ (p : Phase). GoesOn c.args.actor schema old new (record { scan = scan; phase = Walk c.args.entry c.args.pointer })
-    (record { scan = scan; phase = p })) (sym c.after.ensures.next)
+    goes_so c.after.ensures.same c.after.ensures.next
     (walk_goes c.args.actor schema old new scan c.args.entry c.args.pointer c.requires c.in-Ok-true.ensures.rest bytes shows.0 shows.1 c.in-Ok-found.glance
-    (of_same key_is (c.as_slice-in-Ok-true.ensures ∙ c.from_vec-bytes.ensures) c.in-Ok-found.ensures)))
+    (of_same key_is (c.as_slice-in-Ok-true.ensures ∙ c.from_vec-bytes.ensures) c.in-Ok-found.ensures))
 
 pub returns-in-Err-Shape : goal.returns-in-Err-Shape
 returns-in-Err-Shape g c =
