@@ -5,7 +5,6 @@ use Rattle.std.specs.Prelude.{IsTrue, option_map}
 use Rattle.inno_types.specs.declared.value.Value.{Value}
 use Rattle.inno_types.specs.declared.value.Schema.{Schema}
 use Rattle.store_api.specs.declared.answers.Version.{Version as Coded}
-use Rattle.row_codec.specs.Rows.{IsRecordOf, IsVersion}
 use Rattle.entries.specs.Pairs.{Pair}
 use Rattle.inno_types.specs.Order.{IsBelow}
 use Rattle.row_versions.specs.declared.kept.Kept.{Kept}
@@ -22,7 +21,9 @@ use Rattle.row_search.specs.FoundRows.{AreFound}
 use Rattle.row_search.specs.Ranges.{primary_part, lies_in, lies_up_to}
 use Rattle.row_search.specs.Tables.{ShowsRows}
 use Rattle.row_search.specs.Searches.{place_in, IsSearching, IsComing, IsSeenAt, Finds, HasToGo, pairs_behind}
-use Rattle.row_search.specs.Visits.{phase_after}
+use Rattle.row_search.specs.declared.glance.Glance.{Glance}
+use Rattle.row_search.specs.declared.search.RowSearch.{RowSearch}
+use Rattle.row_search.specs.Visits.{glance_at, phase_after}
 use Rattle.inno_db.specs.Database.{key_of}
 use Rattle.key_codec.specs.Keys.{entry_code}
 use Rattle.sql_plan.specs.Visits.{primary_key, index_key}
@@ -32,35 +33,45 @@ use Rattle.row_search.specs.declared.found.FoundRow.{FoundRow}
 use Rattle.row_search.specs.Owners.{TellsSame, IsOwner}
 use Rattle.row_search.proofs.Keys.{IsHome, home, fits_in, keyed_is, key_there_at}
 use Rattle.row_search.specs.Steps.{IsSameScan, GoesOn}
+use Rattle.row_search.proofs.Called.{OfRecord}
 use Rattle.row_search.proofs.Worlds.{unchanged_itself, moves_itself}
-use Rattle.row_search.proofs.Ways.{IsOnWay, from_record, from_pointer, may_ask, nothing_led}
+use Rattle.row_search.proofs.Ways.{IsOnWay, code_recorded, code_led, from_record, from_pointer, may_ask, nothing_led}
 use Rattle.row_search.proofs.Given.{searching_on}
 use Rattle.row_search.proofs.Exits.{same_scan}
 use Rattle.std.specs.Ordering.{is_lt}
 use Rattle.std.specs.List.Sorted.{IsPermutation, IsSortedBy}
 use Rattle.entries.specs.Pairs.{key_cmp}
 use Rattle.row_search.proofs.InOrder.{permuted, rises}
-use Rattle.row_search.proofs.Visited.{after_goes, follows_on, is_walked, up_to_place, no_row_there, other_row_there, own_row_there}
+use Rattle.row_search.proofs.Visited.{after_goes, glance_goes, follows_on, is_walked, up_to_place, no_row_there, other_row_there, own_row_there}
 
 -- ---- look
 
-pub look_goes : (actor : ℕ) (schema : Schema) (state : WorldState) (scan : Scan) (entry bytes : List ℕ) (version : Coded)
-    → IsSearching actor schema state (record { scan = scan; phase = Look entry bytes })
-    → IsRecordOf schema version (primary_part schema entry) bytes → IsVersion version
-    → GoesOn actor schema state state (record { scan = scan; phase = Look entry bytes }) (record { scan = scan; phase = phase_after scan.sight entry version })
-look_goes actor schema state scan entry bytes version is record_is numbers =
-    after_goes actor schema state state scan entry (unchanged_itself state) (Look entry bytes) is is.phase.0 version
-    (λ told. let h = is.phase.1 told in (h.0, bytes, way h.0 h.1, h.2))
-    (λ versions_at shows finds. (finds.0, finds.1, bytes, way finds.1 finds.2, finds.3))
-    (λ versions_at shows n finds to_go.
-    record { rank = 3; long = 0; n_is = to_go; ranked = omega arith; rest = older finds.1; led = (way finds.1 finds.2).rest; shorter = inl (omega arith) })
-  where
-    code : IsCodeOf schema (primary_part schema entry) bytes version
-    code = record { record_is = record_is; numbers = numbers }
+module _ (actor : ℕ) (schema : Schema) (state : WorldState) (scan : Scan) (entry bytes : List ℕ)
+    (is : IsSearching actor schema state (record { scan = scan; phase = Look entry bytes })) where
+  abbrev start : RowSearch
+  start = record { scan = scan; phase = Look entry bytes }
 
-    way : (versions : List Version) → IsRecordWith schema (primary_part schema entry) state.versions.kept_at (Some bytes) versions
-        → IsOnWay schema (primary_part schema entry) bytes state.versions.kept_at version versions
-    way versions r = from_record schema (primary_part schema entry) bytes state.versions.kept_at version versions r code
+  recorded : IsTrue state.versions.told → (version : Coded) × IsCodeOf schema (primary_part schema entry) bytes version
+  recorded told = let h = is.phase.1 told in code_recorded schema (primary_part schema entry) bytes state.versions.kept_at h.0 h.1
+
+  looked : (version : Coded) → IsCodeOf schema (primary_part schema entry) bytes version
+      → GoesOn actor schema state state start (record { scan = scan; phase = phase_after entry (glance_at scan.sight version) })
+  looked version code =
+      after_goes actor schema state state scan entry (unchanged_itself state) (Look entry bytes) is is.phase.0 version
+      (λ told. let h = is.phase.1 told in (h.0, bytes, way h.0 h.1, h.2))
+      (λ versions_at shows finds. (finds.0, finds.1, bytes, way finds.1 finds.2, finds.3))
+      (λ versions_at shows n finds to_go.
+      record { rank = 3; long = 0; n_is = to_go; ranked = omega arith; rest = older finds.1; led = (way finds.1 finds.2).rest; shorter = inl (omega arith) })
+    where
+      way : (versions : List Version) → IsRecordWith schema (primary_part schema entry) state.versions.kept_at (Some bytes) versions
+          → IsOnWay schema (primary_part schema entry) bytes state.versions.kept_at version versions
+      way versions r = from_record schema (primary_part schema entry) bytes state.versions.kept_at version versions r code
+
+  pub look_goes : (glance : Glance) → OfRecord schema (primary_part schema entry) bytes (λ version. glance ≡ glance_at scan.sight version)
+      → GoesOn actor schema state state start (record { scan = scan; phase = phase_after entry glance })
+  look_goes glance tells =
+      glance_goes actor schema state state scan entry (unchanged_itself state) (Look entry bytes) is is.phase.0 glance
+      (λ told. let code = recorded told in (code.0, tells code.0 code.1.numbers code.1.record_is, looked code.0 code.1))
 
 -- ---- walk
 
@@ -73,29 +84,43 @@ may_walk actor schema state scan entry pointer is told = let h = is.phase.1 told
 
 module _ (actor : ℕ) (schema : Schema) (old new : WorldState) (scan : Scan) (entry : List ℕ) (pointer : ℕ)
     (is : IsSearching actor schema old (record { scan = scan; phase = Walk entry pointer })) (unchanged : IsUnchanged old new) where
-  pub walk_goes : (version : Coded) → pointer ≢ 0
-      → (IsTrue old.versions.told → option_map (λ (kept : Kept). kept.version) (old.versions.kept_at pointer) ≡ Some version)
-      → GoesOn actor schema old new (record { scan = scan; phase = Walk entry pointer }) (record { scan = scan; phase = phase_after scan.sight entry version })
-  walk_goes version leads shown_is =
-      after_goes actor schema old new scan entry unchanged (Walk entry pointer) is is.phase.0 version
-      (λ told. let h = is.phase.1 told in let w = way h.0 h.1 told in (h.0, w.0, w.1, h.2))
-      (λ versions_at shows finds. let w = way finds.1 finds.2 shows.told in (finds.0, finds.1, w.0, w.1, finds.3))
-      (λ versions_at shows n finds to_go.
-      let w = way to_go.0 to_go.1 shows.told in
-      record {
-        rank = 2;
-        long = length to_go.0;
-        n_is = to_go.2;
-        ranked = omega arith;
-        rest = older to_go.0;
-        led = w.1.rest;
-        shorter = inr
-            (refl, len_less to_go.0 (older to_go.0) (shown version) w.1.first);
-      })
-    where
-      way : (versions : List Version) → LeadTo schema (primary_part schema entry) old.versions.kept_at pointer versions → IsTrue old.versions.told
-          → (bytes : List ℕ) × IsOnWay schema (primary_part schema entry) bytes old.versions.kept_at version versions
-      way versions lead told = from_pointer schema (primary_part schema entry) old.versions.kept_at pointer version versions lead leads (shown_is told)
+  module _ (bytes : List ℕ) (leads : pointer ≢ 0)
+      (are : IsTrue old.versions.told → option_map (λ (kept : Kept). kept.bytes) (old.versions.kept_at pointer) ≡ Some bytes) where
+    led : IsTrue old.versions.told → (version : Coded) × IsCodeOf schema (primary_part schema entry) bytes version
+    led told = let h = is.phase.1 told in code_led schema (primary_part schema entry) bytes old.versions.kept_at pointer leads (are told) h.0 h.1
+
+    pub walk_reads : OfRecord schema (primary_part schema entry) bytes (λ _. ⊥) → IsTrue old.versions.told → ⊥
+    walk_reads none told = let code = led told in none code.0 code.1.numbers code.1.record_is
+
+    walked : (version : Coded) → IsCodeOf schema (primary_part schema entry) bytes version
+        → GoesOn actor schema old new (record { scan = scan; phase = Walk entry pointer })
+        (record { scan = scan; phase = phase_after entry (glance_at scan.sight version) })
+    walked version code =
+        after_goes actor schema old new scan entry unchanged (Walk entry pointer) is is.phase.0 version
+        (λ told. let h = is.phase.1 told in (h.0, bytes, way told h.0 h.1, h.2))
+        (λ versions_at shows finds. (finds.0, finds.1, bytes, way shows.told finds.1 finds.2, finds.3))
+        (λ versions_at shows n finds to_go.
+        let w = way shows.told to_go.0 to_go.1 in
+        record {
+          rank = 2;
+          long = length to_go.0;
+          n_is = to_go.2;
+          ranked = omega arith;
+          rest = older to_go.0;
+          led = w.rest;
+          shorter = inr
+              (refl, len_less to_go.0 (older to_go.0) (shown version) w.first);
+        })
+      where
+        way : IsTrue old.versions.told → (versions : List Version) → LeadTo schema (primary_part schema entry) old.versions.kept_at pointer versions
+            → IsOnWay schema (primary_part schema entry) bytes old.versions.kept_at version versions
+        way told versions lead = from_pointer schema (primary_part schema entry) bytes old.versions.kept_at pointer leads (are told) version versions lead code
+
+    pub walk_goes : (glance : Glance) → OfRecord schema (primary_part schema entry) bytes (λ version. glance ≡ glance_at scan.sight version)
+        → GoesOn actor schema old new (record { scan = scan; phase = Walk entry pointer }) (record { scan = scan; phase = phase_after entry glance })
+    walk_goes glance tells =
+        glance_goes actor schema old new scan entry unchanged (Walk entry pointer) is is.phase.0 glance
+        (λ told. let code = led told in (code.0, tells code.0 code.1.numbers code.1.record_is, walked code.0 code.1))
 
   pub walk_ends : pointer ≡ 0 → GoesOn actor schema old new (record { scan = scan; phase = Walk entry pointer }) (record { scan = scan; phase = Follow })
   walk_ends none =

@@ -2,11 +2,13 @@ pub mod KeyOrder
 pub mod Lists
 pub mod Rows
 pub mod Worlds
+pub mod Called
 pub mod Keys
 pub mod Coming
 pub mod Ways
 pub mod Counts
 pub mod Given
+pub mod Glances
 pub mod Exits
 pub mod Visited
 pub mod AtPair

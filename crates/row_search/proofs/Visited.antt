@@ -2,6 +2,7 @@
 use Rattle.std.proofs.Common.{◌≡◌, ◌≢◌, ◌∙◌, sym, ap, subst, refl, ℕ, ◌<◌, ◌≤◌, Bool, true, false, cond, List, [], ◌∷◌, ◌++◌, length, Option, None, Some, ◌⊎◌}
 use Rattle.std.proofs.Common.{inl, inr, arith}
 use Rattle.std.specs.Prelude.{IfSome, IsTrue, is_some}
+use Rattle.std.proofs.lemmas.Bool.{true≢false}
 use Rattle.inno_types.specs.declared.value.Value.{Value}
 use Rattle.inno_types.specs.declared.value.Schema.{Schema}
 use Rattle.store_api.specs.declared.answers.Version.{Version as Coded}
@@ -19,13 +20,15 @@ use Rattle.world.specs.Undoing.{IsUnchanged}
 use Rattle.row_search.specs.declared.found.FoundRow.{FoundRow}
 use Rattle.row_search.specs.declared.scan.Scan.{Scan}
 use Rattle.row_search.specs.declared.phase.Phase.{Phase}
-use Rattle.row_search.specs.declared.phase.Phase.TheVariants.{Follow, Walk, Keep}
+use Rattle.row_search.specs.declared.phase.Phase.TheVariants.{Follow}
 use Rattle.row_search.specs.Sights.{sees_by, rows_seen}
 use Rattle.row_search.specs.FoundRows.{AreFound}
 use Rattle.row_search.specs.Ranges.{primary_part, lies_up_to}
 use Rattle.row_search.specs.Tables.{most_versions, ShowsRows}
 use Rattle.row_search.specs.Searches.{place_in, PhaseHolds, IsSearching, IsComing, IsSeenAmong, IsSeenAt, PhaseFinds, Finds, HasToGo, pairs_behind}
-use Rattle.row_search.specs.Visits.{phase_after}
+use Rattle.row_search.specs.Visits.{glance_at, phase_after}
+use Rattle.row_search.specs.declared.glance.Glance.{Glance}
+use Rattle.row_search.specs.declared.glance.Glance.TheVariants.{Older, Deleted, Row}
 use Rattle.row_search.specs.Steps.{OnlyMoves, IsSameScan, GoesOn}
 use Rattle.row_search.proofs.Worlds.{moves_unchanged}
 use Rattle.row_search.proofs.Keys.{IsHome, home}
@@ -134,7 +137,8 @@ module _ (actor : ℕ) (schema : Schema) (old new : WorldState) (scan : Scan) (e
       (left : (versions_at : Value → List Version) (shows : ShowsRows schema scan old versions_at) (n : List ℕ) → Finds schema old.versions.kept_at at_old
       versions_at (record { scan = scan; phase = phase })
       → HasToGo schema old.versions.kept_at at_old shows.searched phase n → HasLeft version shows.searched n) where
-    holds_after : (seen marked : Bool) → PhaseHolds actor schema scan new (cond seen (cond marked Follow (Keep entry version.row)) (Walk entry version.pointer))
+    holds_after : (seen marked : Bool)
+        → PhaseHolds actor schema scan new (phase_after entry (cond seen (cond marked Deleted (Row version.row)) (Older version.pointer)))
     holds_after true true = some_at at
     holds_after true false = subst (λ (o : Option Pair). IsAtKey entry o) (sym place_is) at
     holds_after false marked = (
@@ -152,7 +156,7 @@ module _ (actor : ℕ) (schema : Schema) (old new : WorldState) (scan : Scan) (e
         → Finds schema old.versions.kept_at at_old versions_at (record { scan = scan; phase = phase })
         → (seen marked : Bool) → sees_by scan.sight version.writer ≡ seen → version.marked ≡ marked
         → PhaseFinds schema scan (rows_seen scan.sight versions_at) old.versions.kept_at at_new
-        (cond seen (cond marked Follow (Keep entry version.row)) (Walk entry version.pointer))
+        (phase_after entry (cond seen (cond marked Deleted (Row version.row)) (Older version.pointer)))
     finds_after versions_at shows finds true true seen marked =
         let c = came versions_at shows finds in (
           is_walked versions_at c.0,
@@ -174,7 +178,7 @@ module _ (actor : ℕ) (schema : Schema) (old new : WorldState) (scan : Scan) (e
 
     nears_after : (pairs : List Pair) (n : List ℕ) → HasLeft version pairs n → (seen marked : Bool)
         → (m : List ℕ) × HasToGo schema old.versions.kept_at at_new pairs
-        (cond seen (cond marked Follow (Keep entry version.row)) (Walk entry version.pointer)) m × IsBelow m n
+        (phase_after entry (cond seen (cond marked Deleted (Row version.row)) (Older version.pointer))) m × IsBelow m n
     nears_after pairs n l true true = (
       1 ∷ pairs_behind at_new pairs ∷ 0 ∷ 0 ∷ [],
       refl,
@@ -200,19 +204,54 @@ module _ (actor : ℕ) (schema : Schema) (old new : WorldState) (scan : Scan) (e
         below (inl lt) = inl lt
         below (inr both) = inr (both.0, inl both.1)
 
-    pub after_goes : GoesOn actor schema old new (record { scan = scan; phase = phase }) (record { scan = scan; phase = phase_after scan.sight entry version })
+    pub after_goes : GoesOn actor schema old new (record { scan = scan; phase = phase })
+        (record { scan = scan; phase = phase_after entry (glance_at scan.sight version) })
     after_goes =
         record {
           moves = moves;
           same = same_scan scan;
           holds =
-              searching_on actor schema old new scan scan phase (phase_after scan.sight entry version) moves is refl refl
+              searching_on actor schema old new scan scan phase (phase_after entry (glance_at scan.sight version)) moves is refl refl
               (holds_after (sees_by scan.sight version.writer) version.marked);
           finds = λ versions_at shows finds. finds_after versions_at shows finds (sees_by scan.sight version.writer) version.marked refl refl;
           nears =
               λ versions_at shows n finds to_go. nears_after shows.searched n (left versions_at shows n finds to_go) (sees_by scan.sight version.writer)
               version.marked;
         }
+
+  -- ---- the reader saw this of a version
+
+  -- Where it is told what is kept, the search goes on as from that version. Else nothing is said of what it finds.
+  pub glance_goes : (phase : Phase) (is : IsSearching actor schema old (record { scan = scan; phase = phase })) → IsAtKey entry at_old → (glance : Glance)
+      → (IsTrue old.versions.told → (version : Coded) × (glance ≡ glance_at scan.sight version) × GoesOn actor schema old new
+      (record { scan = scan; phase = phase }) (record { scan = scan; phase = phase_after entry (glance_at scan.sight version) }))
+      → GoesOn actor schema old new (record { scan = scan; phase = phase }) (record { scan = scan; phase = phase_after entry glance })
+  glance_goes phase is at glance goes = go old.versions.told refl where
+    go : (b : Bool) → old.versions.told ≡ b
+        → GoesOn actor schema old new (record { scan = scan; phase = phase }) (record { scan = scan; phase = phase_after entry glance })
+    go true told =
+        let g = goes told in
+        subst (λ (seen : Glance). GoesOn actor schema old new (record { scan = scan; phase = phase }) (record { scan = scan; phase = phase_after entry seen }))
+        (sym g.1) g.2
+    go false untold =
+        record {
+          moves = moves;
+          same = same_scan scan;
+          holds = searching_on actor schema old new scan scan phase (phase_after entry glance) moves is refl refl (holds glance);
+          finds = λ versions_at shows was. absurd (never shows.told);
+          nears = λ versions_at shows n was to_go. absurd (never shows.told);
+        }
+      where
+        never : IsTrue old.versions.told → ⊥
+        never told = true≢false (sym told ∙ untold)
+
+        still_at : IsAtKey entry at_new
+        still_at = subst (λ (o : Option Pair). IsAtKey entry o) (sym place_is) at
+
+        holds : (seen : Glance) → PhaseHolds actor schema scan new (phase_after entry seen)
+        holds (Older pointer) = (still_at, λ told. absurd (never (unchanged.versions.told told)))
+        holds Deleted = some_at at
+        holds (Row row) = still_at
 
 -- ---- the search goes on behind the pair, perhaps with one row more
 

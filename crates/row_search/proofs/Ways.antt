@@ -8,6 +8,7 @@ use Rattle.inno_types.specs.declared.value.Schema.{Schema}
 use Rattle.inno_db.specs.Database.{key_of}
 use Rattle.store_api.specs.declared.answers.Version.{Version as Coded}
 use Rattle.key_codec.specs.Keys.{HasKey, key_code}
+use Rattle.row_codec.proofs.Once.{same_version}
 use Rattle.entries.specs.Pairs.{Pair, value_of}
 use Rattle.row_versions.specs.declared.kept.Kept.{Kept}
 use Rattle.row_versions.specs.Versions.{Versions, leads}
@@ -15,7 +16,7 @@ use Rattle.row_versions.specs.declared.version.Version.{Version}
 use Rattle.row_versions.specs.Chains.{first_seen, older}
 use Rattle.law_stored_rows.specs.Records.{shown, row_shown, IsCodeOf, LeadTo, IsRecordWith, IsClustered}
 use Rattle.law_stored_rows.proofs.Values.{key_there, one_key}
-use Rattle.law_stored_rows.proofs.RowRecords.{record_read, pointer_followed, pointer_leads, leads_nowhere}
+use Rattle.law_stored_rows.proofs.RowRecords.{record_read, pointer_leads, leads_nowhere}
 use Rattle.sql_plan.specs.Visits.{kind_at, primary_key}
 use Rattle.row_search.specs.declared.scan.Scan.{Scan}
 use Rattle.row_search.specs.Sights.{sees_by}
@@ -34,20 +35,40 @@ from_record schema key bytes kept coded versions is code =
     let read = record_read schema key bytes kept versions coded is code in
     record { code_is = code; first = read.0; rest = read.1 }
 
--- what was shown for the pointer is the next version
-pub from_pointer : (schema : Schema) (key : List ℕ) (kept : ℕ → Option Kept) (pointer : ℕ) (coded : Coded) (versions : List Version)
-    → LeadTo schema key kept pointer versions → pointer ≢ 0
-    → option_map (λ (k : Kept). k.version) (kept pointer) ≡ Some coded → (bytes : List ℕ) × IsOnWay schema key bytes kept coded versions
-from_pointer schema key kept pointer coded versions lead leads is = go (kept pointer) refl is where
-  go : (found : Option Kept) → kept pointer ≡ found → option_map (λ (k : Kept). k.version) found ≡ Some coded
-      → (bytes : List ℕ) × IsOnWay schema key bytes kept coded versions
-  go None at e = cc
-  go (Some found) at e =
-      let same : found.version ≡ coded = cc in
-      let next = pointer_followed schema key kept pointer versions found lead leads at in (
-        found.bytes,
-        subst (λ (c : Coded). IsOnWay schema key found.bytes kept c versions) same (record { code_is = next.0; first = next.1; rest = next.2 }),
-      )
+-- some version has the record
+pub code_recorded : (schema : Schema) (key bytes : List ℕ) (kept : ℕ → Option Kept) (versions : List Version)
+    → IsRecordWith schema key kept (Some bytes) versions → (coded : Coded) × IsCodeOf schema key bytes coded
+code_recorded schema key bytes kept [] is = absurd is
+code_recorded schema key bytes kept (version ∷ rest) is = (is.0, is.1)
+
+-- the bytes that are kept for a pointer which leads somewhere
+module _ (schema : Schema) (key bytes : List ℕ) (kept : ℕ → Option Kept) (pointer : ℕ) (leads : pointer ≢ 0)
+    (are : option_map (λ (k : Kept). k.bytes) (kept pointer) ≡ Some bytes) where
+  same_bytes : (found : Kept) → kept pointer ≡ Some found → found.bytes ≡ bytes
+  same_bytes found there =
+      let e : option_map (λ (k : Kept). k.bytes) (Some found) ≡ Some bytes
+      = subst (λ (o : Option Kept). option_map (λ (k : Kept). k.bytes) o ≡ Some bytes) there are in
+      cc
+
+  own_code : (version : Version) (rest : List Version) (lead : LeadTo schema key kept pointer (version ∷ rest)) → IsCodeOf schema key bytes lead.0.version
+  own_code version rest lead = subst (λ (b : List ℕ). IsCodeOf schema key b lead.0.version) (same_bytes lead.0 lead.1.there) lead.1.code_is
+
+  pub code_led : (versions : List Version) → LeadTo schema key kept pointer versions → (coded : Coded) × IsCodeOf schema key bytes coded
+  code_led [] lead = absurd (leads lead)
+  code_led (version ∷ rest) lead = (lead.0.version, own_code version rest lead)
+
+  -- the version that they are the record of is the next one
+  pub from_pointer : (coded : Coded) (versions : List Version) → LeadTo schema key kept pointer versions → IsCodeOf schema key bytes coded
+      → IsOnWay schema key bytes kept coded versions
+  from_pointer coded [] lead code = absurd (leads lead)
+  from_pointer coded (version ∷ rest) lead code =
+      let own = own_code version rest lead in
+      let one : lead.0.version ≡ coded = same_version schema lead.0.version coded key bytes own.numbers code.numbers own.record_is code.record_is in
+      record {
+        code_is = code;
+        first = ap (λ (v : Version). v ∷ rest) (sym lead.1.shown_is ∙ ap shown one);
+        rest = subst (λ (c : Coded). LeadTo schema key kept c.pointer rest) one lead.2;
+      }
 
 zero_test : (n : ℕ) → n ≡ 0 → (n == 0) ≡ true
 zero_test n e = rw e refl

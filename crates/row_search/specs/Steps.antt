@@ -102,7 +102,7 @@ abbrev pub Searches : ℕ → Schema → WorldState → WorldState → RowSearch
 Searches actor schema old new search next Went = GoesOn actor schema old new search next
 Searches actor schema old new search next (Done rows) = Ends actor schema old new search rows.items
 Searches actor schema old new search next (Hindered why) = Waits actor schema old new search next why
-Searches actor schema old new search next Malformed = (next ≡ search) × (new ≡ old) × (IsTrue old.versions.told → ⊥)
+Searches actor schema old new search next Malformed = (next ≡ search) × IsUnchanged old new × (IsTrue old.versions.told → ⊥)
 
 -- the scan comes from this phase to the next
 abbrev pub Comes : ℕ → Schema → WorldState → WorldState → Scan → Phase → Scan → Phase × Came → Type 0

@@ -3,9 +3,10 @@ use Rattle.std.specs.Prelude.{◌≡◌, ◌==◌, ℕ, List, if◌then◌else�
 use Rattle.store_api.specs.declared.answers.Version.{Version}
 use Rattle.store_api.specs.declared.moves.Move.{Move}
 use Rattle.store_api.specs.declared.moves.Move.TheVariants as move
+use Rattle.store_api.specs.declared.visits.Visit.{Visit}
 use Rattle.store_api.specs.declared.visits.Visit.TheVariants.{Failed, Again, Bad}
-use Rattle.row_versions.specs.declared.answers.ChainBad.{ChainBad}
-use Rattle.row_versions.specs.declared.answers.ChainBad.TheVariants.{Visit, NoMemory}
+use Rattle.row_search.specs.declared.glance.Glance.{Glance}
+use Rattle.row_search.specs.declared.glance.Glance.TheVariants.{Older, Deleted, Row}
 use Rattle.row_search.specs.declared.side.Side.{Side}
 use Rattle.row_search.specs.declared.side.Side.TheVariants.{Before, Within, Behind}
 use Rattle.row_search.specs.declared.scan.Scan.{Scan}
@@ -26,10 +27,15 @@ pub record IsGivenPhase (scan : Scan) (key value : List ℕ) (next : Phase) : Ty
   pub is_on : IsOnSide scan.range key side
   pub next_is : next ≡ phase_at scan.which key value side
 
--- what comes next once this version was looked at
-abbrev pub phase_after : Sight → List ℕ → Version → Phase
-phase_after sight entry version =
-    if sees_by sight version.writer then (if version.marked then Follow else Keep entry version.row) else Walk entry version.pointer
+-- what the reader sees of this version
+abbrev pub glance_at : Sight → Version → Glance
+glance_at sight version = if sees_by sight version.writer then (if version.marked then Deleted else Row version.row) else Older version.pointer
+
+-- what comes next once a version was looked at
+abbrev pub phase_after : List ℕ → Glance → Phase
+phase_after entry (Older pointer) = Walk entry pointer
+phase_after entry Deleted = Follow
+phase_after entry (Row row) = Keep entry row
 
 -- what comes next once the search comes to its pair anew
 abbrev pub phase_anew : Phase → Phase
@@ -38,8 +44,7 @@ phase_anew (Walk entry pointer) = Fetch entry
 phase_anew other = other
 
 -- what keeps a version from being shown, as a call of an index says it
-abbrev pub move_for : ChainBad → Move
-move_for (Visit Failed) = move.Failed
-move_for (Visit Again) = move.Again
-move_for (Visit (Bad page rule)) = move.Bad page rule
-move_for NoMemory = move.NoMemory
+abbrev pub move_for : Visit → Move
+move_for Failed = move.Failed
+move_for Again = move.Again
+move_for (Bad page rule) = move.Bad page rule

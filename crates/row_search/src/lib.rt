@@ -5,6 +5,7 @@
 mod bounds;
 mod entry;
 mod found;
+mod glance;
 mod laws;
 mod phase;
 mod scan;

@@ -11,7 +11,7 @@ pub enum Phase {
     Follow,
     /// The clustered record of an entry is read.
     Fetch { entry: Bytes },
-    /// The newest version of the row is decoded.
+    /// The newest version of the row is looked at.
     Look { entry: Bytes, bytes: Bytes },
     /// The reader doesn't see the versions so far: the one that the pointer leads to is next.
     Walk { entry: Bytes, pointer: u64 },

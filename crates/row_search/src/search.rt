@@ -140,7 +140,9 @@ impl Scan {
             Phase::Follow => self.follow(world, actor, schema),
             Phase::Fetch { entry } => self.fetch(alloc, world, actor, schema, entry),
             Phase::Look { entry, bytes } => self.look(alloc, world, actor, schema, entry, bytes),
-            Phase::Walk { entry, pointer } => self.walk(world, actor, schema, entry, pointer),
+            Phase::Walk { entry, pointer } => self.walk(
+                alloc, world, actor, schema, entry, pointer,
+            ),
             Phase::Keep { entry, row } => self.keep(alloc, world, actor, schema, entry, row),
             Phase::Sort => self.sort(world, actor, schema),
             Phase::Leave => self.leave(alloc, world, actor, schema),

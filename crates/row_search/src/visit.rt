@@ -9,48 +9,40 @@ ghost use Rattle.row_search.specs.Visits.{phase_after, move_for};
 use crate::bounds::{copy_of, primary_of};
 use crate::entry::is_entry_of;
 use crate::found::{FoundRow, sort_by_key};
+use crate::glance::Glance;
 use crate::phase::Phase;
 use crate::scan::Scan;
 use crate::search::Came;
 use inno_types::{Bytes, Row, Schema};
-use row_codec::{RowBad, decode};
-use row_versions::ChainBad;
+use row_codec::RowBad;
 use std::alloc::Global;
 use std::mem;
-use store_api::{Move, Version, Visit};
+use store_api::{MOST_BYTES_OF_VALUE, Move, Visit};
 use world::{World, index_number};
 
-fn move_of(why: ChainBad) -> Move
+fn move_of(why: Visit) -> Move
     ensures { result ≡ move_for why }
 {
     match why {
-        ChainBad::Visit(Visit::Failed) => Move::Failed,
-        ChainBad::Visit(Visit::Again) => Move::Again,
-        ChainBad::Visit(Visit::Bad { page, rule }) => Move::Bad { page, rule },
-        ChainBad::NoMemory => Move::NoMemory,
+        Visit::Failed => Move::Failed,
+        Visit::Again => Move::Again,
+        Visit::Bad { page, rule } => Move::Bad { page, rule },
     }
 }
 
 impl Scan {
-    /// What comes next at an entry where this version is the newest that was not passed over.
-    fn after(&mut self, entry: Bytes, version: Version) -> Phase
-        ensures next { result ≡ phase_after self.old.sight entry version }
+    /// What comes next at an entry once the reader has looked at a version so.
+    fn after(&mut self, entry: Bytes, glance: Glance) -> Phase
+        ensures next { result ≡ phase_after entry glance }
         ensures same { self.new ≡ self.old }
     {
-        if !self.sight.sees(version.writer) {
-            return Phase::Walk {
-                entry,
-                pointer: version.pointer,
-            };
-        }
-        if version.marked {
-            self.pair.key.keep(entry);
-            Phase::Follow
-        } else {
-            Phase::Keep {
-                entry,
-                row: version.row,
+        match glance {
+            Glance::Older { pointer } => Phase::Walk { entry, pointer },
+            Glance::Deleted => {
+                self.pair.key.keep(entry);
+                Phase::Follow
             }
+            Glance::Row(row) => Phase::Keep { entry, row },
         }
     }
 
@@ -67,10 +59,10 @@ impl Scan {
         ensures { Comes actor schema.now (W.state world.old) (W.state world.new) self.old (Phase.Look entry bytes) self.new result }
     {
         let key = primary_of(schema, entry.as_slice());
-        match decode(alloc, schema, key, bytes.as_slice()) {
-            Ok(version) => {
+        match self.sight.glance(alloc, schema, key, bytes.as_slice()) {
+            Ok(glance) => {
                 self.pair.value.keep(bytes);
-                (self.after(entry, version), Came::Went)
+                (self.after(entry, glance), Came::Went)
             }
             Err(RowBad::NoMemory) => (Phase::Look { entry, bytes }, Came::Hindered(Move::NoMemory)),
             Err(RowBad::Shape) => (Phase::Look { entry, bytes }, Came::Malformed),
@@ -79,6 +71,7 @@ impl Scan {
 
     pub(crate) fn walk<W: World>(
         &mut self,
+        alloc: Global,
         world: &mut W,
         actor: u32,
         schema: &Schema,
@@ -88,13 +81,38 @@ impl Scan {
         requires { IsSearching actor schema.now (W.state world.old) (record { scan = self.old; phase = Phase.Walk entry pointer }) }
         ensures { Comes actor schema.now (W.state world.old) (W.state world.new) self.old (Phase.Walk entry pointer) self.new result }
     {
-        match world.version(pointer) {
-            Ok(Some(version)) => (self.after(entry, version), Came::Went),
-            Ok(None) => {
-                self.pair.key.keep(entry);
+        let Ok(mut bytes) = self.pair.value.with_room(alloc, MOST_BYTES_OF_VALUE) else {
+            return (
+                Phase::Walk { entry, pointer },
+                Came::Hindered(Move::NoMemory),
+            );
+        };
+        let read = world.value(pointer, &mut bytes);
+        let bytes = Bytes::from_vec(bytes);
+        match read {
+            Ok(true) => {
+                let key = primary_of(schema, entry.as_slice());
+                let found = self.sight.glance(alloc, schema, key, bytes.as_slice());
+                self.pair.value.keep(bytes);
+                match found {
+                    Ok(glance) => (self.after(entry, glance), Came::Went),
+                    Err(RowBad::NoMemory) => {
+                        (
+                            Phase::Walk { entry, pointer },
+                            Came::Hindered(Move::NoMemory),
+                        )
+                    }
+                    Err(RowBad::Shape) => (Phase::Walk { entry, pointer }, Came::Malformed),
+                }
+            }
+            Ok(false) => {
+                self.pair.keep((entry, bytes));
                 (Phase::Follow, Came::Went)
             }
-            Err(why) => (Phase::Walk { entry, pointer }, Came::Hindered(move_of(why))),
+            Err(why) => {
+                self.pair.value.keep(bytes);
+                (Phase::Walk { entry, pointer }, Came::Hindered(move_of(why)))
+            }
         }
     }
 

@@ -1,26 +1,13 @@
-use Rattle.std.proofs.Common.{sym, ap, subst, ◌≡◌, ◌∙◌, ℕ, List}
-use Rattle.row_search.specs.declared.scan.Scan.{Scan}
-use Rattle.row_search.specs.declared.phase.Phase.{Phase}
-use Rattle.row_search.specs.declared.phase.Phase.TheVariants.{Look}
+use Rattle.std.proofs.Common.{ap, ◌≡◌, ◌∙◌}
 use Rattle.row_search.specs.Ranges.{primary_part}
-use Rattle.row_search.specs.Steps.{GoesOn}
-use Rattle.row_codec.specs.Rows.{IsRecordOf}
 use Rattle.row_search.proofs.AtPair.{look_goes}
+use Rattle.row_search.proofs.Called.{goes_so, of_same}
 use Rattle.row_search.proofs.scan.Scan.look.Goals as goal
 
 pub returns-in-Ok : goal.returns-in-Ok
 returns-in-Ok g c =
-    let state = g.W.World.state c.args.world.now in
-    let scan = c.args.self.now in
     let schema = c.args.schema.now in
-    let version = c.in-Ok.version in
     let key_is : c.primary_of-key.result.now ≡ primary_part schema c.args.entry = c.primary_of-key.ensures ∙ ap (primary_part schema) c.as_slice.ensures in
-    let record_is : IsRecordOf schema version (primary_part schema c.args.entry) c.args.bytes
-    =
-    subst (λ (bytes : List ℕ). IsRecordOf schema version (primary_part schema c.args.entry) bytes) c.as_slice-2.ensures
-    (subst (λ (key : List ℕ). IsRecordOf schema version key c.as_slice-2.result.now) key_is c.in-Ok.ensures.found) in
-    subst (λ (s : Scan). GoesOn c.args.actor schema state state (record { scan = scan; phase = Look c.args.entry c.args.bytes })
-    (record { scan = s; phase = c.after.result })) (sym c.after.ensures.same)
-    (subst (λ (p : Phase). GoesOn c.args.actor schema state state (record { scan = scan; phase = Look c.args.entry c.args.bytes })
-    (record { scan = scan; phase = p })) (sym c.after.ensures.next)
-    (look_goes c.args.actor schema state scan c.args.entry c.args.bytes version c.requires record_is c.in-Ok.ensures.range))
+    goes_so c.after.ensures.same c.after.ensures.next
+    (look_goes c.args.actor schema (g.W.World.state c.args.world.now) c.args.self.now c.args.entry c.args.bytes c.requires c.in-Ok.glance
+    (of_same key_is c.as_slice-2.ensures c.in-Ok.ensures))

@@ -1,35 +1,57 @@
-use Rattle.std.proofs.Common.{sym, subst, Option, Some, None, Ok}
-use Rattle.store_api.specs.declared.answers.Version.{Version as Coded}
-use Rattle.row_versions.specs.Calls.{ShowsVersion}
-use Rattle.row_search.specs.declared.scan.Scan.{Scan}
-use Rattle.row_search.specs.declared.phase.Phase.{Phase}
-use Rattle.row_search.specs.declared.phase.Phase.TheVariants.{Walk}
-use Rattle.row_search.specs.Steps.{GoesOn}
-use Rattle.row_search.proofs.AtPair.{may_walk, walk_goes, walk_ends}
+use Rattle.std.proofs.Common.{refl, ap, subst, ◌≡◌, ◌∙◌, Bool, true, false, Result, Ok, Err, rules}
+use Rattle.row_codec.specs.declared.refused.RowBad.{RowBad}
+use Rattle.row_codec.specs.declared.refused.RowBad.TheVariants.{Shape}
+use Rattle.row_codec.specs.Refused.{IsOrNoMemory}
+use Rattle.row_versions.specs.Calls.{ShowsBytes}
+use Rattle.row_search.specs.declared.glance.Glance.{Glance}
+use Rattle.row_search.specs.Ranges.{primary_part}
+use Rattle.row_search.specs.Visits.{glance_at}
+use Rattle.row_search.proofs.AtPair.{may_walk, walk_goes, walk_reads, walk_ends}
+use Rattle.row_search.proofs.Called.{goes_so, of_same}
 use Rattle.row_search.proofs.scan.Scan.walk.Goals as goal
 
-pub version-requires : goal.version-requires
-version-requires g c =
+pub value-read-requires-clause-pointer : goal.value-read-requires-clause-pointer
+value-read-requires-clause-pointer g c =
     may_walk c.args.actor c.args.schema.now (g.W.World.state c.args.world.now) c.args.self.now c.args.entry c.args.pointer c.requires
 
-pub returns-in-Ok-Some : goal.returns-in-Ok-Some
-returns-in-Ok-Some g c =
+pub returns-in-Ok-found : goal.returns-in-Ok-found
+returns-in-Ok-found g c =
     let old = g.W.World.state c.args.world.now in
-    let new = g.W.World.state c.version.new.self in
+    let new = g.W.World.state c.value-read.new.self in
     let scan = c.args.self.now in
     let schema = c.args.schema.now in
-    let shows : ShowsVersion c.args.pointer old.versions new.versions (Ok (Some c.in-Ok-Some.version))
-    = subst (λ (v : Option Coded). ShowsVersion c.args.pointer old.versions new.versions (Ok v)) c.in-Ok-Some.field-0-is c.in-Ok-Some.ensures.answer in
-    subst (λ (s : Scan). GoesOn c.args.actor schema old new (record { scan = scan; phase = Walk c.args.entry c.args.pointer })
-    (record { scan = s; phase = c.after.result })) (sym c.after.ensures.same)
-    (subst (λ (p : Phase). GoesOn c.args.actor schema old new (record { scan = scan; phase = Walk c.args.entry c.args.pointer })
-    (record { scan = scan; phase = p })) (sym c.after.ensures.next)
-    (walk_goes c.args.actor schema old new scan c.args.entry c.args.pointer c.requires c.in-Ok-Some.ensures.rest c.in-Ok-Some.version shows.0 shows.1))
+    let bytes = c.value-read.new.into.items in
+    let key_is : c.primary_of-key.result.now ≡ primary_part schema c.args.entry = c.primary_of-key.ensures ∙ ap (primary_part schema) c.as_slice.ensures in
+    let shows : ShowsBytes c.args.pointer bytes old.versions new.versions (Ok true)
+    = subst (λ (b : Bool). ShowsBytes c.args.pointer bytes old.versions new.versions (Ok b)) c.in-Ok-true.field-0-test c.in-Ok-true.ensures.answer in
+    goes_so c.after.ensures.same c.after.ensures.next
+    (walk_goes c.args.actor schema old new scan c.args.entry c.args.pointer c.requires c.in-Ok-true.ensures.rest bytes shows.0 shows.1 c.in-Ok-found.glance
+    (of_same key_is (c.as_slice-in-Ok-true.ensures ∙ c.from_vec-bytes.ensures) c.in-Ok-found.ensures))
 
-pub returns-in-Ok-None : goal.returns-in-Ok-None
-returns-in-Ok-None g c =
+pub returns-in-Err-Shape : goal.returns-in-Err-Shape
+returns-in-Err-Shape g c =
     let old = g.W.World.state c.args.world.now in
-    let new = g.W.World.state c.version.new.self in
-    let shows : ShowsVersion c.args.pointer old.versions new.versions (Ok None)
-    = subst (λ (v : Option Coded). ShowsVersion c.args.pointer old.versions new.versions (Ok v)) c.in-Ok-None.field-0-is c.in-Ok-None.ensures.answer in
-    walk_ends c.args.actor c.args.schema.now old new c.args.self.now c.args.entry c.args.pointer c.requires c.in-Ok-None.ensures.rest shows.0
+    let new = g.W.World.state c.value-read.new.self in
+    let scan = c.args.self.now in
+    let schema = c.args.schema.now in
+    let bytes = c.value-read.new.into.items in
+    let key_is : c.primary_of-key.result.now ≡ primary_part schema c.args.entry = c.primary_of-key.ensures ∙ ap (primary_part schema) c.as_slice.ensures in
+    let shows : ShowsBytes c.args.pointer bytes old.versions new.versions (Ok true)
+    = subst (λ (b : Bool). ShowsBytes c.args.pointer bytes old.versions new.versions (Ok b)) c.in-Ok-true.field-0-test c.in-Ok-true.ensures.answer in
+    let refused : c.glance-found.result ≡ Err Shape = search rules in (
+      refl,
+      c.in-Ok-true.ensures.rest,
+      walk_reads c.args.actor schema old new scan c.args.entry c.args.pointer c.requires c.in-Ok-true.ensures.rest bytes shows.0 shows.1
+          (of_same key_is (c.as_slice-in-Ok-true.ensures ∙ c.from_vec-bytes.ensures)
+          (λ version numbers is. subst (λ (r : Result Glance RowBad). IsOrNoMemory r (glance_at scan.sight version)) refused
+          (c.glance-found.ensures version numbers is))),
+    )
+
+pub returns-in-Ok-false : goal.returns-in-Ok-false
+returns-in-Ok-false g c =
+    let old = g.W.World.state c.args.world.now in
+    let new = g.W.World.state c.value-read.new.self in
+    let bytes = c.value-read.new.into.items in
+    let shows : ShowsBytes c.args.pointer bytes old.versions new.versions (Ok false)
+    = subst (λ (b : Bool). ShowsBytes c.args.pointer bytes old.versions new.versions (Ok b)) c.in-Ok-false.field-0-test c.in-Ok-false.ensures.answer in
+    walk_ends c.args.actor c.args.schema.now old new c.args.self.now c.args.entry c.args.pointer c.requires c.in-Ok-false.ensures.rest shows.0
