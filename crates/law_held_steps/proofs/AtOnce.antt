@@ -49,7 +49,8 @@ use Rattle.law_held_steps.proofs.Places.{none_moves, moves_then, moves_in_one, m
 use Rattle.law_held_steps.proofs.Shows.{HasSome, some_rows_by, coded_while_quiet}
 use Rattle.law_held_steps.proofs.Begins.{columns_held, new_finding}
 use Rattle.law_held_steps.proofs.Nearing.{steps_nearer, nearer_in}
-use Rattle.law_held_steps.proofs.Stepping.{few_held, may_step, rows_on, some_schema}
+use Rattle.law_held_steps.proofs.Stepping.{few_held, may_step, rows_on}
+use Rattle.law_held_steps.proofs.AnyStep.{some_same}
 
 -- ---- the plan
 
@@ -94,7 +95,7 @@ module _ (state : WorldState) (writer : Option ℕ) (desks : List Desk) (cuts : 
         (are.readable.coded.clustered.tables table schema are.readable.there) w alone by.which
         (λ row. is_within by.range (index_key schema by.which row)) rows are.found are.rise
         ∙ ap (λ (t : Schema). rows_in_range by t (rows_of table (changed (with_all_tables state.past) (seen state.past w (commits state.past)))))
-        (some_schema schema other (sym are.readable.there ∙ (ap (λ (tables : List Schema). slice_get tables table) held.agrees.lists.tables ∙ is)))
+        (some_same schema other (sym are.readable.there ∙ (ap (λ (tables : List Schema). slice_get tables table) held.agrees.lists.tables ∙ is)))
 
     newest_by : (quiet : Bool) → AreRead held.chains table (plan_read quiet plan) schema state rows → (w : ℕ) → ((u : ℕ) → u ≢ w → own u state.past ≡ [])
         → AreNewestRows table plan state.past w only_rows

@@ -17,7 +17,7 @@ use Rattle.shared_lists.specs.Tasks as tasks
 use Rattle.shared_lists.specs.State.{task_of, Turns}
 use Rattle.desks.specs.declared.desk.Desk.{Desk}
 use Rattle.desks.specs.declared.desk.Doing.{Doing}
-use Rattle.desks.specs.declared.desk.Doing.TheVariants.{Nothing, Searching, Changing, Lagging, Undoing}
+use Rattle.desks.specs.declared.desk.Doing.TheVariants.{Nothing, Searching}
 use Rattle.desks.specs.Desks.{fresh_desk, doing_at, with_doing}
 use Rattle.desks.specs.Shown.{shown, lists_of, reading_of, seen_of}
 use Rattle.desks.specs.Undoing.{undo_left_in}
@@ -27,7 +27,7 @@ use Rattle.law_held_steps.specs.Begun.{IsBegun}
 use Rattle.law_held_steps.specs.Moving.{MovesPlaces}
 use Rattle.law_held_steps.specs.TakenUp.{IsSearchOf}
 use Rattle.law_held_steps.proofs.Places.{none_moves}
-use Rattle.law_held_steps.proofs.AtDesks.{doing_here, doing_other}
+use Rattle.law_held_steps.proofs.Desks.{doing_here, doing_elsewhere}
 
 pub left_stays : (s table : ℕ) (stage : Stage) (old new : WorldState) → MovesPlaces s old new → IsTold new
     → undo_left_in table stage new ≡ undo_left_in table stage old
@@ -58,7 +58,7 @@ module _ (s left : ℕ) (old new : WorldState) (writer : Option ℕ) (desks : Li
       past_is = ap (λ (state : WorldState). state.past) moves.rest;
       writer_is = refl;
       task_is = task_now s doing (doing_here s doing desks within);
-      others = λ u differs. task_now u (doing_at u desks) (doing_other s doing desks u differs) ∙ sym (task_is u left old writer desks);
+      others = λ u differs. task_now u (doing_at u desks) (doing_elsewhere s u doing desks differs) ∙ sym (task_is u left old writer desks);
     }
 
     pub rest_stays : ((lists_of new writer (with_doing s doing desks) left).settings ≡ (lists_of old writer desks left).settings) ×
@@ -86,10 +86,7 @@ turns_now s table stage old new writer desks doing within moves told =
 pub search_shown : (left : ℕ) (schemas : List Schema) (doing : Doing) (table : ℕ) (plan : Plan) (reading : Reading)
     → shown schemas left doing ≡ tasks.Searching table plan reading → IsSearchOf doing table plan reading
 search_shown left schemas (Searching on) table plan reading is = (on, refl, cc, cc, cc)
-search_shown left schemas Nothing table plan reading is = absurd (cc)
-search_shown left schemas (Changing change) table plan reading is = absurd (cc)
-search_shown left schemas Lagging table plan reading is = absurd (cc)
-search_shown left schemas Undoing table plan reading is = absurd (cc)
+search_shown left schemas other table plan reading is = absurd (cc)
 
 begun_shown : (table left : ℕ) (schemas : List Schema) (plan : Plan) (sight : Sight) (schema : Schema) (cuts : ℕ) (on : TableSearch)
     → IsBegun table plan sight schema cuts on

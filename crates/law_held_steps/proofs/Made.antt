@@ -23,26 +23,27 @@ use Rattle.row_changes.specs.declared.row_change.RowChange.TheVariants.{Record, 
 use Rattle.row_changes.specs.declared.reached.Reached.{Reached}
 use Rattle.row_changes.specs.declared.reached.Reached.TheVariants.{Went, Done, Hindered}
 use Rattle.row_changes.specs.Edits.{change_of, rows_put}
-use Rattle.row_changes.specs.Rows.{place_of, row_steps, IsChangingRow, ChangesRow}
-use Rattle.law_logged_changes.specs.GoingOn.{StaysAgreed, EntersAgreed, EndsAgreed}
+use Rattle.row_changes.specs.Rows.{table_of, place_of, row_steps, IsChangingRow, ChangesRow}
+use Rattle.law_logged_changes.specs.GoingOn.{KeepsBeside, StaysAgreed, EntersAgreed, EndsAgreed}
 use Rattle.law_logged_changes.proofs.Entering.{goes_on, place_there}
 use Rattle.undo_apply.specs.declared.work_room.WorkRoom.{WorkRoom}
-use Rattle.undo_apply.specs.declared.work_room.Stage.TheVariants.{Find}
 use Rattle.shared_lists.specs.Fitting.{FitsThen}
 use Rattle.shared_lists.specs.Steps.{rows_of_change}
 use Rattle.law_logged_changes.specs.Logs.{LogsAgree}
 use Rattle.law_logged_changes.proofs.Logging.{change_logged}
 use Rattle.law_logged_changes.proofs.Crossing.{row_all}
 use Rattle.desks.specs.declared.desk.Desk.{Desk}
+use Rattle.desks.specs.declared.desk.Doing.{Doing}
 use Rattle.desks.specs.declared.desk.Doing.TheVariants.{Nothing, Changing, Lagging}
 use Rattle.desks.specs.Desks.{doing_at, with_doing}
 use Rattle.desks.specs.Undoing.{keys_if}
-use Rattle.desks.specs.Holding.{AreFew, IsHeld, IsLastOf, IsLastIfTold, RowsHeld}
-use Rattle.law_held_steps.specs.Making.{AddsNothing, MakesChange}
+use Rattle.desks.specs.Holding.{AreFew, IsHeld, IsLastOf, RowsHeld}
+use Rattle.law_world_agreement.specs.Agreement.{Agrees}
+use Rattle.law_held_steps.specs.Leaving.{is_searching}
+use Rattle.law_held_steps.specs.Making.{MakesChange}
 use Rattle.law_held_steps.proofs.Desks.{changes_at_a_desk}
-use Rattle.law_held_steps.proofs.Fits.{edit_fits}
-use Rattle.law_held_steps.proofs.Pasts.{goes_same, goes_changed}
-use Rattle.law_held_steps.proofs.Keeping.{leaves_lists, last_of_kept, keeps}
+use Rattle.law_held_steps.proofs.Begun.{edit_fits}
+use Rattle.law_held_steps.proofs.Keeping.{goes_same, goes_changed, leaves_lists, last_of_kept, keeps}
 
 -- ---- the entry
 
@@ -65,11 +66,14 @@ pushed_short before after place version most pushes few other =
 
 -- ---- how many steps are left
 
-keys_there : (found : Option Schema) (schema : Schema) → found ≡ Some schema → keys_if found ≡ length schema.keys
-keys_there found schema is = ap keys_if is
-
-fewer : (steps fewer_steps : ℕ → ℕ) (keys kept now : ℕ) → keys ≡ kept → now ≡ kept → fewer_steps kept < steps kept → fewer_steps now < steps keys
-fewer steps fewer_steps keys kept now is same nears = subst (λ k. fewer_steps now < steps k) (sym is) (subst (λ k. fewer_steps k < steps kept) (sym same) nears)
+nears_by : (old new : WorldState) (change next : RowChange) (schema : Schema) → new.schemas ≡ old.schemas → table_of next ≡ table_of change
+    → slice_get old.schemas (table_of change) ≡ Some schema → row_steps (length schema.keys) next < row_steps (length schema.keys) change
+    → row_steps (keys_if (slice_get new.schemas (table_of next))) next < row_steps (keys_if (slice_get old.schemas (table_of change))) change
+nears_by old new change next schema same table there less =
+    let was : keys_if (slice_get old.schemas (table_of change)) ≡ length schema.keys = ap keys_if there in
+    subst (λ k. row_steps k next < row_steps (keys_if (slice_get old.schemas (table_of change))) change)
+    (sym (ap (λ (s : List Schema). keys_if (slice_get s (table_of next))) same ∙ (ap (λ n. keys_if (slice_get old.schemas n)) table ∙ was)))
+    (subst (λ k. row_steps (length schema.keys) next < row_steps k change) (sym was) less)
 
 module _ (s : ℕ) (desks : List Desk) (cuts : ℕ) (undo : UndoRoom) (room : WorkRoom) (old : WorldState)
     (held : IsHeld old (Some s) desks cuts undo room) (change : RowChange) (at : doing_at s desks ≡ Changing change) where
@@ -94,22 +98,13 @@ module _ (s : ℕ) (desks : List Desk) (cuts : ℕ) (undo : UndoRoom) (room : Wo
     short_same : AreFew held.chains new.past
     short_same place = subst (λ (h : List Event). length (versions_at place held.chains) ≤ length h + 2 ^ 62) (sym past) (held.short place)
 
-  -- the same of a change that stays under way
-  pub went : (change next : RowChange) → IsChangingRow s held.chains old change → (c : ChangesRow s held.chains old new change (Went next))
-      → StaysAgreed s held.chains old new next → IsLastIfTold new s next → room.stage ≡ Find
-      → IsHeld new (Some s) (with_doing s (Changing next) desks) cuts undo room
-  went change next p c a last stage =
-      keeps s desks cuts undo room old new held a.beside (goes_same s old.past new.past a.past) held.chains a.agrees was (Changing next) within refl
-      (fits_same a.past) (logs_now change (Went next) p c) (a.changing, stage, last) (short_same a.past)
-
-  nothing_added : (chains : Chains) (next : RowChange) → StaysAgreed s chains old new next → AddsNothing old new
-  nothing_added chains next a = record { past = a.past; rows = a.rows }
-
-  same_keys : (table : ℕ) (other : ℕ) (schema : Schema) → new.schemas ≡ old.schemas → other ≡ table → slice_get old.schemas table ≡ Some schema
-      → keys_if (slice_get new.schemas other) ≡ length schema.keys
-  same_keys table other schema same is there =
-      ap (λ (schemas : List Schema). keys_if (slice_get schemas other)) same ∙ ap (λ n. keys_if (slice_get old.schemas n)) is ∙ keys_there
-      (slice_get old.schemas table) schema there
+  -- where nothing is added, with this under way
+  still : (change : RowChange) (reached : Reached RowChange) (beside : KeepsBeside s old new) → IsChangingRow s held.chains old change
+      → ChangesRow s held.chains old new change reached → new.past ≡ old.past → Agrees held.chains (Some s) new → (doing : Doing)
+      → is_searching doing ≡ false → RowsHeld held.chains new s (read_into undo) room doing → IsHeld new (Some s) (with_doing s doing desks) cuts undo room
+  still change reached beside p c past agrees doing quiet rows =
+      keeps s desks cuts undo room old new held beside (goes_same s old.past new.past past) held.chains agrees was doing within quiet (fits_same past)
+      (logs_now change reached p c) rows (short_same past)
 
   -- ---- the record
 
@@ -122,19 +117,17 @@ module _ (s : ℕ) (desks : List Desk) (cuts : ℕ) (undo : UndoRoom) (room : Wo
         let a : StaysAgreed s held.chains old new (Record next key' after') =
         goes_on s held.chains old new (Record change key after) (Went (Record next key' after')) held.agrees rows.0 c told few in
         let p = rows.0.0 in
-        let same_change : change_of next.table next.edit ≡ change_of change.table change.edit =
-        ap (λ n. change_of n next.edit) c.0.0.table_is ∙ ap (change_of change.table) c.0.0.edit_is in
         record {
-          held = went (Record change key after) (Record next key' after') rows.0 c a (record {}) rows.1;
+          held =
+              still (Record change key after) (Went (Record next key' after')) a.beside rows.0 c a.past a.agrees (Changing (Record next key' after')) refl
+              (a.changing, rows.1, record {});
           leaves = leaves_lists s desks cuts undo room old new held a.beside;
           comes = record {
-            adds = nothing_added held.chains (Record next key' after') a;
-            change_is = ap Some same_change;
+            adds = record { past = a.past; rows = a.rows };
+            change_is = ap Some (ap (λ n. change_of n next.edit) c.0.0.table_is ∙ ap (change_of change.table) c.0.0.edit_is);
             nears =
-                fewer (λ k. row_steps k (Record change key after)) (λ k. row_steps k (Record next key' after'))
-                (keys_if (slice_get old.schemas change.table)) (length p.schema.keys) (keys_if (slice_get new.schemas next.table))
-                (keys_there (slice_get old.schemas change.table) p.schema p.table.there)
-                (same_keys change.table next.table p.schema a.beside.schemas c.0.0.table_is p.table.there) (c.1 p.schema p.table.there);
+                nears_by old new (Record change key after) (Record next key' after') p.schema a.beside.schemas c.0.0.table_is p.table.there
+                (c.1 p.schema p.table.there);
           };
         }
 
@@ -197,11 +190,9 @@ module _ (s : ℕ) (desks : List Desk) (cuts : ℕ) (undo : UndoRoom) (room : Wo
         let a : StaysAgreed s held.chains old new same = given.1 in
         let p : IsChangingRow s held.chains new (Record change key after) = subst (IsChangingRow s held.chains new) c.0 a.changing in
         record {
-          held =
-              keeps s desks cuts undo room old new held a.beside (goes_same s old.past new.past a.past) held.chains a.agrees was Nothing within refl
-              (fits_same a.past) (logs_now (Record change key after) (Hindered same why) rows.0 c) (p.1, rows.1) (short_same a.past);
+          held = still (Record change key after) (Hindered same why) a.beside rows.0 c a.past a.agrees Nothing refl (p.1, rows.1);
           leaves = leaves_lists s desks cuts undo room old new held a.beside;
-          comes = (nothing_added held.chains same a, c.0);
+          comes = (record { past = a.past; rows = a.rows }, c.0);
         }
 
   -- ---- the keys
@@ -214,17 +205,13 @@ module _ (s : ℕ) (desks : List Desk) (cuts : ℕ) (undo : UndoRoom) (room : Wo
         let p = rows.0 in
         record {
           held =
-              went (Keys change) (Keys next) rows.0 c a
-              (last_of_kept s desks cuts undo room old new held a.beside change next a.past c.0.table_is c.0.key_is rows.2) rows.1;
+              still (Keys change) (Went (Keys next)) a.beside rows.0 c a.past a.agrees (Changing (Keys next)) refl
+              (a.changing, rows.1, last_of_kept s desks cuts undo room old new held a.beside change next a.past c.0.table_is c.0.key_is rows.2);
           leaves = leaves_lists s desks cuts undo room old new held a.beside;
           comes = record {
-            adds = nothing_added held.chains (Keys next) a;
+            adds = record { past = a.past; rows = a.rows };
             change_is = refl;
-            nears =
-                fewer (λ k. row_steps k (Keys change)) (λ k. row_steps k (Keys next)) (keys_if (slice_get old.schemas change.table)) (length p.schema.keys)
-                (keys_if (slice_get new.schemas next.table))
-                (keys_there (slice_get old.schemas change.table) p.schema p.table.there)
-                (same_keys change.table next.table p.schema a.beside.schemas c.0.table_is p.table.there) (c.1 p.schema p.table.there);
+            nears = nears_by old new (Keys change) (Keys next) p.schema a.beside.schemas c.0.table_is p.table.there (c.1 p.schema p.table.there);
           };
         }
 
@@ -232,9 +219,7 @@ module _ (s : ℕ) (desks : List Desk) (cuts : ℕ) (undo : UndoRoom) (room : Wo
     keys_done c =
         let a : EndsAgreed s held.chains old new = goes_on s held.chains old new (Keys change) Done held.agrees rows.0 c told few in
         record {
-          held =
-              keeps s desks cuts undo room old new held a.beside (goes_same s old.past new.past a.past) held.chains a.agrees was Nothing within refl
-              (fits_same a.past) (logs_now (Keys change) Done rows.0 c) (a.coded, rows.1) (short_same a.past);
+          held = still (Keys change) Done a.beside rows.0 c a.past a.agrees Nothing refl (a.coded, rows.1);
           leaves = leaves_lists s desks cuts undo room old new held a.beside;
           comes = (record { past = a.past; rows = a.rows }, refl);
         }
@@ -248,8 +233,7 @@ module _ (s : ℕ) (desks : List Desk) (cuts : ℕ) (undo : UndoRoom) (room : Wo
         let last = last_of_kept s desks cuts undo room old new held a.beside change change a.past refl refl rows.2 in
         record {
           held =
-              keeps s desks cuts undo room old new held a.beside (goes_same s old.past new.past a.past) held.chains a.agrees was Lagging within refl
-              (fits_same a.past) (logs_now (Keys change) (Hindered same why) rows.0 c) (
+              still (Keys change) (Hindered same why) a.beside rows.0 c a.past a.agrees Lagging refl (
                 record {
                   change = change;
                   changing = p;
@@ -257,13 +241,12 @@ module _ (s : ℕ) (desks : List Desk) (cuts : ℕ) (undo : UndoRoom) (room : Wo
                   place = last.place;
                   last = last.last;
                   table_is = last.table_is;
-                  key_is =
-                      last.key_is;
+                  key_is = last.key_is;
                 },
                 rows.1,
-              ) (short_same a.past);
+              );
           leaves = leaves_lists s desks cuts undo room old new held a.beside;
-          comes = (nothing_added held.chains same a, c.0);
+          comes = (record { past = a.past; rows = a.rows }, c.0);
         }
 
   pub makes : (change : RowChange) (reached : Reached RowChange) → RowsHeld held.chains old s (read_into undo) room (Changing change)

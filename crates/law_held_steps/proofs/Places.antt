@@ -1,7 +1,7 @@
 -- Steps that move a session's places leave all rows, and may follow one another.
-use Rattle.std.proofs.Common.{◌≡◌, ⊎_elim, ℕ, Bool, true, false, List, Option, Some, None, refl, sym, ap, subst, ◌∙◌}
+use Rattle.std.proofs.Common.{◌≡◌, ◌≢◌, ◌⊎◌, ⊎_elim, ℕ, Bool, true, false, List, Option, Some, None, refl, sym, ap, ◌∙◌}
 use Rattle.std.specs.Prelude.{◌==◌, if◌then◌else◌}
-use Rattle.std.proofs.lemmas.Bool.{cases_eq}
+use Rattle.std.proofs.lemmas.Bool.Decides.{eqb_tells}
 use Rattle.entries.specs.Pairs.{Pair}
 use Rattle.entries.specs.Index.{AreKept}
 use Rattle.entries.specs.Calls.{Leaves, released}
@@ -14,6 +14,7 @@ use Rattle.world.specs.Undoing.{IsUnchanged}
 use Rattle.row_search.specs.Steps.{OnlyMoves}
 use Rattle.law_logged_changes.proofs.ReadersLeft.{left_told}
 use Rattle.law_held_steps.specs.Moving.{MovesPlaces}
+use Rattle.law_held_steps.proofs.AnyStep.{each}
 
 -- ---- pairs and versions
 
@@ -35,14 +36,15 @@ stays_then : (old between new : Versions) → Stays old between → Stays betwee
 stays_then old between new first second =
     record { told = λ told. first.told (second.told told); kept = λ told. second.kept told ∙ first.kept (second.told told) }
 
--- who is awaited still, once this actor isn't
-left_over : (s : ℕ) (awaited : Option ℕ) (by : ℕ) → released s awaited ≡ Some by → awaited ≡ Some by
+-- who is awaited still, once this actor isn't: it is another
+pub left_over : (s : ℕ) (awaited : Option ℕ) (by : ℕ) → released s awaited ≡ Some by → (awaited ≡ Some by) × (by ≢ s)
 left_over s None by is = absurd (cc)
-left_over s (Some holder) by is = kept (holder == s) is
+left_over s (Some holder) by is = kept (holder == s) (eqb_tells holder s) is
   where
-    kept : (mine : Bool) → (if mine then None else Some holder) ≡ Some by → Some holder ≡ Some by
-    kept true none = absurd (cc)
-    kept false same = same
+    kept : (mine : Bool) → ((mine ≡ true) × (holder ≡ s)) ⊎ ((mine ≡ false) × (holder ≢ s)) → (if mine then None else Some holder) ≡ Some by
+        → (Some holder ≡ Some by) × (by ≢ s)
+    kept true tells none = absurd (cc)
+    kept false tells same = (same, ⊎_elim (λ t. let no : false ≡ true = t.0 in absurd (cc)) (λ f at. f.1 (let one : holder ≡ by = cc in one ∙ at)) tells)
 
 -- ---- which steps are such
 
@@ -69,11 +71,8 @@ moves_then s old between new first second = record {
 pub moves_in_one : (s index : ℕ) (old new : WorldState) → OnlyMoves s index old new → MovesPlaces s old new
 moves_in_one s index old new moves = record {
   pairs = moves.pairs;
-  places = λ other at differs.
-      ⊎_elim
-      (λ here. subst (λ (i : ℕ). (new.indexes i).place other ≡ (old.indexes i).place other) (sym here) (moves.others other differs))
-      (λ elsewhere. ap (λ place. place other) (moves.places at elsewhere))
-      (cases_eq at index);
+  places = λ other at differs. each index (λ i. (new.indexes i).place other ≡ (old.indexes i).place other) (moves.others other differs)
+      (λ i elsewhere. ap (λ place. place other) (moves.places i elsewhere)) at;
   fewer = λ at by is. sym (moves.awaited at) ∙ is;
   versions = moves.versions;
   rest = moves.rest;
@@ -92,23 +91,13 @@ moves_nothing s old new same = record {
 
 pub leaving_moves : (s index : ℕ) (old new : WorldState) → Calls index (Leaves s) old new → MovesPlaces s old new
 leaving_moves s index old new calls = record {
-  pairs = λ at.
-      ⊎_elim
-      (λ here. subst (λ (i : ℕ). AreKept (old.indexes i).pairs (new.indexes i).pairs) (sym here)
-      (kept_same (old.indexes index).pairs (new.indexes index).pairs calls.index_is.here.pairs))
-      (λ elsewhere. (calls.index_is.elsewhere at elsewhere).pairs)
-      (cases_eq at index);
-  places = λ other at differs.
-      ⊎_elim
-      (λ here. subst (λ (i : ℕ). (new.indexes i).place other ≡ (old.indexes i).place other) (sym here) (calls.index_is.here.others other differs))
-      (λ elsewhere. ap (λ place. place other) (calls.index_is.elsewhere at elsewhere).place)
-      (cases_eq at index);
-  fewer = λ at by is.
-      ⊎_elim
-      (λ here. subst (λ (i : ℕ). (old.indexes i).awaited ≡ Some by) (sym here)
-      (left_over s (old.indexes index).awaited by (sym calls.index_is.here.awaited ∙ subst (λ (i : ℕ). (new.indexes i).awaited ≡ Some by) here is)))
-      (λ elsewhere. sym (calls.index_is.elsewhere at elsewhere).awaited ∙ is)
-      (cases_eq at index);
+  pairs = each index (λ i. AreKept (old.indexes i).pairs (new.indexes i).pairs)
+      (kept_same (old.indexes index).pairs (new.indexes index).pairs calls.index_is.here.pairs) (λ i elsewhere. (calls.index_is.elsewhere i elsewhere).pairs);
+  places = λ other at differs. each index (λ i. (new.indexes i).place other ≡ (old.indexes i).place other) (calls.index_is.here.others other differs)
+      (λ i elsewhere. ap (λ place. place other) (calls.index_is.elsewhere i elsewhere).place) at;
+  fewer = λ at by. each index (λ i. (new.indexes i).awaited ≡ Some by → (old.indexes i).awaited ≡ Some by)
+      (λ is. (left_over s (old.indexes index).awaited by (sym calls.index_is.here.awaited ∙ is)).0)
+      (λ i elsewhere is. sym (calls.index_is.elsewhere i elsewhere).awaited ∙ is) at;
   versions = calls.beside.versions;
   rest = calls.beside.rest;
   later = calls.beside.later;

@@ -1,17 +1,15 @@
 -- A search that is under way goes on, ends or is given up.
 use Rattle.std.proofs.Common.{◌≡◌, ◌≢◌, inl, inr, ℕ, ◌<◌, ◌≤◌, Bool, true, false, List, [], length, map, Option, Some, refl, sym, ap, subst, ◌∙◌, slice_get}
-use Rattle.std.proofs.Common.{arith}
+use Rattle.std.proofs.Common.{arith, eq-eqb}
 use Rattle.std.specs.Prelude.{◌==◌, ◌-◌, filter}
-use Rattle.std.proofs.lemmas.Bool.{cases_lt}
-use Rattle.std.proofs.lemmas.Bool.Decides.{nat_tests}
 use Rattle.inno_types.specs.declared.value.Schema.{Schema}
 use Rattle.inno_types.specs.Order.{IsBelow}
 use Rattle.inno_db.specs.Database.{rows_of}
 use Rattle.inno_model.specs.declared.event.Event.{Event}
 use Rattle.inno_model.specs.Past.{own, commits, changed}
-use Rattle.read_view.specs.Sight.{Sight as ReadSight}
 use Rattle.store_api.specs.declared.moves.Move.{Move}
 use Rattle.entries.specs.Calls.{Leaves}
+use Rattle.read_view.specs.Sight.{Sight as ReadSight}
 use Rattle.row_versions.specs.declared.place.Place.{Place}
 use Rattle.row_versions.specs.Chains.{Chains, versions_at}
 use Rattle.law_stored_rows.specs.Tables.{in_table}
@@ -53,15 +51,13 @@ use Rattle.desks.specs.Searching.{keys_left, places_in}
 use Rattle.desks.specs.Shown.{reading_of}
 use Rattle.law_held_steps.specs.Moving.{MovesPlaces}
 use Rattle.law_held_steps.specs.TakenUp.{IsTakenUp, MayStep, plan_of}
+use Rattle.law_held_steps.proofs.AnyStep.{some_same}
 use Rattle.law_held_steps.proofs.Places.{moves_then, moves_in_one, moves_nothing, leaving_moves, moves_leave, moves_told}
 use Rattle.law_held_steps.proofs.Staying.{held_stays}
 use Rattle.law_held_steps.proofs.Nearing.{IsLess, keys_before, visit_before, keys_anew, steps_nearer, still_nearer, anew_nearer}
 use Rattle.law_held_steps.proofs.Shows.{HasSome, some_rows_by, shows_held}
 
 -- ---- the search that is stepped
-
-pub same_number : (a b : ℕ) → a ≡ b → (a == b) ≡ true
-same_number a b same = grind (arith, nat_tests, same)
 
 comes_anew : (b : Bool) (s : ℕ) (state : WorldState) (chains : Chains) (on : TableSearch) → FindsSince b s state chains on
     → IsFindingAnew s on.schema state chains on.search
@@ -76,7 +72,7 @@ takes_up : (chains : Chains) (state : WorldState) (writer : Option ℕ) (cuts s 
     → IsSearchHeld chains state writer cuts s on → IsTakenUp cuts on search → IsTaken s state chains on search
 takes_up chains state writer cuts s on search held (inl same) =
     let finds : IsFinding s on.schema state chains on.search =
-    subst (λ (b : Bool). FindsSince b s state chains on) (same_number on.cuts cuts same.0) held.finds in
+    subst (λ (b : Bool). FindsSince b s state chains on) (eq-eqb on.cuts cuts same.0) held.finds in
     (subst (IsFinding s on.schema state chains) (sym same.1) finds, ap (λ (r : RowSearch). r.scan) same.1)
 takes_up chains state writer cuts s on search held (inr (later, anew)) =
     (comes_anew (on.cuts == cuts) s state chains on held.finds search anew.scan anew.finds anew.way anew.holds, anew.scan)
@@ -116,9 +112,6 @@ sight_on s old new writer Newest moves is = is
 
 -- ---- what was found
 
-pub some_schema : (a b : Schema) → Some a ≡ Some b → a ≡ b
-some_schema a b same = cc
-
 module _ (chains : Chains) (writer : Option ℕ) (state : WorldState) (agrees : Agrees chains writer state) (rows : HasSome chains state) (s : ℕ)
     (on : TableSearch) (found : List FoundRow) (there : slice_get state.schemas on.search.scan.table ≡ Some on.schema) where
   abbrev scan : Scan
@@ -128,7 +121,7 @@ module _ (chains : Chains) (writer : Option ℕ) (state : WorldState) (agrees : 
   FoundBy sight = AreFound on.schema scan.which (rows_seen sight (in_table scan.table chains)) (lies_in on.schema scan) found
 
   one_schema : (schema : Schema) → slice_get (created state.past) scan.table ≡ Some schema → on.schema ≡ schema
-  one_schema schema is = some_schema on.schema schema (sym there ∙ (ap (λ (tables : List Schema). slice_get tables scan.table) agrees.lists.tables ∙ is))
+  one_schema schema is = some_same on.schema schema (sym there ∙ (ap (λ (tables : List Schema). slice_get tables scan.table) agrees.lists.tables ∙ is))
 
   seen_then : (n : ℕ)
       → map (λ (f : FoundRow). f.row) found ≡ filter (lies_in on.schema scan)
@@ -160,11 +153,8 @@ module _ (chains : Chains) (writer : Option ℕ) (state : WorldState) (agrees : 
 
 -- ---- how often it may come to its pair anew
 
-less_or : (a b : ℕ) → a ≤ b → a ≢ b → a < b
-less_or a b le differs = elim (cases_lt a b) [ inl less ↦ less | inr least ↦ absurd (differs (omega (arith, le, least))) ]
-
 fewer : (long was since cuts : ℕ) → long ≡ was → since ≤ cuts → cuts ≤ was → since ≢ cuts → long - cuts < was - since
-fewer long was since cuts same le cut later = let less = less_or since cuts le later in omega (arith, same, cut, less)
+fewer long was since cuts same le cut later = omega (arith, same, le, cut, later)
 
 -- ---- in a held world
 
@@ -216,7 +206,7 @@ module _ (s : ℕ) (old : WorldState) (writer : Option ℕ) (desks : List Desk) 
                   since = omega arith;
                   finds =
                       subst (λ (b : Bool). FindsSince b s new held.chains (record on { search = next; cuts = cuts }))
-                      (sym (same_number cuts cuts refl)) on_now.0;
+                      (sym (eq-eqb cuts cuts refl)) on_now.0;
                   sight = subst (SightHolds new writer s) (sym on_now.1.sight) (sight_on s old new writer search.scan.sight moves sight_taken);
                 }),
             moves,
