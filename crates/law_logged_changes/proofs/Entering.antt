@@ -49,10 +49,6 @@ use Rattle.law_logged_changes.proofs.Staying.{aside_agreed, keys_agreed, keys_en
 abbrev pub with_version : Place → Version → Chains → Chains
 with_version place version chains = (place, version ∷ versions_at place chains) ∷ chains
 
-at_itself : (place : Place) (version : Version) (chains : Chains) → versions_at place (with_version place version chains) ≡ version ∷ versions_at place chains
-at_itself place version chains =
-    ap (λ (b : Bool). unwrap_or (cond b (Some (version ∷ versions_at place chains)) (lookup (is_same_place place) chains)) []) (place_itself place)
-
 apart_back : (place other : Place) → is_same_place place other ≡ false → is_same_place other place ≡ false
 apart_back place other apart = go (is_same_place other place) refl
   where
@@ -61,16 +57,24 @@ apart_back place other apart = go (is_same_place other place) refl
     go true is =
         let e = same_place other place is in let itself = subst (λ (p : Place). is_same_place place p ≡ true) (sym e) (place_itself place) in absurd (cc)
 
-pub pushed_version : (place : Place) (version : Version) (chains : Chains) → Pushes chains (with_version place version chains) place version
-pushed_version place version chains other = go (is_same_place place other) refl
+-- one place has other versions, made of those that it had
+pub chain_with : (place : Place) (f : List Version → List Version) (chains : Chains) (other : Place)
+    → versions_at other ((place, f (versions_at place chains)) ∷ chains)
+    ≡ cond (is_same_place place other) (f (versions_at other chains)) (versions_at other chains)
+chain_with place f chains other = go (is_same_place place other) refl
   where
+    there : Place → Bool → List Version
+    there p b = unwrap_or (cond b (Some (f (versions_at place chains))) (lookup (is_same_place p) chains)) []
+
     go : (b : Bool) → is_same_place place other ≡ b
-        → versions_at other (with_version place version chains) ≡ cond b (version ∷ versions_at other chains) (versions_at other chains)
+        → versions_at other ((place, f (versions_at place chains)) ∷ chains) ≡ cond b (f (versions_at other chains)) (versions_at other chains)
     go true is =
-        subst (λ (p : Place). versions_at p (with_version place version chains) ≡ version ∷ versions_at p chains) (same_place place other is)
-        (at_itself place version chains)
-    go false is =
-        ap (λ (b : Bool). unwrap_or (cond b (Some (version ∷ versions_at place chains)) (lookup (is_same_place other) chains)) []) (apart_back place other is)
+        subst (λ (p : Place). versions_at p ((place, f (versions_at place chains)) ∷ chains) ≡ f (versions_at p chains)) (same_place place other is)
+        (ap (there place) (place_itself place))
+    go false is = ap (there other) (apart_back place other is)
+
+pub pushed_version : (place : Place) (version : Version) (chains : Chains) → Pushes chains (with_version place version chains) place version
+pushed_version place version chains = chain_with place (λ versions. version ∷ versions) chains
 
 -- ---- the entry is that of a change of this row
 

@@ -5,7 +5,7 @@ use Rattle.inno_db.specs.declared.change.Change.{Change}
 use Rattle.inno_model.specs.Past.{own}
 use Rattle.store_api.specs.declared.answers.Undo.{Undo}
 use Rattle.store_api.specs.declared.moves.Move.{Move}
-use Rattle.store_api.specs.declared.moves.Move.TheVariants.{At, End, Done, Step, Latch, Again, Full, TooDeep, Failed, Bad, NoMemory}
+use Rattle.store_api.specs.declared.moves.Move.TheVariants.{Done, Step}
 use Rattle.row_versions.specs.declared.place.Place.{Place}
 use Rattle.row_versions.specs.Chains.{Chains}
 use Rattle.world.specs.State.{WorldState, Session, Work, Logged, HasWork}
@@ -66,31 +66,10 @@ module _ (chains : Chains) (place : Place) (actor : ℕ) (undo : Undo) (room nex
   step_leaves Done is not_done = absurd (not_done refl)
   step_leaves Step (inl goes) not_done = goes_leaves goes
   step_leaves Step (inr is) not_done = hindered_leaves Step is
-  step_leaves (Latch by) is not_done = hindered_leaves (Latch by) is
-  step_leaves Again is not_done = hindered_leaves Again is
-  step_leaves Failed is not_done = hindered_leaves Failed is
-  step_leaves (Bad page rule) is not_done = hindered_leaves (Bad page rule) is
-  step_leaves End is not_done = hindered_leaves End is
-  step_leaves (At key value) is not_done = hindered_leaves (At key value) is
-  step_leaves (Full need free) is not_done = hindered_leaves (Full need free) is
-  step_leaves TooDeep is not_done = hindered_leaves TooDeep is
-  step_leaves NoMemory is not_done = hindered_leaves NoMemory is
+  step_leaves why is not_done = hindered_leaves why is
 
   pub done_beside : IsDone chains place undo room next old new → ChangesPairsAlone old new
   done_beside done = ⊎_elim (λ stays. stays.rest) (λ puts. puts.rest) done.changes
-
-  beside_by : (answer : Move) → PutsBack chains place actor undo room next old new answer → ChangesPairsAlone old new
-  beside_by Done is = done_beside is
-  beside_by Step is = (step_leaves Step is (λ e. cc)).1
-  beside_by (Latch by) is = is.stays.rest
-  beside_by Again is = is.stays.rest
-  beside_by Failed is = is.stays.rest
-  beside_by (Bad page rule) is = is.stays.rest
-  beside_by End is = is.stays.rest
-  beside_by (At key value) is = is.stays.rest
-  beside_by (Full need free) is = is.stays.rest
-  beside_by TooDeep is = is.stays.rest
-  beside_by NoMemory is = is.stays.rest
 
   pub step_logs : (answer : Move) (log : List Logged) (changes : List Change) → PutsBack chains place actor undo room next old new answer → answer ≢ Done
       → IsLogOf old log changes → IsLogOf new log changes
@@ -100,4 +79,6 @@ module _ (chains : Chains) (place : Place) (actor : ℕ) (undo : Undo) (room nex
   step_all answer is not_done agree = let left = step_leaves answer is not_done in all_left old new left.0 (logs_beside old new left.1) agree
 
   pub step_beside : (answer : Move) → PutsBack chains place actor undo room next old new answer → ChangesPairsAlone old new
-  step_beside answer is = beside_by answer is
+  step_beside Done is = done_beside is
+  step_beside Step is = (step_leaves Step is (λ e. cc)).1
+  step_beside why is = is.stays.rest

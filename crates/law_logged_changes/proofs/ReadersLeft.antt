@@ -19,7 +19,7 @@ use Rattle.row_changes.specs.declared.entry_put.PutPhase.{PutPhase}
 use Rattle.row_changes.specs.declared.entry_put.PutPhase.TheVariants as puts
 use Rattle.row_changes.specs.declared.record_change.RecordChange.{RecordChange}
 use Rattle.row_changes.specs.declared.record_change.RecordStage.{RecordStage}
-use Rattle.row_changes.specs.declared.record_change.RecordStage.TheVariants.{Enter, Room, Find, Insert, Replace}
+use Rattle.row_changes.specs.declared.record_change.RecordStage.TheVariants.{Insert, Replace}
 use Rattle.row_changes.specs.declared.keys_change.KeysChange.{KeysChange}
 use Rattle.row_changes.specs.declared.row_change.RowChange.{RowChange}
 use Rattle.row_changes.specs.declared.row_change.RowChange.TheVariants.{Record, Keys}
@@ -41,9 +41,6 @@ told_pairs P (Some old) (Some new) kept is = subst P (sym kept) is
 
 stage_kept : (stage : RecordStage) (schema : Schema) (edit : RowEdit) (key : List ℕ) (session : Session) (old new : Index) → AreKept old.pairs new.pairs
     → StageHolds stage schema edit key session old → StageHolds stage schema edit key session new
-stage_kept Enter schema edit key session old new kept is = is
-stage_kept Room schema edit key session old new kept is = is
-stage_kept Find schema edit key session old new kept is = is
 stage_kept Insert schema edit key session old new kept is =
     (is.0, is.1, told_pairs (λ pairs. is_some (value_of key pairs) ≡ false) old.pairs new.pairs kept is.2)
 stage_kept (Replace before bytes) schema edit key session old new kept is = (
@@ -51,6 +48,7 @@ stage_kept (Replace before bytes) schema edit key session old new kept is = (
   is.1,
   record { there = told_pairs (λ pairs. value_of key pairs ≡ Some bytes) old.pairs new.pairs kept is.2.there; code_is = is.2.code_is },
 )
+stage_kept stage schema edit key session old new kept is = is
 
 phase_kept : (phase : PutPhase) (entry : List ℕ) (old new : Index) → AreKept old.pairs new.pairs → PutPhaseHolds phase entry old → PutPhaseHolds phase entry new
 phase_kept puts.Look entry old new kept is = is
