@@ -139,12 +139,11 @@ module _ (chains : Chains) (s table : ℕ) (plan : Plan) (schema : Schema) where
       (subst (λ (n : ℕ). AreFound schema scan.which (rows_seen scan.sight (in_table n chains)) (lies_in schema scan) rows) is.table_is are)))
 
   module _ (first : WorldState) where
-    rows_now : (state : WorldState) (search : RowSearch) → IsReadingNewest chains s table plan schema first state search → IsTold state → HasSome chains state
-    rows_now state search is told = rows_on s first state chains is.moves told (is.readable.said, is.readable.coded)
-
     pub reading_steps : (state : WorldState) (search : RowSearch) → IsReadingNewest chains s table plan schema first state search → IsTold state
         → MayStep s schema state search
-    reading_steps state search is told = may_step s schema state chains search told (rows_now state search is told) is.readable.short is.finds.searching
+    reading_steps state search is told =
+        may_step s schema state chains search told (rows_on s first state chains is.moves told (is.readable.said, is.readable.coded)) is.readable.short
+        is.finds.searching
 
     shows : (state : WorldState) (search : RowSearch) → IsReadingNewest chains s table plan schema first state search → IsTold state
         → ShowsRows schema search.scan state (in_table search.scan.table chains)

@@ -2,12 +2,9 @@
 -- kept versions alone change.
 use Rattle.std.proofs.Common.{◌≡◌, ◌≤◌, Bool, true, false, cond, List, [], ◌∷◌, length, Some, refl, sym, ap, subst, arith, ℕ, Option, None, ◌+◌, ◌*◌, ◌^◌, ◌<◌}
 use Rattle.std.proofs.Common.{◌≢◌, inl, inr, ⊎_elim, ◌∙◌, slice_get}
-use Rattle.std.specs.Prelude.{unwrap_or}
-use Rattle.std.specs.Map.{lookup}
 use Rattle.row_versions.specs.declared.place.Place.{Place}
 use Rattle.row_versions.specs.declared.version.Version.{Version}
 use Rattle.row_versions.specs.Chains.{Chains, versions_at, older, is_same_place, Pops}
-use Rattle.law_stored_rows.proofs.Values.{place_itself, same_place}
 use Rattle.inno_types.specs.declared.value.Schema.{Schema}
 use Rattle.inno_db.specs.declared.change.Change.{Change}
 use Rattle.inno_db.specs.declared.change.Change.TheVariants.{Create}
@@ -42,6 +39,7 @@ use Rattle.desks.specs.declared.desk.Desk.{Desk}
 use Rattle.desks.specs.declared.desk.Doing.{Doing}
 use Rattle.desks.specs.Desks.{doing_at, is_quiet_doing}
 use Rattle.desks.specs.Holding.{RowsHeld, RowsHeldBy, IsLast, SearchHeld, IsHeld}
+use Rattle.law_logged_changes.proofs.Entering.{chain_with}
 use Rattle.law_held_steps.proofs.AnyStep.{some_same, last_left, held_beside}
 use Rattle.law_held_steps.proofs.Desks.{GivesDoing}
 
@@ -50,27 +48,8 @@ use Rattle.law_held_steps.proofs.Desks.{GivesDoing}
 abbrev pub without_newest : Place → Chains → Chains
 without_newest place chains = (place, older (versions_at place chains)) ∷ chains
 
-at_itself : (place : Place) (chains : Chains) → versions_at place (without_newest place chains) ≡ older (versions_at place chains)
-at_itself place chains =
-    ap (λ (b : Bool). unwrap_or (cond b (Some (older (versions_at place chains))) (lookup (is_same_place place) chains)) []) (place_itself place)
-
-apart_back : (place other : Place) → is_same_place place other ≡ false → is_same_place other place ≡ false
-apart_back place other apart = go (is_same_place other place) refl
-  where
-    go : (b : Bool) → is_same_place other place ≡ b → is_same_place other place ≡ false
-    go false is = is
-    go true is =
-        let e = same_place other place is in let itself = subst (λ (p : Place). is_same_place place p ≡ true) (sym e) (place_itself place) in absurd (cc)
-
 pub popped_newest : (place : Place) (chains : Chains) → Pops chains (without_newest place chains) place
-popped_newest place chains other = go (is_same_place place other) refl
-  where
-    go : (b : Bool) → is_same_place place other ≡ b
-        → versions_at other (without_newest place chains) ≡ cond b (older (versions_at other chains)) (versions_at other chains)
-    go true is =
-        subst (λ (p : Place). versions_at p (without_newest place chains) ≡ older (versions_at p chains)) (same_place place other is) (at_itself place chains)
-    go false is =
-        ap (λ (b : Bool). unwrap_or (cond b (Some (older (versions_at place chains))) (lookup (is_same_place other) chains)) []) (apart_back place other is)
+popped_newest place chains = chain_with place older chains
 
 -- ---- no place has more versions
 

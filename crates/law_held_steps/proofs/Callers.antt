@@ -42,14 +42,11 @@ module _ (s left : ℕ) (old new : WorldState) (writer : Option ℕ) (desks : Li
   lists_same = lists_stay s left old new writer desks moves.rest moves.pairs (λ t index differs. moves.places t index differs) moves.versions
 
   module _ (doing : Doing) where
-    schemas_stay : new.schemas ≡ old.schemas
-    schemas_stay = ap (λ (state : WorldState). state.schemas) moves.rest
-
     task_now : (u : ℕ) (is : Doing) → doing_at u (with_doing s doing desks) ≡ is
         → task_of u (lists_of new writer (with_doing s doing desks) left).state ≡ shown old.schemas left is
     task_now u is at =
         task_is u left new writer (with_doing s doing desks)
-        ∙ (ap (shown new.schemas left) at ∙ ap (λ (schemas : List Schema). shown schemas left is) schemas_stay)
+        ∙ (ap (shown new.schemas left) at ∙ ap (λ (schemas : List Schema). shown schemas left is) (ap (λ (state : WorldState). state.schemas) moves.rest))
 
     pub turns : s < length desks
         → Turns s (shown old.schemas left doing) (lists_of old writer desks left).state (lists_of new writer (with_doing s doing desks) left).state

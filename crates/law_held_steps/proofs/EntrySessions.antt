@@ -61,9 +61,6 @@ pub same_writer : (t : ℕ) (writer : Option ℕ) (old new : WorldState) (desks 
 same_writer t writer old new desks others =
     record { sessions = others; same = λ s differ. refl; doing = refl; rights = λ s differ is. is; back = λ s differ is. is }
 
-start_other : (desks : List Desk) (t s : ℕ) → s ≢ t → desk_at s (with_start t desks) ≡ desk_at s desks
-start_other desks t s differ = get_or-set_other desks t s _ fresh_desk differ
-
 pub start_here : (desks : List Desk) (t : ℕ) → t < length desks
     → desk_at t (with_start t desks) ≡ record (desk_at t desks) { started = (desk_at t desks).started + 1 }
 start_here desks t within = get_or-set_same desks t _ fresh_desk within
@@ -74,7 +71,7 @@ pub started_desks : (t : ℕ) (writer : Option ℕ) (old new : WorldState) (desk
 started_desks t writer old new desks within others =
     record {
       sessions = others;
-      same = λ s differ. start_other desks t s differ;
+      same = λ s differ. get_or-set_other desks t s _ fresh_desk differ;
       doing = ap (λ (desk : Desk). desk.doing) (start_here desks t within);
       rights = λ s differ is. is;
       back = λ s differ is. is;

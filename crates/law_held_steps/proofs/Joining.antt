@@ -120,10 +120,7 @@ first_held state undo room first whole stage = record {
   rows = (first.coded, stage);
   quiet = λ s other. refl;
   searches = λ s. tt;
-  logs = record {
-    each = λ s session work has. absurd (no_session state s session first.sessions has.session_is);
-    apart = first.apart;
-  };
+  logs = record { each = λ s session work has. absurd (no_session state s session first.sessions has.session_is); apart = first.apart };
   has_room = record {
     replies = λ s session has busy. absurd (no_session state s session first.sessions has);
     acks = λ s session has waits. absurd (no_session state s session first.sessions has);

@@ -38,43 +38,36 @@ use Rattle.desks.specs.Holding.{AreFew, IsHeld, IsLast, IsLastOf, RowsHeld, Sear
 use Rattle.desks.specs.Leaves.{LeavesOthers}
 use Rattle.law_held_steps.specs.Making.{LeavesLists}
 use Rattle.law_held_steps.specs.Leaving.{is_searching}
-use Rattle.law_held_steps.proofs.AnyStep.{each, held_after}
+use Rattle.law_held_steps.proofs.AnyStep.{each, past_grows, held_after}
 use Rattle.law_held_steps.proofs.Desks.{given}
 use Rattle.law_held_steps.proofs.Left.{no_search}
 
 -- ---- what the past says after a step of a change: it is the same, or has the entry of the change
 
--- no item has started or ended, and no commit waits for its acknowledgement that didn't
+-- it has started or ended no item, and no commit of its own waits for its acknowledgement that didn't
 pub record GoesOnBy (s : ℕ) (old new : List Event) : Type 0 where
-  pub longer : length old ≤ length new
   pub adds : AddsAtMostOne s old new
-  pub started_is : (u : ℕ) → started u new ≡ started u old
-  pub under_way_is : (u : ℕ) → under_way u new ≡ under_way u old
-  pub awaits : (u : ℕ) → awaits_ack (of_item u new) ≡ true → awaits_ack (of_item u old) ≡ true
-
-same_again : (s : ℕ) (past : List Event) → GoesOnBy s past past
-same_again s past = record { longer = omega arith; adds = inl refl; started_is = λ u. refl; under_way_is = λ u. refl; awaits = λ u is. is }
+  pub started_is : started s new ≡ started s old
+  pub under_way_is : under_way s new ≡ under_way s old
+  pub awaits : awaits_ack (of_item s new) ≡ true → awaits_ack (of_item s old) ≡ true
 
 pub goes_same : (s : ℕ) (old new : List Event) → new ≡ old → GoesOnBy s old new
-goes_same s old new same = subst (GoesOnBy s old) (sym same) (same_again s old)
+goes_same s old new same =
+    subst (GoesOnBy s old) (sym same) (record { adds = inl refl; started_is = refl; under_way_is = refl; awaits = λ is. is })
 
 -- its own entry is none that waits
-awaits_then : (s u : ℕ) (change : Change) (past : List Event) (b : Bool) → awaits_ack (cond b (Changed s change ∷ of_item u past) (of_item u past)) ≡ true
-    → awaits_ack (of_item u past) ≡ true
-awaits_then s u change past true is = absurd (cc)
-awaits_then s u change past false is = is
-
-changed_then : (s : ℕ) (change : Change) (past : List Event) → GoesOnBy s past (Changed s change ∷ past)
-changed_then s change past = record {
-  longer = omega arith;
-  adds = inr (Changed s change, eq-eqb s s refl, refl);
-  started_is = λ u. refl;
-  under_way_is = λ u. refl;
-  awaits = λ u is. awaits_then s u change past (s == u) is;
-}
+awaits_then : (s : ℕ) (change : Change) (past : List Event) (b : Bool) → awaits_ack (cond b (Changed s change ∷ of_item s past) (of_item s past)) ≡ true
+    → awaits_ack (of_item s past) ≡ true
+awaits_then s change past true is = absurd (cc)
+awaits_then s change past false is = is
 
 pub goes_changed : (s : ℕ) (change : Change) (old new : List Event) → new ≡ Changed s change ∷ old → GoesOnBy s old new
-goes_changed s change old new is = subst (GoesOnBy s old) (sym is) (changed_then s change old)
+goes_changed s change old new is = subst (GoesOnBy s old) (sym is) (record {
+  adds = inr (Changed s change, eq-eqb s s refl, refl);
+  started_is = refl;
+  under_way_is = refl;
+  awaits = awaits_then s change old (s == s);
+})
 
 -- ---- the open transaction of who may write, and what others keep of a session's
 
@@ -133,11 +126,7 @@ module _ (s : ℕ) (desks : List Desk) (cuts : ℕ) (undo : UndoRoom) (room : Wo
   is_now session there = one_session new s stays_open.session_now session stays_open.has.session_is there
 
   pub leaves_lists : LeavesLists old new
-  leaves_lists = record {
-    names = beside.names;
-    schemas = beside.schemas;
-    settings = same_settings new.sessions old.sessions beside.count setting_is;
-  }
+  leaves_lists = record { names = beside.names; schemas = beside.schemas; settings = same_settings new.sessions old.sessions beside.count setting_is }
     where
       setting_is : (t : ℕ) (x y : Session) → slice_get new.sessions t ≡ Some x → slice_get old.sessions t ≡ Some y → x.setting ≡ y.setting
       setting_is t x y =
@@ -199,16 +188,17 @@ module _ (s : ℕ) (desks : List Desk) (cuts : ℕ) (undo : UndoRoom) (room : Wo
         (record {
           replies = λ session there busy.
               sym (ap (λ (z : Session). z.can_reply) (is_now session there)) ∙ stays_open.can_reply ∙ held.has_room.replies s was_open.0 was_open.2.session_is
-              (sym (ap is_some (goes.under_way_is s)) ∙ busy);
+              (sym (ap is_some (goes.under_way_is)) ∙ busy);
           acks = λ session there waits.
               sym (ap (λ (z : Session). z.can_ack) (is_now session there)) ∙ stays_open.can_ack ∙ held.has_room.acks s was_open.0 was_open.2.session_is
-              (goes.awaits s waits);
+              (goes.awaits waits);
           ends = λ session work has.
               sym (ap (λ (w : Work). w.can_end) (one_work s stays_open.session_now session stays_open.work_now work new stays_open.has has)) ∙
               stays_open.can_end ∙ held.has_room.ends s was_open.0 was_open.1 was_open.2;
-          started = goes.started_is s ∙ held.started s ∙ sym gives.started;
+          started = goes.started_is ∙ held.started s ∙ sym gives.started;
           quiet = λ other. absurd (other refl);
           search = subst (SearchHeld after new (Some s) cuts s) (sym gives.here) (no_search after new (Some s) cuts s doing searches_not);
         })
         fits (subst (RowsHeld after new s (read_into undo) room) (sym gives.here) rows) logs (gives.count ∙ held.count ∙ ap length (sym beside.names))
-        (subst (λ (names : List (List ℕ)). length names ≤ 68) (sym beside.names) held.few) (omega (arith, held.cut, goes.longer)) short held.whole
+        (subst (λ (names : List (List ℕ)). length names ≤ 68) (sym beside.names) held.few)
+        (omega (arith, held.cut, past_grows s old.past new.past goes.adds)) short held.whole

@@ -6,6 +6,7 @@ use Rattle.entries.specs.Pairs.{Pair}
 use Rattle.entries.specs.Index.{AreKept}
 use Rattle.entries.specs.Calls.{Leaves, released}
 use Rattle.row_versions.specs.Versions.{Versions, Stays}
+use Rattle.row_changes.proofs.Sessions.{same_versions}
 use Rattle.world.specs.State.{WorldState}
 use Rattle.world.proofs.Stores.{store_stays, store_goes_on}
 use Rattle.world.specs.Told.{IsTold, LeavesRows}
@@ -29,9 +30,6 @@ kept_then old None (Some new) first second = absurd second
 kept_then None (Some between) (Some new) first second = absurd first
 kept_then (Some old) (Some between) (Some new) first second = second ∙ first
 
-stays_same : (versions : Versions) → Stays versions versions
-stays_same versions = record { told = λ told. told; kept = λ told. refl }
-
 stays_then : (old between new : Versions) → Stays old between → Stays between new → Stays old new
 stays_then old between new first second =
     record { told = λ told. first.told (second.told told); kept = λ told. second.kept told ∙ first.kept (second.told told) }
@@ -53,7 +51,7 @@ none_moves s state = record {
   pairs = λ index. kept_same _ _ refl;
   places = λ other index differs. refl;
   fewer = λ index by is. is;
-  versions = stays_same state.versions;
+  versions = same_versions state.versions;
   rest = refl;
   later = store_stays state.paged;
 }

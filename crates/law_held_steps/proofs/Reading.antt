@@ -19,7 +19,7 @@ use Rattle.law_past_agreement.specs.Agreement.{WriterAgrees}
 use Rattle.world.specs.State.{WorldState, Session, Work, Logged, HasWork}
 use Rattle.world.specs.Told.{IsTold, LeavesRows}
 use Rattle.world.specs.declared.undo_room.UndoRoom.{UndoRoom}
-use Rattle.world.specs.Undoing.{read_into, newest, IsRead, IsUnchanged, ReadsLast}
+use Rattle.world.specs.Undoing.{read_into, newest, IsRead, ReadsLast}
 use Rattle.undo_apply.specs.declared.work_room.WorkRoom.{WorkRoom}
 use Rattle.undo_apply.specs.declared.work_room.Stage.{Stage}
 use Rattle.undo_apply.specs.declared.work_room.Stage.TheVariants.{Find}
@@ -150,13 +150,6 @@ read_there log logged older read there is reads =
     let same : Some logged.undo ≡ Some read = sym found ∙ reads.1 some in
     (some, cc)
 
-unchanged_leaves : (old new : WorldState) → IsUnchanged old new → LeavesAll old new
-unchanged_leaves old new same = record { places = λ index. (same.indexes index).place; versions = same.versions; rest = same.rest }
-
-unchanged_rows : (old new : WorldState) → IsUnchanged old new → LeavesRows old new
-unchanged_rows old new same =
-    record { schemas = ap (λ (state : WorldState). state.schemas) same.rest; pairs = λ index. (same.indexes index).pairs; versions = same.versions }
-
 -- all of it is left, which is no more than this where there are four keys at most
 few_left : (keys most : ℕ) (kept : ℕ → Option Kept) (stage : Stage) → keys ≤ 4 → stage ≡ Find → left_at keys most kept stage < 2 ^ 70
 few_left keys most kept stage few anew = subst (λ (at : Stage). left_at keys most kept at < 2 ^ 70) (sym anew) (omega (arith, few))
@@ -185,10 +178,14 @@ module _ (s keep : ℕ) (old new : WorldState) (writer : Option ℕ) (desks : Li
         (reads.0 begin.last.session begin.last.work begin.last.has_work)).1
 
     left_all : LeavesAll old new
-    left_all = unchanged_leaves old new reads.1
+    left_all = record { places = λ index. (reads.1.indexes index).place; versions = reads.1.versions; rest = reads.1.rest }
 
     left_rows : LeavesRows old new
-    left_rows = unchanged_rows old new reads.1
+    left_rows = record {
+      schemas = ap (λ (state : WorldState). state.schemas) reads.1.rest;
+      pairs = λ index. (reads.1.indexes index).pairs;
+      versions = reads.1.versions;
+    }
 
     going_back : IsGoingBack held.chains new s (read_into read) room
     going_back = record {
@@ -203,7 +200,8 @@ module _ (s keep : ℕ) (old new : WorldState) (writer : Option ℕ) (desks : Li
 
     pub held_begun : IsHeld new writer (with_doing s Undoing desks) cuts read room
     held_begun =
-        held_given held mine left_all (leaves_told left_rows memory.told) memory.told (given s Undoing desks joined) going_back (all_left old new (rows_leave old new left_rows) (logs_beside old new left_all.rest) held.logs) (record {}) held.whole
+        held_given held mine left_all (leaves_told left_rows memory.told) memory.told (given s Undoing desks joined) going_back
+        (all_left old new (rows_leave old new left_rows) (logs_beside old new left_all.rest) held.logs) (record {}) held.whole
 
     pub few_begun : undo_left_in read.table room.stage new < 2 ^ 70
     few_begun =

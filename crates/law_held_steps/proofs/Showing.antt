@@ -24,7 +24,6 @@ use Rattle.desks.specs.declared.desk.Doing.{Doing}
 use Rattle.desks.specs.declared.desk.Doing.TheVariants.{Nothing, Searching, Changing}
 use Rattle.desks.specs.Desks.{doing_at, with_doing, is_quiet_doing}
 use Rattle.desks.specs.Shown.{shown, change_in, lists_of}
-use Rattle.desks.specs.declared.desk.TableSearch.{TableSearch}
 use Rattle.desks.specs.Undoing.{keys_if}
 use Rattle.desks.proofs.Showing.{lists_stay, task_is}
 use Rattle.desks.specs.Holding.{IsHeld}
@@ -172,10 +171,7 @@ module _ (state : WorldState) (s : ℕ) (desks : List Desk) (cuts : ℕ) (undo :
 
 -- ---- an index that is left
 
-no_search : (doing : Doing) (on : TableSearch) → is_searching doing ≡ false → doing ≡ Searching on → ⊥
-no_search doing on none is = true≢false (sym (ap is_searching is) ∙ none)
-
 pub left_shown : (s : ℕ) (writer : Option ℕ) (desks : List Desk) (left : ℕ) (old new : WorldState) → LeavesIndexes s old new
     → is_searching (doing_at s desks) ≡ false → IsTold new → lists_of new writer desks left ≡ lists_of old writer desks left
 left_shown s writer desks left old new leaves none told =
-    lists_stay s left old new writer desks leaves.rest leaves.pairs leaves.others leaves.versions told (λ on is. no_search (doing_at s desks) on none is)
+    lists_stay s left old new writer desks leaves.rest leaves.pairs leaves.others leaves.versions told (λ on is. true≢false (sym (ap is_searching is) ∙ none))

@@ -70,14 +70,12 @@ module _ (chains : Chains) (writer : Option ℕ) (state : WorldState) (agrees : 
   change_at : at last.change ≡ true
   change_at = ap (is_place place) last.place_is ∙ place_itself place
 
-  any_at : list_any at (own w state.past) ≡ true
-  any_at = ap (list_any at) last.own_is ∙ ap (λ b. b || list_any at last.before) change_at
-
   own_parts : (v : ℕ) (versions : List Version) → AreVersionsBy state.past v (row_opened state.past place) at versions
       → (behind : List Version) × (versions ≡ versions_of (id_of state.past w) at (own w state.past) ++ behind)
   own_parts v versions by = elim (eqb_tells v w) [
     | inl same ↦ (by.behind, by.parts ∙ ap (λ (n : ℕ). versions_of (id_of state.past n) at (own n state.past) ++ by.behind) same.1)
-    | inr differs ↦ absurd (false≢true (sym (by.alone w (λ same. differs.1 (sym same))) ∙ any_at))
+    | inr differs ↦ absurd (false≢true (sym (by.alone w (λ same. differs.1 (sym same))) ∙
+        (ap (list_any at) last.own_is ∙ ap (λ b. b || list_any at last.before) change_at)))
   ]
 
   pub written : IsWrittenBy chains place (id_of state.past w)

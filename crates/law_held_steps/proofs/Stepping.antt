@@ -13,7 +13,6 @@ use Rattle.read_view.specs.Sight.{Sight as ReadSight}
 use Rattle.row_versions.specs.declared.place.Place.{Place}
 use Rattle.row_versions.specs.Chains.{Chains, versions_at}
 use Rattle.law_stored_rows.specs.Tables.{in_table}
-use Rattle.law_past_agreement.specs.Order.{created}
 use Rattle.law_past_agreement.specs.Rows.{seen}
 use Rattle.law_past_agreement.specs.Agreement.{WriterAgrees}
 use Rattle.law_past_agreement.specs.DatabaseTables.{with_all_tables}
@@ -120,16 +119,13 @@ module _ (chains : Chains) (writer : Option ℕ) (state : WorldState) (agrees : 
   abbrev FoundBy : Sight → Type 0
   FoundBy sight = AreFound on.schema scan.which (rows_seen sight (in_table scan.table chains)) (lies_in on.schema scan) found
 
-  one_schema : (schema : Schema) → slice_get (created state.past) scan.table ≡ Some schema → on.schema ≡ schema
-  one_schema schema is = some_same on.schema schema (sym there ∙ (ap (λ (tables : List Schema). slice_get tables scan.table) agrees.lists.tables ∙ is))
-
   seen_then : (n : ℕ)
       → map (λ (f : FoundRow). f.row) found ≡ filter (lies_in on.schema scan)
       (rows_of scan.table (changed (with_all_tables state.past) (seen state.past s n))) → AreRowsSeen scan.table (plan_of on) state.past s n
       (map (λ (f : FoundRow). f.row) found)
   seen_then n are schema is =
       are ∙ ap (λ (t : Schema). rows_in_range (plan_of on) t (rows_of scan.table (changed (with_all_tables state.past) (seen state.past s n))))
-      (one_schema schema is)
+      (some_same on.schema schema (sym there ∙ (ap (λ (tables : List Schema). slice_get tables scan.table) agrees.lists.tables ∙ is)))
 
   found_in : (sight : Sight) → SightHolds state writer s sight → FoundBy sight → RiseByKey found
       → AreFoundBy (reading_of sight) scan.table (plan_of on) state.past s (map (λ (f : FoundRow). f.row) found)

@@ -12,7 +12,6 @@ use Rattle.store_api.specs.declared.moves.Move.TheVariants.{Done}
 use Rattle.entries.specs.Index.{Index}
 use Rattle.store_api.specs.declared.answers.Undo.{Undo}
 use Rattle.row_versions.specs.Chains.{Chains, Pops}
-use Rattle.law_past_agreement.specs.Order.{IsOfRow}
 use Rattle.law_past_agreement.proofs.Rows.{own_undone}
 use Rattle.world.specs.State.{WorldState, Session, Work, IsSession, HasWork, standing_of}
 use Rattle.world.specs.Told.{LeavesRows}
@@ -142,10 +141,6 @@ module _ (s : ℕ) (old mid : WorldState) (writer : Option ℕ) (desks : List De
           ∙ set_other mid.sessions s t session_now differs
           ∙ ap (λ (state : WorldState). slice_get state.sessions t) left_all.rest
 
-      count_now : length new.sessions ≡ length old.sessions
-      count_now =
-          ap length sessions_now ∙ length-set mid.sessions s session_now ∙ ap (λ (state : WorldState). length state.sessions) left_all.rest
-
       pub past_now : new.past ≡ Undone s keep ∷ old.past
       past_now = ap (λ (x : WorldState). x.past) new_is ∙ ap (λ (h : List Event). Undone s keep ∷ h)
           (ap (λ (x : WorldState). x.past) back.rest ∙ ap (λ (x : WorldState). x.past) left_all.rest)
@@ -159,17 +154,11 @@ module _ (s : ℕ) (old mid : WorldState) (writer : Option ℕ) (desks : List De
       pub count_rows_now : new.rows ≡ old.rows
       count_rows_now = ap (λ (x : WorldState). x.rows) new_is ∙ ap (λ (x : WorldState). x.rows) back.rest ∙ ap (λ (x : WorldState). x.rows) left_all.rest
 
-      txns_now : new.txns ≡ old.txns
-      txns_now = ap (λ (x : WorldState). x.txns) new_is ∙ ap (λ (x : WorldState). x.txns) back.rest ∙ ap (λ (x : WorldState). x.txns) left_all.rest
-
       pub settings_now : map (λ (x : Session). x.setting) new.sessions ≡ map (λ (x : Session). x.setting) old.sessions
       settings_now =
           ap (map (λ (x : Session). x.setting)) sessions_now
           ∙ settings_same mid.sessions s back.session session_now back.has_work.session_is refl
           ∙ ap (λ (state : WorldState). map (λ (x : Session). x.setting) state.sessions) left_all.rest
-
-      indexes_now : new.indexes ≡ mid.indexes
-      indexes_now = ap (λ (state : WorldState). state.indexes) new_is ∙ ap (λ (state : WorldState). state.indexes) back.rest
 
       pub had : HasWork s back.session back.work old
       had = work_beside s back.session back.work old mid left_all.rest back.has_work
@@ -177,9 +166,6 @@ module _ (s : ℕ) (old mid : WorldState) (writer : Option ℕ) (desks : List De
       -- ---- the history
 
       module _ (keep_is : keep ≡ length (own s old.past) - 1) where
-        of_row : IsOfRow back_to.last.change
-        of_row = has_place old.schemas back_to.last.change back_to.place back_to.last.place_is
-
         own_length : length (own s old.past) ≡ length back_to.last.before + 1
         own_length = let is = ap length back_to.last.own_is in omega (arith, is)
 
@@ -208,16 +194,17 @@ module _ (s : ℕ) (old mid : WorldState) (writer : Option ℕ) (desks : List De
           past = past_now;
           names = names_now;
           schemas = schemas_now;
-          txns = txns_now;
+          txns = ap (λ (x : WorldState). x.txns) new_is ∙ ap (λ (x : WorldState). x.txns) back.rest ∙ ap (λ (x : WorldState). x.txns) left_all.rest;
           others = others_now;
-          count = count_now;
+          count = ap length sessions_now ∙ length-set mid.sessions s session_now ∙ ap (λ (state : WorldState). length state.sessions) left_all.rest;
         }
 
         agrees_now : length new.past < 2 ^ 63 → Agrees after writer new
         agrees_now few =
             let long = ap length past_now in
             taken_back_agrees held.chains after writer old new s keep back_to.last.change back_to.last.before back_to.place held.agrees back_to.last.own_is
-            (omega (arith, keep_is, own_length)) of_row back_to.last.place_is taken_by pops (omega (arith, long, few))
+            (omega (arith, keep_is, own_length)) (has_place old.schemas back_to.last.change back_to.place back_to.last.place_is)
+            back_to.last.place_is taken_by pops (omega (arith, long, few))
 
         -- ---- logs and rows
 
@@ -230,9 +217,6 @@ module _ (s : ℕ) (old mid : WorldState) (writer : Option ℕ) (desks : List De
         alone : IsAlone s old
         alone = alone_if s held.chains writer old by_me held.agrees
 
-        alone_mid : IsAlone s mid
-        alone_mid t differs = own_beside t old mid left_all.rest ∙ alone t differs
-
         to_cut : IsToCut s back_to.logged back_to.last.log back_to.last.before mid
         to_cut =
             to_cut_by_history s held.chains after old mid back_to.last.session back_to.last.work back_to.logged back_to.last.log back_to.last.change
@@ -242,7 +226,7 @@ module _ (s : ℕ) (old mid : WorldState) (writer : Option ℕ) (desks : List De
         rows_mid : HasRows after mid
         rows_mid =
             rows_then held.chains after old mid back_to.logged back_to.last.log back_to.last.change back_to.last.before back_to.place room next
-            (last_log held.logs back_to.last)             back_to.last.place_is putting done_by pops
+            (last_log held.logs back_to.last) back_to.last.place_is putting done_by pops
 
         -- the entry of the history leaves pairs and kept versions
         left_rows : LeavesRows cut new
@@ -254,13 +238,11 @@ module _ (s : ℕ) (old mid : WorldState) (writer : Option ℕ) (desks : List De
         rows_now = has_rows_left cut new left_rows after (rows_cut s mid cut back_to.logged back_to.last.log back_to.last.before to_cut back after rows_mid)
 
         cut_now : HasCut s back_to.last.log back_to.last.before cut
-        cut_now = has_cut s mid cut back_to.logged back_to.last.log back_to.last.before to_cut back alone_mid
+        cut_now = has_cut s mid cut back_to.logged back_to.last.log back_to.last.before to_cut back
+            (λ t differs. own_beside t old mid left_all.rest ∙ alone t differs)
 
         not_of : (t : ℕ) → t ≢ s → is_of t (Undone s keep) ≡ false
         not_of t differs = grind (arith, nat_tests, differs)
-
-        past_from_cut : new.past ≡ Undone s keep ∷ cut.past
-        past_from_cut = ap (λ (state : WorldState). state.past) new_is
 
         left_logs : LeavesLogs (λ t. t ≢ s) cut new
         left_logs t session work differs has = inl (record {
@@ -273,7 +255,7 @@ module _ (s : ℕ) (old mid : WorldState) (writer : Option ℕ) (desks : List De
                 work_is = has.work_is;
               };
           log_is = refl;
-          own_is = ap (own t) past_from_cut ∙ (untouched (Undone s keep) cut.past t (not_of t differs)).own_is;
+          own_is = ap (λ (state : WorldState). own t state.past) new_is ∙ (untouched (Undone s keep) cut.past t (not_of t differs)).own_is;
         })
 
         logs_now : LogsAgree new
@@ -285,9 +267,6 @@ module _ (s : ℕ) (old mid : WorldState) (writer : Option ℕ) (desks : List De
             (ap (own s) past_now ∙ own_now)
 
         -- ---- room for the entries that are to come
-
-        under_way_now : (t : ℕ) → under_way t new.past ≡ under_way t old.past
-        under_way_now t = ap (under_way t) past_now
 
         not_acked : awaits_ack (of_item s (Undone s keep ∷ old.past)) ≡ false
         not_acked = ap (λ (b : Bool). awaits_ack (cond b (Undone s keep ∷ of_item s old.past) (of_item s old.past))) (eq-eqb s s refl)
@@ -303,7 +282,9 @@ module _ (s : ℕ) (old mid : WorldState) (writer : Option ℕ) (desks : List De
           tables = λ n schema there. ap (λ (x : List _). slice_get x n) schemas_now ∙ there;
           sessions = others_now;
           places =
-              λ t index differs. ap (λ (indexes : ℕ → Index). (indexes index).place t) indexes_now ∙ ap (λ (place : ℕ → _). place t) (left_all.places index);
+              λ t index differs. ap (λ (indexes : ℕ → Index). (indexes index).place t)
+              (ap (λ (state : WorldState). state.indexes) new_is ∙ ap (λ (state : WorldState). state.indexes) back.rest)
+              ∙ ap (λ (place : ℕ → _). place t) (left_all.places index);
           rights = λ t differs is. is;
           changes = inr by_me;
           kept = inr refl;
@@ -318,7 +299,7 @@ module _ (s : ℕ) (old mid : WorldState) (writer : Option ℕ) (desks : List De
             (record {
               replies = λ session is busy.
                   subst (λ (x : Session). x.can_reply ≡ true) (one_session s session_now session new session_there is)
-                  (held.has_room.replies s back.session had.session_is (sym (ap is_some (under_way_now s)) ∙ busy));
+                  (held.has_room.replies s back.session had.session_is (sym (ap is_some (ap (under_way s) past_now)) ∙ busy));
               acks = λ session is waits.
                   absurd (let e : true ≡ false = sym waits ∙ ap (λ (h : List Event). awaits_ack (of_item s h)) past_now ∙ not_acked in cc);
               ends = λ session work has.

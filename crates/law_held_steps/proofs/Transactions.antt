@@ -177,9 +177,10 @@ module _ (writer : Option ℕ) (cuts : ℕ) (undo : UndoRoom) (room : WorkRoom) 
         (record { indexes = refl; versions = refl; schemas = refl }) refl
         (closed_desks t writer old new desks (λ u differ. set_other old.sessions t u after differ)) refl
         (rolled_back_agrees held.chains writer old new t held.agrees
-        (record { session = session; work = work; has_work = has_work; rest = refl; later = later }) none few) (inr (RolledBack t, eq-eqb t t refl, refl)) held.fits
-        (λ w is_w. absurd (none_has after w refl is_w)) (λ busy. held.has_room.replies t session there busy) (λ waits. absurd (false≢true (sym rolled_waits ∙ waits)))
-        (λ w is_w. absurd (none_has after w refl is_w)) (held.started t)
+        (record { session = session; work = work; has_work = has_work; rest = refl; later = later }) none few)
+        (inr (RolledBack t, eq-eqb t t refl, refl)) held.fits
+        (λ w is_w. absurd (none_has after w refl is_w)) (λ busy. held.has_room.replies t session there busy)
+        (λ waits. absurd (false≢true (sym rolled_waits ∙ waits))) (λ w is_w. absurd (none_has after w refl is_w)) (held.started t)
 
 -- The session's open transaction has ended. It may write no longer.
 module _ (writer : Option ℕ) (cuts : ℕ) (undo : UndoRoom) (room : WorkRoom) (old new : WorldState) (desks : List Desk)

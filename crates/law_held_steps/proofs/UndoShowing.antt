@@ -53,12 +53,6 @@ ready_to_go schemas left other is = absurd is
 module _ (s keep : ℕ) (old new : WorldState) (writer : Option ℕ) (desks later : List Desk) (left now : ℕ) (mine : writer ≡ Some s)
     (quiet : (t : ℕ) → writer ≢ Some t → is_quiet_doing (doing_at t desks) ≡ true) (gives : GivesDoing s Undoing desks later)
     (rest : ChangesPairsAlone old new) where
-  settings_same : (lists_of new writer later now).settings ≡ (lists_of old writer desks left).settings
-  settings_same = ap (λ (state : WorldState). map (λ (session : Session). session.setting) state.sessions) rest
-
-  count_same : new.rows ≡ old.rows
-  count_same = ap (λ (state : WorldState). state.rows) rest
-
   turned : (task : Task) → shown new.schemas now Undoing ≡ task → Turns s task (lists_of old writer desks left).state (lists_of new writer later now).state
   turned task shows =
       shows_now s Undoing old.past old new writer desks later left now mine quiet gives (ap (λ (state : WorldState). state.names) rest)
@@ -76,8 +70,8 @@ module _ (s keep : ℕ) (old new : WorldState) (writer : Option ℕ) (desks late
       (now, task_now),
       subst (λ (n : ℕ). n < undo_to_go (task_of s (lists_of old writer desks left).state)) (sym (ap undo_to_go task_now)) nearer,
     );
-    settings = settings_same;
-    rows = count_same;
+    settings = ap (λ (state : WorldState). map (λ (session : Session). session.setting) state.sessions) rest;
+    rows = ap (λ (state : WorldState). state.rows) rest;
   }
 
 -- ---- the steps
