@@ -1,8 +1,9 @@
 -- What holds of the lists after a step of one session, whatever step it is. What the others have is said here once: their
 -- desks, searches, rooms and rows.
-use Rattle.std.proofs.Common.{◌≡◌, ◌≢◌, ⊎_elim, inl, inr, ℕ, ◌≤◌, true, List, ◌∷◌, length, Option, Some, None, refl, sym, ap, subst, ◌∙◌, arith}
+use Rattle.std.proofs.Common.{◌≡◌, ◌≢◌, ⊎_elim, inl, inr, ℕ, ◌==◌, Bool, false, cond, eq-eqb, ◌≤◌, true, List, ◌∷◌, length, Option, Some, None, refl}
+use Rattle.std.proofs.Common.{sym, ap, subst, ◌∙◌, arith}
 use Rattle.std.specs.Prelude.{slice_get, is_some}
-use Rattle.std.proofs.lemmas.Bool.{cases_eq}
+use Rattle.std.proofs.lemmas.Bool.{cases_eq, false≢true}
 use Rattle.inno_types.specs.declared.value.Schema.{Schema}
 use Rattle.inno_model.specs.declared.event.Event.{Event}
 use Rattle.inno_model.specs.Past.{own, started, under_way, of_item, awaits_ack}
@@ -60,6 +61,11 @@ others_past t s old new differ (inr adds) =
 pub past_grows : (t : ℕ) (old new : List Event) → AddsAtMostOne t old new → length old ≤ length new
 past_grows t old new (inl same) = subst (λ (h : List Event). length old ≤ length h) (sym same) (omega arith)
 past_grows t old new (inr adds) = subst (λ (h : List Event). length old ≤ length h) (sym adds.2) (omega arith)
+
+-- its own newest entry isn't a commit that waits for its acknowledgement, if none of these is
+pub waits_not : (t : ℕ) (entries past : List Event) → awaits_ack (cond (t == t) entries (of_item t past)) ≡ true → awaits_ack entries ≡ false → ⊥
+waits_not t entries past waits none =
+    false≢true (sym (ap (λ (b : Bool). awaits_ack (cond b entries (of_item t past))) (eq-eqb t t refl) ∙ none) ∙ waits)
 
 -- ---- rows
 
@@ -123,7 +129,7 @@ module _ (w : ℕ) {chains : Chains} {later : Option ℕ} {old new : WorldState}
   }
 
 -- who changes no row leaves the indexes coded
-quiet_rows : (chains : Chains) (state : WorldState) (w : ℕ) (undo : Undo) (room : WorkRoom) (doing : Doing) → is_quiet_doing doing ≡ true
+pub quiet_rows : (chains : Chains) (state : WorldState) (w : ℕ) (undo : Undo) (room : WorkRoom) (doing : Doing) → is_quiet_doing doing ≡ true
     → RowsHeld chains state w undo room doing → HasRows chains state × (room.stage ≡ Find)
 quiet_rows chains state w undo room Nothing is rows = rows
 quiet_rows chains state w undo room (Searching on) is rows = rows

@@ -1,5 +1,5 @@
 -- A change begins: its edit fits the tables of the history.
-use Rattle.std.proofs.Common.{◌≡◌, ℕ, List, Option, Some, None, refl, subst, ⊎_elim, ◌<◌, true, length, sym, ap, ◌∙◌, arith}
+use Rattle.std.proofs.Common.{◌≡◌, ◌≢◌, ℕ, List, Option, Some, None, refl, subst, ◌<◌, true, length, sym, ap, ◌∙◌, arith}
 use Rattle.std.specs.Prelude.{slice_get, IsSomeAnd}
 use Rattle.std.proofs.lemmas.Option.{slice_get_within}
 use Rattle.inno_types.specs.declared.value.Schema.{Schema}
@@ -11,8 +11,6 @@ use Rattle.row_changes.specs.Edits.{change_of, FitsEdit}
 use Rattle.row_changes.specs.Rows.{primary_of}
 use Rattle.shared_lists.specs.Fitting.{FitsWell}
 use Rattle.law_held_steps.specs.Beginning.{IsEditable, IsKeyOfEdit, begun}
-use Rattle.std.proofs.lemmas.Bool.{cases_eq}
-use Rattle.std.proofs.lemmas.List.{length-set}
 use Rattle.inno_model.specs.Past.{IsOpen}
 use Rattle.law_past_agreement.specs.Order.{created}
 use Rattle.world.specs.Undoing.{read_into}
@@ -22,9 +20,10 @@ use Rattle.undo_apply.specs.declared.work_room.WorkRoom.{WorkRoom}
 use Rattle.desks.specs.declared.desk.Desk.{Desk}
 use Rattle.desks.specs.declared.desk.Doing.{Doing}
 use Rattle.desks.specs.declared.desk.Doing.TheVariants.{Nothing, Changing}
-use Rattle.desks.specs.Desks.{desk_at, doing_at, with_doing, is_quiet_doing}
+use Rattle.desks.specs.Desks.{doing_at, with_doing, is_quiet_doing}
 use Rattle.desks.specs.Holding.{IsHeld, RowsHeld, SearchHeld}
-use Rattle.law_held_steps.proofs.Desks.{doing_here, doing_elsewhere, started_still}
+use Rattle.law_held_steps.proofs.Desks.{given, started_still}
+use Rattle.law_held_steps.proofs.AnyStep.{each}
 use Rattle.law_found_rows.proofs.FittingChanges.{tables_storable}
 use Rattle.law_held_steps.proofs.Keeping.{open_work, open_joined}
 
@@ -32,12 +31,10 @@ use Rattle.law_held_steps.proofs.Keeping.{open_work, open_joined}
 
 -- the table that fits is the one that is there
 fits_there : (found : Option Schema) (schema : Schema) (P : Schema → Type 0) → found ≡ Some schema → IsSomeAnd found P → P schema
-fits_there None schema P is fits = absurd fits
-fits_there (Some other) schema P is fits = let same : other ≡ schema = cc in subst P same fits
+fits_there found schema P is fits = subst (λ (f : Option Schema). IsSomeAnd f P) is fits
 
 there_fits : (found : Option Schema) (schema : Schema) (P : Schema → Type 0) → found ≡ Some schema → P schema → IsSomeAnd found P
-there_fits None schema P is fits = absurd (cc)
-there_fits (Some other) schema P is fits = let same : schema ≡ other = cc in subst P same fits
+there_fits found schema P is fits = subst (λ (f : Option Schema). IsSomeAnd f P) (sym is) fits
 
 some_there : (found : Option Schema) (P : Schema → Type 0) → IsSomeAnd found P → (schema : Schema) × (found ≡ Some schema) × P schema
 some_there None P fits = absurd fits
@@ -70,14 +67,12 @@ fits_edit schemas table schema (Put row) key there fits spelled =
     record {
       fits = fits_row;
       numbers = fits.1;
-      key_is =
-          record {
-            column = fits_row.key.column;
-            primary = fits_row.key.primary;
-            present = fits_row.key.of_kind;
-            spelled = spelled fits_row.key.column
-                fits_row.key.primary;
-          };
+      key_is = record {
+        column = fits_row.key.column;
+        primary = fits_row.key.primary;
+        present = fits_row.key.of_kind;
+        spelled = spelled fits_row.key.column fits_row.key.primary;
+      };
     }
 fits_edit schemas table schema (Remove value) key there fits spelled =
     let for = fits_there (slice_get schemas table) schema (λ found. IsKeyFor found value) there fits.0 in
@@ -107,26 +102,27 @@ module _ (state : WorldState) (s : ℕ) (desks : List Desk) (cuts : ℕ) (undo :
   -- who may write has something else under way, while the world is what it was
   pub turned : (doing : Doing) → s < length desks → RowsHeld held.chains state s (read_into undo) room doing
       → SearchHeld held.chains state (Some s) cuts s doing → IsHeld state (Some s) (with_doing s doing desks) cuts undo room
-  turned doing within rows search = record {
-    chains = held.chains;
-    agrees = held.agrees;
-    fits = held.fits;
-    rows = subst (RowsHeld held.chains state s (read_into undo) room) (sym (doing_here s doing desks within)) rows;
-    quiet = λ u other. subst (λ d. is_quiet_doing d ≡ true) (sym (doing_elsewhere s u doing desks (λ same. other (ap Some (sym same))))) (held.quiet u other);
-    searches = λ u.
-        ⊎_elim
-        (λ same. subst (λ n. SearchHeld held.chains state (Some s) cuts n (doing_at n (with_doing s doing desks))) (sym same)
-        (subst (SearchHeld held.chains state (Some s) cuts s) (sym (doing_here s doing desks within)) search))
-        (λ differs. subst (SearchHeld held.chains state (Some s) cuts u) (sym (doing_elsewhere s u doing desks differs)) (held.searches u)) (cases_eq u s);
-    logs = held.logs;
-    has_room = held.has_room;
-    started = λ u. held.started u ∙ sym (started_still s u doing desks);
-    count = length-set desks s (record (desk_at s desks) { doing = doing }) ∙ held.count;
-    few = held.few;
-    cut = held.cut;
-    short = held.short;
-    whole = held.whole;
-  }
+  turned doing within rows search =
+      let gives = given s doing desks within in
+      record {
+        chains = held.chains;
+        agrees = held.agrees;
+        fits = held.fits;
+        rows = subst (RowsHeld held.chains state s (read_into undo) room) (sym gives.here) rows;
+        quiet = each s (λ u. Some s ≢ Some u → is_quiet_doing (doing_at u (with_doing s doing desks)) ≡ true) (λ other. absurd (other refl))
+            (λ u differs other. ap (λ (desk : Desk). is_quiet_doing desk.doing) (gives.others u differs) ∙ held.quiet u other);
+        searches = each s (λ u. SearchHeld held.chains state (Some s) cuts u (doing_at u (with_doing s doing desks)))
+            (subst (SearchHeld held.chains state (Some s) cuts s) (sym gives.here) search) (λ u differs.
+            subst (λ (desk : Desk). SearchHeld held.chains state (Some s) cuts u desk.doing) (sym (gives.others u differs)) (held.searches u));
+        logs = held.logs;
+        has_room = held.has_room;
+        started = λ u. held.started u ∙ sym (started_still s u doing desks);
+        count = gives.count ∙ held.count;
+        few = held.few;
+        cut = held.cut;
+        short = held.short;
+        whole = held.whole;
+      }
 
   pub begins : (table : ℕ) (schema : Schema) (edit : RowEdit) (key : List ℕ) → doing_at s desks ≡ Nothing → IsOpen s state.past
       → FitsWell (created state.past) (change_of table edit) → slice_get state.schemas table ≡ Some schema → IsKeyOfEdit schema edit key

@@ -27,8 +27,6 @@ use Rattle.desks.specs.Holding.{SearchHeld, IsHeld}
 use Rattle.desks.specs.Leaves.{LeavesOthers}
 use Rattle.law_held_steps.proofs.AnyStep.{some_same, each, others_past, past_grows, quiet_step, held_after}
 
--- ---- one session is another now, and the desks are as they were but its own
-
 -- ---- the acting session
 
 module _ (t : ℕ) (old new : WorldState) (now : List Desk) (after : Session) (here : slice_get new.sessions t ≡ Some after) where
@@ -89,14 +87,7 @@ pub closed_desks : (t : ℕ) (writer : Option ℕ) (old new : WorldState) (desks
     → ((s : ℕ) → s ≢ t → slice_get new.sessions s ≡ slice_get old.sessions s)
     → LeavesDesks t writer (writer_without writer t) old new desks desks
 closed_desks t writer old new desks others =
-    record {
-      sessions = others;
-      same = λ s differ. refl;
-      doing = refl;
-      rights = λ s differ is. without_other writer t s differ is;
-      back = λ s differ is.
-          without_back writer t s is;
-    }
+    record { sessions = others; same = λ s d. refl; doing = refl; rights = without_other writer t; back = λ s d. without_back writer t s }
 
 -- ---- works that stay
 

@@ -27,6 +27,7 @@ use Rattle.desks.specs.declared.desk.Doing.TheVariants.{Nothing}
 use Rattle.desks.specs.Desks.{desk_at, doing_at, with_start}
 use Rattle.desks.specs.Holding.{IsHeld}
 use Rattle.law_held_steps.specs.Entries.{LeavesDesks}
+use Rattle.law_held_steps.proofs.AnyStep.{waits_not}
 use Rattle.law_held_steps.proofs.EntrySessions.{entered_by, same_log, same_writer, started_desks, start_here, same_works}
 
 -- a session put where it stood
@@ -79,9 +80,6 @@ module _ (writer : Option ℕ) (cuts : ℕ) (undo : UndoRoom) (room : WorkRoom) 
   started_count : (j : ℕ) (item : Item) → started t (Started t j item ∷ old.past) ≡ started t old.past + 1
   started_count j item = grind (arith, nat_tests)
 
-  started_item : (j : ℕ) (item : Item) → of_item t (Started t j item ∷ old.past) ≡ []
-  started_item j item = grind (arith, nat_tests)
-
   pub started_held : (j : ℕ) (item : Item) → t < length old.names → under_way t old.past ≡ None → j ≡ started t old.past + 1 → length old.past + 1 < 2 ^ 63
       → IsHeld (item_started t j item session old) writer (with_start t desks) cuts undo room
   started_held j item joined idle j_is few =
@@ -91,15 +89,12 @@ module _ (writer : Option ℕ) (cuts : ℕ) (undo : UndoRoom) (room : WorkRoom) 
       on after past old.rows refl (with_start t desks)
       (started_agrees held.chains writer old (with_past t after past old.rows old) t j item held.agrees joined idle j_is few (settled after past old.rows refl))
       (inr (Started t j item, eq-eqb t t refl, refl)) refl held.fits (λ busy. refl)
-      (λ waits. absurd (false≢true (sym (ap awaits_ack (started_item j item)) ∙ waits)))
+      (λ waits. absurd (waits_not t [] old.past waits refl))
       (started_desks t writer old (with_past t after past old.rows old) desks within (others after)) (length-set desks t _)
       (started_count j item ∙ (ap (λ n. n + 1) (held.started t) ∙ ap (λ (desk : Desk). desk.started) (sym (start_here desks t within))))
 
   ended_none : (j : ℕ) (reply : Reply) → is_some (under_way t (Ended t j reply ∷ old.past)) ≡ false
   ended_none j reply = grind (arith, nat_tests)
-
-  ended_waits : (j : ℕ) (reply : Reply) → awaits_ack (of_item t (Ended t j reply ∷ old.past)) ≡ false
-  ended_waits j reply = grind (arith, nat_tests)
 
   pub ended_held : (j : ℕ) (reply : Reply) (rows : ℕ) → t < length old.names → MayCome old.past (Ended t j reply) → length old.past + 1 < 2 ^ 63
       → IsHeld (with_past t (record session { can_reply = false }) (Ended t j reply ∷ old.past) rows old) writer desks cuts undo room
@@ -109,11 +104,8 @@ module _ (writer : Option ℕ) (cuts : ℕ) (undo : UndoRoom) (room : WorkRoom) 
       on after past rows refl desks
       (ended_agrees held.chains writer old (with_past t after past rows old) t j reply held.agrees joined may few (settled after past rows refl))
       (inr (Ended t j reply, eq-eqb t t refl, refl)) refl held.fits (λ busy. absurd (false≢true (sym (ended_none j reply) ∙ busy)))
-      (λ waits. absurd (false≢true (sym (ended_waits j reply) ∙ waits)))
+      (λ waits. absurd (waits_not t (Ended t j reply ∷ of_item t old.past) old.past waits refl))
       (same_writer t writer old (with_past t after past rows old) desks (others after)) refl (held.started t)
-
-  acked_waits : (moment : ℕ) → awaits_ack (of_item t (Acked t moment ∷ old.past)) ≡ false
-  acked_waits moment = grind (arith, nat_tests)
 
   pub acked_held : (moment : ℕ) → t < length old.names → MayCome old.past (Acked t moment) → length old.past + 1 < 2 ^ 63
       → IsHeld (acknowledged t moment session old) writer desks cuts undo room
@@ -123,7 +115,7 @@ module _ (writer : Option ℕ) (cuts : ℕ) (undo : UndoRoom) (room : WorkRoom) 
       on after past old.rows refl desks
       (acked_agrees held.chains writer old (with_past t after past old.rows old) t moment held.agrees joined may few (settled after past old.rows refl))
       (inr (Acked t moment, eq-eqb t t refl, refl)) refl held.fits (λ busy. held.has_room.replies t session there busy)
-      (λ waits. absurd (false≢true (sym (acked_waits moment) ∙ waits)))
+      (λ waits. absurd (waits_not t (Acked t moment ∷ of_item t old.past) old.past waits refl))
       (same_writer t writer old (with_past t after past old.rows old) desks (others after)) refl (held.started t)
 
   -- a signal changes nothing of the session

@@ -1,6 +1,6 @@
 -- What holds of the lists after a step of a change, once its rows, logs and fitting changes are known: what the past says
 -- then, and what others keep of a session.
-use Rattle.std.proofs.Common.{◌≡◌, inl, inr, ℕ, ◌≤◌, ◌==◌, Bool, true, false, cond, List, ◌∷◌, length, refl, sym, subst, arith, eq-eqb, suc, ◌<◌, [], map}
+use Rattle.std.proofs.Common.{◌≡◌, inl, inr, ℕ, ◌≤◌, true, false, List, ◌∷◌, length, refl, sym, subst, arith, eq-eqb, suc, ◌<◌, [], map}
 use Rattle.std.proofs.Common.{Option, Some, None, ap, ◌∙◌}
 use Rattle.inno_db.specs.declared.change.Change.{Change}
 use Rattle.inno_model.specs.declared.event.Event.{Event}
@@ -38,7 +38,7 @@ use Rattle.desks.specs.Holding.{AreFew, IsHeld, IsLast, IsLastOf, RowsHeld, Sear
 use Rattle.desks.specs.Leaves.{LeavesOthers}
 use Rattle.law_held_steps.specs.Making.{LeavesLists}
 use Rattle.law_held_steps.specs.Leaving.{is_searching}
-use Rattle.law_held_steps.proofs.AnyStep.{each, past_grows, held_after}
+use Rattle.law_held_steps.proofs.AnyStep.{each, waits_not, past_grows, held_after}
 use Rattle.law_held_steps.proofs.Desks.{given}
 use Rattle.law_held_steps.proofs.Left.{no_search}
 
@@ -55,18 +55,12 @@ pub goes_same : (s : ℕ) (old new : List Event) → new ≡ old → GoesOnBy s 
 goes_same s old new same =
     subst (GoesOnBy s old) (sym same) (record { adds = inl refl; started_is = refl; under_way_is = refl; awaits = λ is. is })
 
--- its own entry is none that waits
-awaits_then : (s : ℕ) (change : Change) (past : List Event) (b : Bool) → awaits_ack (cond b (Changed s change ∷ of_item s past) (of_item s past)) ≡ true
-    → awaits_ack (of_item s past) ≡ true
-awaits_then s change past true is = absurd (cc)
-awaits_then s change past false is = is
-
 pub goes_changed : (s : ℕ) (change : Change) (old new : List Event) → new ≡ Changed s change ∷ old → GoesOnBy s old new
 goes_changed s change old new is = subst (GoesOnBy s old) (sym is) (record {
   adds = inr (Changed s change, eq-eqb s s refl, refl);
   started_is = refl;
   under_way_is = refl;
-  awaits = awaits_then s change old (s == s);
+  awaits = λ waits. absurd (waits_not s (Changed s change ∷ of_item s old) old waits refl);
 })
 
 -- ---- the open transaction of who may write, and what others keep of a session's

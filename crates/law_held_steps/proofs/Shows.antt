@@ -35,7 +35,7 @@ use Rattle.law_logged_changes.specs.Logs.{records_of, Stands, LogsAgree}
 use Rattle.row_search.specs.declared.scan.Scan.{Scan}
 use Rattle.row_search.specs.Sights.{sees_by}
 use Rattle.row_search.specs.Tables.{ShowsRows}
-use Rattle.law_held_steps.proofs.AnyStep.{some_same, last_log}
+use Rattle.law_held_steps.proofs.AnyStep.{some_same, last_log, quiet_rows}
 use Rattle.law_found_rows.proofs.Showing.{shows_coded, shows_lagging}
 use Rattle.store_api.specs.declared.answers.Undo.{Undo}
 use Rattle.row_changes.specs.declared.row_change.RowChange.TheVariants.{Record, Keys}
@@ -212,16 +212,10 @@ module _ (chains : Chains) (state : WorldState) (told : IsTold state) where
   some_rows_by None desks undo room rows = (what_is_there chains, rows.0 told)
   some_rows_by (Some w) desks undo room rows = some_rows w undo room (doing_at w desks) rows
 
-  quiet_coded : (w : ℕ) (undo : Undo) (room : WorkRoom) (doing : Doing) → is_quiet_doing doing ≡ true → RowsHeld chains state w undo room doing
-      → AreCoded state.schemas (pairs_of state) state.versions.kept_at chains
-  quiet_coded w undo room Nothing is rows = rows.0 told
-  quiet_coded w undo room (Searching on) is rows = rows.0 told
-  quiet_coded w undo room other is rows = absurd (cc)
-
   pub coded_while_quiet : (writer : Option ℕ) (desks : List Desk) (undo : Undo) (room : WorkRoom) → is_quiet writer desks ≡ true
       → RowsHeldBy writer chains state desks undo room → AreCoded state.schemas (pairs_of state) state.versions.kept_at chains
   coded_while_quiet None desks undo room is rows = rows.0 told
-  coded_while_quiet (Some w) desks undo room is rows = quiet_coded w undo room (doing_at w desks) is rows
+  coded_while_quiet (Some w) desks undo room is rows = (quiet_rows chains state w undo room (doing_at w desks) is rows).0 told
 
 -- a table whose rows are coded has its columns
 pub columns_of : (chains : Chains) (said : Said) (state : WorldState) (table : ℕ) (schema : Schema) → AreRowsAs chains said state
@@ -297,6 +291,6 @@ module _ (chains : Chains) (state : WorldState) (logs : LogsAgree state) (told :
       let columns = columns_of chains some.0 state scan.table schema some.1 there in
       ⊎_elim
       (λ same. shows_coded schema scan state chains told there columns le
-      (quiet_coded chains state told w undo room (doing_at w desks) (ap (λ (n : ℕ). is_quiet_doing (doing_at n desks)) (sym same) ∙ searching) rows))
+      ((quiet_rows chains state w undo room (doing_at w desks) (ap (λ (n : ℕ). is_quiet_doing (doing_at n desks)) (sym same) ∙ searching) rows).0 told))
       (λ differs. shows_other chains (Some w) state agrees logs told w s refl differs schema scan there columns le undo room (doing_at w desks) holds rows)
       (cases_eq s w)

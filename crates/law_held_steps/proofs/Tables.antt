@@ -1,6 +1,6 @@
 -- A table that is made, by who may write.
-use Rattle.std.proofs.Common.{◌≡◌, ◌≢◌, ℕ, ◌+◌, ◌<◌, ◌≤◌, ◌^◌, true, false, Some, List, [], ◌∷◌, ◌++◌, length, refl, sym, ap, subst}
-use Rattle.std.proofs.Common.{◌∙◌, ⊎_elim, inl, inr, arith, ◌⊎◌, get_or}
+use Rattle.std.proofs.Common.{◌≡◌, ◌≢◌, ℕ, ◌+◌, ◌<◌, ◌≤◌, ◌^◌, Some, List, [], ◌∷◌, ◌++◌, length, refl, sym, ap, subst}
+use Rattle.std.proofs.Common.{◌∙◌, ⊎_elim, inl, inr, arith, eq-eqb, ◌⊎◌, get_or}
 use Rattle.std.proofs.lemmas.Option.{slice_get_within, get_or_from_slice_get}
 use Rattle.std.specs.Prelude.{slice_get, is_some}
 use Rattle.std.proofs.lemmas.Bool.{cases_eq}
@@ -10,7 +10,7 @@ use Rattle.inno_types.specs.declared.value.Key.{Key}
 use Rattle.inno_types.specs.declared.value.Column.{Column}
 use Rattle.inno_db.specs.declared.change.Change.TheVariants.{Create}
 use Rattle.inno_model.specs.declared.event.Event.TheVariants.{Changed}
-use Rattle.inno_model.specs.Past.{is_of, own, started, under_way, of_item, awaits_ack}
+use Rattle.inno_model.specs.Past.{own, started, under_way, of_item, awaits_ack}
 use Rattle.entries.specs.Pairs.{Pair, value_of}
 use Rattle.entries.specs.Index.{Index}
 use Rattle.entries.specs.Lists.{empty_index}
@@ -37,7 +37,7 @@ use Rattle.desks.specs.Holding.{RowsHeld, SearchHeld, IsHeld}
 use Rattle.desks.specs.Leaves.{LeavesOthers}
 use Rattle.law_logged_changes.proofs.Leaving.{more_grow}
 use Rattle.law_held_steps.proofs.Joining.{others_there}
-use Rattle.law_held_steps.proofs.AnyStep.{each, others_past, past_grows, held_after}
+use Rattle.law_held_steps.proofs.AnyStep.{each, waits_not, others_past, past_grows, held_after}
 
 -- ---- columns of a table that can be stored
 
@@ -84,11 +84,8 @@ module _ (cuts : ℕ) (undo : UndoRoom) (room : WorkRoom) (old new : WorldState)
     (same : (index : ℕ) → new.indexes index ≡ old.indexes index) (versions : new.versions ≡ old.versions)
     (empty : (which : ℕ) → which < 8 → new.indexes (index_of (length old.schemas) which) ≡ empty_index)
     (storable : IsStorable schema) (few : length old.past + 1 < 2 ^ 63) (none : own t old.past ≡ []) where
-  mine : is_of t (Changed t (Create schema)) ≡ true
-  mine = grind (arith, nat_tests)
-
   adds : Rattle.law_found_rows.specs.Pasts.AddsAtMostOne t old.past new.past
-  adds = inr (Changed t (Create schema), mine, by.past)
+  adds = inr (Changed t (Create schema), eq-eqb t t refl, by.past)
 
   agrees : Rattle.law_world_agreement.specs.Agreement.Agrees held.chains (Some t) new
   agrees = created_agrees held.chains old new t schema held.agrees by few
@@ -194,7 +191,8 @@ module _ (cuts : ℕ) (undo : UndoRoom) (room : WorkRoom) (old new : WorldState)
       (record {
         replies = λ session has busy. ap (λ (x : Session). x.can_reply) (one_session session has) ∙ rooms.can_reply ∙
             held.has_room.replies t rooms.session rooms.had.session_is (sym (ap (λ h. is_some (under_way t h)) by.past) ∙ busy);
-        acks = λ session has waits. absurd (let e : false ≡ true = sym (ap (λ h. awaits_ack (of_item t h)) by.past ∙ changed_waits) ∙ waits in cc);
+        acks = λ session has waits. absurd
+            (waits_not t (Changed t (Create schema) ∷ of_item t old.past) old.past (sym (ap (λ h. awaits_ack (of_item t h)) by.past) ∙ waits) refl);
         ends = λ session work has. ap (λ (w : Work). w.can_end) (one_now session work has) ∙ rooms.can_end ∙
             held.has_room.ends t rooms.session rooms.work rooms.had;
         started = ap (started t) by.past ∙ held.started t;
@@ -209,5 +207,3 @@ module _ (cuts : ℕ) (undo : UndoRoom) (room : WorkRoom) (old new : WorldState)
       one_session : (session : Session) → IsSession t session new → session ≡ rooms.session_now
       one_session session has = let is = rooms.has.session_is in cc
 
-      changed_waits : awaits_ack (of_item t (Changed t (Create schema) ∷ old.past)) ≡ false
-      changed_waits = grind (arith, nat_tests)

@@ -1,5 +1,5 @@
 -- The newest change is taken back: its rows, then its undo record, and then the history tells it.
-use Rattle.std.proofs.Common.{◌≡◌, ◌≢◌, inl, inr, ℕ, ◌+◌, ◌-◌, ◌^◌, ◌<◌, ◌≤◌, Bool, true, false, cond, List, [], ◌∷◌, length, map, Option, Some}
+use Rattle.std.proofs.Common.{◌≡◌, ◌≢◌, inl, inr, ℕ, ◌+◌, ◌-◌, ◌^◌, ◌<◌, ◌≤◌, true, false, List, [], ◌∷◌, length, map, Option, Some}
 use Rattle.std.proofs.Common.{refl, sym, ap, subst, ◌∙◌, arith, slice_get, eq-eqb}
 use Rattle.std.specs.Prelude.{slice_set, is_some}
 use Rattle.std.proofs.lemmas.Bool.Decides.{nat_tests}
@@ -44,7 +44,7 @@ use Rattle.law_held_steps.specs.Undoing.{HasPutBack}
 use Rattle.law_held_steps.proofs.Desks.{given}
 use Rattle.law_held_steps.proofs.SeenEntries.{settings_same}
 use Rattle.law_held_steps.proofs.Beside.{LeavesAll, done_leaves, without_newest, popped_newest, popped_fewer, has_place, alone_if, rows_by_writer}
-use Rattle.law_held_steps.proofs.AnyStep.{last_log, held_after}
+use Rattle.law_held_steps.proofs.AnyStep.{waits_not, last_log, held_after}
 use Rattle.row_changes.proofs.Sessions.{same_pairs, same_versions}
 use Rattle.law_held_steps.proofs.Putting.{mine, going, answers}
 
@@ -268,9 +268,6 @@ module _ (s : ℕ) (old mid : WorldState) (writer : Option ℕ) (desks : List De
 
         -- ---- room for the entries that are to come
 
-        not_acked : awaits_ack (of_item s (Undone s keep ∷ old.past)) ≡ false
-        not_acked = ap (λ (b : Bool). awaits_ack (cond b (Undone s keep ∷ of_item s old.past) (of_item s old.past))) (eq-eqb s s refl)
-
         -- ---- the whole
 
         others_left : IsInMemory old → length new.past < 2 ^ 63 → LeavesOthers s held.chains after writer writer cuts (cuts + 1) old new
@@ -301,7 +298,8 @@ module _ (s : ℕ) (old mid : WorldState) (writer : Option ℕ) (desks : List De
                   subst (λ (x : Session). x.can_reply ≡ true) (one_session s session_now session new session_there is)
                   (held.has_room.replies s back.session had.session_is (sym (ap is_some (ap (under_way s) past_now)) ∙ busy));
               acks = λ session is waits.
-                  absurd (let e : true ≡ false = sym waits ∙ ap (λ (h : List Event). awaits_ack (of_item s h)) past_now ∙ not_acked in cc);
+                  absurd (waits_not s (Undone s keep ∷ of_item s old.past) old.past
+                  (sym (ap (λ (h : List Event). awaits_ack (of_item s h)) past_now) ∙ waits) refl);
               ends = λ session work has.
                   ap (λ (w : Work). w.can_end) (one_work s session session_now work work_now new has has_work_now) ∙
                   held.has_room.ends s back.session back.work had;

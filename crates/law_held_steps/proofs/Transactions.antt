@@ -3,12 +3,11 @@ use Rattle.std.proofs.Common.{◌≡◌, ◌≢◌, ⊎_elim, ℕ, ◌+◌, ◌<
 use Rattle.std.proofs.Common.{ap, subst, ◌∙◌, inl, inr, arith, ◌⊎◌, eq-eqb}
 use Rattle.std.specs.Prelude.{slice_get, slice_set, option_map}
 use Rattle.std.proofs.lemmas.Bool.Decides.{nat_tests, eqb_tells}
-use Rattle.std.proofs.lemmas.Bool.{false≢true}
 use Rattle.std.proofs.lemmas.List.{length-map}
 use Rattle.std.proofs.lemmas.Option.{slice_get-map}
 use Rattle.inno_types.specs.declared.lock.Level.{Level}
 use Rattle.inno_model.specs.declared.event.Event.TheVariants.{Begin, View, Committed, RolledBack}
-use Rattle.inno_model.specs.Past.{own, started, of_item, awaits_ack, IsClosed}
+use Rattle.inno_model.specs.Past.{own, started, of_item, IsClosed}
 use Rattle.sql_history.specs.Settings.{at_end, saved}
 use Rattle.law_past_agreement.specs.Slots.{writer_without}
 use Rattle.law_past_agreement.proofs.Ids.{ids_of}
@@ -29,7 +28,7 @@ use Rattle.desks.specs.declared.desk.Desk.{Desk}
 use Rattle.desks.specs.declared.desk.Doing.TheVariants.{Nothing}
 use Rattle.desks.specs.Desks.{doing_at}
 use Rattle.desks.specs.Holding.{IsHeld}
-use Rattle.law_held_steps.proofs.AnyStep.{some_same}
+use Rattle.law_held_steps.proofs.AnyStep.{some_same, waits_not}
 use Rattle.law_held_steps.proofs.EntrySessions.{works_by, entered_by, same_log, same_writer, closed_desks}
 
 -- ---- the session of a transaction is changed
@@ -69,9 +68,6 @@ module _ (writer : Option ℕ) (cuts : ℕ) (undo : UndoRoom) (room : WorkRoom) 
     (t : ℕ) (rests : doing_at t desks ≡ Nothing) (told : IsTold old) (session : Session) (there : IsSession t session old) where
   -- ---- a transaction opens
 
-  begin_waits : (n : ℕ) (level : Level) → awaits_ack (of_item t (Begin t n level ∷ old.past)) ≡ false
-  begin_waits n level = grind (arith, nat_tests)
-
   begin_own : (n : ℕ) (level : Level) → own t old.past ≡ [] → own t (Begin t n level ∷ old.past) ≡ own t old.past
   begin_own n level none = grind (arith, nat_tests, none)
 
@@ -94,13 +90,10 @@ module _ (writer : Option ℕ) (cuts : ℕ) (undo : UndoRoom) (room : WorkRoom) 
         log_is = ap (λ (w : Work). w.log) (sym (some_same (record (fresh_work n level) { can_end = true }) work is));
         own_is = own_is ∙ empty;
       }))
-      (λ busy. held.has_room.replies t session there busy) (λ waits. absurd (false≢true (sym (begin_waits n level) ∙ waits)))
+      (λ busy. held.has_room.replies t session there busy) (λ waits. absurd (waits_not t (Begin t n level ∷ of_item t old.past) old.past waits refl))
       (λ work is. ap (λ (w : Work). w.can_end) (sym (some_same (record (fresh_work n level) { can_end = true }) work is))) (held.started t)
 
   -- ---- a view is taken
-
-  view_waits : awaits_ack (of_item t (View t ∷ old.past)) ≡ false
-  view_waits = grind (arith, nat_tests)
 
   pub viewed_held : (work : Work) → session.work ≡ Some work → length old.past + 1 < 2 ^ 63
       → IsHeld (viewed t session work old) writer desks cuts undo room
@@ -113,7 +106,7 @@ module _ (writer : Option ℕ) (cuts : ℕ) (undo : UndoRoom) (room : WorkRoom) 
       (same_writer t writer old new desks (λ s differ. set_other old.sessions t s after differ)) refl
       (viewed_agrees held.chains writer old t session work held.agrees has few) (inr (View t, eq-eqb t t refl, refl)) held.fits
       (λ w is_w. same_log t old new session work w has (ap (λ (x : Work). x.log) (sym (some_same seen w is_w))) refl)
-      (λ busy. held.has_room.replies t session there busy) (λ waits. absurd (false≢true (sym view_waits ∙ waits)))
+      (λ busy. held.has_room.replies t session there busy) (λ waits. absurd (waits_not t (View t ∷ of_item t old.past) old.past waits refl))
       (λ w is_w. ap (λ (x : Work). x.can_end) (sym (some_same seen w is_w)) ∙ held.has_room.ends t session work has) (held.started t)
 
   module _ (work : Work) (is : session.work ≡ Some work) where
@@ -152,9 +145,6 @@ module _ (writer : Option ℕ) (cuts : ℕ) (undo : UndoRoom) (room : WorkRoom) 
 
     -- ---- a transaction ends
 
-    rolled_waits : awaits_ack (of_item t (RolledBack t ∷ old.past)) ≡ false
-    rolled_waits = grind (arith, nat_tests)
-
     committed_then : (paged : Option Paged) → StoreGoes old.paged paged → length old.past + 1 < 2 ^ 63
         → IsHeld (record (committed t session work old) { paged = paged }) (writer_without writer t) desks cuts undo room
     committed_then paged later few =
@@ -180,7 +170,7 @@ module _ (writer : Option ℕ) (cuts : ℕ) (undo : UndoRoom) (room : WorkRoom) 
         (record { session = session; work = work; has_work = has_work; rest = refl; later = later }) none few)
         (inr (RolledBack t, eq-eqb t t refl, refl)) held.fits
         (λ w is_w. absurd (none_has after w refl is_w)) (λ busy. held.has_room.replies t session there busy)
-        (λ waits. absurd (false≢true (sym rolled_waits ∙ waits))) (λ w is_w. absurd (none_has after w refl is_w)) (held.started t)
+        (λ waits. absurd (waits_not t (RolledBack t ∷ of_item t old.past) old.past waits refl)) (λ w is_w. absurd (none_has after w refl is_w)) (held.started t)
 
 -- The session's open transaction has ended. It may write no longer.
 module _ (writer : Option ℕ) (cuts : ℕ) (undo : UndoRoom) (room : WorkRoom) (old new : WorldState) (desks : List Desk)
