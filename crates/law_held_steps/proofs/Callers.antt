@@ -1,7 +1,5 @@
 -- What callers see of lists in which places alone have moved.
-use Rattle.std.proofs.Common.{◌≡◌, inl, inr, ℕ, ◌<◌, List, length, Option, refl, sym, ap, subst, ◌∙◌}
-use Rattle.std.proofs.lemmas.Bool.{cases_lt}
-use Rattle.std.proofs.lemmas.List.{get_or_past}
+use Rattle.std.proofs.Common.{◌≡◌, ℕ, ◌<◌, List, length, Option, refl, sym, ap, subst, ◌∙◌}
 use Rattle.inno_types.specs.declared.value.Schema.{Schema}
 use Rattle.row_versions.specs.declared.kept.Kept.{Kept}
 use Rattle.sql_plan.specs.declared.choice.Plan.{Plan}
@@ -18,7 +16,7 @@ use Rattle.shared_lists.specs.State.{task_of, Turns}
 use Rattle.desks.specs.declared.desk.Desk.{Desk}
 use Rattle.desks.specs.declared.desk.Doing.{Doing}
 use Rattle.desks.specs.declared.desk.Doing.TheVariants.{Nothing, Searching}
-use Rattle.desks.specs.Desks.{fresh_desk, doing_at, with_doing}
+use Rattle.desks.specs.Desks.{doing_at, with_doing}
 use Rattle.desks.specs.Shown.{shown, lists_of, reading_of, seen_of}
 use Rattle.desks.specs.Undoing.{undo_left_in}
 use Rattle.desks.specs.declared.desk.TableSearch.{TableSearch}
@@ -27,7 +25,7 @@ use Rattle.law_held_steps.specs.Begun.{IsBegun}
 use Rattle.law_held_steps.specs.Moving.{MovesPlaces}
 use Rattle.law_held_steps.specs.TakenUp.{IsSearchOf}
 use Rattle.law_held_steps.proofs.Places.{none_moves}
-use Rattle.law_held_steps.proofs.Desks.{doing_here, doing_elsewhere}
+use Rattle.law_held_steps.proofs.Desks.{doing_here, doing_elsewhere, busy_at_a_desk}
 
 pub left_stays : (s table : ℕ) (stage : Stage) (old new : WorldState) → MovesPlaces s old new → IsTold new
     → undo_left_in table stage new ≡ undo_left_in table stage old
@@ -103,12 +101,7 @@ same_shown left cuts schemas on next same =
 
 -- who searches has a desk
 pub has_desk : (s : ℕ) (desks : List Desk) (on : TableSearch) → doing_at s desks ≡ Searching on → s < length desks
-has_desk s desks on is = elim (cases_lt s (length desks)) [
-  | inl within ↦ within
-  | inr past ↦ absurd (nothing (ap (λ (desk : Desk). desk.doing) (sym (get_or_past desks s fresh_desk past)) ∙ is))
-] where
-  nothing : Nothing ≡ Searching on → ⊥
-  nothing same = cc
+has_desk s desks on is = busy_at_a_desk s desks (λ none. let e : Searching on ≡ Nothing = sym is ∙ none in cc)
 
 module _ (s table : ℕ) (stage : Stage) (writer : Option ℕ) (desks : List Desk) where
   pub turns_to_search : (state : WorldState) (searched cuts : ℕ) (plan : Plan) (sight : Sight) (schema : Schema) (on : TableSearch) → s < length desks

@@ -1,12 +1,11 @@
 -- A search that is under way goes on, ends or is given up.
-use Rattle.std.proofs.Common.{◌≡◌, ◌≢◌, inl, inr, ℕ, ◌<◌, ◌≤◌, Bool, true, false, List, [], length, map, Option, Some, refl, sym, ap, subst, ◌∙◌, slice_get}
+use Rattle.std.proofs.Common.{◌≡◌, ◌≢◌, inl, inr, ℕ, ◌<◌, ◌≤◌, Bool, true, false, List, length, map, Option, Some, refl, sym, ap, subst, ◌∙◌, slice_get}
 use Rattle.std.proofs.Common.{arith, eq-eqb}
 use Rattle.std.specs.Prelude.{◌==◌, ◌-◌, filter}
 use Rattle.inno_types.specs.declared.value.Schema.{Schema}
 use Rattle.inno_types.specs.Order.{IsBelow}
 use Rattle.inno_db.specs.Database.{rows_of}
-use Rattle.inno_model.specs.declared.event.Event.{Event}
-use Rattle.inno_model.specs.Past.{own, commits, changed}
+use Rattle.inno_model.specs.Past.{commits, changed}
 use Rattle.store_api.specs.declared.moves.Move.{Move}
 use Rattle.entries.specs.Calls.{Leaves}
 use Rattle.read_view.specs.Sight.{Sight as ReadSight}
@@ -14,7 +13,6 @@ use Rattle.row_versions.specs.declared.place.Place.{Place}
 use Rattle.row_versions.specs.Chains.{Chains, versions_at}
 use Rattle.law_stored_rows.specs.Tables.{in_table}
 use Rattle.law_past_agreement.specs.Rows.{seen}
-use Rattle.law_past_agreement.specs.Agreement.{WriterAgrees}
 use Rattle.law_past_agreement.specs.DatabaseTables.{with_all_tables}
 use Rattle.world.specs.State.{WorldState, index_of}
 use Rattle.world.specs.Told.{IsTold, pairs_of}
@@ -51,6 +49,7 @@ use Rattle.desks.specs.Shown.{reading_of}
 use Rattle.law_held_steps.specs.Moving.{MovesPlaces}
 use Rattle.law_held_steps.specs.TakenUp.{IsTakenUp, MayStep, plan_of}
 use Rattle.law_held_steps.proofs.AnyStep.{some_same}
+use Rattle.law_held_steps.proofs.Beside.{alone_if}
 use Rattle.law_held_steps.proofs.Places.{moves_then, moves_in_one, moves_nothing, leaving_moves, moves_leave, moves_told}
 use Rattle.law_held_steps.proofs.Staying.{held_stays}
 use Rattle.law_held_steps.proofs.Nearing.{IsLess, keys_before, visit_before, keys_anew, steps_nearer, still_nearer, anew_nearer}
@@ -138,10 +137,7 @@ module _ (chains : Chains) (writer : Option ℕ) (state : WorldState) (agrees : 
   found_in Newest is are rise =
       seen_then (commits state.past)
       (found_newest chains writer state scan.table on.schema state.versions.kept_at (pairs_of state _) agrees
-      (rows.1.clustered.tables scan.table on.schema there) s (alone writer is agrees.lists.writes) scan.which (lies_in on.schema scan) found are rise)
-    where
-      alone : (by : Option ℕ) → by ≡ Some s → WriterAgrees state.past by → (u : ℕ) → u ≢ s → own u state.past ≡ []
-      alone by mine writes = (subst (WriterAgrees state.past) mine writes).1
+      (rows.1.clustered.tables scan.table on.schema there) s (alone_if s chains writer state is agrees) scan.which (lies_in on.schema scan) found are rise)
 
   pub found_then : SightHolds state writer s scan.sight → FoundBy scan.sight → RiseByKey found
       → AreFoundBy (reading_of scan.sight) scan.table (plan_of on) state.past s (map (λ (f : FoundRow). f.row) found)
@@ -220,30 +216,22 @@ module _ (s : ℕ) (old : WorldState) (writer : Option ℕ) (desks : List Desk) 
           below next past taken
           (steps_nearer s on.schema old new search next (in_table search.scan.table held.chains) (shows was) finds.searching finds.finds goes was told)
         where
-          same_length : (a b : List Event) → a ≡ b → length a ≡ length b
-          same_length a b same = ap length same
-
           below : (next : RowSearch) → new.past ≡ old.past → IsTakenUp cuts on search
               → IsLess (keys_before s new next) (visit_before new next) (keys_before s old search) (visit_before old search)
               → IsBelow (counted (places_in s new (record on { search = next; cuts = cuts }))) (counted (places_in s old on))
           below next past (inl same) less =
               still_nearer (keys_before s new next) (visit_before new next) (keys_before s old on.search) (visit_before old on.search) _ _
               (subst (λ (r : RowSearch). IsLess (keys_before s new next) (visit_before new next) (keys_before s old r) (visit_before old r)) same.1 less)
-              (let long = same_length new.past old.past past in let cut = same.0 in omega (arith, long, cut))
+              (let long = ap length past in let cut = same.0 in omega (arith, long, cut))
           below next past (inr (later, anew)) less =
-              let since = search_held.since in
-              let cut = held.cut in
-              let long = same_length new.past old.past past in
-              let scan_is = anew.scan in
-              let phase_is = anew.phase in
               let keys : keys_before s old search ≡ keys_before s old on.search
-              = ap (λ (scan : Scan). keys_left (place_in s scan old) (pairs_of old (index_of scan.table scan.which)) search.phase) scan_is
-              ∙ (ap (keys_left (place_in s on.search.scan old) (pairs_of old (index_of on.search.scan.table on.search.scan.which))) phase_is
+              = ap (λ (scan : Scan). keys_left (place_in s scan old) (pairs_of old (index_of scan.table scan.which)) search.phase) anew.scan
+              ∙ (ap (keys_left (place_in s on.search.scan old) (pairs_of old (index_of on.search.scan.table on.search.scan.which))) anew.phase
               ∙ keys_anew (place_in s on.search.scan old) (pairs_of old (index_of on.search.scan.table on.search.scan.which)) on.search.phase) in
               anew_nearer (keys_before s new next) (visit_before new next) (keys_before s old on.search) (visit_before old search)
               (visit_before old on.search) _ _
               (subst (λ (k : ℕ). IsLess (keys_before s new next) (visit_before new next) k (visit_before old search)) keys less)
-              (fewer (length new.past) (length old.past) on.cuts cuts long since cut later)
+              (fewer (length new.past) (length old.past) on.cuts cuts (ap length past) search_held.since held.cut later)
 
       pub ended : (found : List FoundRow) → Ends s on.schema old new search found
           → IsHeld new writer (with_doing s Nothing desks) cuts undo room × MovesPlaces s old new
