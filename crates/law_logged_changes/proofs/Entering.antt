@@ -119,30 +119,27 @@ kept_if false schemas pointer undo old new k told other found is = ap (λ (f : �
 module _ (s : ℕ) (chains : Chains) (old new : WorldState) (change : RecordChange) (bytes : List ℕ) (undo : Undo)
     (recorded : Records s (change_of change.table change.edit) (rows_put change.edit) change.table change.key bytes undo old new) (told : IsTold new) where
   abbrev changed_by : IsChangedBy s (change_of change.table change.edit) old.schemas old new
-  changed_by =
-      record {
-        session = recorded.work.session;
-        work = recorded.work.work;
-        had = recorded.work.had;
-        session_now = recorded.work.session_now;
-        work_now = recorded.work.work_now;
-        has = recorded.work.has;
-        more =
-            record {
-              txn = recorded.work.changed.txn;
-              level = recorded.work.changed.level;
-              view = recorded.work.changed.view;
-              own =
-                  recorded.work.changed.own;
-              id_is = recorded.work.changed.id_is;
-            };
-        past = ap (λ (state : WorldState). state.past) recorded.rest;
-        names = ap (λ (state : WorldState). state.names) recorded.rest;
-        schemas = ap (λ (state : WorldState). state.schemas) recorded.rest;
-        txns = recorded.work.txns;
-        others = recorded.work.others;
-        count = recorded.work.count;
-      }
+  changed_by = record {
+    session = recorded.work.session;
+    work = recorded.work.work;
+    had = recorded.work.had;
+    session_now = recorded.work.session_now;
+    work_now = recorded.work.work_now;
+    has = recorded.work.has;
+    more = record {
+      txn = recorded.work.changed.txn;
+      level = recorded.work.changed.level;
+      view = recorded.work.changed.view;
+      own = recorded.work.changed.own;
+      id_is = recorded.work.changed.id_is;
+    };
+    past = ap (λ (state : WorldState). state.past) recorded.rest;
+    names = ap (λ (state : WorldState). state.names) recorded.rest;
+    schemas = ap (λ (state : WorldState). state.schemas) recorded.rest;
+    txns = recorded.work.txns;
+    others = recorded.work.others;
+    count = recorded.work.count;
+  }
 
   entered_open : (session : Session) (work : Work) → HasWork s session work old → StaysOpen s session work old new
   entered_open session work has =
@@ -163,16 +160,15 @@ module _ (s : ℕ) (chains : Chains) (old new : WorldState) (change : RecordChan
       }
 
   entered_beside : KeepsBeside s old new
-  entered_beside =
-      record {
-        names = changed_by.names;
-        schemas = changed_by.schemas;
-        others = recorded.work.others;
-        count = recorded.work.count;
-        places = recorded.places;
-        kept = kept_if (undo.kind == 2) old.schemas recorded.work.session.next_pointer undo old.versions new.versions recorded.work.versions told.versions;
-        own = entered_open;
-      }
+  entered_beside = record {
+    names = changed_by.names;
+    schemas = changed_by.schemas;
+    others = recorded.work.others;
+    count = recorded.work.count;
+    places = recorded.places;
+    kept = kept_if (undo.kind == 2) old.schemas recorded.work.session.next_pointer undo old.versions new.versions recorded.work.versions told.versions;
+    own = entered_open;
+  }
 
   pub entered : (next : KeysChange) (p : IsChangingRecord s old change) → Agrees chains (Some s) old → length new.past < 2 ^ 63
       → ((pushed : Chains) → PushesEdit s change old chains pushed → IsChangingKeys pushed new next) → EntersAgreed s chains old new change next
@@ -215,15 +211,14 @@ enters s chains old new change next p c told agrees few keys =
 
 -- where no pair changes, no record does
 stays_beside : (old new : WorldState) → RowsStay old new → StaysBesideKeys old new
-stays_beside old new stay =
-    record {
-      told = stays_told old new stay;
-      records = λ table. stay.pairs (clustered_index table);
-      places = stay.places;
-      versions = stay.versions;
-      rest = stay.rest;
-      later = stay.later;
-    }
+stays_beside old new stay = record {
+  told = stays_told old new stay;
+  records = λ table. stay.pairs (clustered_index table);
+  places = stay.places;
+  versions = stay.versions;
+  rest = stay.rest;
+  later = stay.later;
+}
 
 pub goes_on : (s : ℕ) (chains : Chains) (old new : WorldState) (change : RowChange) (reached : Reached RowChange) → Agrees chains (Some s) old
     → IsChangingRow s chains old change → ChangesRow s chains old new change reached → IsTold new → length new.past < 2 ^ 63

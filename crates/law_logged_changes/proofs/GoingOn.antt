@@ -1,5 +1,5 @@
 -- Until a taking back is done, entries of keys alone change.
-use Rattle.std.proofs.Common.{◌≡◌, ◌≢◌, inl, inr, ⊎_elim, ℕ, List, [], refl, sym, ap, subst, ◌∙◌, arith}
+use Rattle.std.proofs.Common.{◌≡◌, ◌≢◌, inl, inr, ⊎_elim, ℕ, List, [], refl, sym, ap, subst, ◌∙◌, arith, Option}
 use Rattle.std.specs.Prelude.{slice_get}
 use Rattle.inno_db.specs.declared.change.Change.{Change}
 use Rattle.inno_model.specs.Past.{own}
@@ -9,6 +9,8 @@ use Rattle.store_api.specs.declared.moves.Move.TheVariants.{Done, Step}
 use Rattle.row_versions.specs.declared.place.Place.{Place}
 use Rattle.row_versions.specs.Chains.{Chains}
 use Rattle.world.specs.State.{WorldState, Session, Work, Logged, HasWork}
+use Rattle.law_world_agreement.specs.Agreement.{Agrees}
+use Rattle.law_world_agreement.proofs.Joining.{agrees_alike}
 use Rattle.undo_apply.specs.declared.work_room.WorkRoom.{WorkRoom}
 use Rattle.undo_apply.specs.Stages.{GoesOn, IsHindered, IsDone, PutsBack}
 use Rattle.undo_apply.proofs.Columns.{few_keys}
@@ -31,6 +33,12 @@ work_again u session work old new rest has =
 
 pub own_beside : (u : ℕ) (old new : WorldState) → ChangesPairsAlone old new → own u new.past ≡ own u old.past
 own_beside u old new rest = ap (λ (state : WorldState). own u state.past) rest
+
+pub agrees_beside : {old new : WorldState} {chains : Chains} {writer : Option ℕ} → ChangesPairsAlone old new → Agrees chains writer old
+    → Agrees chains writer new
+agrees_beside {old} {new} {chains} {writer} rest agrees =
+    agrees_alike chains writer old new agrees (ap (λ (x : WorldState). x.names) rest) (ap (λ (x : WorldState). x.past) rest)
+    (ap (λ (x : WorldState). x.schemas) rest) (ap (λ (x : WorldState). x.txns) rest) (ap (λ (x : WorldState). x.sessions) rest)
 
 pub logs_beside : (old new : WorldState) → ChangesPairsAlone old new → LeavesLogs OfAll old new
 logs_beside old new rest u session work of has = inl (record {

@@ -7,7 +7,7 @@ use Rattle.std.proofs.lemmas.Bool.{cases_eq, cond-true, cond-false, eq-eqb, ne_e
 use Rattle.inno_types.specs.declared.value.Value.{Value}
 use Rattle.inno_types.specs.declared.value.Schema.{Schema}
 use Rattle.inno_db.specs.declared.change.Change.{Change}
-use Rattle.inno_db.specs.declared.change.Change.TheVariants.{Create, Put, Remove}
+use Rattle.inno_db.specs.declared.change.Change.TheVariants.{Create}
 use Rattle.inno_db.proofs.Keys.{key_in-at}
 use Rattle.inno_model.specs.Past.{own}
 use Rattle.inno_model.specs.declared.event.Event.TheVariants.{Changed}
@@ -306,13 +306,12 @@ module _ (s : ℕ) (old new : WorldState) (change : RecordChange) (p : IsChangin
   logging_over former o = record {
     table = p.table;
     rows = all;
-    sound =
-        record {
-          kept = inr (refl, kept.version, kept.kept);
-          key = key_short s old change p;
-          value = value_short p.schema former change.key o.bytes
-              p.table.storable (o.was.code_is.record_is.fits, o.was.code_is.record_is.key_is) o.was.code_is.record_is.value_is;
-        };
+    sound = record {
+      kept = inr (refl, kept.version, kept.kept);
+      key = key_short s old change p;
+      value = value_short p.schema former change.key o.bytes
+          p.table.storable (o.was.code_is.record_is.fits, o.was.code_is.record_is.key_is) o.was.code_is.record_is.value_is;
+    };
     code_is = code_next p.schema change.edit change.key o.bytes former writer o.session.next_pointer p.fits o.was.code_is small o.small;
     was =
         λ told. tells (λ pairs. value_of change.key pairs ≡ Some o.bytes) (old.indexes (clustered_index change.table)).pairs o.was.there

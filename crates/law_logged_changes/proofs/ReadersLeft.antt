@@ -63,11 +63,10 @@ some_kept P Q (Some put) each is = each put is
 
 module _ (old new : WorldState) (leaves : LeavesRows old new) where
   pub left_told : IsTold new → IsTold old
-  left_told told =
-      record {
-        pairs = λ i. told_before (λ before after. after ≡ before) (old.indexes i).pairs (new.indexes i).pairs (leaves.pairs i) (told.pairs i);
-        versions = leaves.versions.told told.versions;
-      }
+  left_told told = record {
+    pairs = λ i. told_before (λ before after. after ≡ before) (old.indexes i).pairs (new.indexes i).pairs (leaves.pairs i) (told.pairs i);
+    versions = leaves.versions.told told.versions;
+  }
 
   pub rows_left : (chains : Chains) (said : Said) → IsTold new → AreRowsAs chains said old → AreRowsAs chains said new
   rows_left chains said told is =
@@ -103,17 +102,16 @@ module _ (old new : WorldState) (leaves : LeavesRows old new) where
 
   entering_left : (schema : Schema) (table which : ℕ) (row : Option (List Value)) (primary : List ℕ) (put : EntryPut)
       → IsEntering schema table which row primary old put → IsEntering schema table which row primary new put
-  entering_left schema table which row primary put p =
-      record {
-        index_is = p.index_is;
-        entry_is = p.entry_is;
-        within = p.within;
-        putting = record {
-          index_is = subst (λ (schemas : List Schema). IsIndex schemas put.index) (sym leaves.schemas) p.putting.index_is;
-          short = p.putting.short;
-          phase = phase_kept put.phase put.entry (old.indexes put.index) (new.indexes put.index) (leaves.pairs put.index) p.putting.phase;
-        };
-      }
+  entering_left schema table which row primary put p = record {
+    index_is = p.index_is;
+    entry_is = p.entry_is;
+    within = p.within;
+    putting = record {
+      index_is = subst (λ (schemas : List Schema). IsIndex schemas put.index) (sym leaves.schemas) p.putting.index_is;
+      short = p.putting.short;
+      phase = phase_kept put.phase put.entry (old.indexes put.index) (new.indexes put.index) (leaves.pairs put.index) p.putting.phase;
+    };
+  }
 
   keys_left : (chains : Chains) (change : KeysChange) → IsChangingKeys chains old change → IsChangingKeys chains new change
   keys_left chains change p =
