@@ -18,7 +18,6 @@ use Rattle.world.specs.Told.{IsTold, LeavesRows}
 use Rattle.world.specs.Undoing.{read_into}
 use Rattle.world.specs.declared.undo_room.UndoRoom.{UndoRoom}
 use Rattle.law_world_agreement.specs.Agreement.{Agrees}
-use Rattle.law_world_agreement.proofs.Joining.{agrees_alike}
 use Rattle.row_changes.specs.Told.{HasRows}
 use Rattle.row_changes.specs.declared.row_change.RowChange.{RowChange}
 use Rattle.row_changes.specs.declared.row_change.RowChange.TheVariants.{Record, Keys}
@@ -29,7 +28,7 @@ use Rattle.undo_apply.proofs.Goes.{others_leave}
 use Rattle.shared_lists.specs.Fitting.{FitsThen}
 use Rattle.law_logged_changes.specs.Logs.{IsLogOf, LogsAgree}
 use Rattle.law_logged_changes.specs.Steps.{ChangesPairsAlone}
-use Rattle.law_logged_changes.proofs.GoingOn.{work_beside}
+use Rattle.law_logged_changes.proofs.GoingOn.{work_beside, agrees_beside}
 use Rattle.law_logged_changes.proofs.ReadersLeft.{has_rows_left, change_left}
 use Rattle.law_found_rows.specs.Pasts.{AddsAtMostOne}
 use Rattle.law_found_rows.proofs.Seen.{other_of}
@@ -230,12 +229,6 @@ module _ {s : ℕ} {writer later : Option ℕ} {cuts : ℕ} {undo : UndoRoom} {r
   quiet_step = rows_by later refl
 
 -- ---- steps that add no entry and change no session
-
-pub agrees_beside : {old new : WorldState} {chains : Chains} {writer : Option ℕ} → ChangesPairsAlone old new → Agrees chains writer old
-    → Agrees chains writer new
-agrees_beside {old} {new} {chains} {writer} rest agrees =
-    agrees_alike chains writer old new agrees (ap (λ (x : WorldState). x.names) rest) (ap (λ (x : WorldState). x.past) rest)
-    (ap (λ (x : WorldState). x.schemas) rest) (ap (λ (x : WorldState). x.txns) rest) (ap (λ (x : WorldState). x.sessions) rest)
 
 module _ (s : ℕ) {writer : Option ℕ} {cuts : ℕ} {undo : UndoRoom} {room : WorkRoom} {old new : WorldState} {desks : List Desk}
     (held : IsHeld old writer desks cuts undo room) (rest : ChangesPairsAlone old new) (versions : Stays old.versions new.versions) (was : IsTold old)

@@ -35,10 +35,6 @@ left_stays s table stage old new moves told =
     (moves.versions.kept told.versions)
 
 module _ (s left : ℕ) (old new : WorldState) (writer : Option ℕ) (desks : List Desk) (moves : MovesPlaces s old new) where
-  -- of a session that doesn't search
-  lists_same : IsTold new → ((on : TableSearch) → doing_at s desks ≡ Searching on → ⊥) → lists_of new writer desks left ≡ lists_of old writer desks left
-  lists_same = lists_stay s left old new writer desks moves.rest moves.pairs (λ t index differs. moves.places t index differs) moves.versions
-
   module _ (doing : Doing) where
     task_now : (u : ℕ) (is : Doing) → doing_at u (with_doing s doing desks) ≡ is
         → task_of u (lists_of new writer (with_doing s doing desks) left).state ≡ shown old.schemas left is
@@ -65,7 +61,7 @@ module _ (s left : ℕ) (old new : WorldState) (writer : Option ℕ) (desks : Li
       → ((on : TableSearch) → doing_at s desks ≡ Searching on → ⊥) → seen_of table stage new writer desks ≡ seen_of table stage old writer desks
   seen_stay table stage is told not =
       ap (lists_of new writer desks) (left_stays s table stage old new moves told ∙ sym is)
-      ∙ (lists_same told not ∙ ap (lists_of old writer desks) is)
+      ∙ (lists_stay s left old new writer desks moves.rest moves.pairs moves.places moves.versions told not ∙ ap (lists_of old writer desks) is)
 
 pub turns_now : (s table : ℕ) (stage : Stage) (old new : WorldState) (writer : Option ℕ) (desks : List Desk) (doing : Doing) → s < length desks
     → MovesPlaces s old new → IsTold new

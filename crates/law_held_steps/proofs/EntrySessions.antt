@@ -66,14 +66,13 @@ start_here desks t within = get_or-set_same desks t _ fresh_desk within
 pub started_desks : (t : ℕ) (writer : Option ℕ) (old new : WorldState) (desks : List Desk) → t < length desks
     → ((s : ℕ) → s ≢ t → slice_get new.sessions s ≡ slice_get old.sessions s)
     → LeavesDesks t writer writer old new desks (with_start t desks)
-started_desks t writer old new desks within others =
-    record {
-      sessions = others;
-      same = λ s differ. get_or-set_other desks t s _ fresh_desk differ;
-      doing = ap (λ (desk : Desk). desk.doing) (start_here desks t within);
-      rights = λ s differ is. is;
-      back = λ s differ is. is;
-    }
+started_desks t writer old new desks within others = record {
+  sessions = others;
+  same = λ s differ. get_or-set_other desks t s _ fresh_desk differ;
+  doing = ap (λ (desk : Desk). desk.doing) (start_here desks t within);
+  rights = λ s differ is. is;
+  back = λ s differ is. is;
+}
 
 without_other : (writer : Option ℕ) (t s : ℕ) → s ≢ t → writer ≡ Some s → writer_without writer t ≡ Some s
 without_other None t s differ is = cc

@@ -13,7 +13,7 @@ use Rattle.world.specs.declared.undo_room.UndoRoom.{UndoRoom}
 use Rattle.law_logged_changes.proofs.ReadersLeft.{has_rows_left}
 use Rattle.undo_apply.specs.declared.work_room.WorkRoom.{WorkRoom}
 use Rattle.law_logged_changes.proofs.Leaving.{all_left, rows_leave}
-use Rattle.law_logged_changes.proofs.GoingOn.{logs_beside, own_beside}
+use Rattle.law_logged_changes.proofs.GoingOn.{logs_beside, own_beside, agrees_beside}
 use Rattle.desks.specs.declared.desk.Desk.{Desk}
 use Rattle.desks.specs.declared.desk.Doing.{Doing}
 use Rattle.desks.specs.declared.desk.Doing.TheVariants.{Searching}
@@ -23,7 +23,7 @@ use Rattle.row_changes.specs.Awaited.{IsOfTable}
 use Rattle.law_held_steps.specs.Leaving.{LeavesIndexes, LeavesTable, is_searching}
 use Rattle.law_held_steps.specs.Moving.{MovesPlaces}
 use Rattle.law_held_steps.proofs.Places.{left_over, none_moves, moves_then, leaving_moves, moves_leave, moves_told}
-use Rattle.law_held_steps.proofs.AnyStep.{rows_left, agrees_beside, held_beside}
+use Rattle.law_held_steps.proofs.AnyStep.{rows_left, held_beside}
 
 -- ---- one index after the other
 

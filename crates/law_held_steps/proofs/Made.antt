@@ -75,11 +75,8 @@ nears_by old new change next schema same table there less =
 
 module _ (s : ℕ) (desks : List Desk) (cuts : ℕ) (undo : UndoRoom) (room : WorkRoom) (old : WorldState)
     (held : IsHeld old (Some s) desks cuts undo room) (change : RowChange) (at : doing_at s desks ≡ Changing change) where
-  rows_now : RowsHeld held.chains old s (read_into undo) room (Changing change)
-  rows_now = subst (RowsHeld held.chains old s (read_into undo) room) at held.rows
-
   pub may : (chains : Chains) × IsChangingRow s chains old change
-  may = (held.chains, rows_now.0)
+  may = (held.chains, (subst (RowsHeld held.chains old s (read_into undo) room) at held.rows).0)
 
 module _ (s : ℕ) (desks : List Desk) (cuts : ℕ) (undo : UndoRoom) (room : WorkRoom) (old new : WorldState)
     (held : IsHeld old (Some s) desks cuts undo room) (was : IsTold old) (told : IsTold new) (few : length new.past < 2 ^ 63)

@@ -247,14 +247,11 @@ module _ (chains : Chains) (writer : Option ℕ) (state : WorldState) (agrees : 
       let at : own.place ≡ record { table = change.table; key = p.value } = keys_place state logs w own.logged own.place own.last chains change p
       own.table_is own.key_is in
       let one : p.pushed.version ≡ by.version =
-      first_of p.pushed.version by.version p.older by.others
-      (sym p.pushed.versions ∙ (ap (λ (place : Place). versions_at place chains) (sym at) ∙ by.versions)) in
+      (let same : p.pushed.version ∷ p.older ≡ by.version ∷ by.others =
+      sym p.pushed.versions ∙ (ap (λ (place : Place). versions_at place chains) (sym at) ∙ by.versions) in cc) in
       shows_changing schema scan state chains change p told there columns le
       (ap (λ (version : Version). sees_by scan.sight version.writer) one ∙
       (ap (sees_by scan.sight) by.writer_is ∙ unseen scan.sight holds own.logged own.place own.last))
-    where
-      first_of : (a b : Version) (older others : List Version) → a ∷ older ≡ b ∷ others → a ≡ b
-      first_of a b older others same = cc
 
   shows_back : (logged : Logged) (place : Place) → IsLast state w logged place → SightHolds state writer s scan.sight
       → LagsAt place chains state ⊎ AreCoded state.schemas (pairs_of state) state.versions.kept_at chains

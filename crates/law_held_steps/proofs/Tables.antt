@@ -135,10 +135,8 @@ module _ (cuts : ℕ) (undo : UndoRoom) (room : WorkRoom) (old new : WorldState)
   alone s differ = held.agrees.lists.writes.1 s differ
 
   own_now : own t new.past ≡ Create schema ∷ []
-  own_now = ap (own t) by.past ∙ created_own
-    where
-      created_own : own t (Changed t (Create schema) ∷ old.past) ≡ Create schema ∷ []
-      created_own = grind (arith, nat_tests, none)
+  own_now =
+      let made : own t (Changed t (Create schema) ∷ old.past) ≡ Create schema ∷ [] = grind (arith, nat_tests, none) in ap (own t) by.past ∙ made
 
   one_now : (session : Session) (work : Work) → HasWork t session work new → work ≡ rooms.work_now
   one_now session work has = let is = rooms.has in let a = is.session_is in let b = is.work_is in let c = has.session_is in let d = has.work_is in cc

@@ -169,9 +169,6 @@ module _ (s : ℕ) (old mid : WorldState) (writer : Option ℕ) (desks : List De
         own_length : length (own s old.past) ≡ length back_to.last.before + 1
         own_length = let is = ap length back_to.last.own_is in omega (arith, is)
 
-        own_now : own s (Undone s keep ∷ old.past) ≡ back_to.last.before
-        own_now = own_undone s keep back_to.last.change back_to.last.before old.past back_to.last.own_is (omega (arith, keep_is, own_length))
-
         abbrev after : Chains
         after = without_newest back_to.place held.chains
 
@@ -234,9 +231,6 @@ module _ (s : ℕ) (old mid : WorldState) (writer : Option ℕ) (desks : List De
             subst (LeavesRows cut) (sym new_is)
             (record { schemas = refl; pairs = λ index. same_pairs (cut.indexes index).pairs; versions = same_versions cut.versions })
 
-        rows_now : HasRows after new
-        rows_now = has_rows_left cut new left_rows after (rows_cut s mid cut back_to.logged back_to.last.log back_to.last.before to_cut back after rows_mid)
-
         cut_now : HasCut s back_to.last.log back_to.last.before cut
         cut_now = has_cut s mid cut back_to.logged back_to.last.log back_to.last.before to_cut back
             (λ t differs. own_beside t old mid left_all.rest ∙ alone t differs)
@@ -248,12 +242,11 @@ module _ (s : ℕ) (old mid : WorldState) (writer : Option ℕ) (desks : List De
         left_logs t session work differs has = inl (record {
           session = session;
           before = work;
-          has_work =
-              record {
-                session_is = sym (ap (λ (state : WorldState). slice_get state.sessions t) new_is ∙ set_other cut.sessions s t session_now differs) ∙
-                    has.session_is;
-                work_is = has.work_is;
-              };
+          has_work = record {
+            session_is = sym (ap (λ (state : WorldState). slice_get state.sessions t) new_is ∙ set_other cut.sessions s t session_now differs) ∙
+                has.session_is;
+            work_is = has.work_is;
+          };
           log_is = refl;
           own_is = ap (λ (state : WorldState). own t state.past) new_is ∙ (untouched (Undone s keep) cut.past t (not_of t differs)).own_is;
         })
@@ -264,7 +257,8 @@ module _ (s : ℕ) (old mid : WorldState) (writer : Option ℕ) (desks : List De
             ap (λ (w : Work). w.log) (one_work s session_cut cut_now.session work_cut cut_now.work cut has_work_cut cut_now.has_work) ∙ cut_now.log_is in
             cut_again s back_to.last.log back_to.last.before new
             (cut_left s cut new back_to.last.log back_to.last.before session_now work_now (rows_leave cut new left_rows) left_logs cut_now has_work_now log_is)
-            (ap (own s) past_now ∙ own_now)
+            (ap (own s) past_now ∙
+            own_undone s keep back_to.last.change back_to.last.before old.past back_to.last.own_is (omega (arith, keep_is, own_length)))
 
         -- ---- room for the entries that are to come
 
@@ -308,6 +302,8 @@ module _ (s : ℕ) (old mid : WorldState) (writer : Option ℕ) (desks : List De
               search = subst (SearchHeld after new writer (cuts + 1) s) (sym gives.here) (record {});
             })
             (subst FitsThen (sym past_now) held.fits)
-            (rows_by_writer s writer after new (with_doing s Nothing desks) (read_into other) next Nothing by_me gives.here (rows_now, done.anew)) logs_now
+            (rows_by_writer s writer after new (with_doing s Nothing desks) (read_into other) next Nothing by_me gives.here
+            (has_rows_left cut new left_rows after
+            (rows_cut s mid cut back_to.logged back_to.last.log back_to.last.before to_cut back after rows_mid), done.anew)) logs_now
             (gives.count ∙ held.count ∙ ap length (sym names_now)) (subst (λ (n : List (List ℕ)). length n ≤ 68) (sym names_now) held.few)
             (omega (arith, held.cut, long)) (λ place. omega (arith, held.short place, popped_fewer back_to.place place held.chains after pops, long)) done.whole

@@ -7,7 +7,7 @@ use Rattle.std.proofs.lemmas.List.{length-map}
 use Rattle.std.proofs.lemmas.Option.{slice_get-map}
 use Rattle.inno_types.specs.declared.lock.Level.{Level}
 use Rattle.inno_model.specs.declared.event.Event.TheVariants.{Begin, View, Committed, RolledBack}
-use Rattle.inno_model.specs.Past.{own, started, of_item, IsClosed}
+use Rattle.inno_model.specs.Past.{own, of_item, IsClosed}
 use Rattle.sql_history.specs.Settings.{at_end, saved}
 use Rattle.law_past_agreement.specs.Slots.{writer_without}
 use Rattle.law_past_agreement.proofs.Ids.{ids_of}

@@ -98,18 +98,13 @@ module _ (s keep : ℕ) (old new : WorldState) (writer : Option ℕ) (desks : Li
   abbrev is : ℕ
   is = undo_left_in undo.table next.stage new
 
-  by_me : writer ≡ Some s
-  by_me = mine s old new writer desks cuts undo room next held busy
-
-  to_go : undo_to_go (task_of s (lists_of old writer desks was).state) ≡ was
-  to_go = ap undo_to_go (task_is s was old writer desks ∙ ap (shown old.schemas was) busy)
-
   pub shows_went : IsInMemory old → IsInMemory new → HasPutBack s (read_into undo) room next old new Step
       → TakesBackIn s keep (lists_held old writer desks undo room) (lists_held new writer desks undo next) undone.Went
   shows_went memory later put =
-      seen_went s keep old new writer desks desks was is by_me held.quiet (kept_on s Undoing desks busy)
+      seen_went s keep old new writer desks desks was is (mine s old new writer desks cuts undo room next held busy) held.quiet (kept_on s Undoing desks busy)
       (rest_beside s old new writer desks cuts undo room next held busy Step put)
-      (subst (λ (n : ℕ). is < n) (sym to_go) (nearer s old new writer desks cuts undo room next held busy memory later put))
+      (subst (λ (n : ℕ). is < n) (sym (ap undo_to_go (task_is s was old writer desks ∙ ap (shown old.schemas was) busy)))
+      (nearer s old new writer desks cuts undo room next held busy memory later put))
 
 -- ---- the entry of the history
 
