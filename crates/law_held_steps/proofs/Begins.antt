@@ -2,7 +2,7 @@
 use Rattle.std.proofs.Common.{◌≡◌, ◌≢◌, ℕ, ◌<◌, Bool, true, List, Option, Some, None, refl, sym, ap, subst, ◌∙◌, length, slice_get, arith, eq-eqb}
 use Rattle.std.specs.Prelude.{◌≤◌, is_some, option_map}
 use Rattle.inno_types.specs.declared.value.Schema.{Schema}
-use Rattle.inno_model.specs.Past.{own, view_of, IsOpen}
+use Rattle.inno_model.specs.Past.{view_of, IsOpen}
 use Rattle.sql_plan.specs.declared.choice.Plan.{Plan}
 use Rattle.row_versions.specs.Chains.{Chains}
 use Rattle.law_stored_rows.specs.Tables.{HasItsColumns}

@@ -112,10 +112,7 @@ left_most keys most kept stage few = omega arith
 
 pub left_nears : (keys most : ℕ) (kept : ℕ → Option Kept) (stage next : Stage) → most < 2 ^ 64 → steps_left keys next < steps_left keys stage
     → left_at keys most kept next < left_at keys most kept stage
-left_nears keys most kept stage next few less =
-    let low = left_least keys most kept stage in
-    let high = left_most keys most kept next few in
-    omega (arith, low, high, less)
+left_nears keys most kept stage next few less = omega (arith, left_least keys most kept stage, left_most keys most kept next few, less)
 
 -- a walk with fewer versions before it
 pub left_walks : (schema : Schema) (key : List ℕ) (kept : ℕ → Option Kept) (keys most which pointer behind : ℕ) (versions others : List Version)

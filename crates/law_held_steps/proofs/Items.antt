@@ -1,10 +1,11 @@
 -- Items that start and end, commits that are acknowledged, signals, and what sessions set.
-use Rattle.std.proofs.Common.{◌≡◌, ◌≢◌, ℕ, zero, suc, subst, ◌+◌, ◌<◌, ◌^◌, true, false, Option, Some, None, List, [], ◌∷◌, length, refl, sym}
+use Rattle.std.proofs.Common.{◌≡◌, ◌≢◌, ℕ, subst, ◌+◌, ◌<◌, ◌^◌, true, false, Option, Some, None, List, [], ◌∷◌, length, refl, sym}
 use Rattle.std.proofs.Common.{ap, ◌∙◌, inl, inr, arith, eq-eqb}
 use Rattle.std.proofs.lemmas.Bool.{false≢true}
 use Rattle.std.specs.Prelude.{slice_get, slice_set, is_some}
 use Rattle.std.proofs.lemmas.Bool.Decides.{nat_tests}
-use Rattle.std.proofs.lemmas.List.{length-set}
+use Rattle.std.proofs.lemmas.List.{length-set, set-get_or}
+use Rattle.std.proofs.lemmas.Option.{get_or_from_slice_get}
 use Rattle.inno_types.specs.declared.reply.Item.{Item}
 use Rattle.inno_types.specs.declared.reply.Reply.{Reply}
 use Rattle.inno_model.specs.declared.event.Event.{Event}
@@ -32,9 +33,8 @@ use Rattle.law_held_steps.proofs.EntrySessions.{entered_by, same_log, same_write
 
 -- a session put where it stood
 put_back : (sessions : List Session) (t : ℕ) (session : Session) → slice_get sessions t ≡ Some session → slice_set sessions t session ≡ sessions
-put_back [] t session there = refl
-put_back (x ∷ sessions) zero session there = let e = there in cc
-put_back (x ∷ sessions) (suc t) session there = ap (λ ys. x ∷ ys) (put_back sessions t session there)
+put_back sessions t session there =
+    ap (slice_set sessions t) (sym (get_or_from_slice_get sessions t session session there)) ∙ set-get_or sessions t session
 
 -- a session with other rooms for entries, and another past
 abbrev pub with_past : ℕ → Session → List Event → ℕ → WorldState → WorldState

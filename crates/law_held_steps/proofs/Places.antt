@@ -1,12 +1,12 @@
 -- Steps that move a session's places leave all rows, and may follow one another.
-use Rattle.std.proofs.Common.{◌≡◌, ◌≢◌, ◌⊎◌, ⊎_elim, ℕ, Bool, true, false, List, Option, Some, None, refl, sym, ap, ◌∙◌}
+use Rattle.std.proofs.Common.{◌≡◌, ◌≢◌, ◌⊎◌, ⊎_elim, ℕ, Bool, true, false, List, Option, Some, None, refl, sym, ap, subst, ◌∙◌}
 use Rattle.std.specs.Prelude.{◌==◌, if◌then◌else◌}
 use Rattle.std.proofs.lemmas.Bool.Decides.{eqb_tells}
 use Rattle.entries.specs.Pairs.{Pair}
 use Rattle.entries.specs.Index.{AreKept}
 use Rattle.entries.specs.Calls.{Leaves, released}
 use Rattle.row_versions.specs.Versions.{Versions, Stays}
-use Rattle.row_changes.proofs.Sessions.{same_versions}
+use Rattle.row_changes.proofs.Sessions.{same_pairs, same_versions}
 use Rattle.world.specs.State.{WorldState}
 use Rattle.world.proofs.Stores.{store_stays, store_goes_on}
 use Rattle.world.specs.Told.{IsTold, LeavesRows}
@@ -20,9 +20,7 @@ use Rattle.law_held_steps.proofs.AnyStep.{each}
 -- ---- pairs and versions
 
 kept_same : (old new : Option (List Pair)) → new ≡ old → AreKept old new
-kept_same old None same = record {}
-kept_same None (Some new) same = absurd (cc)
-kept_same (Some old) (Some new) same = cc
+kept_same old new same = subst (AreKept old) (sym same) (same_pairs old)
 
 kept_then : (old between new : Option (List Pair)) → AreKept old between → AreKept between new → AreKept old new
 kept_then old between None first second = record {}

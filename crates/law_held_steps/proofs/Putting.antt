@@ -112,11 +112,7 @@ module _ (s : ℕ) (old new : WorldState) (writer : Option ℕ) (desks : List De
   schemas_same rest = ap (λ (x : WorldState). x.schemas) rest
 
   before_few : length (versions_before held.chains going.place) ≤ most_versions
-  before_few =
-      let fewer = older_fewer (versions_at going.place held.chains) in
-      let short = held.short going.place in
-      let small = held.agrees.lists.small in
-      omega (arith, fewer, short, small)
+  before_few = omega (arith, older_fewer (versions_at going.place held.chains), held.short going.place, held.agrees.lists.small)
 
   pub same_left : (answer : Move) → IsInMemory new → HasPutBack s (read_into undo) room next old new answer → answer ≢ Done → answer ≢ Step
       → undo_left_in undo.table next.stage new ≡ undo_left_in undo.table room.stage old

@@ -2,7 +2,6 @@
 use Rattle.std.proofs.Common.{◌≡◌, ⊎_elim, ℕ, ◌^◌, ◌<◌, ◌≤◌, Bool, true, List, [], ◌∷◌, length, Option, Some, None, refl, sym, ap, subst, ◌∙◌, arith, slice_get}
 use Rattle.std.specs.Prelude.{is_some}
 use Rattle.std.proofs.lemmas.Bool.{cases_eq}
-use Rattle.inno_types.specs.declared.value.Schema.{Schema}
 use Rattle.inno_db.specs.declared.change.Change.{Change}
 use Rattle.inno_db.specs.declared.change.Change.TheVariants.{Create}
 use Rattle.inno_model.specs.declared.event.Event.{Event}
@@ -14,10 +13,9 @@ use Rattle.store_api.specs.declared.answers.Undo.{Undo}
 use Rattle.row_versions.specs.declared.place.Place.{Place}
 use Rattle.row_versions.specs.Chains.{Chains}
 use Rattle.law_past_agreement.specs.Order.{IsOfRow, IsUndoable, MayCome}
-use Rattle.law_past_agreement.specs.Rows.{place_in}
 use Rattle.law_past_agreement.specs.Agreement.{WriterAgrees}
 use Rattle.world.specs.State.{WorldState, Session, Work, Logged, HasWork}
-use Rattle.world.specs.Told.{IsTold, LeavesRows}
+use Rattle.world.specs.Told.{LeavesRows}
 use Rattle.world.specs.declared.undo_room.UndoRoom.{UndoRoom}
 use Rattle.world.specs.Undoing.{read_into, newest, IsRead, ReadsLast}
 use Rattle.undo_apply.specs.declared.work_room.WorkRoom.{WorkRoom}
@@ -28,7 +26,7 @@ use Rattle.undo_apply.specs.Stages.{IsPuttingBack}
 use Rattle.undo_apply.proofs.Telling.{leaves_told}
 use Rattle.undo_apply.proofs.Goes.{others_leave}
 use Rattle.undo_apply.proofs.Columns.{few_keys}
-use Rattle.law_logged_changes.specs.Logs.{RecordsAt, LogStands, IsLogOf, LogsAgree}
+use Rattle.law_logged_changes.specs.Logs.{IsLogOf, LogsAgree}
 use Rattle.law_logged_changes.proofs.Leaving.{rows_leave, all_left}
 use Rattle.law_logged_changes.proofs.GoingOn.{logs_beside}
 use Rattle.law_logged_changes.proofs.Beginning.{tells_of_it, begins_settled, begins_lagging}
@@ -54,39 +52,31 @@ writes_if s keep past (Some w) agrees may =
 
 -- ---- its newest undo record
 
-pub record OnTop (schemas : List Schema) (log : List Logged) (change : Change) : Type 0 where
-  pub logged : Logged
-  pub older : List Logged
-  pub log_is : log ≡ logged ∷ older
-  pub place : Place
-  pub place_is : place_in schemas change ≡ Some place
-
-on_top : (told : Type 0) (schemas : List Schema) (records : RecordsAt) (kept : ℕ → Option Kept) (log : List Logged) (change : Change) (before : List Change)
-    → IsOfRow change → LogStands told schemas records kept log (change ∷ before) → OnTop schemas log change
-on_top told schemas records kept log (Create schema) before of_row stands = absurd of_row
-on_top told schemas records kept [] change before of_row stands = absurd stands
-on_top told schemas records kept (logged ∷ log) change before of_row stands =
-    record { logged = logged; older = log; log_is = refl; place = stands.0.place; place_is = stands.0.place_is }
+last_of : (s : ℕ) (state : WorldState) (session : Session) (work : Work) (log : List Logged) (change : Change) (before : List Change)
+    → HasWork s session work state → work.log ≡ log → own s state.past ≡ change ∷ before → IsOfRow change → IsLogOf state log (change ∷ before)
+    → HasLast s state
+last_of s state session work log (Create schema) before has log_is own_is of_row stands = absurd of_row
+last_of s state session work [] change before has log_is own_is of_row stands = absurd stands
+last_of s state session work (logged ∷ log) change before has log_is own_is of_row stands = (
+  logged,
+  stands.0.place,
+  record {
+    session = session;
+    work = work;
+    has_work = has;
+    log = log;
+    log_is = log_is;
+    change = change;
+    before = before;
+    own_is = own_is;
+    place_is = stands.0.place_is;
+  },
+)
 
 last_if : (s keep : ℕ) (state : WorldState) (session : Session) (work : Work) (changes : List Change) → HasWork s session work state
     → own s state.past ≡ changes → IsUndoable keep changes → IsLogOf state work.log changes → HasLast s state
 last_if s keep state session work [] has own_is may stands = absurd may
-last_if s keep state session work (change ∷ before) has own_is may stands =
-    let top = on_top (IsTold state) state.schemas _ state.versions.kept_at work.log change before may.0 stands in (
-      top.logged,
-      top.place,
-      record {
-        session = session;
-        work = work;
-        has_work = has;
-        log = top.older;
-        log_is = top.log_is;
-        change = change;
-        before = before;
-        own_is = own_is;
-        place_is = top.place_is;
-      },
-    )
+last_if s keep state session work (change ∷ before) has own_is may stands = last_of s state session work work.log change before has refl own_is may.0 stands
 
 module _ (s keep : ℕ) (state : WorldState) (writer : Option ℕ) (desks : List Desk) (cuts : ℕ) (undo : UndoRoom) (room : WorkRoom)
     (held : IsHeld state writer desks cuts undo room) where
@@ -99,11 +89,7 @@ module _ (s keep : ℕ) (state : WorldState) (writer : Option ℕ) (desks : List
       last_if s keep state is.0 is.1 (own s state.past) is.2 refl may.1 (held.logs.each s is.0 is.1 is.2)
 
   pub has_joined : s < length desks → (s < length state.sessions) × (s < 68)
-  has_joined joined =
-      let count = held.count in
-      let few = held.few in
-      let sessions = held.agrees.count in
-      (omega (arith, joined, count, sessions), omega (arith, joined, count, few))
+  has_joined joined = (omega (arith, joined, held.count, held.agrees.count), omega (arith, joined, held.count, held.few))
 
 -- ---- a taking back may begin
 

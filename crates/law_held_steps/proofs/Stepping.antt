@@ -78,10 +78,7 @@ takes_up chains state writer cuts s on search held (inr (later, anew)) =
 -- each place has few versions
 pub few_held : (state : WorldState) (writer : Option ℕ) (desks : List Desk) (cuts : ℕ) (undo : UndoRoom) (room : WorkRoom)
     (held : IsHeld state writer desks cuts undo room) (place : Place) → length (versions_at place held.chains) ≤ most_versions
-few_held state writer desks cuts undo room held place =
-    let short = held.short place in
-    let small = held.agrees.lists.small in
-    omega (arith, short, small)
+few_held state writer desks cuts undo room held place = omega (arith, held.short place, held.agrees.lists.small)
 
 pub may_step : (s : ℕ) (schema : Schema) (state : WorldState) (chains : Chains) (search : RowSearch) → IsTold state → HasSome chains state
     → ((place : Place) → length (versions_at place chains) ≤ most_versions) → IsSearching s schema state search → MayStep s schema state search
