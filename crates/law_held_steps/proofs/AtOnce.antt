@@ -49,7 +49,8 @@ use Rattle.law_held_steps.proofs.Places.{none_moves, moves_then, moves_in_one, m
 use Rattle.law_held_steps.proofs.Shows.{HasSome, some_rows_by, coded_while_quiet}
 use Rattle.law_held_steps.proofs.Begins.{columns_held, new_finding}
 use Rattle.law_held_steps.proofs.Nearing.{steps_nearer, nearer_in}
-use Rattle.law_held_steps.proofs.Stepping.{few_held, may_step, rows_on, some_schema}
+use Rattle.law_held_steps.proofs.Stepping.{few_held, may_step, rows_on}
+use Rattle.law_held_steps.proofs.AnyStep.{some_same}
 
 -- ---- the plan
 
@@ -94,7 +95,7 @@ module _ (state : WorldState) (writer : Option ℕ) (desks : List Desk) (cuts : 
         (are.readable.coded.clustered.tables table schema are.readable.there) w alone by.which
         (λ row. is_within by.range (index_key schema by.which row)) rows are.found are.rise
         ∙ ap (λ (t : Schema). rows_in_range by t (rows_of table (changed (with_all_tables state.past) (seen state.past w (commits state.past)))))
-        (some_schema schema other (sym are.readable.there ∙ (ap (λ (tables : List Schema). slice_get tables table) held.agrees.lists.tables ∙ is)))
+        (some_same schema other (sym are.readable.there ∙ (ap (λ (tables : List Schema). slice_get tables table) held.agrees.lists.tables ∙ is)))
 
     newest_by : (quiet : Bool) → AreRead held.chains table (plan_read quiet plan) schema state rows → (w : ℕ) → ((u : ℕ) → u ≢ w → own u state.past ≡ [])
         → AreNewestRows table plan state.past w only_rows
@@ -138,12 +139,11 @@ module _ (chains : Chains) (s table : ℕ) (plan : Plan) (schema : Schema) where
       (subst (λ (n : ℕ). AreFound schema scan.which (rows_seen scan.sight (in_table n chains)) (lies_in schema scan) rows) is.table_is are)))
 
   module _ (first : WorldState) where
-    rows_now : (state : WorldState) (search : RowSearch) → IsReadingNewest chains s table plan schema first state search → IsTold state → HasSome chains state
-    rows_now state search is told = rows_on s first state chains is.moves told (is.readable.said, is.readable.coded)
-
     pub reading_steps : (state : WorldState) (search : RowSearch) → IsReadingNewest chains s table plan schema first state search → IsTold state
         → MayStep s schema state search
-    reading_steps state search is told = may_step s schema state chains search told (rows_now state search is told) is.readable.short is.finds.searching
+    reading_steps state search is told =
+        may_step s schema state chains search told (rows_on s first state chains is.moves told (is.readable.said, is.readable.coded)) is.readable.short
+        is.finds.searching
 
     shows : (state : WorldState) (search : RowSearch) → IsReadingNewest chains s table plan schema first state search → IsTold state
         → ShowsRows schema search.scan state (in_table search.scan.table chains)

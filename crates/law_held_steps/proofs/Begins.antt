@@ -1,21 +1,18 @@
 -- A search that begins, and the view by which it reads.
-use Rattle.std.proofs.Common.{◌≡◌, ◌≢◌, ℕ, ◌<◌, Bool, true, List, map, Option, Some, None, refl, sym, ap, subst, ◌∙◌, length, slice_get, arith}
+use Rattle.std.proofs.Common.{◌≡◌, ◌≢◌, ℕ, ◌<◌, Bool, true, List, Option, Some, None, refl, sym, ap, subst, ◌∙◌, length, slice_get, arith, eq-eqb}
 use Rattle.std.specs.Prelude.{◌≤◌, is_some, option_map}
-use Rattle.inno_types.specs.declared.lock.Level.{Level}
 use Rattle.inno_types.specs.declared.value.Schema.{Schema}
-use Rattle.inno_model.specs.Past.{level, own, view_of, IsOpen}
+use Rattle.inno_model.specs.Past.{view_of, IsOpen}
 use Rattle.sql_plan.specs.declared.choice.Plan.{Plan}
 use Rattle.row_versions.specs.Chains.{Chains}
 use Rattle.law_stored_rows.specs.Tables.{HasItsColumns}
-use Rattle.law_past_agreement.specs.Rows.{place_in}
-use Rattle.law_past_agreement.specs.Agreement.{SlotAgrees, WorkAgrees, ViewAgrees}
-use Rattle.world.specs.State.{WorldState, Session, Work, Seen, id_of, standing_of}
+use Rattle.law_past_agreement.specs.Agreement.{ViewAgrees}
+use Rattle.world.specs.State.{WorldState, Session, Work, Seen, HasWork, id_of, standing_of}
 use Rattle.world.specs.Sessions.{IsShown}
 use Rattle.world.specs.Told.{IsTold}
 use Rattle.world.specs.Undoing.{read_into}
 use Rattle.world.specs.declared.undo_room.UndoRoom.{UndoRoom}
-use Rattle.law_world_agreement.specs.Agreement.{sight_of, work_at, Agrees}
-use Rattle.law_world_agreement.proofs.Settled.{slot_if, slot_at}
+use Rattle.law_world_agreement.specs.Agreement.{sight_of, Agrees}
 use Rattle.undo_apply.specs.declared.work_room.WorkRoom.{WorkRoom}
 use Rattle.row_search.specs.declared.sight.Sight.{Sight}
 use Rattle.row_search.specs.declared.scan.Scan.{Scan}
@@ -32,7 +29,8 @@ use Rattle.law_held_steps.specs.Begun.{IsNewSearch, IsBegun, HasView, ViewsHaveN
 use Rattle.law_held_steps.proofs.Places.{none_moves}
 use Rattle.law_held_steps.proofs.Staying.{held_stays}
 use Rattle.law_held_steps.proofs.Shows.{HasSome, some_rows_by, columns_of}
-use Rattle.law_held_steps.proofs.Stepping.{same_number}
+use Rattle.law_held_steps.proofs.Keeping.{open_work}
+use Rattle.law_world_agreement.proofs.Ending.{work_of}
 
 -- ---- a new search
 
@@ -94,40 +92,23 @@ begun s table state writer desks cuts undo room plan sight schema on held told i
       there = finding.searching.there;
       which = finding.searching.key;
       since = omega (arith, is.cuts_is);
-      finds = subst (λ (b : Bool). FindsSince b s state held.chains on) (sym (same_number on.cuts cuts is.cuts_is)) finding;
+      finds = subst (λ (b : Bool). FindsSince b s state held.chains on) (sym (eq-eqb on.cuts cuts is.cuts_is)) finding;
       sight = subst (SightHolds state writer s) (sym is.search.scan.sight_is) sees;
     }
 
 -- ---- the view of a transaction
 
-none_open : (found : Option Level) → found ≡ None → is_some found ≡ true → ⊥
-none_open found none some = cc
-
 module _ (s : ℕ) (chains : Chains) (writer : Option ℕ) (state : WorldState) (agrees : Agrees chains writer state) (open_s : IsOpen s state.past)
     (viewed : is_some (view_of s state.past) ≡ true) where
-  no_view : view_of s state.past ≡ None → HasView s state
-  no_view none = absurd (cc)
-
-  of_seen : (session : Session) (work : Work) (seen : Option Seen) → slice_get state.sessions s ≡ Some session → session.work ≡ Some work
-      → work.view ≡ seen → ViewAgrees state.past s (option_map sight_of seen) → HasView s state
-  of_seen session work None at is view agreed = no_view agreed
-  of_seen session work (Some seen) at is view agreed =
-      record { session = session; work = work; has_work = record { session_is = at; work_is = is }; seen = seen; view_is = view }
-
-  of_work : (session : Session) (found : Option Work) → slice_get state.sessions s ≡ Some session → session.work ≡ found
-      → WorkAgrees state.schemas state.past s (option_map (work_at (map (place_in state.schemas) (own s state.past))) found) → HasView s state
-  of_work session None at is agreed = absurd (none_open (level s state.past) agreed.level_is open_s)
-  of_work session (Some work) at is agreed = of_seen session work work.view at is refl agreed.view_is
-
-  of_session : (found : Option Session) → slice_get state.sessions s ≡ found
-      → SlotAgrees state.schemas state.past s (slot_if state.past state.schemas s found) → HasView s state
-  of_session None at agreed = absurd (none_open (level s state.past) agreed.work_is.level_is open_s)
-  of_session (Some session) at agreed = of_work session session.work at refl agreed.work_is
+  of_seen : (session : Session) (work : Work) (seen : Option Seen) → HasWork s session work state → work.view ≡ seen
+      → ViewAgrees state.past s (option_map sight_of seen) → HasView s state
+  of_seen session work None has is agreed = absurd (let none : view_of s state.past ≡ None = agreed in cc)
+  of_seen session work (Some seen) has is agreed = record { session = session; work = work; has_work = has; seen = seen; view_is = is }
 
   pub has_view : HasView s state
   has_view =
-      of_session (slice_get state.sessions s) refl
-      (subst (SlotAgrees state.schemas state.past s) (slot_at s state.past state.schemas state.sessions) (agrees.lists.sessions s))
+      let is = open_work chains writer state agrees s open_s in
+      of_seen is.0 is.1 is.1.view is.2 refl (work_of chains writer state s is.0 is.1 agrees is.2).view_is
 
 module _ (s : ℕ) (state : WorldState) (active : List ℕ) (next : Option ℕ) (has : HasView s state) (shown : IsShown has.work.view active next) where
   shown_seen : (active ≡ has.seen.active) × (next ≡ Some has.seen.next)

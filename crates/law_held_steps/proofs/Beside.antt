@@ -1,81 +1,184 @@
--- What holds of a world and its desks across a step that changes pairs and kept versions alone.
-use Rattle.std.proofs.Common.{◌≡◌, ◌≢◌, inl, ⊎_elim, ℕ, ◌≤◌, true, false, List, length, Option, Some, None, refl, sym, ap, subst, ◌∙◌, slice_get, ◌+◌, ◌^◌}
-use Rattle.std.specs.Prelude.{is_some}
-use Rattle.std.proofs.lemmas.Bool.{cases_eq}
-use Rattle.inno_model.specs.declared.event.Event.{Event}
-use Rattle.inno_model.specs.Past.{own, started}
-use Rattle.entries.specs.Index.{Index}
-use Rattle.row_versions.specs.Versions.{Versions}
-use Rattle.entries.specs.Index as index
-use Rattle.row_versions.specs.declared.kept.Kept.{Kept}
+-- What a step of putting back leaves, how much is left after it, and what holds of a world and its desks across it: pairs and
+-- kept versions alone change.
+use Rattle.std.proofs.Common.{◌≡◌, ◌≤◌, Bool, true, false, cond, List, [], ◌∷◌, length, Some, refl, sym, ap, subst, arith, ℕ, Option, None, ◌+◌, ◌*◌, ◌^◌, ◌<◌}
+use Rattle.std.proofs.Common.{◌≢◌, inl, inr, ⊎_elim, ◌∙◌, slice_get}
 use Rattle.row_versions.specs.declared.place.Place.{Place}
-use Rattle.row_versions.specs.Chains.{Chains, versions_at}
-use Rattle.law_stored_rows.specs.Records.{KeepsMore}
+use Rattle.row_versions.specs.declared.version.Version.{Version}
+use Rattle.row_versions.specs.Chains.{Chains, versions_at, older, is_same_place, Pops}
+use Rattle.inno_types.specs.declared.value.Schema.{Schema}
+use Rattle.inno_db.specs.declared.change.Change.{Change}
+use Rattle.inno_db.specs.declared.change.Change.TheVariants.{Create}
+use Rattle.law_past_agreement.specs.Order.{IsOfRow}
+use Rattle.law_past_agreement.specs.Rows.{place_in}
+use Rattle.law_past_agreement.specs.Agreement.{WriterAgrees}
+use Rattle.world.specs.State.{WorldState, Logged}
+use Rattle.law_world_agreement.specs.Agreement.{Agrees}
+use Rattle.law_logged_changes.specs.Logs.{IsAlone, LogsAgree}
+use Rattle.store_api.specs.declared.moves.Move.{Move}
+use Rattle.store_api.specs.declared.moves.Move.TheVariants.{Done, Step}
 use Rattle.store_api.specs.declared.answers.Undo.{Undo}
-use Rattle.world.specs.State.{WorldState, Session, Work, Logged, HasWork}
+use Rattle.world.specs.Undoing.{ReadsLast, CutsBack, read_into}
+use Rattle.undo_apply.specs.declared.work_room.Stage.{Stage}
+use Rattle.undo_apply.specs.declared.work_room.Stage.TheVariants.{Walk, Find}
+use Rattle.undo_apply.specs.Stages.{Stops, StopsAt, IsPuttingBack, GoesOn, IsHindered, IsDone, PutsBack}
+use Rattle.world.specs.Memory.{IsInMemory}
+use Rattle.world.proofs.Memory.{no_pages, not_delayed}
+use Rattle.row_versions.specs.declared.kept.Kept.{Kept}
+use Rattle.law_stored_rows.specs.Records.{LeadTo}
+use Rattle.undo_apply.specs.Rooms.{steps_left, IsWhole}
+use Rattle.desks.specs.Undoing.{left_at}
+use Rattle.desks.proofs.Counting.{versions_most, versions_are}
+use Rattle.row_versions.specs.Versions.{Stays}
+use Rattle.undo_apply.specs.declared.work_room.WorkRoom.{WorkRoom}
+use Rattle.law_logged_changes.specs.Steps.{ChangesPairsAlone}
+use Rattle.std.proofs.lemmas.Bool.{cases_eq}
 use Rattle.world.specs.Told.{IsTold}
 use Rattle.world.specs.declared.undo_room.UndoRoom.{UndoRoom}
-use Rattle.world.specs.Undoing.{read_into}
-use Rattle.law_world_agreement.specs.Agreement.{Agrees}
-use Rattle.law_world_agreement.proofs.Joining.{agrees_alike}
-use Rattle.undo_apply.specs.declared.work_room.WorkRoom.{WorkRoom}
-use Rattle.undo_apply.specs.Rooms.{IsWhole}
-use Rattle.shared_lists.specs.Fitting.{FitsThen}
-use Rattle.law_logged_changes.specs.Logs.{LogsAgree}
-use Rattle.law_logged_changes.specs.Steps.{ChangesPairsAlone}
+use Rattle.law_logged_changes.proofs.GoingOn.{own_beside}
 use Rattle.desks.specs.declared.desk.Desk.{Desk}
 use Rattle.desks.specs.declared.desk.Doing.{Doing}
 use Rattle.desks.specs.Desks.{doing_at, is_quiet_doing}
-use Rattle.desks.specs.Leaves.{LeavesOthers}
-use Rattle.desks.specs.Holding.{HasRoom, RowsHeld, RowsHeldBy, IsLast, SearchHeld, IsHeld}
-use Rattle.desks.proofs.Leaving.{search_left}
-use Rattle.law_held_steps.proofs.UndoDesks.{GivesDoing}
-use Rattle.law_held_steps.proofs.UndoSteps.{LeavesAll}
+use Rattle.desks.specs.Holding.{RowsHeld, RowsHeldBy, IsLast, SearchHeld, IsHeld}
+use Rattle.law_logged_changes.proofs.Entering.{chain_with}
+use Rattle.law_held_steps.proofs.AnyStep.{some_same, last_left, held_beside}
+use Rattle.law_held_steps.proofs.Desks.{GivesDoing}
 
-some_same : (a b : ℕ) → Some a ≡ Some b → a ≡ b
-some_same a b same = cc
+-- ---- rows without the newest version of one place
 
--- what holds of the whole world but pairs and kept versions
-abbrev pub beside : WorldState → (ℕ → Index) → Versions → Option index.Paged → WorldState
-beside state indexes versions paged = record state { indexes = indexes; versions = versions; paged = paged }
+abbrev pub without_newest : Place → Chains → Chains
+without_newest place chains = (place, older (versions_at place chains)) ∷ chains
 
-work_there : (s : ℕ) (session : Session) (work : Work) (state : WorldState) (indexes : ℕ → Index) (versions : Versions) (paged : Option index.Paged)
-    → HasWork s session work state → HasWork s session work (beside state indexes versions paged)
-work_there s session work state indexes versions paged has = record { session_is = has.session_is; work_is = has.work_is }
+pub popped_newest : (place : Place) (chains : Chains) → Pops chains (without_newest place chains) place
+popped_newest place chains = chain_with place older chains
 
-work_here : (s : ℕ) (session : Session) (work : Work) (state : WorldState) (indexes : ℕ → Index) (versions : Versions) (paged : Option index.Paged)
-    → HasWork s session work (beside state indexes versions paged) → HasWork s session work state
-work_here s session work state indexes versions paged has = record { session_is = has.session_is; work_is = has.work_is }
+-- ---- no place has more versions
 
-module _ (old new : WorldState) (rest : ChangesPairsAlone old new) where
-  -- whatever holds of the world as it was, with these pairs
-  still : (P : WorldState → Type 0) → P (beside old new.indexes new.versions new.paged) → P new
-  still P is = subst P (sym rest) is
+pub older_fewer : (versions : List Version) → length (older versions) ≤ length versions
+older_fewer [] = omega arith
+older_fewer (version ∷ versions) = omega arith
 
-  pub room_beside : HasRoom old → HasRoom new
-  room_beside has = still HasRoom (record {
-    replies = has.replies;
-    acks = has.acks;
-    ends = λ s session work there. has.ends s session work (work_here s session work old new.indexes new.versions new.paged there);
-  })
+fewer_if : (b : Bool) (versions : List Version) → length (cond b (older versions) versions) ≤ length versions
+fewer_if true versions = older_fewer versions
+fewer_if false versions = omega arith
 
-  pub last_beside : (s : ℕ) (logged : Logged) (place : Place) → IsLast old s logged place → IsLast new s logged place
-  last_beside s logged place is = still (λ state. IsLast state s logged place) (record {
-    session = is.session;
-    work = is.work;
-    has_work = work_there s is.session is.work old new.indexes new.versions new.paged is.has_work;
-    log = is.log;
-    log_is = is.log_is;
-    change = is.change;
-    before = is.before;
-    own_is = is.own_is;
-    place_is = is.place_is;
-  })
+pub popped_fewer : (place other : Place) (chains after : Chains) → Pops chains after place
+    → length (versions_at other after) ≤ length (versions_at other chains)
+popped_fewer place other chains after pops =
+    subst (λ (versions : List Version). length versions ≤ length (versions_at other chains)) (sym (pops other))
+    (fewer_if (is_same_place place other) (versions_at other chains))
 
-  pub agrees_beside : (chains : Chains) (writer : Option ℕ) → Agrees chains writer old → Agrees chains writer new
-  agrees_beside chains writer agrees =
-      agrees_alike chains writer old new agrees (ap (λ (x : WorldState). x.names) rest) (ap (λ (x : WorldState). x.past) rest)
-      (ap (λ (x : WorldState). x.schemas) rest) (ap (λ (x : WorldState). x.txns) rest) (ap (λ (x : WorldState). x.sessions) rest)
+-- ---- the newest change of the session that may write
+
+-- a change that has a place is one of a row
+pub has_place : (schemas : List Schema) (change : Change) (place : Place) → place_in schemas change ≡ Some place → IsOfRow change
+has_place schemas (Create schema) place is = absurd (let e : None ≡ Some place = is in cc)
+has_place schemas change place is = record {}
+
+-- nobody else has changes
+pub alone_if : (s : ℕ) (chains : Chains) (writer : Option ℕ) (state : WorldState) → writer ≡ Some s → Agrees chains writer state → IsAlone s state
+alone_if s chains writer state mine agrees = (subst (WriterAgrees state.past) mine agrees.lists.writes).1
+
+-- ---- which answers a world in memory does not give
+
+-- the newest record of a log is read at once
+pub read_at_once : (actor slot : ℕ) (read : Undo) (there : Bool) (old new : WorldState) (answer : Move) → IsInMemory old
+    → ReadsLast actor slot read there old new answer → answer ≡ Done
+read_at_once actor slot read there old new Done memory reads = refl
+read_at_once actor slot read there old new answer memory reads = absurd (not_delayed actor old new answer memory reads)
+
+-- and taken away at once
+pub cut_at_once : (actor slot : ℕ) (old new : WorldState) (answer : Move) → IsInMemory old → CutsBack actor slot old new answer → answer ≡ Done
+cut_at_once actor slot old new Done memory cuts = refl
+cut_at_once actor slot old new answer memory cuts = absurd (not_delayed actor old new answer memory cuts)
+
+-- a step that was hindered doesn't answer that it went on
+module _ (actor : ℕ) (old new : WorldState) (memory : IsInMemory old) where
+  no_step : (index : ℕ) → Stops actor index old new Step → ⊥
+  no_step index stops = no_pages _ (old.indexes index).paged (new.indexes index).paged (memory.no_page_of_index index) stops.cause
+
+  pub not_stopped : (undo : Undo) (stage : Stage) → StopsAt actor undo stage old new Step → ⊥
+  not_stopped undo (Walk which pointer) stops = stops memory.told
+  not_stopped undo stage stops = no_step _ stops
+
+-- ---- how much is left of a change that is being taken back: steps first, and within a walk the versions
+
+pub left_least : (keys most : ℕ) (kept : ℕ → Option Kept) (stage : Stage) → steps_left keys stage * 2 ^ 64 ≤ left_at keys most kept stage
+left_least keys most kept Find = omega arith
+left_least keys most kept stage = omega arith
+
+pub left_most : (keys most : ℕ) (kept : ℕ → Option Kept) (stage : Stage) → most < 2 ^ 64 → left_at keys most kept stage < (steps_left keys stage + 1) * 2 ^ 64
+left_most keys most kept (Walk which pointer) few = let under = versions_most most kept pointer in omega (arith, under, few)
+left_most keys most kept stage few = omega arith
+
+pub left_nears : (keys most : ℕ) (kept : ℕ → Option Kept) (stage next : Stage) → most < 2 ^ 64 → steps_left keys next < steps_left keys stage
+    → left_at keys most kept next < left_at keys most kept stage
+left_nears keys most kept stage next few less = omega (arith, left_least keys most kept stage, left_most keys most kept next few, less)
+
+-- a walk with fewer versions before it
+pub left_walks : (schema : Schema) (key : List ℕ) (kept : ℕ → Option Kept) (keys most which pointer behind : ℕ) (versions others : List Version)
+    → LeadTo schema key kept pointer versions → LeadTo schema key kept behind others
+    → length versions ≤ most → length others < length versions → left_at keys most kept (Walk which behind) < left_at keys most kept (Walk which pointer)
+left_walks schema key kept keys most which pointer behind versions others leads behind_leads few fewer =
+    let first = versions_are schema key kept most pointer versions leads few in
+    let second = versions_are schema key kept most behind others behind_leads (omega (arith, few, fewer)) in
+    omega (arith, first, second, fewer)
+
+-- ---- what a step of putting back leaves, until it is done: pairs of keys alone change
+
+-- sessions, the history and all actors' places are as they were
+pub record LeavesAll (old new : WorldState) : Type 0 where
+  pub places : (index : ℕ) → (new.indexes index).place ≡ (old.indexes index).place
+  pub versions : Stays old.versions new.versions
+  pub rest : ChangesPairsAlone old new
+
+module _ (chains : Chains) (place : Place) (actor : ℕ) (undo : Undo) (room next : WorkRoom) (old new : WorldState) where
+  hindered_leaves : (why : Move) → IsHindered chains place actor undo room next old new why → LeavesAll old new
+  hindered_leaves why is = record { places = is.stays.places; versions = is.stays.versions; rest = is.stays.rest }
+
+  goes_leaves : GoesOn chains place undo room next old new → LeavesAll old new
+  goes_leaves goes =
+      ⊎_elim
+      (λ stays. record { places = stays.places; versions = stays.versions; rest = stays.rest })
+      (λ one. record { places = one.4.places; versions = one.4.versions; rest = one.4.rest })
+      (goes.changes goes.holds.schema goes.holds.tells.there)
+
+  pub done_leaves : IsDone chains place undo room next old new → LeavesAll old new
+  done_leaves done =
+      ⊎_elim
+      (λ stays. record { places = stays.places; versions = stays.versions; rest = stays.rest })
+      (λ puts. record { places = puts.places; versions = puts.versions; rest = puts.rest })
+      done.changes
+
+  -- a step that was hindered leaves its stage
+  pub hindered_by : (answer : Move) → answer ≢ Done → answer ≢ Step → PutsBack chains place actor undo room next old new answer
+      → IsHindered chains place actor undo room next old new answer
+  hindered_by Done not_done not_step is = absurd (not_done refl)
+  hindered_by Step not_done not_step is = absurd (not_step refl)
+  hindered_by why not_done not_step is = is
+
+  -- the change is being taken back still
+  pub record StaysPutting : Type 0 where
+    pub leaves : LeavesAll old new
+    pub putting : IsPuttingBack chains place undo next new
+
+  of_hindered : (why : Move) → IsHindered chains place actor undo room next old new why → StaysPutting
+  of_hindered why is = record { leaves = hindered_leaves why is; putting = is.holds }
+
+  of_step : PutsBack chains place actor undo room next old new Step → StaysPutting
+  of_step (inl goes) = record { leaves = goes_leaves goes; putting = goes.holds }
+  of_step (inr is) = of_hindered Step is
+
+  pub stays_putting : (answer : Move) → answer ≢ Done → PutsBack chains place actor undo room next old new answer → StaysPutting
+  stays_putting Step not_done is = of_step is
+  stays_putting Done not_done is = absurd (not_done refl)
+  stays_putting why not_done is = of_hindered why is
+
+-- ---- what holds of a world and its desks across a step of who may write that changes pairs and kept versions alone
+
+pub last_beside : (s : ℕ) {old new : WorldState} {logged : Logged} {place : Place} → ChangesPairsAlone old new → IsLast old s logged place
+    → IsLast new s logged place
+last_beside s {old} {new} rest last =
+    last_left s (ap (λ (x : WorldState). x.schemas) rest) (ap (λ (x : WorldState). slice_get x.sessions s) rest) (own_beside s old new rest) last
 
 -- ---- who may write
 
@@ -100,76 +203,14 @@ pub rows_by_writer : (s : ℕ) (writer : Option ℕ) (chains : Chains) (state : 
 rows_by_writer s writer chains state desks undo room doing mine is rows =
     subst (λ (w : Option ℕ). RowsHeldBy w chains state desks undo room) (sym mine) (subst (λ (d : Doing). RowsHeld chains state s undo room d) (sym is) rows)
 
--- ---- the desks
-
--- a session that is taking back, or has nothing under way, searches nothing
-pub no_search : (s : ℕ) (chains : Chains) (state : WorldState) (writer : Option ℕ) (cuts : ℕ) (desks : List Desk) (doing : Doing)
-    → doing_at s desks ≡ doing → SearchHeld chains state writer cuts s doing → SearchHeld chains state writer cuts s (doing_at s desks)
-no_search s chains state writer cuts desks doing is none = subst (SearchHeld chains state writer cuts s) (sym is) none
-
-module _ (s : ℕ) (doing : Doing) (writer : Option ℕ) (desks now : List Desk) (mine : writer ≡ Some s) (gives : GivesDoing s doing desks now) where
-  pub quiet_still : ((t : ℕ) → writer ≢ Some t → is_quiet_doing (doing_at t desks) ≡ true) → (t : ℕ) → writer ≢ Some t → is_quiet_doing (doing_at t now) ≡ true
-  quiet_still quiet t other =
-      let differs : t ≢ s = λ same. other (mine ∙ ap Some (sym same)) in
-      ap is_quiet_doing (gives.others t differs) ∙ quiet t other
-
-  pub searches_still : (before after : Chains) (cuts later : ℕ) (old new : WorldState) → LeavesOthers s before after writer writer cuts later old new
-      → SearchHeld after new writer later s doing
-      → ((t : ℕ) → SearchHeld before old writer cuts t (doing_at t desks)) → (t : ℕ) → SearchHeld after new writer later t (doing_at t now)
-  searches_still before after cuts later old new leaves own searches t =
-      ⊎_elim
-      (λ same. subst (λ (n : ℕ). SearchHeld after new writer later n (doing_at n now)) (sym same) (no_search s after new writer later now doing gives.here own))
-      (λ differs. subst (SearchHeld after new writer later t) (sym (gives.others t differs))
-      (search_left s t before after writer writer cuts later old new leaves differs (doing_at t desks) (searches t)))
-      (cases_eq t s)
-
 -- ---- the whole
 
-module _ (s : ℕ) (old new : WorldState) (writer : Option ℕ) (desks now : List Desk) (cuts : ℕ) (undo other : UndoRoom) (room next : WorkRoom)
-    (doing : Doing)
-    (held : IsHeld old writer desks cuts undo room) (mine : writer ≡ Some s) (leaves : LeavesAll old new) (told : IsTold old) (tells : IsTold new)
-    (gives : GivesDoing s doing desks now) where
-  past : new.past ≡ old.past
-  past = ap (λ (x : WorldState). x.past) leaves.rest
-
-  names : new.names ≡ old.names
-  names = ap (λ (x : WorldState). x.names) leaves.rest
-
-  kept : KeepsMore old.versions.kept_at new.versions.kept_at
-  kept pointer found is = ap (λ (f : ℕ → Option Kept). f pointer) (leaves.versions.kept tells.versions) ∙ is
-
-  agrees_now : Agrees held.chains writer new
-  agrees_now = agrees_beside old new leaves.rest held.chains writer held.agrees
-
-  others : LeavesOthers s held.chains held.chains writer writer cuts cuts old new
-  others = record {
-    agreed = held.agrees;
-    agrees = agrees_now;
-    adds = inl past;
-    told = told;
-    tables = λ n schema there. ap (λ (x : WorldState). slice_get x.schemas n) leaves.rest ∙ there;
-    sessions = λ t differs. ap (λ (x : WorldState). slice_get x.sessions t) leaves.rest;
-    places = λ t index differs. ap (λ (place : ℕ → _). place t) (leaves.places index);
-    rights = λ t differs is. is;
-    changes = inl refl;
-    kept = inl (refl, kept);
-  }
-
-  pub held_beside : RowsHeld held.chains new s (read_into other) next doing → LogsAgree new → SearchHeld held.chains new writer cuts s doing → IsWhole next
-      → IsHeld new writer now cuts other next
-  held_beside rows logs search whole = record {
-    chains = held.chains;
-    agrees = agrees_now;
-    fits = subst FitsThen (sym past) held.fits;
-    rows = rows_by_writer s writer held.chains new now (read_into other) next doing mine gives.here rows;
-    quiet = quiet_still s doing writer desks now mine gives held.quiet;
-    searches = searches_still s doing writer desks now mine gives held.chains held.chains cuts cuts old new others search held.searches;
-    logs = logs;
-    has_room = room_beside old new leaves.rest held.has_room;
-    started = λ t. ap (started t) past ∙ held.started t ∙ sym (gives.started t);
-    count = gives.count ∙ held.count ∙ ap length (sym names);
-    few = subst (λ (n : List (List ℕ)). length n ≤ 68) (sym names) held.few;
-    cut = subst (λ (h : List Event). cuts ≤ length h) (sym past) held.cut;
-    short = λ place. subst (λ (h : List Event). length (versions_at place held.chains) ≤ length h + 2 ^ 62) (sym past) (held.short place);
-    whole = whole;
-  }
+pub held_given : {s : ℕ} {old new : WorldState} {writer : Option ℕ} {desks now : List Desk} {cuts : ℕ} {undo other : UndoRoom} {room next : WorkRoom}
+    {doing : Doing}
+    (held : IsHeld old writer desks cuts undo room) → writer ≡ Some s → LeavesAll old new → IsTold old → IsTold new → GivesDoing s doing desks now
+    → RowsHeld held.chains new s (read_into other) next doing → LogsAgree new → SearchHeld held.chains new writer cuts s doing → IsWhole next
+    → IsHeld new writer now cuts other next
+held_given {s} {old} {new} {writer} {desks} {now} {cuts} {undo} {other} {room} {next} {doing} held mine leaves told tells gives rows logs search whole =
+    held_beside s held leaves.rest leaves.versions told tells (λ t index differs. ap (λ (place : ℕ → Option _). place t) (leaves.places index)) now
+    gives.others gives.started gives.count (λ other. absurd (other mine)) (subst (SearchHeld held.chains new writer cuts s) (sym gives.here) search)
+    (rows_by_writer s writer held.chains new now (read_into other) next doing mine gives.here rows) logs whole

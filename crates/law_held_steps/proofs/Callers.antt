@@ -1,7 +1,5 @@
 -- What callers see of lists in which places alone have moved.
-use Rattle.std.proofs.Common.{◌≡◌, inl, inr, ℕ, ◌<◌, List, length, Option, refl, sym, ap, subst, ◌∙◌}
-use Rattle.std.proofs.lemmas.Bool.{cases_lt}
-use Rattle.std.proofs.lemmas.List.{get_or_past}
+use Rattle.std.proofs.Common.{◌≡◌, ℕ, ◌<◌, List, length, Option, refl, sym, ap, subst, ◌∙◌}
 use Rattle.inno_types.specs.declared.value.Schema.{Schema}
 use Rattle.row_versions.specs.declared.kept.Kept.{Kept}
 use Rattle.sql_plan.specs.declared.choice.Plan.{Plan}
@@ -17,8 +15,8 @@ use Rattle.shared_lists.specs.Tasks as tasks
 use Rattle.shared_lists.specs.State.{task_of, Turns}
 use Rattle.desks.specs.declared.desk.Desk.{Desk}
 use Rattle.desks.specs.declared.desk.Doing.{Doing}
-use Rattle.desks.specs.declared.desk.Doing.TheVariants.{Nothing, Searching, Changing, Lagging, Undoing}
-use Rattle.desks.specs.Desks.{fresh_desk, doing_at, with_doing}
+use Rattle.desks.specs.declared.desk.Doing.TheVariants.{Nothing, Searching}
+use Rattle.desks.specs.Desks.{doing_at, with_doing}
 use Rattle.desks.specs.Shown.{shown, lists_of, reading_of, seen_of}
 use Rattle.desks.specs.Undoing.{undo_left_in}
 use Rattle.desks.specs.declared.desk.TableSearch.{TableSearch}
@@ -27,7 +25,7 @@ use Rattle.law_held_steps.specs.Begun.{IsBegun}
 use Rattle.law_held_steps.specs.Moving.{MovesPlaces}
 use Rattle.law_held_steps.specs.TakenUp.{IsSearchOf}
 use Rattle.law_held_steps.proofs.Places.{none_moves}
-use Rattle.law_held_steps.proofs.AtDesks.{doing_here, doing_other}
+use Rattle.law_held_steps.proofs.Desks.{doing_here, doing_elsewhere, busy_at_a_desk}
 
 pub left_stays : (s table : ℕ) (stage : Stage) (old new : WorldState) → MovesPlaces s old new → IsTold new
     → undo_left_in table stage new ≡ undo_left_in table stage old
@@ -37,19 +35,12 @@ left_stays s table stage old new moves told =
     (moves.versions.kept told.versions)
 
 module _ (s left : ℕ) (old new : WorldState) (writer : Option ℕ) (desks : List Desk) (moves : MovesPlaces s old new) where
-  -- of a session that doesn't search
-  lists_same : IsTold new → ((on : TableSearch) → doing_at s desks ≡ Searching on → ⊥) → lists_of new writer desks left ≡ lists_of old writer desks left
-  lists_same = lists_stay s left old new writer desks moves.rest moves.pairs (λ t index differs. moves.places t index differs) moves.versions
-
   module _ (doing : Doing) where
-    schemas_stay : new.schemas ≡ old.schemas
-    schemas_stay = ap (λ (state : WorldState). state.schemas) moves.rest
-
     task_now : (u : ℕ) (is : Doing) → doing_at u (with_doing s doing desks) ≡ is
         → task_of u (lists_of new writer (with_doing s doing desks) left).state ≡ shown old.schemas left is
     task_now u is at =
         task_is u left new writer (with_doing s doing desks)
-        ∙ (ap (shown new.schemas left) at ∙ ap (λ (schemas : List Schema). shown schemas left is) schemas_stay)
+        ∙ (ap (shown new.schemas left) at ∙ ap (λ (schemas : List Schema). shown schemas left is) (ap (λ (state : WorldState). state.schemas) moves.rest))
 
     pub turns : s < length desks
         → Turns s (shown old.schemas left doing) (lists_of old writer desks left).state (lists_of new writer (with_doing s doing desks) left).state
@@ -58,7 +49,7 @@ module _ (s left : ℕ) (old new : WorldState) (writer : Option ℕ) (desks : Li
       past_is = ap (λ (state : WorldState). state.past) moves.rest;
       writer_is = refl;
       task_is = task_now s doing (doing_here s doing desks within);
-      others = λ u differs. task_now u (doing_at u desks) (doing_other s doing desks u differs) ∙ sym (task_is u left old writer desks);
+      others = λ u differs. task_now u (doing_at u desks) (doing_elsewhere s u doing desks differs) ∙ sym (task_is u left old writer desks);
     }
 
     pub rest_stays : ((lists_of new writer (with_doing s doing desks) left).settings ≡ (lists_of old writer desks left).settings) ×
@@ -70,7 +61,7 @@ module _ (s left : ℕ) (old new : WorldState) (writer : Option ℕ) (desks : Li
       → ((on : TableSearch) → doing_at s desks ≡ Searching on → ⊥) → seen_of table stage new writer desks ≡ seen_of table stage old writer desks
   seen_stay table stage is told not =
       ap (lists_of new writer desks) (left_stays s table stage old new moves told ∙ sym is)
-      ∙ (lists_same told not ∙ ap (lists_of old writer desks) is)
+      ∙ (lists_stay s left old new writer desks moves.rest moves.pairs moves.places moves.versions told not ∙ ap (lists_of old writer desks) is)
 
 pub turns_now : (s table : ℕ) (stage : Stage) (old new : WorldState) (writer : Option ℕ) (desks : List Desk) (doing : Doing) → s < length desks
     → MovesPlaces s old new → IsTold new
@@ -86,10 +77,7 @@ turns_now s table stage old new writer desks doing within moves told =
 pub search_shown : (left : ℕ) (schemas : List Schema) (doing : Doing) (table : ℕ) (plan : Plan) (reading : Reading)
     → shown schemas left doing ≡ tasks.Searching table plan reading → IsSearchOf doing table plan reading
 search_shown left schemas (Searching on) table plan reading is = (on, refl, cc, cc, cc)
-search_shown left schemas Nothing table plan reading is = absurd (cc)
-search_shown left schemas (Changing change) table plan reading is = absurd (cc)
-search_shown left schemas Lagging table plan reading is = absurd (cc)
-search_shown left schemas Undoing table plan reading is = absurd (cc)
+search_shown left schemas other table plan reading is = absurd (cc)
 
 begun_shown : (table left : ℕ) (schemas : List Schema) (plan : Plan) (sight : Sight) (schema : Schema) (cuts : ℕ) (on : TableSearch)
     → IsBegun table plan sight schema cuts on
@@ -109,12 +97,7 @@ same_shown left cuts schemas on next same =
 
 -- who searches has a desk
 pub has_desk : (s : ℕ) (desks : List Desk) (on : TableSearch) → doing_at s desks ≡ Searching on → s < length desks
-has_desk s desks on is = elim (cases_lt s (length desks)) [
-  | inl within ↦ within
-  | inr past ↦ absurd (nothing (ap (λ (desk : Desk). desk.doing) (sym (get_or_past desks s fresh_desk past)) ∙ is))
-] where
-  nothing : Nothing ≡ Searching on → ⊥
-  nothing same = cc
+has_desk s desks on is = busy_at_a_desk s desks (λ none. let e : Searching on ≡ Nothing = sym is ∙ none in cc)
 
 module _ (s table : ℕ) (stage : Stage) (writer : Option ℕ) (desks : List Desk) where
   pub turns_to_search : (state : WorldState) (searched cuts : ℕ) (plan : Plan) (sight : Sight) (schema : Schema) (on : TableSearch) → s < length desks

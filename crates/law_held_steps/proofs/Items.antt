@@ -1,21 +1,23 @@
 -- Items that start and end, commits that are acknowledged, signals, and what sessions set.
-use Rattle.std.proofs.Common.{◌≡◌, ◌≢◌, ℕ, zero, suc, subst, ◌+◌, ◌<◌, ◌≤◌, ◌^◌, ◌==◌, Bool, true, false, Option, Some, None, List, [], ◌∷◌, length, refl, sym}
-use Rattle.std.proofs.Common.{ap, ◌∙◌, inl, inr, arith, ◌⊎◌}
+use Rattle.std.proofs.Common.{◌≡◌, ◌≢◌, ℕ, subst, ◌+◌, ◌<◌, ◌^◌, true, false, Option, Some, None, List, [], ◌∷◌, length, refl, sym}
+use Rattle.std.proofs.Common.{ap, ◌∙◌, inl, inr, arith, eq-eqb}
+use Rattle.std.proofs.lemmas.Bool.{false≢true}
 use Rattle.std.specs.Prelude.{slice_get, slice_set, is_some}
 use Rattle.std.proofs.lemmas.Bool.Decides.{nat_tests}
-use Rattle.std.proofs.lemmas.List.{length-set}
+use Rattle.std.proofs.lemmas.List.{length-set, set-get_or}
+use Rattle.std.proofs.lemmas.Option.{get_or_from_slice_get}
 use Rattle.inno_types.specs.declared.reply.Item.{Item}
 use Rattle.inno_types.specs.declared.reply.Reply.{Reply}
 use Rattle.inno_model.specs.declared.event.Event.{Event}
 use Rattle.inno_model.specs.declared.event.Event.TheVariants.{Started, Ended, Acked, Signal}
-use Rattle.inno_model.specs.Past.{is_of, own, started, under_way, of_item, awaits_ack}
+use Rattle.inno_model.specs.Past.{own, started, under_way, of_item, awaits_ack}
 use Rattle.law_past_agreement.specs.Order.{MayCome}
 use Rattle.world.specs.State.{WorldState, Session, Work, IsSession, HasWork}
 use Rattle.world.specs.Told.{IsTold}
 use Rattle.world.specs.declared.undo_room.UndoRoom.{UndoRoom}
 use Rattle.undo_apply.specs.declared.work_room.WorkRoom.{WorkRoom}
-use Rattle.law_world_agreement.specs.Steps.{IsEntered as IsSettled}
 use Rattle.law_world_agreement.specs.Agreement.{Agrees}
+use Rattle.law_world_agreement.specs.Steps.{IsEntered as IsSettled}
 use Rattle.law_world_agreement.proofs.Opening.{set_here, set_other}
 use Rattle.law_world_agreement.proofs.Entries.{started_agrees, ended_agrees, acked_agrees, signal_agrees, unentered_agrees}
 use Rattle.shared_lists.specs.Fitting.{FitsThen}
@@ -25,17 +27,14 @@ use Rattle.desks.specs.declared.desk.Desk.{Desk}
 use Rattle.desks.specs.declared.desk.Doing.TheVariants.{Nothing}
 use Rattle.desks.specs.Desks.{desk_at, doing_at, with_start}
 use Rattle.desks.specs.Holding.{IsHeld}
-use Rattle.law_held_steps.proofs.Entering.{entered}
-use Rattle.law_held_steps.proofs.EntrySessions.{own_session, same_log, same_writer, started_desks, start_here, same_works}
-
-absurd_false : false ≡ true → ⊥
-absurd_false is = cc
+use Rattle.law_held_steps.specs.Entries.{LeavesDesks}
+use Rattle.law_held_steps.proofs.AnyStep.{waits_not}
+use Rattle.law_held_steps.proofs.EntrySessions.{entered_by, same_log, same_writer, started_desks, start_here, same_works}
 
 -- a session put where it stood
 put_back : (sessions : List Session) (t : ℕ) (session : Session) → slice_get sessions t ≡ Some session → slice_set sessions t session ≡ sessions
-put_back [] t session there = refl
-put_back (x ∷ sessions) zero session there = let e = there in cc
-put_back (x ∷ sessions) (suc t) session there = ap (λ ys. x ∷ ys) (put_back sessions t session there)
+put_back sessions t session there =
+    ap (slice_set sessions t) (sym (get_or_from_slice_get sessions t session session there)) ∙ set-get_or sessions t session
 
 -- a session with other rooms for entries, and another past
 abbrev pub with_past : ℕ → Session → List Event → ℕ → WorldState → WorldState
@@ -64,46 +63,22 @@ module _ (writer : Option ℕ) (cuts : ℕ) (undo : UndoRoom) (room : WorkRoom) 
     on : (now : List Desk) → Agrees held.chains writer (with_past t after past rows old) → AddsAtMostOne t old.past past → own t past ≡ own t old.past
         → FitsThen past
         → (is_some (under_way t past) ≡ true → after.can_reply ≡ true) → (awaits_ack (of_item t past) ≡ true → after.can_ack ≡ true)
-        → Rattle.law_held_steps.specs.Entries.LeavesDesks t writer writer old (with_past t after past rows old) desks now → length now ≡ length desks →
+        → LeavesDesks t writer writer old (with_past t after past rows old) desks now → length now ≡ length desks →
         started t past ≡ (desk_at t now).started
         → IsHeld (with_past t after past rows old) writer now cuts undo room
     on now agrees adds own_is fits replies acks leaves long started_is =
-        let new = with_past t after past rows old in
-        entered t writer writer cuts undo room old new desks now held rests
-        (record {
-          agrees = agrees;
-          adds = adds;
-          told = told;
-          rows = record { indexes = refl; versions = refl; schemas = refl };
-          others = leaves;
-          count = long ∙ held.count;
-          few = held.few;
-          own =
-              own_session t old new now after (set_here old.sessions t session after there)
-              (λ work is. same_log t old new session work work (work_was after same work is) refl own_is)
-              replies acks (λ work is. held.has_room.ends t session work (work_was after same work is)) started_is;
-          fits = fits;
-        })
+        entered_by held rests told (set_here old.sessions t session after there) (record { indexes = refl; versions = refl; schemas = refl }) refl leaves long
+        agrees adds fits
+        (λ work is. same_log t old (with_past t after past rows old) session work work (work_was after same work is) refl own_is) replies acks
+        (λ work is. held.has_room.ends t session work (work_was after same work is)) started_is
 
   others : (after : Session) (s : ℕ) → s ≢ t → slice_get (slice_set old.sessions t after) s ≡ slice_get old.sessions s
   others after s differ = set_other old.sessions t s after differ
-
-  mine_started : (j : ℕ) (item : Item) → is_of t (Started t j item) ≡ true
-  mine_started j item = grind (arith, nat_tests)
-
-  mine_ended : (j : ℕ) (reply : Reply) → is_of t (Ended t j reply) ≡ true
-  mine_ended j reply = grind (arith, nat_tests)
-
-  mine_acked : (moment : ℕ) → is_of t (Acked t moment) ≡ true
-  mine_acked moment = grind (arith, nat_tests)
 
   -- ---- the entries
 
   started_count : (j : ℕ) (item : Item) → started t (Started t j item ∷ old.past) ≡ started t old.past + 1
   started_count j item = grind (arith, nat_tests)
-
-  started_item : (j : ℕ) (item : Item) → of_item t (Started t j item ∷ old.past) ≡ []
-  started_item j item = grind (arith, nat_tests)
 
   pub started_held : (j : ℕ) (item : Item) → t < length old.names → under_way t old.past ≡ None → j ≡ started t old.past + 1 → length old.past + 1 < 2 ^ 63
       → IsHeld (item_started t j item session old) writer (with_start t desks) cuts undo room
@@ -113,16 +88,13 @@ module _ (writer : Option ℕ) (cuts : ℕ) (undo : UndoRoom) (room : WorkRoom) 
       let within : t < length desks = omega (arith, joined, held.count) in
       on after past old.rows refl (with_start t desks)
       (started_agrees held.chains writer old (with_past t after past old.rows old) t j item held.agrees joined idle j_is few (settled after past old.rows refl))
-      (inr (Started t j item, mine_started j item, refl)) refl held.fits (λ busy. refl)
-      (λ waits. absurd (absurd_false (sym (ap awaits_ack (started_item j item)) ∙ waits)))
+      (inr (Started t j item, eq-eqb t t refl, refl)) refl held.fits (λ busy. refl)
+      (λ waits. absurd (waits_not t [] old.past waits refl))
       (started_desks t writer old (with_past t after past old.rows old) desks within (others after)) (length-set desks t _)
       (started_count j item ∙ (ap (λ n. n + 1) (held.started t) ∙ ap (λ (desk : Desk). desk.started) (sym (start_here desks t within))))
 
   ended_none : (j : ℕ) (reply : Reply) → is_some (under_way t (Ended t j reply ∷ old.past)) ≡ false
   ended_none j reply = grind (arith, nat_tests)
-
-  ended_waits : (j : ℕ) (reply : Reply) → awaits_ack (of_item t (Ended t j reply ∷ old.past)) ≡ false
-  ended_waits j reply = grind (arith, nat_tests)
 
   pub ended_held : (j : ℕ) (reply : Reply) (rows : ℕ) → t < length old.names → MayCome old.past (Ended t j reply) → length old.past + 1 < 2 ^ 63
       → IsHeld (with_past t (record session { can_reply = false }) (Ended t j reply ∷ old.past) rows old) writer desks cuts undo room
@@ -131,12 +103,9 @@ module _ (writer : Option ℕ) (cuts : ℕ) (undo : UndoRoom) (room : WorkRoom) 
       let past : List Event = Ended t j reply ∷ old.past in
       on after past rows refl desks
       (ended_agrees held.chains writer old (with_past t after past rows old) t j reply held.agrees joined may few (settled after past rows refl))
-      (inr (Ended t j reply, mine_ended j reply, refl)) refl held.fits (λ busy. absurd (absurd_false (sym (ended_none j reply) ∙ busy)))
-      (λ waits. absurd (absurd_false (sym (ended_waits j reply) ∙ waits)))
+      (inr (Ended t j reply, eq-eqb t t refl, refl)) refl held.fits (λ busy. absurd (false≢true (sym (ended_none j reply) ∙ busy)))
+      (λ waits. absurd (waits_not t (Ended t j reply ∷ of_item t old.past) old.past waits refl))
       (same_writer t writer old (with_past t after past rows old) desks (others after)) refl (held.started t)
-
-  acked_waits : (moment : ℕ) → awaits_ack (of_item t (Acked t moment ∷ old.past)) ≡ false
-  acked_waits moment = grind (arith, nat_tests)
 
   pub acked_held : (moment : ℕ) → t < length old.names → MayCome old.past (Acked t moment) → length old.past + 1 < 2 ^ 63
       → IsHeld (acknowledged t moment session old) writer desks cuts undo room
@@ -145,8 +114,8 @@ module _ (writer : Option ℕ) (cuts : ℕ) (undo : UndoRoom) (room : WorkRoom) 
       let past : List Event = Acked t moment ∷ old.past in
       on after past old.rows refl desks
       (acked_agrees held.chains writer old (with_past t after past old.rows old) t moment held.agrees joined may few (settled after past old.rows refl))
-      (inr (Acked t moment, mine_acked moment, refl)) refl held.fits (λ busy. held.has_room.replies t session there busy)
-      (λ waits. absurd (absurd_false (sym (acked_waits moment) ∙ waits)))
+      (inr (Acked t moment, eq-eqb t t refl, refl)) refl held.fits (λ busy. held.has_room.replies t session there busy)
+      (λ waits. absurd (waits_not t (Acked t moment ∷ of_item t old.past) old.past waits refl))
       (same_writer t writer old (with_past t after past old.rows old) desks (others after)) refl (held.started t)
 
   -- a signal changes nothing of the session

@@ -1,5 +1,5 @@
 -- The first world, and sessions that join.
-use Rattle.std.proofs.Common.{◌≡◌, ◌≢◌, ℕ, zero, suc, ◌+◌, ◌<◌, ◌≤◌, Bool, true, false, Option, Some, None, List, [], ◌∷◌, ◌++◌, length, refl, sym, ap, subst}
+use Rattle.std.proofs.Common.{◌≡◌, ◌≢◌, ℕ, zero, suc, ◌+◌, ◌<◌, Bool, true, false, Option, Some, None, List, [], ◌∷◌, ◌++◌, length, refl, sym, ap, subst}
 use Rattle.std.proofs.Common.{◌∙◌, inl, arith, get_or}
 use Rattle.std.specs.Prelude.{slice_get, is_some}
 use Rattle.std.proofs.lemmas.List.{length-append}
@@ -19,8 +19,7 @@ use Rattle.world.specs.EngineCalls.{fresh_session, joined}
 use Rattle.desks.specs.declared.desk.Desk.{Desk}
 use Rattle.desks.specs.Desks.{fresh_desk}
 use Rattle.desks.specs.Holding.{IsFresh, IsHeld}
-use Rattle.law_held_steps.proofs.Entering.{entered}
-use Rattle.law_held_steps.proofs.EntrySessions.{own_session}
+use Rattle.law_held_steps.proofs.EntrySessions.{entered, own_session}
 
 -- ---- lists with one item more
 
@@ -35,15 +34,15 @@ one_more [] (suc s) = refl
 one_more (desk ∷ desks) zero = refl
 one_more (desk ∷ desks) (suc s) = one_more desks s
 
-last_there : (sessions : List Session) (session : Session) → slice_get (sessions ++ session ∷ []) (length sessions) ≡ Some session
-last_there [] session = refl
-last_there (first ∷ sessions) session = last_there sessions session
+last_there : {X : Type 0} (xs : List X) (x : X) → slice_get (xs ++ x ∷ []) (length xs) ≡ Some x
+last_there [] x = refl
+last_there (first ∷ xs) x = last_there xs x
 
-others_there : (sessions : List Session) (session : Session) (s : ℕ) → s ≢ length sessions → slice_get (sessions ++ session ∷ []) s ≡ slice_get sessions s
-others_there [] session zero differ = absurd (differ refl)
-others_there [] session (suc s) differ = refl
-others_there (first ∷ sessions) session zero differ = refl
-others_there (first ∷ sessions) session (suc s) differ = others_there sessions session s (λ same. differ (ap suc same))
+pub others_there : {X : Type 0} (xs : List X) (x : X) (s : ℕ) → s ≢ length xs → slice_get (xs ++ x ∷ []) s ≡ slice_get xs s
+others_there [] x zero differ = absurd (differ refl)
+others_there [] x (suc s) differ = refl
+others_there (first ∷ xs) x zero differ = refl
+others_there (first ∷ xs) x (suc s) differ = others_there xs x s (λ same. differ (ap suc same))
 
 -- ---- who has not joined is owed nothing
 
@@ -121,10 +120,7 @@ first_held state undo room first whole stage = record {
   rows = (first.coded, stage);
   quiet = λ s other. refl;
   searches = λ s. tt;
-  logs = record {
-    each = λ s session work has. absurd (no_session state s session first.sessions has.session_is);
-    apart = first.apart;
-  };
+  logs = record { each = λ s session work has. absurd (no_session state s session first.sessions has.session_is); apart = first.apart };
   has_room = record {
     replies = λ s session has busy. absurd (no_session state s session first.sessions has);
     acks = λ s session has waits. absurd (no_session state s session first.sessions has);

@@ -1,19 +1,29 @@
--- What holds of the lists after a step of a change, once its rows, logs and fitting changes are known.
-use Rattle.std.proofs.Common.{◌≡◌, ◌≢◌, ⊎_elim, inl, inr, ℕ, ◌<◌, ◌≤◌, true, false, List, ◌∷◌, length, Option, Some, refl, sym, ap, subst, ◌∙◌, arith}
+-- What holds of the lists after a step of a change, once its rows, logs and fitting changes are known: what the past says
+-- then, and what others keep of a session.
+use Rattle.std.proofs.Common.{◌≡◌, inl, inr, ℕ, ◌≤◌, true, false, List, ◌∷◌, length, refl, sym, subst, arith, eq-eqb, suc, ◌<◌, [], map}
+use Rattle.std.proofs.Common.{Option, Some, None, ap, ◌∙◌}
+use Rattle.inno_db.specs.declared.change.Change.{Change}
+use Rattle.inno_model.specs.declared.event.Event.{Event}
+use Rattle.inno_model.specs.declared.event.Event.TheVariants.{Changed}
+use Rattle.inno_model.specs.Past.{started, under_way, of_item, awaits_ack, level, IsOpen, own}
+use Rattle.law_found_rows.specs.Pasts.{AddsAtMostOne}
 use Rattle.std.specs.Prelude.{slice_get, is_some}
-use Rattle.std.proofs.lemmas.Bool.{cases_eq}
-use Rattle.std.proofs.lemmas.List.{length-set}
+use Rattle.std.proofs.lemmas.Option.{slice_get_within}
+use Rattle.inno_types.specs.declared.lock.Level.{Level}
+use Rattle.row_versions.specs.Chains.{Chains}
+use Rattle.law_past_agreement.specs.Slots.{fresh}
+use Rattle.law_past_agreement.specs.Agreement.{SlotAgrees, IsIdle}
+use Rattle.world.specs.State.{WorldState, Session, Work, IsSession, HasWork, Logged}
+use Rattle.law_world_agreement.specs.Agreement.{Agrees}
+use Rattle.law_world_agreement.proofs.Settled.{slot_if, slot_at}
+use Rattle.law_world_agreement.proofs.Opening.{idle_of}
 use Rattle.inno_types.specs.declared.value.Schema.{Schema}
-use Rattle.inno_model.specs.Past.{own, under_way, of_item, awaits_ack}
 use Rattle.entries.specs.Pairs.{Pair}
 use Rattle.row_versions.specs.declared.place.Place.{Place}
-use Rattle.row_versions.specs.Chains.{Chains}
 use Rattle.law_past_agreement.specs.Rows.{place_in}
-use Rattle.world.specs.State.{WorldState, Session, Work, Logged, IsSession, HasWork}
 use Rattle.world.specs.Told.{IsTold}
 use Rattle.world.specs.Undoing.{read_into}
 use Rattle.world.specs.declared.undo_room.UndoRoom.{UndoRoom}
-use Rattle.law_world_agreement.specs.Agreement.{Agrees}
 use Rattle.row_changes.specs.declared.keys_change.KeysChange.{KeysChange}
 use Rattle.row_changes.proofs.Sessions.{one_session}
 use Rattle.row_changes.proofs.Ids.{one_work}
@@ -23,16 +33,78 @@ use Rattle.shared_lists.specs.Fitting.{FitsThen}
 use Rattle.law_logged_changes.specs.Logs.{LogsAgree}
 use Rattle.desks.specs.declared.desk.Desk.{Desk}
 use Rattle.desks.specs.declared.desk.Doing.{Doing}
-use Rattle.desks.specs.Desks.{desk_at, doing_at, with_doing, is_quiet_doing}
-use Rattle.desks.specs.Holding.{AreFew, IsHeld, HasRoom, IsLast, IsLastOf, RowsHeld, SearchHeld}
+use Rattle.desks.specs.Desks.{with_doing}
+use Rattle.desks.specs.Holding.{AreFew, IsHeld, IsLast, IsLastOf, RowsHeld, SearchHeld}
 use Rattle.desks.specs.Leaves.{LeavesOthers}
-use Rattle.desks.proofs.Leaving.{search_left}
 use Rattle.law_held_steps.specs.Making.{LeavesLists}
 use Rattle.law_held_steps.specs.Leaving.{is_searching}
-use Rattle.law_held_steps.proofs.Desks.{doing_here, doing_elsewhere, started_still}
+use Rattle.law_held_steps.proofs.AnyStep.{each, waits_not, past_grows, held_after}
+use Rattle.law_held_steps.proofs.Desks.{given}
 use Rattle.law_held_steps.proofs.Left.{no_search}
-use Rattle.law_held_steps.proofs.Pasts.{GoesOnBy}
-use Rattle.law_held_steps.proofs.Sessions.{HasOpen, open_work, same_settings}
+
+-- ---- what the past says after a step of a change: it is the same, or has the entry of the change
+
+-- it has started or ended no item, and no commit of its own waits for its acknowledgement that didn't
+pub record GoesOnBy (s : ℕ) (old new : List Event) : Type 0 where
+  pub adds : AddsAtMostOne s old new
+  pub started_is : started s new ≡ started s old
+  pub under_way_is : under_way s new ≡ under_way s old
+  pub awaits : awaits_ack (of_item s new) ≡ true → awaits_ack (of_item s old) ≡ true
+
+pub goes_same : (s : ℕ) (old new : List Event) → new ≡ old → GoesOnBy s old new
+goes_same s old new same =
+    subst (GoesOnBy s old) (sym same) (record { adds = inl refl; started_is = refl; under_way_is = refl; awaits = λ is. is })
+
+pub goes_changed : (s : ℕ) (change : Change) (old new : List Event) → new ≡ Changed s change ∷ old → GoesOnBy s old new
+goes_changed s change old new is = subst (GoesOnBy s old) (sym is) (record {
+  adds = inr (Changed s change, eq-eqb s s refl, refl);
+  started_is = refl;
+  under_way_is = refl;
+  awaits = λ waits. absurd (waits_not s (Changed s change ∷ of_item s old) old waits refl);
+})
+
+-- ---- the open transaction of who may write, and what others keep of a session's
+
+-- the session has an open transaction
+abbrev pub HasOpen : ℕ → WorldState → Type 0
+HasOpen s state = (session : Session) × (work : Work) × HasWork s session work state
+
+open_or_not : (found : Option Level) → is_some found ≡ true → found ≡ None → ⊥
+open_or_not found is none = cc
+
+module _ (chains : Chains) (writer : Option ℕ) (state : WorldState) (agrees : Agrees chains writer state) (s : ℕ) where
+  work_there : IsOpen s state.past → (session : Session) → IsSession s session state → (work : Option Work) → session.work ≡ work → HasOpen s state
+  work_there is_open session there None none =
+      let idle = idle_of chains writer state s session agrees there none in absurd (open_or_not (level s state.past) is_open idle.level_is)
+  work_there is_open session there (Some work) is = (session, work, record { session_is = there; work_is = is })
+
+  session_there : IsOpen s state.past → (found : Option Session) → slice_get state.sessions s ≡ found → HasOpen s state
+  session_there is_open None none =
+      let slot : SlotAgrees state.schemas state.past s fresh =
+      subst (SlotAgrees state.schemas state.past s) (slot_at s state.past state.schemas state.sessions ∙ ap (slot_if state.past state.schemas s) none)
+      (agrees.lists.sessions s) in
+      let idle : IsIdle state.past s = slot.work_is in
+      absurd (open_or_not (level s state.past) is_open idle.level_is)
+  session_there is_open (Some session) there = work_there is_open session there session.work refl
+
+  pub open_work : IsOpen s state.past → HasOpen s state
+  open_work is_open = session_there is_open (slice_get state.sessions s) refl
+
+  pub open_joined : IsOpen s state.past → s < length state.names
+  open_joined is_open = let has = open_work is_open in omega (arith, slice_get_within state.sessions s has.0 has.2.session_is, agrees.count)
+
+-- two lists of sessions with the same settings
+pub same_settings : (xs ys : List Session) → length xs ≡ length ys
+    → ((t : ℕ) (x y : Session) → slice_get xs t ≡ Some x → slice_get ys t ≡ Some y → x.setting ≡ y.setting)
+    → map (λ (session : Session). session.setting) xs ≡ map (λ (session : Session). session.setting) ys
+same_settings [] [] count each = refl
+same_settings [] (y ∷ ys) count each = absurd (omega (arith, count))
+same_settings (x ∷ xs) [] count each = absurd (omega (arith, count))
+same_settings (x ∷ xs) (y ∷ ys) count each =
+    ap (λ s. s ∷ map (λ (session : Session). session.setting) xs) (each 0 x y refl refl)
+    ∙ ap (λ rest. y.setting ∷ rest) (same_settings xs ys (omega (arith, count)) (λ t a b first second. each (suc t) a b first second))
+
+-- ---- what holds of the lists after a step of a change, once its rows, logs and fitting changes are known
 
 module _ (s : ℕ) (desks : List Desk) (cuts : ℕ) (undo : UndoRoom) (room : WorkRoom) (old new : WorldState)
     (held : IsHeld old (Some s) desks cuts undo room) (beside : KeepsBeside s old new) where
@@ -47,25 +119,15 @@ module _ (s : ℕ) (desks : List Desk) (cuts : ℕ) (undo : UndoRoom) (room : Wo
   is_now : (session : Session) → IsSession s session new → stays_open.session_now ≡ session
   is_now session there = one_session new s stays_open.session_now session stays_open.has.session_is there
 
-  was_there : (u : ℕ) (session : Session) → u ≢ s → IsSession u session new → IsSession u session old
-  was_there u session differs there = sym (beside.others u differs) ∙ there
-
   pub leaves_lists : LeavesLists old new
-  leaves_lists = record {
-    names = beside.names;
-    schemas = beside.schemas;
-    settings = same_settings new.sessions old.sessions beside.count setting_is;
-  }
+  leaves_lists = record { names = beside.names; schemas = beside.schemas; settings = same_settings new.sessions old.sessions beside.count setting_is }
     where
       setting_is : (t : ℕ) (x y : Session) → slice_get new.sessions t ≡ Some x → slice_get old.sessions t ≡ Some y → x.setting ≡ y.setting
-      setting_is t x y first second =
-          ⊎_elim
-          (λ same.
-          let here : IsSession s x new = subst (λ n. slice_get new.sessions n ≡ Some x) same first in
-          let there : IsSession s y old = subst (λ n. slice_get old.sessions n ≡ Some y) same second in
-          sym (ap (λ (z : Session). z.setting) (is_now x here)) ∙ stays_open.setting ∙ ap (λ (z : Session). z.setting)
-          (one_session old s was_open.0 y was_open.2.session_is there))
-          (λ differs. ap (λ (z : Session). z.setting) (one_session old t x y (was_there t x differs first) second)) (cases_eq t s)
+      setting_is t x y =
+          each s (λ t. slice_get new.sessions t ≡ Some x → slice_get old.sessions t ≡ Some y → x.setting ≡ y.setting)
+          (λ first second. sym (ap (λ (z : Session). z.setting) (is_now x first)) ∙ stays_open.setting ∙
+          ap (λ (z : Session). z.setting) (one_session old s was_open.0 y was_open.2.session_is second))
+          (λ u differs first second. ap (λ (z : Session). z.setting) (one_session old u x y (sym (beside.others u differs) ∙ first) second)) t
 
   -- ---- what its newest change is, while no entry comes
 
@@ -111,57 +173,26 @@ module _ (s : ℕ) (desks : List Desk) (cuts : ℕ) (undo : UndoRoom) (room : Wo
       kept = inl (refl, beside.kept);
     }
 
-    rooms_kept : HasRoom new
-    rooms_kept = record {
-      replies = λ u session there busy.
-          let was = sym (ap is_some (goes.under_way_is u)) ∙ busy in
-          ⊎_elim
-          (λ same.
-          let here : IsSession s session new = subst (λ n. IsSession n session new) same there in
-          sym (ap (λ (z : Session). z.can_reply) (is_now session here)) ∙ stays_open.can_reply ∙ held.has_room.replies s was_open.0 was_open.2.session_is
-          (subst (λ n. is_some (under_way n old.past) ≡ true) same was))
-          (λ differs. held.has_room.replies u session (was_there u session differs there) was) (cases_eq u s);
-      acks = λ u session there waits.
-          let was = goes.awaits u waits in
-          ⊎_elim
-          (λ same.
-          let here : IsSession s session new = subst (λ n. IsSession n session new) same there in
-          sym (ap (λ (z : Session). z.can_ack) (is_now session here)) ∙ stays_open.can_ack ∙ held.has_room.acks s was_open.0 was_open.2.session_is
-          (subst (λ n. awaits_ack (of_item n old.past) ≡ true) same was))
-          (λ differs. held.has_room.acks u session (was_there u session differs there) was) (cases_eq u s);
-      ends = λ u session work has.
-          ⊎_elim
-          (λ same.
-          let here : HasWork s session work new = subst (λ n. HasWork n session work new) same has in
-          sym (ap (λ (w : Work). w.can_end) (one_work s stays_open.session_now session stays_open.work_now work new stays_open.has here)) ∙
-          stays_open.can_end ∙ held.has_room.ends s was_open.0 was_open.1 was_open.2)
-          (λ differs. held.has_room.ends u session work (record { session_is = was_there u session differs has.session_is; work_is = has.work_is }))
-          (cases_eq u s);
-    }
-
     pub keeps : (doing : Doing) → s < length desks → is_searching doing ≡ false → FitsThen new.past → LogsAgree new
         → RowsHeld after new s (read_into undo) room doing
         → AreFew after new.past → IsHeld new (Some s) (with_doing s doing desks) cuts undo room
-    keeps doing within searches_not fits logs rows short = record {
-      chains = after;
-      agrees = agrees;
-      fits = fits;
-      rows = subst (RowsHeld after new s (read_into undo) room) (sym (doing_here s doing desks within)) rows;
-      quiet = λ u other. subst (λ d. is_quiet_doing d ≡ true) (sym (doing_elsewhere s u doing desks (λ same. other (ap Some (sym same))))) (held.quiet u other);
-      searches = λ u.
-          ⊎_elim
-          (λ same.
-          subst (λ n. SearchHeld after new (Some s) cuts n (doing_at n (with_doing s doing desks))) (sym same)
-          (subst (SearchHeld after new (Some s) cuts s) (sym (doing_here s doing desks within)) (no_search after new (Some s) cuts s doing searches_not)))
-          (λ differs.
-          subst (SearchHeld after new (Some s) cuts u) (sym (doing_elsewhere s u doing desks differs))
-          (search_left s u held.chains after (Some s) (Some s) cuts cuts old new leaves_others differs (doing_at u desks) (held.searches u))) (cases_eq u s);
-      logs = logs;
-      has_room = rooms_kept;
-      started = λ u. goes.started_is u ∙ held.started u ∙ sym (started_still s u doing desks within);
-      count = length-set desks s (record (desk_at s desks) { doing = doing }) ∙ held.count ∙ ap length (sym beside.names);
-      few = subst (λ (names : List (List ℕ)). length names ≤ 68) (sym beside.names) held.few;
-      cut = omega (arith, held.cut, goes.longer);
-      short = short;
-      whole = held.whole;
-    }
+    keeps doing within searches_not fits logs rows short =
+        let gives = given s doing desks within in
+        held_after held leaves_others gives.others
+        (record {
+          replies = λ session there busy.
+              sym (ap (λ (z : Session). z.can_reply) (is_now session there)) ∙ stays_open.can_reply ∙ held.has_room.replies s was_open.0 was_open.2.session_is
+              (sym (ap is_some (goes.under_way_is)) ∙ busy);
+          acks = λ session there waits.
+              sym (ap (λ (z : Session). z.can_ack) (is_now session there)) ∙ stays_open.can_ack ∙ held.has_room.acks s was_open.0 was_open.2.session_is
+              (goes.awaits waits);
+          ends = λ session work has.
+              sym (ap (λ (w : Work). w.can_end) (one_work s stays_open.session_now session stays_open.work_now work new stays_open.has has)) ∙
+              stays_open.can_end ∙ held.has_room.ends s was_open.0 was_open.1 was_open.2;
+          started = goes.started_is ∙ held.started s ∙ sym gives.started;
+          quiet = λ other. absurd (other refl);
+          search = subst (SearchHeld after new (Some s) cuts s) (sym gives.here) (no_search after new (Some s) cuts s doing searches_not);
+        })
+        fits (subst (RowsHeld after new s (read_into undo) room) (sym gives.here) rows) logs (gives.count ∙ held.count ∙ ap length (sym beside.names))
+        (subst (λ (names : List (List ℕ)). length names ≤ 68) (sym beside.names) held.few)
+        (omega (arith, held.cut, past_grows s old.past new.past goes.adds)) short held.whole

@@ -3,7 +3,6 @@ use Rattle.std.proofs.Common.{◌≡◌, ℕ, ◌+◌, ◌<◌, ◌≤◌, ◌^�
 use Rattle.std.specs.Prelude.{slice_get}
 use Rattle.inno_types.specs.declared.value.Value.{Value}
 use Rattle.inno_types.specs.declared.value.Schema.{Schema}
-use Rattle.inno_model.specs.declared.event.Event.{Event}
 use Rattle.inno_model.specs.declared.event.Event.TheVariants.{Changed}
 use Rattle.inno_model.specs.Past.{own}
 use Rattle.row_versions.specs.declared.place.Place.{Place}
@@ -23,26 +22,26 @@ use Rattle.row_changes.specs.declared.row_change.RowChange.TheVariants.{Record, 
 use Rattle.row_changes.specs.declared.reached.Reached.{Reached}
 use Rattle.row_changes.specs.declared.reached.Reached.TheVariants.{Went, Done, Hindered}
 use Rattle.row_changes.specs.Edits.{change_of, rows_put}
-use Rattle.row_changes.specs.Rows.{place_of, row_steps, IsChangingRow, ChangesRow}
-use Rattle.law_logged_changes.specs.GoingOn.{StaysAgreed, EntersAgreed, EndsAgreed}
+use Rattle.row_changes.specs.Rows.{table_of, place_of, row_steps, IsChangingRow, ChangesRow}
+use Rattle.law_logged_changes.specs.GoingOn.{KeepsBeside, StaysAgreed, EntersAgreed, EndsAgreed}
 use Rattle.law_logged_changes.proofs.Entering.{goes_on, place_there}
 use Rattle.undo_apply.specs.declared.work_room.WorkRoom.{WorkRoom}
-use Rattle.undo_apply.specs.declared.work_room.Stage.TheVariants.{Find}
 use Rattle.shared_lists.specs.Fitting.{FitsThen}
 use Rattle.shared_lists.specs.Steps.{rows_of_change}
 use Rattle.law_logged_changes.specs.Logs.{LogsAgree}
 use Rattle.law_logged_changes.proofs.Logging.{change_logged}
 use Rattle.law_logged_changes.proofs.Crossing.{row_all}
 use Rattle.desks.specs.declared.desk.Desk.{Desk}
-use Rattle.desks.specs.declared.desk.Doing.TheVariants.{Nothing, Changing, Lagging}
-use Rattle.desks.specs.Desks.{doing_at, with_doing}
+use Rattle.desks.specs.declared.desk.Doing.TheVariants.{Changing}
+use Rattle.desks.specs.Desks.{doing_at}
 use Rattle.desks.specs.Undoing.{keys_if}
-use Rattle.desks.specs.Holding.{AreFew, IsHeld, IsLastOf, IsLastIfTold, RowsHeld}
-use Rattle.law_held_steps.specs.Making.{AddsNothing, MakesChange}
+use Rattle.desks.specs.Holding.{AreFew, IsHeld, IsLastOf, RowsHeld}
+use Rattle.law_world_agreement.specs.Agreement.{Agrees}
+use Rattle.law_held_steps.specs.Leaving.{is_searching}
+use Rattle.law_held_steps.specs.Making.{doing_after, Comes, MakesChange}
 use Rattle.law_held_steps.proofs.Desks.{changes_at_a_desk}
-use Rattle.law_held_steps.proofs.Fits.{edit_fits}
-use Rattle.law_held_steps.proofs.Pasts.{goes_same, goes_changed}
-use Rattle.law_held_steps.proofs.Keeping.{leaves_lists, last_of_kept, keeps}
+use Rattle.law_held_steps.proofs.Begun.{edit_fits}
+use Rattle.law_held_steps.proofs.Keeping.{goes_same, goes_changed, leaves_lists, last_of_kept, keeps}
 
 -- ---- the entry
 
@@ -65,19 +64,19 @@ pushed_short before after place version most pushes few other =
 
 -- ---- how many steps are left
 
-keys_there : (found : Option Schema) (schema : Schema) → found ≡ Some schema → keys_if found ≡ length schema.keys
-keys_there found schema is = ap keys_if is
-
-fewer : (steps fewer_steps : ℕ → ℕ) (keys kept now : ℕ) → keys ≡ kept → now ≡ kept → fewer_steps kept < steps kept → fewer_steps now < steps keys
-fewer steps fewer_steps keys kept now is same nears = subst (λ k. fewer_steps now < steps k) (sym is) (subst (λ k. fewer_steps k < steps kept) (sym same) nears)
+nears_by : (old new : WorldState) (change next : RowChange) (schema : Schema) → new.schemas ≡ old.schemas → table_of next ≡ table_of change
+    → slice_get old.schemas (table_of change) ≡ Some schema → row_steps (length schema.keys) next < row_steps (length schema.keys) change
+    → row_steps (keys_if (slice_get new.schemas (table_of next))) next < row_steps (keys_if (slice_get old.schemas (table_of change))) change
+nears_by old new change next schema same table there less =
+    let was : keys_if (slice_get old.schemas (table_of change)) ≡ length schema.keys = ap keys_if there in
+    subst (λ k. row_steps k next < row_steps (keys_if (slice_get old.schemas (table_of change))) change)
+    (sym (ap (λ (s : List Schema). keys_if (slice_get s (table_of next))) same ∙ (ap (λ n. keys_if (slice_get old.schemas n)) table ∙ was)))
+    (subst (λ k. row_steps (length schema.keys) next < row_steps k change) (sym was) less)
 
 module _ (s : ℕ) (desks : List Desk) (cuts : ℕ) (undo : UndoRoom) (room : WorkRoom) (old : WorldState)
     (held : IsHeld old (Some s) desks cuts undo room) (change : RowChange) (at : doing_at s desks ≡ Changing change) where
-  rows_now : RowsHeld held.chains old s (read_into undo) room (Changing change)
-  rows_now = subst (RowsHeld held.chains old s (read_into undo) room) at held.rows
-
   pub may : (chains : Chains) × IsChangingRow s chains old change
-  may = (held.chains, rows_now.0)
+  may = (held.chains, (subst (RowsHeld held.chains old s (read_into undo) room) at held.rows).0)
 
 module _ (s : ℕ) (desks : List Desk) (cuts : ℕ) (undo : UndoRoom) (room : WorkRoom) (old new : WorldState)
     (held : IsHeld old (Some s) desks cuts undo room) (was : IsTold old) (told : IsTold new) (few : length new.past < 2 ^ 63)
@@ -86,196 +85,119 @@ module _ (s : ℕ) (desks : List Desk) (cuts : ℕ) (undo : UndoRoom) (room : Wo
       → LogsAgree new
   logs_now change reached p c = row_all s held.chains old new change reached p c held.agrees.lists.writes.1 held.logs
 
-  -- where no entry comes
-  module _ (past : new.past ≡ old.past) where
-    fits_same : FitsThen new.past
-    fits_same = subst FitsThen (sym past) held.fits
+  -- where nothing is added
+  still : (change : RowChange) (reached : Reached RowChange) (beside : KeepsBeside s old new) → IsChangingRow s held.chains old change
+      → ChangesRow s held.chains old new change reached → new.past ≡ old.past → Agrees held.chains (Some s) new
+      → is_searching (doing_after change reached) ≡ false → RowsHeld held.chains new s (read_into undo) room (doing_after change reached)
+      → Comes s old new change reached → MakesChange s desks cuts undo room old new change reached
+  still change reached beside p c past agrees quiet rows comes = record {
+    held =
+        keeps s desks cuts undo room old new held beside (goes_same s old.past new.past past) held.chains agrees was (doing_after change reached) within quiet
+        (subst FitsThen (sym past) held.fits) (logs_now change reached p c) rows (subst (AreFew held.chains) (sym past) held.short);
+    leaves = leaves_lists s desks cuts undo room old new held beside;
+    comes = comes;
+  }
 
-    short_same : AreFew held.chains new.past
-    short_same place = subst (λ (h : List Event). length (versions_at place held.chains) ≤ length h + 2 ^ 62) (sym past) (held.short place)
-
-  -- the same of a change that stays under way
-  pub went : (change next : RowChange) → IsChangingRow s held.chains old change → (c : ChangesRow s held.chains old new change (Went next))
-      → StaysAgreed s held.chains old new next → IsLastIfTold new s next → room.stage ≡ Find
-      → IsHeld new (Some s) (with_doing s (Changing next) desks) cuts undo room
-  went change next p c a last stage =
-      keeps s desks cuts undo room old new held a.beside (goes_same s old.past new.past a.past) held.chains a.agrees was (Changing next) within refl
-      (fits_same a.past) (logs_now change (Went next) p c) (a.changing, stage, last) (short_same a.past)
-
-  nothing_added : (chains : Chains) (next : RowChange) → StaysAgreed s chains old new next → AddsNothing old new
-  nothing_added chains next a = record { past = a.past; rows = a.rows }
-
-  same_keys : (table : ℕ) (other : ℕ) (schema : Schema) → new.schemas ≡ old.schemas → other ≡ table → slice_get old.schemas table ≡ Some schema
-      → keys_if (slice_get new.schemas other) ≡ length schema.keys
-  same_keys table other schema same is there =
-      ap (λ (schemas : List Schema). keys_if (slice_get schemas other)) same ∙ ap (λ n. keys_if (slice_get old.schemas n)) is ∙ keys_there
-      (slice_get old.schemas table) schema there
-
-  -- ---- the record
-
-  module _ (change : RecordChange) (key : List ℕ) (after : Option (List Value))
-      (rows : RowsHeld held.chains old s (read_into undo) room (Changing (Record change key after))) where
-    record_went : (next : RecordChange) (key' : List ℕ) (after' : Option (List Value))
-        → ChangesRow s held.chains old new (Record change key after) (Went (Record next key' after'))
-        → MakesChange s desks cuts undo room old new (Record change key after) (Went (Record next key' after'))
-    record_went next key' after' c =
-        let a : StaysAgreed s held.chains old new (Record next key' after') =
-        goes_on s held.chains old new (Record change key after) (Went (Record next key' after')) held.agrees rows.0 c told few in
-        let p = rows.0.0 in
-        let same_change : change_of next.table next.edit ≡ change_of change.table change.edit =
-        ap (λ n. change_of n next.edit) c.0.0.table_is ∙ ap (change_of change.table) c.0.0.edit_is in
-        record {
-          held = went (Record change key after) (Record next key' after') rows.0 c a (record {}) rows.1;
-          leaves = leaves_lists s desks cuts undo room old new held a.beside;
-          comes = record {
-            adds = nothing_added held.chains (Record next key' after') a;
-            change_is = ap Some same_change;
-            nears =
-                fewer (λ k. row_steps k (Record change key after)) (λ k. row_steps k (Record next key' after'))
-                (keys_if (slice_get old.schemas change.table)) (length p.schema.keys) (keys_if (slice_get new.schemas next.table))
-                (keys_there (slice_get old.schemas change.table) p.schema p.table.there)
-                (same_keys change.table next.table p.schema a.beside.schemas c.0.0.table_is p.table.there) (c.1 p.schema p.table.there);
-          };
-        }
-
-    -- the history tells the change now
-    last_logged : (next : KeysChange) → ChangesRow s held.chains old new (Record change key after) (Went (Keys next)) → new.schemas ≡ old.schemas
-        → IsLastOf new s next
-    last_logged next c same =
-        let p = rows.0.0 in
-        let logged =
-        change_logged s held.chains old new change key next.before after p.session p.work rows.0 c.0.0 p.has_work
-        (held.logs.each s p.session p.work p.has_work) in
-        record {
-          logged = logged.logged;
-          place = place_of p.schema change;
-          last = record {
-            session = logged.session;
-            work = logged.work;
-            has_work = logged.has_work;
-            log = p.work.log;
-            log_is = logged.log_is;
-            change = change_of change.table change.edit;
-            before = own s old.past;
-            own_is = logged.own_is;
-            place_is =
-                place_there new.schemas change.table change.edit p.schema (ap (λ (schemas : List Schema). slice_get schemas change.table) same ∙ p.table.there);
-          };
-          table_is = sym c.0.2;
-          key_is = logged.key_is ∙ sym c.0.3;
-        }
-
-    record_entered : (next : KeysChange) → ChangesRow s held.chains old new (Record change key after) (Went (Keys next))
-        → MakesChange s desks cuts undo room old new (Record change key after) (Went (Keys next))
-    record_entered next c =
-        let a : EntersAgreed s held.chains old new change next =
-        goes_on s held.chains old new (Record change key after) (Went (Keys next)) held.agrees rows.0 c told few in
-        let p = rows.0.0 in
-        let entry = change_of change.table change.edit in
-        let tables = held.agrees.lists.tables in
-        let fits : FitsThen (Changed s entry ∷ old.past) = (
-          edit_fits (created old.past) change.table p.schema change.edit change.key
-              (ap (λ (schemas : List Schema). slice_get schemas change.table) (sym tables) ∙ p.table.there) p.fits,
-          held.fits,
-        ) in
-        let longer : length new.past ≡ 1 + length old.past = omega (arith, ap length a.past) in
-        record {
-          held =
-              keeps s desks cuts undo room old new held a.beside (goes_changed s entry old.past new.past a.past)
-              a.after a.agrees was (Changing (Keys next)) within refl (subst FitsThen (sym a.past) fits)
-              (logs_now (Record change key after) (Went (Keys next)) rows.0 c) (a.changing, rows.1, last_logged next c a.beside.schemas)
-              (λ place. let pushed = pushed_short held.chains a.after _ _ (length old.past + 2 ^ 62) a.pushes.pushes held.short place in omega
-              (arith, longer, pushed));
-          leaves = leaves_lists s desks cuts undo room old new held a.beside;
-          comes = record { entry = entry; was = refl; is = refl; past = a.past; rows = a.rows ∙ ap (λ n. old.rows + n) (rows_more change.table change.edit) };
-        }
-
-    record_hindered : (same : RowChange) (why : _) → ChangesRow s held.chains old new (Record change key after) (Hindered same why)
-        → MakesChange s desks cuts undo room old new (Record change key after) (Hindered same why)
-    record_hindered same why c =
-        let given = goes_on s held.chains old new (Record change key after) (Hindered same why) held.agrees rows.0 c told few in
-        let a : StaysAgreed s held.chains old new same = given.1 in
-        let p : IsChangingRow s held.chains new (Record change key after) = subst (IsChangingRow s held.chains new) c.0 a.changing in
-        record {
-          held =
-              keeps s desks cuts undo room old new held a.beside (goes_same s old.past new.past a.past) held.chains a.agrees was Nothing within refl
-              (fits_same a.past) (logs_now (Record change key after) (Hindered same why) rows.0 c) (p.1, rows.1) (short_same a.past);
-          leaves = leaves_lists s desks cuts undo room old new held a.beside;
-          comes = (nothing_added held.chains same a, c.0);
-        }
-
-  -- ---- the keys
-
-  module _ (change : KeysChange) (rows : RowsHeld held.chains old s (read_into undo) room (Changing (Keys change))) where
-    keys_went : (next : KeysChange) → ChangesRow s held.chains old new (Keys change) (Went (Keys next))
-        → MakesChange s desks cuts undo room old new (Keys change) (Went (Keys next))
-    keys_went next c =
-        let a : StaysAgreed s held.chains old new (Keys next) = goes_on s held.chains old new (Keys change) (Went (Keys next)) held.agrees rows.0 c told few in
-        let p = rows.0 in
-        record {
-          held =
-              went (Keys change) (Keys next) rows.0 c a
-              (last_of_kept s desks cuts undo room old new held a.beside change next a.past c.0.table_is c.0.key_is rows.2) rows.1;
-          leaves = leaves_lists s desks cuts undo room old new held a.beside;
-          comes = record {
-            adds = nothing_added held.chains (Keys next) a;
-            change_is = refl;
-            nears =
-                fewer (λ k. row_steps k (Keys change)) (λ k. row_steps k (Keys next)) (keys_if (slice_get old.schemas change.table)) (length p.schema.keys)
-                (keys_if (slice_get new.schemas next.table))
-                (keys_there (slice_get old.schemas change.table) p.schema p.table.there)
-                (same_keys change.table next.table p.schema a.beside.schemas c.0.table_is p.table.there) (c.1 p.schema p.table.there);
-          };
-        }
-
-    keys_done : ChangesRow s held.chains old new (Keys change) Done → MakesChange s desks cuts undo room old new (Keys change) Done
-    keys_done c =
-        let a : EndsAgreed s held.chains old new = goes_on s held.chains old new (Keys change) Done held.agrees rows.0 c told few in
-        record {
-          held =
-              keeps s desks cuts undo room old new held a.beside (goes_same s old.past new.past a.past) held.chains a.agrees was Nothing within refl
-              (fits_same a.past) (logs_now (Keys change) Done rows.0 c) (a.coded, rows.1) (short_same a.past);
-          leaves = leaves_lists s desks cuts undo room old new held a.beside;
-          comes = (record { past = a.past; rows = a.rows }, refl);
-        }
-
-    keys_hindered : (same : RowChange) (why : _) → ChangesRow s held.chains old new (Keys change) (Hindered same why)
-        → MakesChange s desks cuts undo room old new (Keys change) (Hindered same why)
-    keys_hindered same why c =
-        let given = goes_on s held.chains old new (Keys change) (Hindered same why) held.agrees rows.0 c told few in
-        let a : StaysAgreed s held.chains old new same = given.1 in
-        let p : IsChangingRow s held.chains new (Keys change) = subst (IsChangingRow s held.chains new) c.0 a.changing in
-        let last = last_of_kept s desks cuts undo room old new held a.beside change change a.past refl refl rows.2 in
-        record {
-          held =
-              keeps s desks cuts undo room old new held a.beside (goes_same s old.past new.past a.past) held.chains a.agrees was Lagging within refl
-              (fits_same a.past) (logs_now (Keys change) (Hindered same why) rows.0 c) (
-                record {
-                  change = change;
-                  changing = p;
-                  logged = last.logged;
-                  place = last.place;
-                  last = last.last;
-                  table_is = last.table_is;
-                  key_is =
-                      last.key_is;
-                },
-                rows.1,
-              ) (short_same a.past);
-          leaves = leaves_lists s desks cuts undo room old new held a.beside;
-          comes = (nothing_added held.chains same a, c.0);
-        }
+  -- the history tells the change now
+  last_logged : (change : RecordChange) (key : List ℕ) (after : Option (List Value)) (next : KeysChange)
+      → IsChangingRow s held.chains old (Record change key after)
+      → ChangesRow s held.chains old new (Record change key after) (Went (Keys next)) → new.schemas ≡ old.schemas → IsLastOf new s next
+  last_logged change key after next row c same =
+      let p = row.0 in
+      let logged =
+      change_logged s held.chains old new change key next.before after p.session p.work row c.0.0 p.has_work
+      (held.logs.each s p.session p.work p.has_work) in
+      record {
+        logged = logged.logged;
+        place = place_of p.schema change;
+        last = record {
+          session = logged.session;
+          work = logged.work;
+          has_work = logged.has_work;
+          log = p.work.log;
+          log_is = logged.log_is;
+          change = change_of change.table change.edit;
+          before = own s old.past;
+          own_is = logged.own_is;
+          place_is =
+              place_there new.schemas change.table change.edit p.schema (ap (λ (schemas : List Schema). slice_get schemas change.table) same ∙ p.table.there);
+        };
+        table_is = sym c.0.2;
+        key_is = logged.key_is ∙ sym c.0.3;
+      }
 
   pub makes : (change : RowChange) (reached : Reached RowChange) → RowsHeld held.chains old s (read_into undo) room (Changing change)
       → ChangesRow s held.chains old new change reached → MakesChange s desks cuts undo room old new change reached
-  makes (Record change key after) (Went (Record next key' after')) rows c = record_went change key after rows next key' after' c
-  makes (Record change key after) (Went (Keys next)) rows c = record_entered change key after rows next c
+  makes (Record change key after) (Went (Record next key' after')) rows c =
+      let a : StaysAgreed s held.chains old new (Record next key' after') =
+      goes_on s held.chains old new (Record change key after) (Went (Record next key' after')) held.agrees rows.0 c told few in
+      let p = rows.0.0 in
+      still (Record change key after) (Went (Record next key' after')) a.beside rows.0 c a.past a.agrees refl (a.changing, rows.1, record {}) (record {
+        adds = record { past = a.past; rows = a.rows };
+        change_is = ap Some (ap (λ n. change_of n next.edit) c.0.0.table_is ∙ ap (change_of change.table) c.0.0.edit_is);
+        nears =
+            nears_by old new (Record change key after) (Record next key' after') p.schema a.beside.schemas c.0.0.table_is p.table.there
+            (c.1 p.schema p.table.there);
+      })
+  makes (Record change key after) (Went (Keys next)) rows c =
+      let a : EntersAgreed s held.chains old new change next =
+      goes_on s held.chains old new (Record change key after) (Went (Keys next)) held.agrees rows.0 c told few in
+      let p = rows.0.0 in
+      let entry = change_of change.table change.edit in
+      let fits : FitsThen (Changed s entry ∷ old.past) = (
+        edit_fits (created old.past) change.table p.schema change.edit change.key
+            (ap (λ (schemas : List Schema). slice_get schemas change.table) (sym held.agrees.lists.tables) ∙ p.table.there) p.fits,
+        held.fits,
+      ) in
+      let longer : length new.past ≡ 1 + length old.past = omega (arith, ap length a.past) in
+      record {
+        held =
+            keeps s desks cuts undo room old new held a.beside (goes_changed s entry old.past new.past a.past)
+            a.after a.agrees was (Changing (Keys next)) within refl (subst FitsThen (sym a.past) fits)
+            (logs_now (Record change key after) (Went (Keys next)) rows.0 c)
+            (a.changing, rows.1, last_logged change key after next rows.0 c a.beside.schemas)
+            (λ place. let pushed = pushed_short held.chains a.after _ _ (length old.past + 2 ^ 62) a.pushes.pushes held.short place in omega
+            (arith, longer, pushed));
+        leaves = leaves_lists s desks cuts undo room old new held a.beside;
+        comes = record { entry = entry; was = refl; is = refl; past = a.past; rows = a.rows ∙ ap (λ n. old.rows + n) (rows_more change.table change.edit) };
+      }
   makes (Record change key after) Done rows c = absurd c
-  makes (Record change key after) (Hindered same why) rows c = record_hindered change key after rows same why c
+  makes (Record change key after) (Hindered same why) rows c =
+      let given = goes_on s held.chains old new (Record change key after) (Hindered same why) held.agrees rows.0 c told few in
+      let a : StaysAgreed s held.chains old new same = given.1 in
+      let p : IsChangingRow s held.chains new (Record change key after) = subst (IsChangingRow s held.chains new) c.0 a.changing in
+      still (Record change key after) (Hindered same why) a.beside rows.0 c a.past a.agrees refl (p.1, rows.1)
+      (record { past = a.past; rows = a.rows }, c.0)
   makes (Keys change) (Went (Record next key after)) rows c = absurd c.0
-  makes (Keys change) (Went (Keys next)) rows c = keys_went change rows next c
-  makes (Keys change) Done rows c = keys_done change rows c
-  makes (Keys change) (Hindered same why) rows c = keys_hindered change rows same why c
+  makes (Keys change) (Went (Keys next)) rows c =
+      let a : StaysAgreed s held.chains old new (Keys next) = goes_on s held.chains old new (Keys change) (Went (Keys next)) held.agrees rows.0 c told few in
+      let p = rows.0 in
+      still (Keys change) (Went (Keys next)) a.beside rows.0 c a.past a.agrees refl
+      (a.changing, rows.1, last_of_kept s desks cuts undo room old new held a.beside change next a.past c.0.table_is c.0.key_is rows.2) (record {
+        adds = record { past = a.past; rows = a.rows };
+        change_is = refl;
+        nears = nears_by old new (Keys change) (Keys next) p.schema a.beside.schemas c.0.table_is p.table.there (c.1 p.schema p.table.there);
+      })
+  makes (Keys change) Done rows c =
+      let a : EndsAgreed s held.chains old new = goes_on s held.chains old new (Keys change) Done held.agrees rows.0 c told few in
+      still (Keys change) Done a.beside rows.0 c a.past a.agrees refl (a.coded, rows.1) (record { past = a.past; rows = a.rows }, refl)
+  makes (Keys change) (Hindered same why) rows c =
+      let given = goes_on s held.chains old new (Keys change) (Hindered same why) held.agrees rows.0 c told few in
+      let a : StaysAgreed s held.chains old new same = given.1 in
+      let p : IsChangingRow s held.chains new (Keys change) = subst (IsChangingRow s held.chains new) c.0 a.changing in
+      let last = last_of_kept s desks cuts undo room old new held a.beside change change a.past refl refl rows.2 in
+      still (Keys change) (Hindered same why) a.beside rows.0 c a.past a.agrees refl (
+        record {
+          change = change;
+          changing = p;
+          logged = last.logged;
+          place = last.place;
+          last = last.last;
+          table_is = last.table_is;
+          key_is = last.key_is;
+        },
+        rows.1,
+      ) (record { past = a.past; rows = a.rows }, c.0)
 
 pub change_made : (s : ℕ) (desks : List Desk) (cuts : ℕ) (undo : UndoRoom) (room : WorkRoom) (old new : WorldState) (change : RowChange)
     (reached : Reached RowChange) → IsHeld old (Some s) desks cuts undo room → doing_at s desks ≡ Changing change

@@ -96,14 +96,8 @@ IsFew schema kept other = Unit {0}
 
 few_of : (actor : ℕ) (schema : Schema) (scan : Scan) (state : WorldState) (phase : Phase) → PhaseHolds actor schema scan state phase
     → IsTrue state.versions.told → IsFew schema state.versions.kept_at phase
-few_of actor schema scan state Seek holds told = tt
-few_of actor schema scan state Follow holds told = tt
-few_of actor schema scan state (Fetch entry) holds told = tt
-few_of actor schema scan state (Look entry bytes) holds told = tt
 few_of actor schema scan state (Walk entry pointer) holds told = holds.1 told
-few_of actor schema scan state (Keep entry row) holds told = tt
-few_of actor schema scan state Sort holds told = tt
-few_of actor schema scan state Leave holds told = tt
+few_of actor schema scan state phase holds told = tt
 
 no_more : (a b : ℕ) → a ≡ b → b ≤ most_versions → a ≤ most_versions
 no_more a b same few = omega (arith, same, few)
@@ -162,13 +156,7 @@ module _ (schema : Schema) (kept : ℕ → Option Kept) (place : Option Pair) (p
 -- coming to its pair anew it has as many keys before it
 pub keys_anew : (place : Option Pair) (pairs : List Pair) (phase : Phase) → keys_left place pairs (phase_anew phase) ≡ keys_left place pairs phase
 keys_anew place pairs Seek = refl
-keys_anew place pairs Follow = refl
-keys_anew place pairs (Fetch entry) = refl
-keys_anew place pairs (Look entry bytes) = refl
-keys_anew place pairs (Walk entry pointer) = refl
-keys_anew place pairs (Keep entry row) = refl
-keys_anew place pairs Sort = refl
-keys_anew place pairs Leave = refl
+keys_anew place pairs phase = refl
 
 -- ---- a step
 
@@ -229,14 +217,8 @@ walk_few versions few = omega (arith, few)
 
 -- a visit is less than a key
 visit_few : (kept : ℕ → Option Kept) (phase : Phase) → visit_left kept phase < 2 ^ 67
-visit_few kept Seek = omega arith
-visit_few kept Follow = omega arith
-visit_few kept (Fetch entry) = omega arith
-visit_few kept (Look entry bytes) = omega arith
 visit_few kept (Walk entry pointer) = walk_few (versions_from most_versions kept pointer) (versions_most most_versions kept pointer)
-visit_few kept (Keep entry row) = omega arith
-visit_few kept Sort = omega arith
-visit_few kept Leave = omega arith
+visit_few kept phase = omega arith
 
 smaller : (later left keys visit : ℕ) → IsLess later left keys visit → left < 2 ^ 67 → later * 2 ^ 67 + left < keys * 2 ^ 67 + visit
 smaller later left keys visit (inl fewer) few = omega (arith, fewer, few)

@@ -1,11 +1,12 @@
 -- Steps that move a session's places leave all rows, and may follow one another.
-use Rattle.std.proofs.Common.{◌≡◌, ⊎_elim, ℕ, Bool, true, false, List, Option, Some, None, refl, sym, ap, subst, ◌∙◌}
+use Rattle.std.proofs.Common.{◌≡◌, ◌≢◌, ◌⊎◌, ⊎_elim, ℕ, Bool, true, false, List, Option, Some, None, refl, sym, ap, subst, ◌∙◌}
 use Rattle.std.specs.Prelude.{◌==◌, if◌then◌else◌}
-use Rattle.std.proofs.lemmas.Bool.{cases_eq}
+use Rattle.std.proofs.lemmas.Bool.Decides.{eqb_tells}
 use Rattle.entries.specs.Pairs.{Pair}
 use Rattle.entries.specs.Index.{AreKept}
 use Rattle.entries.specs.Calls.{Leaves, released}
 use Rattle.row_versions.specs.Versions.{Versions, Stays}
+use Rattle.row_changes.proofs.Sessions.{same_pairs, same_versions}
 use Rattle.world.specs.State.{WorldState}
 use Rattle.world.proofs.Stores.{store_stays, store_goes_on}
 use Rattle.world.specs.Told.{IsTold, LeavesRows}
@@ -14,13 +15,12 @@ use Rattle.world.specs.Undoing.{IsUnchanged}
 use Rattle.row_search.specs.Steps.{OnlyMoves}
 use Rattle.law_logged_changes.proofs.ReadersLeft.{left_told}
 use Rattle.law_held_steps.specs.Moving.{MovesPlaces}
+use Rattle.law_held_steps.proofs.AnyStep.{each}
 
 -- ---- pairs and versions
 
 kept_same : (old new : Option (List Pair)) → new ≡ old → AreKept old new
-kept_same old None same = record {}
-kept_same None (Some new) same = absurd (cc)
-kept_same (Some old) (Some new) same = cc
+kept_same old new same = subst (AreKept old) (sym same) (same_pairs old)
 
 kept_then : (old between new : Option (List Pair)) → AreKept old between → AreKept between new → AreKept old new
 kept_then old between None first second = record {}
@@ -28,21 +28,19 @@ kept_then old None (Some new) first second = absurd second
 kept_then None (Some between) (Some new) first second = absurd first
 kept_then (Some old) (Some between) (Some new) first second = second ∙ first
 
-stays_same : (versions : Versions) → Stays versions versions
-stays_same versions = record { told = λ told. told; kept = λ told. refl }
-
 stays_then : (old between new : Versions) → Stays old between → Stays between new → Stays old new
 stays_then old between new first second =
     record { told = λ told. first.told (second.told told); kept = λ told. second.kept told ∙ first.kept (second.told told) }
 
--- who is awaited still, once this actor isn't
-left_over : (s : ℕ) (awaited : Option ℕ) (by : ℕ) → released s awaited ≡ Some by → awaited ≡ Some by
+-- who is awaited still, once this actor isn't: it is another
+pub left_over : (s : ℕ) (awaited : Option ℕ) (by : ℕ) → released s awaited ≡ Some by → (awaited ≡ Some by) × (by ≢ s)
 left_over s None by is = absurd (cc)
-left_over s (Some holder) by is = kept (holder == s) is
+left_over s (Some holder) by is = kept (holder == s) (eqb_tells holder s) is
   where
-    kept : (mine : Bool) → (if mine then None else Some holder) ≡ Some by → Some holder ≡ Some by
-    kept true none = absurd (cc)
-    kept false same = same
+    kept : (mine : Bool) → ((mine ≡ true) × (holder ≡ s)) ⊎ ((mine ≡ false) × (holder ≢ s)) → (if mine then None else Some holder) ≡ Some by
+        → (Some holder ≡ Some by) × (by ≢ s)
+    kept true tells none = absurd (cc)
+    kept false tells same = (same, ⊎_elim (λ t. let no : false ≡ true = t.0 in absurd (cc)) (λ f at. f.1 (let one : holder ≡ by = cc in one ∙ at)) tells)
 
 -- ---- which steps are such
 
@@ -51,7 +49,7 @@ none_moves s state = record {
   pairs = λ index. kept_same _ _ refl;
   places = λ other index differs. refl;
   fewer = λ index by is. is;
-  versions = stays_same state.versions;
+  versions = same_versions state.versions;
   rest = refl;
   later = store_stays state.paged;
 }
@@ -69,11 +67,8 @@ moves_then s old between new first second = record {
 pub moves_in_one : (s index : ℕ) (old new : WorldState) → OnlyMoves s index old new → MovesPlaces s old new
 moves_in_one s index old new moves = record {
   pairs = moves.pairs;
-  places = λ other at differs.
-      ⊎_elim
-      (λ here. subst (λ (i : ℕ). (new.indexes i).place other ≡ (old.indexes i).place other) (sym here) (moves.others other differs))
-      (λ elsewhere. ap (λ place. place other) (moves.places at elsewhere))
-      (cases_eq at index);
+  places = λ other at differs. each index (λ i. (new.indexes i).place other ≡ (old.indexes i).place other) (moves.others other differs)
+      (λ i elsewhere. ap (λ place. place other) (moves.places i elsewhere)) at;
   fewer = λ at by is. sym (moves.awaited at) ∙ is;
   versions = moves.versions;
   rest = moves.rest;
@@ -92,23 +87,13 @@ moves_nothing s old new same = record {
 
 pub leaving_moves : (s index : ℕ) (old new : WorldState) → Calls index (Leaves s) old new → MovesPlaces s old new
 leaving_moves s index old new calls = record {
-  pairs = λ at.
-      ⊎_elim
-      (λ here. subst (λ (i : ℕ). AreKept (old.indexes i).pairs (new.indexes i).pairs) (sym here)
-      (kept_same (old.indexes index).pairs (new.indexes index).pairs calls.index_is.here.pairs))
-      (λ elsewhere. (calls.index_is.elsewhere at elsewhere).pairs)
-      (cases_eq at index);
-  places = λ other at differs.
-      ⊎_elim
-      (λ here. subst (λ (i : ℕ). (new.indexes i).place other ≡ (old.indexes i).place other) (sym here) (calls.index_is.here.others other differs))
-      (λ elsewhere. ap (λ place. place other) (calls.index_is.elsewhere at elsewhere).place)
-      (cases_eq at index);
-  fewer = λ at by is.
-      ⊎_elim
-      (λ here. subst (λ (i : ℕ). (old.indexes i).awaited ≡ Some by) (sym here)
-      (left_over s (old.indexes index).awaited by (sym calls.index_is.here.awaited ∙ subst (λ (i : ℕ). (new.indexes i).awaited ≡ Some by) here is)))
-      (λ elsewhere. sym (calls.index_is.elsewhere at elsewhere).awaited ∙ is)
-      (cases_eq at index);
+  pairs = each index (λ i. AreKept (old.indexes i).pairs (new.indexes i).pairs)
+      (kept_same (old.indexes index).pairs (new.indexes index).pairs calls.index_is.here.pairs) (λ i elsewhere. (calls.index_is.elsewhere i elsewhere).pairs);
+  places = λ other at differs. each index (λ i. (new.indexes i).place other ≡ (old.indexes i).place other) (calls.index_is.here.others other differs)
+      (λ i elsewhere. ap (λ place. place other) (calls.index_is.elsewhere i elsewhere).place) at;
+  fewer = λ at by. each index (λ i. (new.indexes i).awaited ≡ Some by → (old.indexes i).awaited ≡ Some by)
+      (λ is. (left_over s (old.indexes index).awaited by (sym calls.index_is.here.awaited ∙ is)).0)
+      (λ i elsewhere is. sym (calls.index_is.elsewhere i elsewhere).awaited ∙ is) at;
   versions = calls.beside.versions;
   rest = calls.beside.rest;
   later = calls.beside.later;

@@ -14,7 +14,7 @@ use Rattle.world.specs.declared.undo_room.UndoRoom.{UndoRoom}
 use Rattle.world.specs.Undoing.{read_into}
 use Rattle.undo_apply.specs.declared.work_room.WorkRoom.{WorkRoom}
 use Rattle.undo_apply.specs.declared.work_room.Stage.{Stage}
-use Rattle.undo_apply.specs.declared.work_room.Stage.TheVariants.{Find, Key, Walk, Mark, Await, Remove, Unmark, AwaitRecords, Record}
+use Rattle.undo_apply.specs.declared.work_room.Stage.TheVariants.{Walk}
 use Rattle.undo_apply.specs.Told.{Rows, rows_of}
 use Rattle.undo_apply.specs.Standing.{versions_before, HasWalked}
 use Rattle.undo_apply.specs.Stages.{StageHolds, IsPuttingBack, WalksOn, GoesOn, PutsBack}
@@ -27,12 +27,9 @@ use Rattle.desks.specs.Desks.{doing_at}
 use Rattle.desks.specs.Undoing.{left_at, keys_if, undo_left_in, most_versions}
 use Rattle.desks.specs.Holding.{IsGoingBack, IsHeld}
 use Rattle.law_held_steps.specs.Undoing.{HasPutBack}
-use Rattle.law_held_steps.proofs.UndoDesks.{kept_on}
-use Rattle.law_held_steps.proofs.UndoLeft.{left_nears, left_walks}
-use Rattle.law_held_steps.proofs.Memory.{not_stopped}
-use Rattle.law_held_steps.proofs.Popping.{older_fewer}
-use Rattle.law_held_steps.proofs.UndoSteps.{LeavesAll, StaysPutting, stays_putting, hindered_by}
-use Rattle.law_held_steps.proofs.Beside.{nothing_under_way, rows_of_writer, last_beside, held_beside}
+use Rattle.law_held_steps.proofs.Desks.{kept_on}
+use Rattle.law_held_steps.proofs.Beside.{left_nears, left_walks, not_stopped, older_fewer, LeavesAll, StaysPutting, stays_putting, hindered_by}
+use Rattle.law_held_steps.proofs.Beside.{nothing_under_way, rows_of_writer, last_beside, held_given}
 use Rattle.row_changes.specs.Awaited.{IsAwaitedAlone}
 use Rattle.undo_apply.proofs.Hindrances.{never_hindered}
 
@@ -56,22 +53,7 @@ module _ (chains : Chains) (place : Place) (undo : Undo) (schema : Schema) (stat
       (omega (arith, walked.fewer, few)) (walks.1 tells walked.left walking.left leads on) in
       subst (λ (w : ℕ). left_at keys most state.versions.kept_at (Walk w behind) < left_at keys most state.versions.kept_at (Walk which pointer))
       (sym walks.0) less
-  walks_near (Walk which pointer) Find walks was now = absurd walks
-  walks_near (Walk which pointer) (Key other) walks was now = absurd walks
-  walks_near (Walk which pointer) (Mark other) walks was now = absurd walks
-  walks_near (Walk which pointer) (Await other) walks was now = absurd walks
-  walks_near (Walk which pointer) (Remove other) walks was now = absurd walks
-  walks_near (Walk which pointer) (Unmark other) walks was now = absurd walks
-  walks_near (Walk which pointer) AwaitRecords walks was now = absurd walks
-  walks_near (Walk which pointer) Record walks was now = absurd walks
-  walks_near Find next walks was now = absurd walks
-  walks_near (Key which) next walks was now = absurd walks
-  walks_near (Mark which) next walks was now = absurd walks
-  walks_near (Await which) next walks was now = absurd walks
-  walks_near (Remove which) next walks was now = absurd walks
-  walks_near (Unmark which) next walks was now = absurd walks
-  walks_near AwaitRecords next walks was now = absurd walks
-  walks_near Record next walks was now = absurd walks
+  walks_near stage next walks was now = absurd walks
 
 -- ---- how much is left
 
@@ -113,19 +95,15 @@ module _ (s : ℕ) (old new : WorldState) (writer : Option ℕ) (desks : List De
       → IsHeld new writer desks cuts undo next
   held_on answer memory later put not_done =
       let stays = still_putting answer put not_done in
-      let rows : IsGoingBack held.chains new s (read_into undo) next
-      =
-      record {
+      held_given held mine stays.leaves memory.told later.told (kept_on s Undoing desks busy)
+      (record {
         logged = going.logged;
         place = going.place;
-        last = last_beside old new stays.leaves.rest s going.logged going.place going.last;
-        undo_is =
-            going.undo_is;
+        last = last_beside s stays.leaves.rest going.last;
+        undo_is = going.undo_is;
         putting = stays.putting;
-      } in
-      held_beside s old new writer desks desks cuts undo undo room next Undoing held mine stays.leaves memory.told later.told
-      (kept_on s Undoing desks busy)
-      rows (step_all held.chains going.place s (read_into undo) room next old new answer (answers answer put) not_done held.logs) (record {})
+      })
+      (step_all held.chains going.place s (read_into undo) room next old new answer (answers answer put) not_done held.logs) (record {})
       stays.putting.whole
 
   -- ---- less is left
@@ -134,11 +112,7 @@ module _ (s : ℕ) (old new : WorldState) (writer : Option ℕ) (desks : List De
   schemas_same rest = ap (λ (x : WorldState). x.schemas) rest
 
   before_few : length (versions_before held.chains going.place) ≤ most_versions
-  before_few =
-      let fewer = older_fewer (versions_at going.place held.chains) in
-      let short = held.short going.place in
-      let small = held.agrees.lists.small in
-      omega (arith, fewer, short, small)
+  before_few = omega (arith, older_fewer (versions_at going.place held.chains), held.short going.place, held.agrees.lists.small)
 
   pub same_left : (answer : Move) → IsInMemory new → HasPutBack s (read_into undo) room next old new answer → answer ≢ Done → answer ≢ Step
       → undo_left_in undo.table next.stage new ≡ undo_left_in undo.table room.stage old

@@ -1,29 +1,23 @@
 -- The undo record of the newest change is read, so that change may be taken back.
-use Rattle.std.proofs.Common.{◌≡◌, ⊎_elim, ℕ, ◌^◌, ◌<◌, ◌≤◌, Bool, true, false, List, [], ◌∷◌, length, Option, Some, None, refl, sym, ap, subst, ◌∙◌, arith}
-use Rattle.std.proofs.Common.{slice_get}
+use Rattle.std.proofs.Common.{◌≡◌, ⊎_elim, ℕ, ◌^◌, ◌<◌, ◌≤◌, Bool, true, List, [], ◌∷◌, length, Option, Some, None, refl, sym, ap, subst, ◌∙◌, arith, slice_get}
 use Rattle.std.specs.Prelude.{is_some}
 use Rattle.std.proofs.lemmas.Bool.{cases_eq}
-use Rattle.inno_types.specs.declared.value.Schema.{Schema}
 use Rattle.inno_db.specs.declared.change.Change.{Change}
-use Rattle.inno_db.specs.declared.change.Change.TheVariants.{Create, Put, Remove}
+use Rattle.inno_db.specs.declared.change.Change.TheVariants.{Create}
 use Rattle.inno_model.specs.declared.event.Event.{Event}
 use Rattle.inno_model.specs.declared.event.Event.TheVariants.{Undone}
-use Rattle.inno_model.specs.Past.{own, level, IsOpen}
+use Rattle.inno_model.specs.Past.{own}
 use Rattle.row_versions.specs.declared.kept.Kept.{Kept}
 use Rattle.store_api.specs.declared.moves.Move.TheVariants.{Done}
 use Rattle.store_api.specs.declared.answers.Undo.{Undo}
 use Rattle.row_versions.specs.declared.place.Place.{Place}
 use Rattle.row_versions.specs.Chains.{Chains}
 use Rattle.law_past_agreement.specs.Order.{IsOfRow, IsUndoable, MayCome}
-use Rattle.law_past_agreement.specs.Rows.{place_in}
-use Rattle.law_past_agreement.specs.Agreement.{SlotAgrees, WriterAgrees}
+use Rattle.law_past_agreement.specs.Agreement.{WriterAgrees}
 use Rattle.world.specs.State.{WorldState, Session, Work, Logged, HasWork}
-use Rattle.world.specs.Told.{IsTold, LeavesRows}
+use Rattle.world.specs.Told.{LeavesRows}
 use Rattle.world.specs.declared.undo_room.UndoRoom.{UndoRoom}
-use Rattle.world.specs.Undoing.{read_into, newest, IsRead, IsUnchanged, ReadsLast}
-use Rattle.law_world_agreement.specs.Agreement.{Agrees}
-use Rattle.law_world_agreement.proofs.Settled.{slot_if, slot_at}
-use Rattle.law_world_agreement.proofs.Opening.{idle_of}
+use Rattle.world.specs.Undoing.{read_into, newest, IsRead, ReadsLast}
 use Rattle.undo_apply.specs.declared.work_room.WorkRoom.{WorkRoom}
 use Rattle.undo_apply.specs.declared.work_room.Stage.{Stage}
 use Rattle.undo_apply.specs.declared.work_room.Stage.TheVariants.{Find}
@@ -32,21 +26,22 @@ use Rattle.undo_apply.specs.Stages.{IsPuttingBack}
 use Rattle.undo_apply.proofs.Telling.{leaves_told}
 use Rattle.undo_apply.proofs.Goes.{others_leave}
 use Rattle.undo_apply.proofs.Columns.{few_keys}
-use Rattle.law_logged_changes.specs.Logs.{RecordsAt, LogStands, IsLogOf, LogsAgree}
+use Rattle.law_logged_changes.specs.Logs.{IsLogOf, LogsAgree}
 use Rattle.law_logged_changes.proofs.Leaving.{rows_leave, all_left}
 use Rattle.law_logged_changes.proofs.GoingOn.{logs_beside}
 use Rattle.law_logged_changes.proofs.Beginning.{tells_of_it, begins_settled, begins_lagging}
 use Rattle.world.specs.Memory.{IsInMemory}
 use Rattle.desks.specs.declared.desk.Desk.{Desk}
 use Rattle.desks.specs.declared.desk.Doing.{Doing}
-use Rattle.desks.specs.declared.desk.Doing.TheVariants.{Nothing, Searching, Changing, Lagging, Undoing}
+use Rattle.desks.specs.declared.desk.Doing.TheVariants.{Nothing, Lagging, Undoing}
 use Rattle.desks.specs.Desks.{doing_at, with_doing}
 use Rattle.desks.specs.Undoing.{left_at, keys_if, undo_left_in, most_versions}
 use Rattle.desks.specs.Holding.{IsLast, IsGoingBack, IsLagging, RowsHeld, IsHeld}
 use Rattle.law_held_steps.specs.Undoing.{HasLast, IsReady}
-use Rattle.law_held_steps.proofs.UndoDesks.{given}
-use Rattle.law_held_steps.proofs.UndoSteps.{LeavesAll}
-use Rattle.law_held_steps.proofs.Beside.{rows_of_writer, last_beside, held_beside}
+use Rattle.law_held_steps.proofs.AnyStep.{last_log}
+use Rattle.law_held_steps.proofs.Desks.{given}
+use Rattle.law_held_steps.proofs.Keeping.{open_work}
+use Rattle.law_held_steps.proofs.Beside.{LeavesAll, rows_of_writer, last_beside, held_given}
 
 -- ---- who may write
 
@@ -55,63 +50,33 @@ writes_if s keep past None agrees may = absurd (subst (IsUndoable keep) (agrees 
 writes_if s keep past (Some w) agrees may =
     ⊎_elim (λ same. ap Some same) (λ differs. absurd (subst (IsUndoable keep) (agrees.1 s (λ same. differs (sym same))) may)) (cases_eq w s)
 
--- ---- an open transaction is there
-
-module _ (chains : Chains) (writer : Option ℕ) (state : WorldState) (s : ℕ) (agrees : Agrees chains writer state) (open_is : IsOpen s state.past) where
-  not_idle : level s state.past ≡ None → ⊥
-  not_idle none = let e : false ≡ true = sym (ap is_some none) ∙ open_is in cc
-
-  work_if : (session : Session) (work : Option Work) → slice_get state.sessions s ≡ Some session → session.work ≡ work
-      → (x : Session) × (w : Work) × HasWork s x w state
-  work_if session None there is = absurd (not_idle (idle_of chains writer state s session agrees there is).level_is)
-  work_if session (Some work) there is = (session, work, record { session_is = there; work_is = is })
-
-  pub open_work : (session : Session) × (work : Work) × HasWork s session work state
-  open_work = go (slice_get state.sessions s) refl where
-    go : (found : Option Session) → slice_get state.sessions s ≡ found → (session : Session) × (work : Work) × HasWork s session work state
-    go (Some session) there = work_if session session.work there refl
-    go None none =
-        absurd (not_idle (subst (SlotAgrees state.schemas state.past s)
-        (slot_at s state.past state.schemas state.sessions ∙ ap (slot_if state.past state.schemas s) none) (agrees.lists.sessions s)).work_is.level_is)
-
 -- ---- its newest undo record
 
-pub record OnTop (schemas : List Schema) (log : List Logged) (change : Change) : Type 0 where
-  pub logged : Logged
-  pub older : List Logged
-  pub log_is : log ≡ logged ∷ older
-  pub place : Place
-  pub place_is : place_in schemas change ≡ Some place
-
-on_top : (told : Type 0) (schemas : List Schema) (records : RecordsAt) (kept : ℕ → Option Kept) (log : List Logged) (change : Change) (before : List Change)
-    → IsOfRow change → LogStands told schemas records kept log (change ∷ before) → OnTop schemas log change
-on_top told schemas records kept log (Create schema) before of_row stands = absurd of_row
-on_top told schemas records kept [] (Put table row) before of_row stands = absurd stands
-on_top told schemas records kept (logged ∷ log) (Put table row) before of_row stands =
-    record { logged = logged; older = log; log_is = refl; place = stands.0.place; place_is = stands.0.place_is }
-on_top told schemas records kept [] (Remove table key) before of_row stands = absurd stands
-on_top told schemas records kept (logged ∷ log) (Remove table key) before of_row stands =
-    record { logged = logged; older = log; log_is = refl; place = stands.0.place; place_is = stands.0.place_is }
+last_of : (s : ℕ) (state : WorldState) (session : Session) (work : Work) (log : List Logged) (change : Change) (before : List Change)
+    → HasWork s session work state → work.log ≡ log → own s state.past ≡ change ∷ before → IsOfRow change → IsLogOf state log (change ∷ before)
+    → HasLast s state
+last_of s state session work log (Create schema) before has log_is own_is of_row stands = absurd of_row
+last_of s state session work [] change before has log_is own_is of_row stands = absurd stands
+last_of s state session work (logged ∷ log) change before has log_is own_is of_row stands = (
+  logged,
+  stands.0.place,
+  record {
+    session = session;
+    work = work;
+    has_work = has;
+    log = log;
+    log_is = log_is;
+    change = change;
+    before = before;
+    own_is = own_is;
+    place_is = stands.0.place_is;
+  },
+)
 
 last_if : (s keep : ℕ) (state : WorldState) (session : Session) (work : Work) (changes : List Change) → HasWork s session work state
     → own s state.past ≡ changes → IsUndoable keep changes → IsLogOf state work.log changes → HasLast s state
 last_if s keep state session work [] has own_is may stands = absurd may
-last_if s keep state session work (change ∷ before) has own_is may stands =
-    let top = on_top (IsTold state) state.schemas _ state.versions.kept_at work.log change before may.0 stands in (
-      top.logged,
-      top.place,
-      record {
-        session = session;
-        work = work;
-        has_work = has;
-        log = top.older;
-        log_is = top.log_is;
-        change = change;
-        before = before;
-        own_is = own_is;
-        place_is = top.place_is;
-      },
-    )
+last_if s keep state session work (change ∷ before) has own_is may stands = last_of s state session work work.log change before has refl own_is may.0 stands
 
 module _ (s keep : ℕ) (state : WorldState) (writer : Option ℕ) (desks : List Desk) (cuts : ℕ) (undo : UndoRoom) (room : WorkRoom)
     (held : IsHeld state writer desks cuts undo room) where
@@ -120,15 +85,11 @@ module _ (s keep : ℕ) (state : WorldState) (writer : Option ℕ) (desks : List
 
   pub has_last : MayCome state.past (Undone s keep) → HasLast s state
   has_last may =
-      let is = open_work held.chains writer state s held.agrees may.0 in
+      let is = open_work held.chains writer state held.agrees s may.0 in
       last_if s keep state is.0 is.1 (own s state.past) is.2 refl may.1 (held.logs.each s is.0 is.1 is.2)
 
   pub has_joined : s < length desks → (s < length state.sessions) × (s < 68)
-  has_joined joined =
-      let count = held.count in
-      let few = held.few in
-      let sessions = held.agrees.count in
-      (omega (arith, joined, count, sessions), omega (arith, joined, count, few))
+  has_joined joined = (omega (arith, joined, held.count, held.agrees.count), omega (arith, joined, held.count, held.few))
 
 -- ---- a taking back may begin
 
@@ -140,14 +101,9 @@ pub record MayBegin (chains : Chains) (state : WorldState) (s : ℕ) (room : Wor
   pub anew : room.stage ≡ Find
 
 module _ (chains : Chains) (state : WorldState) (s : ℕ) (room : WorkRoom) (agree : LogsAgree state) (whole : IsWhole room) where
-  log_of : (logged : Logged) (place : Place) (last : IsLast state s logged place) → IsLogOf state (logged ∷ last.log) (last.change ∷ last.before)
-  log_of logged place last =
-      subst (λ (log : List Logged). IsLogOf state log (last.change ∷ last.before)) last.log_is
-      (subst (λ (changes : List Change). IsLogOf state last.work.log changes) last.own_is (agree.each s last.session last.work last.has_work))
-
   begin_lagging : (lag : IsLagging chains state s) → room.stage ≡ Find → MayBegin chains state s room
   begin_lagging lag anew =
-      let log = log_of lag.logged lag.place lag.last in
+      let log = last_log agree lag.last in
       let tells = tells_of_it chains state lag.logged lag.last.log lag.last.change lag.last.before lag.place room log lag.last.place_is in
       record {
         logged = lag.logged;
@@ -164,13 +120,11 @@ module _ (chains : Chains) (state : WorldState) (s : ℕ) (room : WorkRoom) (agr
     logged = logged;
     place = place;
     last = last;
-    putting = begins_settled chains state logged last.log last.change last.before place room (log_of logged place last) last.place_is rows.0 whole rows.1;
+    putting = begins_settled chains state logged last.log last.change last.before place room (last_log agree last) last.place_is rows.0 whole rows.1;
     anew = rows.1;
   }
   begin_from undo Lagging is rows last = begin_lagging rows.0 rows.1
-  begin_from undo (Searching on) is rows last = absurd is
-  begin_from undo (Changing change) is rows last = absurd is
-  begin_from undo Undoing is rows last = absurd is
+  begin_from undo other is rows last = absurd is
 
 -- ---- the record is read
 
@@ -181,13 +135,6 @@ read_there log logged older read there is reads =
     let some : there ≡ true = reads.0 ∙ ap is_some found in
     let same : Some logged.undo ≡ Some read = sym found ∙ reads.1 some in
     (some, cc)
-
-unchanged_leaves : (old new : WorldState) → IsUnchanged old new → LeavesAll old new
-unchanged_leaves old new same = record { places = λ index. (same.indexes index).place; versions = same.versions; rest = same.rest }
-
-unchanged_rows : (old new : WorldState) → IsUnchanged old new → LeavesRows old new
-unchanged_rows old new same =
-    record { schemas = ap (λ (state : WorldState). state.schemas) same.rest; pairs = λ index. (same.indexes index).pairs; versions = same.versions }
 
 -- all of it is left, which is no more than this where there are four keys at most
 few_left : (keys most : ℕ) (kept : ℕ → Option Kept) (stage : Stage) → keys ≤ 4 → stage ≡ Find → left_at keys most kept stage < 2 ^ 70
@@ -217,16 +164,20 @@ module _ (s keep : ℕ) (old new : WorldState) (writer : Option ℕ) (desks : Li
         (reads.0 begin.last.session begin.last.work begin.last.has_work)).1
 
     left_all : LeavesAll old new
-    left_all = unchanged_leaves old new reads.1
+    left_all = record { places = λ index. (reads.1.indexes index).place; versions = reads.1.versions; rest = reads.1.rest }
 
     left_rows : LeavesRows old new
-    left_rows = unchanged_rows old new reads.1
+    left_rows = record {
+      schemas = ap (λ (state : WorldState). state.schemas) reads.1.rest;
+      pairs = λ index. (reads.1.indexes index).pairs;
+      versions = reads.1.versions;
+    }
 
     going_back : IsGoingBack held.chains new s (read_into read) room
     going_back = record {
       logged = begin.logged;
       place = begin.place;
-      last = last_beside old new left_all.rest s begin.logged begin.place begin.last;
+      last = last_beside s left_all.rest begin.last;
       undo_is = read_is;
       putting =
           subst (λ (u : Undo). IsPuttingBack held.chains begin.place u room new) (sym read_is)
@@ -235,9 +186,8 @@ module _ (s keep : ℕ) (old new : WorldState) (writer : Option ℕ) (desks : Li
 
     pub held_begun : IsHeld new writer (with_doing s Undoing desks) cuts read room
     held_begun =
-        held_beside s old new writer desks (with_doing s Undoing desks) cuts undo read room room Undoing held mine left_all
-        (leaves_told left_rows memory.told) memory.told (given s Undoing desks joined)
-        going_back (all_left old new (rows_leave old new left_rows) (logs_beside old new left_all.rest) held.logs) (record {}) held.whole
+        held_given held mine left_all (leaves_told left_rows memory.told) memory.told (given s Undoing desks joined) going_back
+        (all_left old new (rows_leave old new left_rows) (logs_beside old new left_all.rest) held.logs) (record {}) held.whole
 
     pub few_begun : undo_left_in read.table room.stage new < 2 ^ 70
     few_begun =

@@ -1,10 +1,7 @@
 -- What callers see of entries that change no row, and of what sessions set.
-use Rattle.std.proofs.Common.{◌≡◌, ◌≢◌, ℕ, zero, suc, ◌+◌, ◌<◌, ◌≤◌, ◌==◌, Option, Some, List, [], ◌∷◌, ◌++◌, length, map, refl, sym, ap, ◌∙◌, inl, inr, arith}
-use Rattle.std.proofs.Common.{◌⊎◌, get_or, set, ◌^◌}
+use Rattle.std.proofs.Common.{◌≡◌, ◌≢◌, ℕ, zero, suc, Option, Some, List, [], ◌∷◌, length, map, refl, sym, ap, ◌∙◌}
 use Rattle.std.specs.Prelude.{slice_get, slice_set, slice_index_or}
-use Rattle.std.proofs.lemmas.Bool.Decides.{eqb_tells}
-use Rattle.std.proofs.lemmas.List.{length-set, map-set, set-get_or, ext_get_or}
-use Rattle.std.proofs.lemmas.Option.{slice_get-get_or}
+use Rattle.std.proofs.lemmas.List.{length-set, map-set, set-get_or}
 use Rattle.inno_types.specs.declared.value.Schema.{Schema}
 use Rattle.inno_model.specs.declared.event.Event.{Event}
 use Rattle.row_versions.specs.Versions.{Versions}
@@ -19,6 +16,9 @@ use Rattle.desks.specs.Desks.{doing_at}
 use Rattle.desks.specs.Shown.{shown, seen_of}
 use Rattle.desks.specs.Undoing.{keys_if, left_at, undo_left_in, most_versions}
 use Rattle.desks.proofs.Showing.{task_is, idle_shown}
+use Rattle.law_world_agreement.proofs.Opening.{set_here, set_other}
+use Rattle.law_held_steps.proofs.Keeping.{same_settings}
+use Rattle.law_held_steps.proofs.AnyStep.{some_same, each}
 
 pub rests_of : (s table : ℕ) (stage : Stage) (state : WorldState) (writer : Option ℕ) (desks : List Desk)
     → task_of s (seen_of table stage state writer desks).state ≡ tasks.Idle → doing_at s desks ≡ Nothing
@@ -48,9 +48,6 @@ now_of t table stage old new writer later desks now past names past_is schemas v
 
 -- ---- what sessions have set
 
-setting_of : Session → Setting
-setting_of session = session.setting
-
 pub settings_set : (sessions : List Session) (t : ℕ) (after : Session)
     → map (λ (x : Session). x.setting) (slice_set sessions t after) ≡ slice_set (map (λ (x : Session). x.setting) sessions) t after.setting
 settings_set sessions t after = map-set (λ (x : Session). x.setting) sessions t after
@@ -58,10 +55,7 @@ settings_set sessions t after = map-set (λ (x : Session). x.setting) sessions t
 pub setting_at : (sessions : List Session) (t : ℕ) (session : Session) → slice_get sessions t ≡ Some session
     → slice_index_or (map (λ (x : Session). x.setting) sessions) t at_first ≡ session.setting
 setting_at [] t session there = cc
-setting_at (first ∷ sessions) zero session there = ap (λ (x : Session). x.setting) (same_first first session there)
-  where
-    same_first : (a b : Session) → Some a ≡ Some b → a ≡ b
-    same_first a b same = cc
+setting_at (first ∷ sessions) zero session there = ap (λ (x : Session). x.setting) (some_same first session there)
 setting_at (first ∷ sessions) (suc t) session there = setting_at sessions t session there
 
 -- a session with the same setting
@@ -88,19 +82,7 @@ pub settings_by : (sessions others : List Session) (t : ℕ) (session after : Se
     → map (λ (x : Session). x.setting) others ≡ slice_set (map (λ (x : Session). x.setting) sessions) t
     (f (slice_index_or (map (λ (x : Session). x.setting) sessions) t at_first))
 settings_by sessions others t session after f long there here same elsewhere =
-    sym (settings_lists (slice_set sessions t after) others after (length-set sessions t after ∙ sym long) (λ s. elim (eqb_tells s t) [
-      | inl is ↦ ap (λ u. slice_get (slice_set sessions t after) u) is.1 ∙ Rattle.law_world_agreement.proofs.Opening.set_here sessions t session after there
-          ∙ sym here ∙ ap (λ u. slice_get others u) (sym is.1)
-      | inr differ ↦ Rattle.law_world_agreement.proofs.Opening.set_other sessions t s after differ.1 ∙ sym (elsewhere s differ.1)
-    ]))
+    sym (same_settings (slice_set sessions t after) others (length-set sessions t after ∙ sym long) (λ s x y first second.
+    ap (λ (z : Session). z.setting) (some_same x y (sym first ∙ each t (λ s. slice_get (slice_set sessions t after) s ≡ slice_get others s)
+    (set_here sessions t session after there ∙ sym here) (λ u differ. set_other sessions t u after differ ∙ sym (elsewhere u differ)) s ∙ second))))
     ∙ settings_now sessions t session after f there same
-  where
-    settings_lists : (xs ys : List Session) (d : Session) → length xs ≡ length ys → ((s : ℕ) → slice_get xs s ≡ slice_get ys s)
-        → map (λ (x : Session). x.setting) xs ≡ map (λ (x : Session). x.setting) ys
-    settings_lists xs ys d same_length each =
-        ap (map (λ (x : Session). x.setting)) (ext_get_or d xs ys same_length
-        (λ i within. some_one (get_or xs i d) (get_or ys i d)
-        (sym (slice_get-get_or xs i d within) ∙ (each i ∙ slice_get-get_or ys i d (omega (arith, within, same_length))))))
-      where
-        some_one : (a b : Session) → Some a ≡ Some b → a ≡ b
-        some_one a b is = cc

@@ -1,7 +1,6 @@
 -- What callers see of desks: the tasks of sessions.
-use Rattle.std.proofs.Common.{◌≡◌, ◌≢◌, ℕ, zero, suc, ◌+◌, ◌*◌, ◌<◌, ◌≤◌, ◌^◌, true, false, List, [], ◌∷◌, length, Option, Some, None, refl, sym, ap, subst}
-use Rattle.std.proofs.Common.{◌∙◌, arith}
-use Rattle.std.specs.Prelude.{slice_get, slice_index_or}
+use Rattle.std.proofs.Common.{◌≡◌, ◌≢◌, ℕ, ◌+◌, ◌*◌, ◌<◌, ◌≤◌, ◌^◌, true, false, List, ◌∷◌, length, Option, Some, None, refl, sym, ap, subst, ◌∙◌, arith}
+use Rattle.std.specs.Prelude.{slice_get}
 use Rattle.std.proofs.lemmas.Bool.{true≢false}
 use Rattle.inno_types.specs.declared.value.Schema.{Schema}
 use Rattle.inno_model.specs.declared.event.Event.{Event}
@@ -22,68 +21,62 @@ use Rattle.shared_lists.specs.State.{Lists, task_of, IsNow, Turns}
 use Rattle.shared_lists.specs.Steps.{Changes, rows_of_change, rows_entered}
 use Rattle.desks.specs.declared.desk.Desk.{Desk}
 use Rattle.desks.specs.declared.desk.Doing.{Doing}
-use Rattle.desks.specs.declared.desk.Doing.TheVariants.{Nothing, Searching, Changing, Lagging, Undoing}
+use Rattle.desks.specs.declared.desk.Doing.TheVariants.{Nothing, Searching, Changing}
 use Rattle.desks.specs.Desks.{doing_at, with_doing, is_quiet_doing}
-use Rattle.desks.specs.Shown.{shown, change_in, tasks_of, lists_of}
-use Rattle.desks.specs.declared.desk.TableSearch.{TableSearch}
+use Rattle.desks.specs.Shown.{shown, change_in, lists_of}
 use Rattle.desks.specs.Undoing.{keys_if}
-use Rattle.desks.proofs.Showing.{lists_stay}
+use Rattle.desks.proofs.Showing.{lists_stay, task_is}
 use Rattle.desks.specs.Holding.{IsHeld}
 use Rattle.law_held_steps.specs.Beginning.{begun}
 use Rattle.law_held_steps.specs.Making.{given_up, LeavesLists, AddsNothing, IsNearer, IsEntered}
 use Rattle.law_held_steps.specs.Leaving.{LeavesIndexes, is_searching}
-use Rattle.law_held_steps.proofs.Desks.{doing_here, doing_elsewhere, changes_at_a_desk}
+use Rattle.law_held_steps.proofs.AnyStep.{some_same}
+use Rattle.law_held_steps.proofs.Desks.{GivesDoing, given, doing_here, changes_at_a_desk}
 use Rattle.law_found_rows.proofs.FittingChanges.{tables_storable}
 
-some_same : (a b : ℕ) → Some a ≡ Some b → a ≡ b
-some_same a b same = cc
-
 -- ---- the task of a session is what its desk shows
-
-pub task_at : (schemas : List Schema) (left : ℕ) (desks : List Desk) (u : ℕ)
-    → slice_index_or (tasks_of schemas left desks) u Idle ≡ shown schemas left (doing_at u desks)
-task_at schemas left [] u = refl
-task_at schemas left (desk ∷ desks) zero = refl
-task_at schemas left (desk ∷ desks) (suc u) = task_at schemas left desks u
 
 -- of who takes nothing back, whatever is left of what somebody takes back
 quiet_shown : (schemas : List Schema) (left later : ℕ) (doing : Doing) → is_quiet_doing doing ≡ true → shown schemas left doing ≡ shown schemas later doing
 quiet_shown schemas left later Nothing quiet = refl
 quiet_shown schemas left later (Searching on) quiet = refl
-quiet_shown schemas left later (Changing change) quiet = absurd (cc)
-quiet_shown schemas left later Lagging quiet = absurd (cc)
-quiet_shown schemas left later Undoing quiet = absurd (cc)
+quiet_shown schemas left later other quiet = absurd (cc)
+
+-- the names and tables are the same, the past is this, and one session has something else to do
+pub shows_now : (s : ℕ) (doing : Doing) (past : List Event) (old new : WorldState) (writer : Option ℕ) (desks later : List Desk) (left now : ℕ)
+    → writer ≡ Some s → ((t : ℕ) → writer ≢ Some t → is_quiet_doing (doing_at t desks) ≡ true) → GivesDoing s doing desks later
+    → new.names ≡ old.names → new.schemas ≡ old.schemas → new.past ≡ past → (task : Task) → shown new.schemas now doing ≡ task → IsNow past s task writer
+    (lists_of old writer desks left).state (lists_of new writer later now).state
+shows_now s doing past old new writer desks later left now mine quiet gives names schemas is task shows = record {
+  names_are = names;
+  past_is = is;
+  writer_is = refl;
+  task_is = task_is s now new writer later ∙ ap (shown new.schemas now) gives.here ∙ shows;
+  others = λ t differs.
+      task_is t now new writer later
+      ∙ ap (shown new.schemas now) (ap (λ (desk : Desk). desk.doing) (gives.others t differs))
+      ∙ ap (λ (x : List Schema). shown x now (doing_at t desks)) schemas
+      ∙ quiet_shown old.schemas now left (doing_at t desks) (quiet t (λ is. differs (some_same t s (sym is ∙ mine))))
+      ∙ sym (task_is t left old writer desks);
+}
 
 module _ (s : ℕ) (desks : List Desk) (cuts : ℕ) (undo : UndoRoom) (room : WorkRoom) (old new : WorldState) (left later : ℕ)
     (held : IsHeld old (Some s) desks cuts undo room) (leaves : LeavesLists old new) where
-  others_shown : (doing : Doing) (u : ℕ) → u ≢ s
-      → task_of u (lists_of new (Some s) (with_doing s doing desks) later).state ≡ task_of u (lists_of old (Some s) desks left).state
-  others_shown doing u differs =
-      task_at new.schemas later (with_doing s doing desks) u
-      ∙ ap (shown new.schemas later) (doing_elsewhere s u doing desks differs)
-      ∙ ap (λ (schemas : List Schema). shown schemas later (doing_at u desks)) leaves.schemas
-      ∙ quiet_shown old.schemas later left (doing_at u desks) (held.quiet u (λ same. differs (sym (some_same s u same))))
-      ∙ sym (task_at old.schemas left desks u)
-
   mine_shown : (doing : Doing) → s < length desks → task_of s (lists_of new (Some s) (with_doing s doing desks) later).state ≡ shown new.schemas later doing
-  mine_shown doing within = task_at new.schemas later (with_doing s doing desks) s ∙ ap (shown new.schemas later) (doing_here s doing desks within)
+  mine_shown doing within = task_is s later new (Some s) (with_doing s doing desks) ∙ ap (shown new.schemas later) (doing_here s doing desks within)
 
   pub now_shown : (doing : Doing) (past : List Event) (task : Task) → s < length desks → new.past ≡ past → shown new.schemas later doing ≡ task
       → IsNow past s task (Some s) (lists_of old (Some s) desks left).state (lists_of new (Some s) (with_doing s doing desks) later).state
-  now_shown doing past task within past_is task_is = record {
-    names_are = leaves.names;
-    past_is = past_is;
-    writer_is = refl;
-    task_is = mine_shown doing within ∙ task_is;
-    others = others_shown doing;
-  }
+  now_shown doing past task within past_is task_is =
+      shows_now s doing past old new (Some s) desks (with_doing s doing desks) left later refl held.quiet (given s doing desks within) leaves.names
+      leaves.schemas past_is task task_is
 
   module _ (change : RowChange) (at : doing_at s desks ≡ Changing change) where
     within : s < length desks
     within = changes_at_a_desk s change desks at
 
     was_shown : task_of s (lists_of old (Some s) desks left).state ≡ shown old.schemas left (Changing change)
-    was_shown = task_at old.schemas left desks s ∙ ap (shown old.schemas left) at
+    was_shown = task_is s left old (Some s) desks ∙ ap (shown old.schemas left) at
 
     was_asked : asked (task_of s (lists_of old (Some s) desks left).state) ≡ change_in change
     was_asked = ap asked was_shown
@@ -131,7 +124,7 @@ pub rows_shown : (s : ℕ) (desks : List Desk) (old new : WorldState) (change ne
     → IsEntered s old new change next → new.rows ≡ old.rows + rows_entered answers.Entered (task_of s (lists_of old (Some s) desks left).state)
 rows_shown s desks old new change next left at entered =
     let asked_was : asked (task_of s (lists_of old (Some s) desks left).state) ≡ Some entered.entry =
-    ap asked (task_at old.schemas left desks s ∙ ap (shown old.schemas left) at) ∙ entered.was in
+    ap asked (task_is s left old (Some s) desks ∙ ap (shown old.schemas left) at) ∙ entered.was in
     entered.rows ∙ ap (λ c. old.rows + rows_of_change c) (sym asked_was)
 
 -- ---- a change that begins
@@ -178,10 +171,7 @@ module _ (state : WorldState) (s : ℕ) (desks : List Desk) (cuts : ℕ) (undo :
 
 -- ---- an index that is left
 
-no_search : (doing : Doing) (on : TableSearch) → is_searching doing ≡ false → doing ≡ Searching on → ⊥
-no_search doing on none is = true≢false (sym (ap is_searching is) ∙ none)
-
 pub left_shown : (s : ℕ) (writer : Option ℕ) (desks : List Desk) (left : ℕ) (old new : WorldState) → LeavesIndexes s old new
     → is_searching (doing_at s desks) ≡ false → IsTold new → lists_of new writer desks left ≡ lists_of old writer desks left
 left_shown s writer desks left old new leaves none told =
-    lists_stay s left old new writer desks leaves.rest leaves.pairs leaves.others leaves.versions told (λ on is. no_search (doing_at s desks) on none is)
+    lists_stay s left old new writer desks leaves.rest leaves.pairs leaves.others leaves.versions told (λ on is. true≢false (sym (ap is_searching is) ∙ none))

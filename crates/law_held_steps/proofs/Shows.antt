@@ -1,38 +1,193 @@
--- A held world shows its rows to each search that is under way.
-use Rattle.std.proofs.Common.{◌≡◌, ◌≢◌, ◌⊎◌, inl, inr, ⊎_elim, ℕ, true, false, List, ◌∷◌, length, Option, Some, None, refl, sym, ap, ◌∙◌, slice_get}
-use Rattle.std.specs.Prelude.{◌≤◌}
-use Rattle.std.proofs.lemmas.Bool.{cases_eq}
-use Rattle.inno_types.specs.declared.value.Schema.{Schema}
-use Rattle.store_api.specs.declared.answers.Undo.{Undo}
+-- A held world shows its rows to each search that is under way. Where keys lag behind the newest change of a session, other
+-- readers by a view don't see that change, and are told of what they see.
+use Rattle.std.proofs.Common.{◌≡◌, ◌≢◌, inl, inr, ℕ, ◌<◌, Bool, true, false, cond, List, [], ◌∷◌, ◌++◌, Option, Some, refl, sym, ap, subst, ◌∙◌, arith, length}
+use Rattle.std.proofs.Common.{slice_get, ◌⊎◌, ⊎_elim, None}
+use Rattle.std.specs.Prelude.{is_some, option_map, ◌||◌, ◌≤◌}
+use Rattle.std.specs.List.{list_any}
+use Rattle.std.proofs.lemmas.Bool.{cases_lt, false≢true, cases_eq}
+use Rattle.std.proofs.lemmas.Bool.Decides.{nat_tests, eqb_tells}
+use Rattle.inno_db.specs.declared.change.Change.{Change}
+use Rattle.inno_model.specs.Past.{own, IsOpen}
+use Rattle.read_view.specs.Sight.{Sight as ReadSight, is_seen}
 use Rattle.row_versions.specs.declared.place.Place.{Place}
 use Rattle.row_versions.specs.declared.version.Version.{Version}
-use Rattle.row_versions.specs.Chains.{Chains, versions_at}
-use Rattle.law_stored_rows.specs.Tables.{Said, HasItsColumns, AreCoded, in_table, what_is_there}
+use Rattle.row_versions.specs.Chains.{Chains, versions_at, sees, is_same_place}
+use Rattle.law_stored_rows.proofs.Values.{place_itself, same_place, one_key}
 use Rattle.law_past_agreement.specs.Ids.{id_of}
+use Rattle.law_past_agreement.specs.Rows.{is_at, is_place, row_of, row_opened}
+use Rattle.law_past_agreement.specs.Agreement.{AreVersionsBy, ViewAgrees, versions_of}
+use Rattle.law_past_agreement.proofs.Ids.{AreIds, ids_of}
 use Rattle.world.specs.State.{WorldState, Logged}
+use Rattle.law_world_agreement.specs.Agreement.{sight_of, Agrees}
+use Rattle.law_world_agreement.proofs.Ending.{work_of}
+use Rattle.desks.specs.Holding.{IsLast, IsOwnView, IsLastOf, RowsHeld, RowsHeldBy, SightHolds}
+use Rattle.inno_types.specs.declared.value.Value.{Value}
+use Rattle.inno_types.specs.declared.value.Column.{Column}
+use Rattle.inno_types.specs.declared.value.Schema.{Schema}
+use Rattle.key_codec.specs.Keys.{HasKey, key_code}
+use Rattle.law_stored_rows.specs.Tables.{Said, HasItsColumns, AreCodedAs, LagAt, in_table, what_is_there, AreCoded}
 use Rattle.world.specs.Told.{IsTold, pairs_of}
-use Rattle.law_world_agreement.specs.Agreement.{Agrees}
 use Rattle.row_changes.specs.declared.keys_change.KeysChange.{KeysChange}
-use Rattle.row_changes.specs.declared.row_change.RowChange.TheVariants.{Record, Keys}
 use Rattle.row_changes.specs.Keys.{IsChangingKeys}
-use Rattle.row_changes.specs.Told.{AreRowsAs}
-use Rattle.undo_apply.specs.declared.work_room.WorkRoom.{WorkRoom}
-use Rattle.law_logged_changes.specs.Logs.{LogsAgree}
-use Rattle.law_logged_changes.specs.Lagging.{LagsAt}
-use Rattle.law_logged_changes.proofs.Lags.{lags_while}
+use Rattle.law_logged_changes.proofs.Readable.{lags}
+use Rattle.undo_apply.specs.Standing.{TellsOf}
+use Rattle.law_logged_changes.specs.Logs.{records_of, Stands, LogsAgree}
 use Rattle.row_search.specs.declared.scan.Scan.{Scan}
-use Rattle.row_search.specs.declared.sight.Sight.{Sight}
-use Rattle.row_search.specs.declared.sight.Sight.TheVariants.{View, Newest}
 use Rattle.row_search.specs.Sights.{sees_by}
 use Rattle.row_search.specs.Tables.{ShowsRows}
+use Rattle.law_held_steps.proofs.AnyStep.{some_same, last_log, quiet_rows}
 use Rattle.law_found_rows.proofs.Showing.{shows_coded, shows_lagging}
+use Rattle.store_api.specs.declared.answers.Undo.{Undo}
+use Rattle.row_changes.specs.declared.row_change.RowChange.TheVariants.{Record, Keys}
+use Rattle.row_changes.specs.Told.{AreRowsAs}
+use Rattle.undo_apply.specs.declared.work_room.WorkRoom.{WorkRoom}
+use Rattle.law_logged_changes.specs.EntriesLag.{LagsAt as EntriesLagAt}
+use Rattle.law_logged_changes.specs.Lagging.{LagsAt}
+use Rattle.law_logged_changes.proofs.Lags.{lags_while}
+use Rattle.law_logged_changes.proofs.Logs.{newest_stands}
+use Rattle.row_search.specs.declared.sight.Sight.{Sight}
+use Rattle.row_search.specs.declared.sight.Sight.TheVariants.{View, Newest}
 use Rattle.desks.specs.declared.desk.Desk.{Desk}
 use Rattle.desks.specs.declared.desk.Doing.{Doing}
 use Rattle.desks.specs.declared.desk.Doing.TheVariants.{Nothing, Searching, Changing, Lagging, Undoing}
 use Rattle.desks.specs.Desks.{doing_at, is_quiet_doing, is_quiet}
-use Rattle.desks.specs.Holding.{IsLast, IsLastOf, RowsHeld, RowsHeldBy, SightHolds}
-use Rattle.law_held_steps.proofs.Unseen.{IsWrittenBy, written, unseen_by}
-use Rattle.law_held_steps.proofs.Lagging.{keys_place, shows_changing}
+use Rattle.inno_db.specs.declared.change.Change.TheVariants as changes
+
+-- ---- the newest version of a place that an open transaction has changed is its own, and no other reader sees it by a view
+
+-- the newest version of the place, and the others
+pub record IsWrittenBy (chains : Chains) (place : Place) (id : ℕ) : Type 0 where
+  pub version : Version
+  pub others : List Version
+  pub versions : versions_at place chains ≡ version ∷ others
+  pub writer_is : version.writer ≡ id
+
+module _ (chains : Chains) (writer : Option ℕ) (state : WorldState) (agrees : Agrees chains writer state) (w : ℕ) (logged : Logged) (place : Place)
+    (last : IsLast state w logged place) where
+  abbrev at : Change → Bool
+  at = is_at state.schemas place
+
+  change_at : at last.change ≡ true
+  change_at = ap (is_place place) last.place_is ∙ place_itself place
+
+  own_parts : (v : ℕ) (versions : List Version) → AreVersionsBy state.past v (row_opened state.past place) at versions
+      → (behind : List Version) × (versions ≡ versions_of (id_of state.past w) at (own w state.past) ++ behind)
+  own_parts v versions by = elim (eqb_tells v w) [
+    | inl same ↦ (by.behind, by.parts ∙ ap (λ (n : ℕ). versions_of (id_of state.past n) at (own n state.past) ++ by.behind) same.1)
+    | inr differs ↦ absurd (false≢true (sym (by.alone w (λ same. differs.1 (sym same))) ∙
+        (ap (list_any at) last.own_is ∙ ap (λ b. b || list_any at last.before) change_at)))
+  ]
+
+  pub written : IsWrittenBy chains place (id_of state.past w)
+  written =
+      let parts = own_parts (agrees.lists.rows place).0 (versions_at place chains) (agrees.lists.rows place).1 in
+      record {
+        version = record { writer = id_of state.past w; row = row_of last.change };
+        others = versions_of (id_of state.past w) at last.before ++ parts.0;
+        versions =
+            parts.1
+            ∙ (ap (λ changes. versions_of (id_of state.past w) at changes ++ parts.0) last.own_is
+            ∙ ap (λ b. cond b (record { writer = id_of state.past w; row = row_of last.change } ∷ versions_of (id_of state.past w) at last.before)
+            (versions_of (id_of state.past w) at last.before) ++ parts.0) change_at);
+        writer_is = refl;
+      }
+
+  ids : AreIds state.past
+  ids = ids_of state.past agrees.lists.ordered
+
+  has_id : 0 < id_of state.past w
+  has_id = elim (cases_lt 0 (id_of state.past w)) [
+    | inl some ↦ some
+    | inr none ↦ let nothing : [] ≡ last.change ∷ last.before = sym (ids.no_id w (omega (arith, none))) ∙ last.own_is in absurd (cc)
+  ]
+
+  is_open : IsOpen w state.past
+  is_open = ap is_some (work_of chains writer state w last.session last.work agrees last.has_work).level_is
+
+  -- by a view of another session
+  pub unseen_by : (s : ℕ) (view : ReadSight) (reader : ℕ) → s ≢ w → IsOwnView state s view reader → sees reader view (id_of state.past w) ≡ false
+  unseen_by s view reader differs is =
+      let mine = work_of chains writer state s is.session is.work agrees is.has_work in
+      let open_s : IsOpen s state.past = ap is_some mine.level_is in
+      let reader_is : id_of state.past s ≡ reader = mine.id_is ∙ sym is.reader_is in
+      let apart : id_of state.past w ≢ id_of state.past s = λ same. differs (sym (ids.distinct w s is_open open_s has_id same)) in
+      let agreed : ViewAgrees state.past s (Some (sight_of is.seen)) = subst (λ o. ViewAgrees state.past s (option_map sight_of o)) is.view_is mine.view_is in
+      let unseen : is_seen view (id_of state.past w) ≡ false
+      = ap (λ (v : ReadSight). is_seen v (id_of state.past w)) is.same
+      ∙ (agreed.1.alike (id_of state.past w) (inr (w, is_open, refl, has_id)) apart ∙ ids.open_not_among w agreed.0 is_open) in
+      tells reader_is apart unseen
+    where
+      tells : id_of state.past s ≡ reader → id_of state.past w ≢ id_of state.past s → is_seen view (id_of state.past w) ≡ false
+          → sees reader view (id_of state.past w) ≡ false
+      tells reader_is apart unseen = grind (arith, nat_tests, reader_is, apart, unseen)
+
+-- ---- the place of a change that is logged
+
+module _ (state : WorldState) (logs : LogsAgree state) (w : ℕ) (logged : Logged) (place : Place) (last : IsLast state w logged place) where
+  last_stands : Stands (IsTold state) state.schemas (records_of state) state.versions.kept_at logged last.log last.change
+  last_stands =
+      (newest_stands (IsTold state) state.schemas (records_of state) state.versions.kept_at logged last.log last.change last.before place last.place_is
+      (last_log logs last)).0
+
+  last_tells : TellsOf logged.undo last_stands.schema place state.schemas
+  last_tells =
+      subst (λ p. TellsOf logged.undo last_stands.schema p state.schemas) (some_same last_stands.place place (sym last_stands.place_is ∙ last.place_is))
+      last_stands.tells
+
+  -- the place at which keys are changed
+  pub keys_place : (chains : Chains) (change : KeysChange) (p : IsChangingKeys chains state change) → place.table ≡ change.table
+      → logged.undo.key ≡ change.key → place ≡ record { table = change.table; key = p.value }
+  keys_place chains change p table_is key_is =
+      let tells = last_tells in
+      let one_table : logged.undo.table ≡ change.table = sym tells.table_is ∙ table_is in
+      let same_schema : last_stands.schema ≡ p.schema =
+      some_same last_stands.schema p.schema (sym tells.there ∙ (ap (slice_get state.schemas) one_table ∙ p.table.there)) in
+      let same_column : tells.primary ≡ p.at.column
+      =
+      some_same tells.primary p.at.column (sym tells.primary_is ∙
+      (ap (λ (schema : Schema). slice_get schema.columns schema.primary) same_schema ∙ p.at.primary)) in
+      let spelled : key_code p.at.column.kind place.key ≡ key_code p.at.column.kind p.value
+      = ap (λ (column : Column). key_code column.kind place.key) (sym same_column) ∙ (sym tells.key_is ∙ (key_is ∙ p.at.spelled)) in
+      let key : place.key ≡ p.value
+      = one_key p.at.column.kind place.key p.value (subst (λ (column : Column). HasKey column.kind place.key) same_column tells.has_key) p.at.has_key spelled in
+      λ i. record { table = table_is i; key = key i }
+
+-- ---- what is shown while keys lag
+
+module _ (schema : Schema) (scan : Scan) (state : WorldState) (chains : Chains) (said : Said) (told : IsTold state)
+    (there : slice_get state.schemas scan.table ≡ Some schema) (columns : HasItsColumns schema) (le : scan.which ≤ length schema.keys)
+    (coded : AreCodedAs state.schemas (pairs_of state) state.versions.kept_at chains said) where
+  -- at two places at most, and not at the same: then nowhere
+  nowhere : (place other : Place) → LagAt place chains said → LagAt other chains said → is_same_place place other ≡ false → said ≡ what_is_there chains
+  nowhere place other here elsewhere apart = λ i table which value. each table which value i where
+    each : (table which : ℕ) (value : Value) → said table which value ≡ what_is_there chains table which value
+    each table which value = go (is_same_place other (record { table = table; key = value })) refl where
+      go : (b : Bool) → is_same_place other (record { table = table; key = value }) ≡ b → said table which value ≡ what_is_there chains table which value
+      go false differs = elsewhere table which value differs
+      go true same = here table which value (ap (is_same_place place) (sym (same_place other (record { table = table; key = value }) same)) ∙ apart)
+
+  shows_at : (place : Place) (version : Version) (others : List Version) → LagAt place chains said → versions_at place chains ≡ version ∷ others
+      → sees_by scan.sight version.writer ≡ false → EntriesLagAt chains said
+      → ShowsRows schema scan state (in_table scan.table chains)
+  shows_at place version others lag versions unseen known = go (is_same_place place known.place) refl where
+    go : (b : Bool) → is_same_place place known.place ≡ b → ShowsRows schema scan state (in_table scan.table chains)
+    go true same =
+        let at : place ≡ known.place = same_place place known.place same in
+        shows_lagging state chains said told coded schema scan there columns le known.place version others known.lag known.tells
+        (ap (λ (p : Place). versions_at p chains) (sym at) ∙ versions) unseen
+    go false apart =
+        shows_coded schema scan state chains told there columns le
+        (subst (AreCodedAs state.schemas (pairs_of state) state.versions.kept_at chains) (nowhere place known.place lag known.lag apart) coded)
+
+pub shows_changing : (schema : Schema) (scan : Scan) (state : WorldState) (chains : Chains) (change : KeysChange) (p : IsChangingKeys chains state change)
+    → IsTold state → slice_get state.schemas scan.table ≡ Some schema → HasItsColumns schema → scan.which ≤ length schema.keys
+    → sees_by scan.sight p.pushed.version.writer ≡ false → ShowsRows schema scan state (in_table scan.table chains)
+shows_changing schema scan state chains change p told there columns le unseen =
+    let rows = p.rows told in
+    shows_at schema scan state chains rows.0 told there columns le rows.1 (record { table = change.table; key = p.value }) p.pushed.version p.older
+    rows.2.lag p.pushed.versions unseen
+    (lags chains (record { table = change.table; key = p.value }) change.which change.put change.before p.older rows.0 p.pushed.version p.pushed.versions
+    rows.2)
 
 -- ---- the rows are there throughout
 
@@ -57,18 +212,10 @@ module _ (chains : Chains) (state : WorldState) (told : IsTold state) where
   some_rows_by None desks undo room rows = (what_is_there chains, rows.0 told)
   some_rows_by (Some w) desks undo room rows = some_rows w undo room (doing_at w desks) rows
 
-  quiet_coded : (w : ℕ) (undo : Undo) (room : WorkRoom) (doing : Doing) → is_quiet_doing doing ≡ true → RowsHeld chains state w undo room doing
-      → AreCoded state.schemas (pairs_of state) state.versions.kept_at chains
-  quiet_coded w undo room Nothing is rows = rows.0 told
-  quiet_coded w undo room (Searching on) is rows = rows.0 told
-  quiet_coded w undo room (Changing change) is rows = absurd (cc)
-  quiet_coded w undo room Lagging is rows = absurd (cc)
-  quiet_coded w undo room Undoing is rows = absurd (cc)
-
   pub coded_while_quiet : (writer : Option ℕ) (desks : List Desk) (undo : Undo) (room : WorkRoom) → is_quiet writer desks ≡ true
       → RowsHeldBy writer chains state desks undo room → AreCoded state.schemas (pairs_of state) state.versions.kept_at chains
   coded_while_quiet None desks undo room is rows = rows.0 told
-  coded_while_quiet (Some w) desks undo room is rows = quiet_coded w undo room (doing_at w desks) is rows
+  coded_while_quiet (Some w) desks undo room is rows = (quiet_rows chains state w undo room (doing_at w desks) is rows).0 told
 
 -- a table whose rows are coded has its columns
 pub columns_of : (chains : Chains) (said : Said) (state : WorldState) (table : ℕ) (schema : Schema) → AreRowsAs chains said state
@@ -87,14 +234,11 @@ columns_of chains said state table schema coded there =
 module _ (chains : Chains) (writer : Option ℕ) (state : WorldState) (agrees : Agrees chains writer state) (logs : LogsAgree state) (told : IsTold state)
     (w s : ℕ) (writes : writer ≡ Some w) (differs : s ≢ w) (schema : Schema) (scan : Scan) (there : slice_get state.schemas scan.table ≡ Some schema)
     (columns : HasItsColumns schema) (le : scan.which ≤ length schema.keys) where
-  same_writer : (a b : ℕ) → Some a ≡ Some b → a ≡ b
-  same_writer a b same = cc
-
   -- who reads the newest rows may write, and so is no other
   unseen : (sight : Sight) → SightHolds state writer s sight → (logged : Logged) (place : Place) → IsLast state w logged place
       → sees_by sight (id_of state.past w) ≡ false
   unseen (View view reader) holds logged place last = unseen_by chains writer state agrees w logged place last s view reader differs holds
-  unseen Newest holds logged place last = absurd (differs (same_writer s w (sym holds ∙ writes)))
+  unseen Newest holds logged place last = absurd (differs (some_same s w (sym holds ∙ writes)))
 
   shows_keys : (change : KeysChange) (p : IsChangingKeys chains state change) → SightHolds state writer s scan.sight → IsLastOf state w change
       → ShowsRows schema scan state (in_table scan.table chains)
@@ -103,14 +247,11 @@ module _ (chains : Chains) (writer : Option ℕ) (state : WorldState) (agrees : 
       let at : own.place ≡ record { table = change.table; key = p.value } = keys_place state logs w own.logged own.place own.last chains change p
       own.table_is own.key_is in
       let one : p.pushed.version ≡ by.version =
-      first_of p.pushed.version by.version p.older by.others
-      (sym p.pushed.versions ∙ (ap (λ (place : Place). versions_at place chains) (sym at) ∙ by.versions)) in
+      (let same : p.pushed.version ∷ p.older ≡ by.version ∷ by.others =
+      sym p.pushed.versions ∙ (ap (λ (place : Place). versions_at place chains) (sym at) ∙ by.versions) in cc) in
       shows_changing schema scan state chains change p told there columns le
       (ap (λ (version : Version). sees_by scan.sight version.writer) one ∙
       (ap (sees_by scan.sight) by.writer_is ∙ unseen scan.sight holds own.logged own.place own.last))
-    where
-      first_of : (a b : Version) (older others : List Version) → a ∷ older ≡ b ∷ others → a ≡ b
-      first_of a b older others same = cc
 
   shows_back : (logged : Logged) (place : Place) → IsLast state w logged place → SightHolds state writer s scan.sight
       → LagsAt place chains state ⊎ AreCoded state.schemas (pairs_of state) state.versions.kept_at chains
@@ -147,6 +288,6 @@ module _ (chains : Chains) (state : WorldState) (logs : LogsAgree state) (told :
       let columns = columns_of chains some.0 state scan.table schema some.1 there in
       ⊎_elim
       (λ same. shows_coded schema scan state chains told there columns le
-      (quiet_coded chains state told w undo room (doing_at w desks) (ap (λ (n : ℕ). is_quiet_doing (doing_at n desks)) (sym same) ∙ searching) rows))
+      ((quiet_rows chains state w undo room (doing_at w desks) (ap (λ (n : ℕ). is_quiet_doing (doing_at n desks)) (sym same) ∙ searching) rows).0 told))
       (λ differs. shows_other chains (Some w) state agrees logs told w s refl differs schema scan there columns le undo room (doing_at w desks) holds rows)
       (cases_eq s w)

@@ -1,23 +1,18 @@
 -- A search that is under way goes on, ends or is given up.
-use Rattle.std.proofs.Common.{◌≡◌, ◌≢◌, inl, inr, ℕ, ◌<◌, ◌≤◌, Bool, true, false, List, [], length, map, Option, Some, refl, sym, ap, subst, ◌∙◌, slice_get}
-use Rattle.std.proofs.Common.{arith}
+use Rattle.std.proofs.Common.{◌≡◌, ◌≢◌, inl, inr, ℕ, ◌<◌, ◌≤◌, Bool, true, false, List, length, map, Option, Some, refl, sym, ap, subst, ◌∙◌, slice_get}
+use Rattle.std.proofs.Common.{arith, eq-eqb}
 use Rattle.std.specs.Prelude.{◌==◌, ◌-◌, filter}
-use Rattle.std.proofs.lemmas.Bool.{cases_lt}
-use Rattle.std.proofs.lemmas.Bool.Decides.{nat_tests}
 use Rattle.inno_types.specs.declared.value.Schema.{Schema}
 use Rattle.inno_types.specs.Order.{IsBelow}
 use Rattle.inno_db.specs.Database.{rows_of}
-use Rattle.inno_model.specs.declared.event.Event.{Event}
-use Rattle.inno_model.specs.Past.{own, commits, changed}
-use Rattle.read_view.specs.Sight.{Sight as ReadSight}
+use Rattle.inno_model.specs.Past.{commits, changed}
 use Rattle.store_api.specs.declared.moves.Move.{Move}
 use Rattle.entries.specs.Calls.{Leaves}
+use Rattle.read_view.specs.Sight.{Sight as ReadSight}
 use Rattle.row_versions.specs.declared.place.Place.{Place}
 use Rattle.row_versions.specs.Chains.{Chains, versions_at}
 use Rattle.law_stored_rows.specs.Tables.{in_table}
-use Rattle.law_past_agreement.specs.Order.{created}
 use Rattle.law_past_agreement.specs.Rows.{seen}
-use Rattle.law_past_agreement.specs.Agreement.{WriterAgrees}
 use Rattle.law_past_agreement.specs.DatabaseTables.{with_all_tables}
 use Rattle.world.specs.State.{WorldState, index_of}
 use Rattle.world.specs.Told.{IsTold, pairs_of}
@@ -53,15 +48,14 @@ use Rattle.desks.specs.Searching.{keys_left, places_in}
 use Rattle.desks.specs.Shown.{reading_of}
 use Rattle.law_held_steps.specs.Moving.{MovesPlaces}
 use Rattle.law_held_steps.specs.TakenUp.{IsTakenUp, MayStep, plan_of}
+use Rattle.law_held_steps.proofs.AnyStep.{some_same}
+use Rattle.law_held_steps.proofs.Beside.{alone_if}
 use Rattle.law_held_steps.proofs.Places.{moves_then, moves_in_one, moves_nothing, leaving_moves, moves_leave, moves_told}
 use Rattle.law_held_steps.proofs.Staying.{held_stays}
 use Rattle.law_held_steps.proofs.Nearing.{IsLess, keys_before, visit_before, keys_anew, steps_nearer, still_nearer, anew_nearer}
 use Rattle.law_held_steps.proofs.Shows.{HasSome, some_rows_by, shows_held}
 
 -- ---- the search that is stepped
-
-pub same_number : (a b : ℕ) → a ≡ b → (a == b) ≡ true
-same_number a b same = grind (arith, nat_tests, same)
 
 comes_anew : (b : Bool) (s : ℕ) (state : WorldState) (chains : Chains) (on : TableSearch) → FindsSince b s state chains on
     → IsFindingAnew s on.schema state chains on.search
@@ -76,7 +70,7 @@ takes_up : (chains : Chains) (state : WorldState) (writer : Option ℕ) (cuts s 
     → IsSearchHeld chains state writer cuts s on → IsTakenUp cuts on search → IsTaken s state chains on search
 takes_up chains state writer cuts s on search held (inl same) =
     let finds : IsFinding s on.schema state chains on.search =
-    subst (λ (b : Bool). FindsSince b s state chains on) (same_number on.cuts cuts same.0) held.finds in
+    subst (λ (b : Bool). FindsSince b s state chains on) (eq-eqb on.cuts cuts same.0) held.finds in
     (subst (IsFinding s on.schema state chains) (sym same.1) finds, ap (λ (r : RowSearch). r.scan) same.1)
 takes_up chains state writer cuts s on search held (inr (later, anew)) =
     (comes_anew (on.cuts == cuts) s state chains on held.finds search anew.scan anew.finds anew.way anew.holds, anew.scan)
@@ -84,10 +78,7 @@ takes_up chains state writer cuts s on search held (inr (later, anew)) =
 -- each place has few versions
 pub few_held : (state : WorldState) (writer : Option ℕ) (desks : List Desk) (cuts : ℕ) (undo : UndoRoom) (room : WorkRoom)
     (held : IsHeld state writer desks cuts undo room) (place : Place) → length (versions_at place held.chains) ≤ most_versions
-few_held state writer desks cuts undo room held place =
-    let short = held.short place in
-    let small = held.agrees.lists.small in
-    omega (arith, short, small)
+few_held state writer desks cuts undo room held place = omega (arith, held.short place, held.agrees.lists.small)
 
 pub may_step : (s : ℕ) (schema : Schema) (state : WorldState) (chains : Chains) (search : RowSearch) → IsTold state → HasSome chains state
     → ((place : Place) → length (versions_at place chains) ≤ most_versions) → IsSearching s schema state search → MayStep s schema state search
@@ -116,9 +107,6 @@ sight_on s old new writer Newest moves is = is
 
 -- ---- what was found
 
-pub some_schema : (a b : Schema) → Some a ≡ Some b → a ≡ b
-some_schema a b same = cc
-
 module _ (chains : Chains) (writer : Option ℕ) (state : WorldState) (agrees : Agrees chains writer state) (rows : HasSome chains state) (s : ℕ)
     (on : TableSearch) (found : List FoundRow) (there : slice_get state.schemas on.search.scan.table ≡ Some on.schema) where
   abbrev scan : Scan
@@ -127,16 +115,13 @@ module _ (chains : Chains) (writer : Option ℕ) (state : WorldState) (agrees : 
   abbrev FoundBy : Sight → Type 0
   FoundBy sight = AreFound on.schema scan.which (rows_seen sight (in_table scan.table chains)) (lies_in on.schema scan) found
 
-  one_schema : (schema : Schema) → slice_get (created state.past) scan.table ≡ Some schema → on.schema ≡ schema
-  one_schema schema is = some_schema on.schema schema (sym there ∙ (ap (λ (tables : List Schema). slice_get tables scan.table) agrees.lists.tables ∙ is))
-
   seen_then : (n : ℕ)
       → map (λ (f : FoundRow). f.row) found ≡ filter (lies_in on.schema scan)
       (rows_of scan.table (changed (with_all_tables state.past) (seen state.past s n))) → AreRowsSeen scan.table (plan_of on) state.past s n
       (map (λ (f : FoundRow). f.row) found)
   seen_then n are schema is =
       are ∙ ap (λ (t : Schema). rows_in_range (plan_of on) t (rows_of scan.table (changed (with_all_tables state.past) (seen state.past s n))))
-      (one_schema schema is)
+      (some_same on.schema schema (sym there ∙ (ap (λ (tables : List Schema). slice_get tables scan.table) agrees.lists.tables ∙ is)))
 
   found_in : (sight : Sight) → SightHolds state writer s sight → FoundBy sight → RiseByKey found
       → AreFoundBy (reading_of sight) scan.table (plan_of on) state.past s (map (λ (f : FoundRow). f.row) found)
@@ -149,10 +134,7 @@ module _ (chains : Chains) (writer : Option ℕ) (state : WorldState) (agrees : 
   found_in Newest is are rise =
       seen_then (commits state.past)
       (found_newest chains writer state scan.table on.schema state.versions.kept_at (pairs_of state _) agrees
-      (rows.1.clustered.tables scan.table on.schema there) s (alone writer is agrees.lists.writes) scan.which (lies_in on.schema scan) found are rise)
-    where
-      alone : (by : Option ℕ) → by ≡ Some s → WriterAgrees state.past by → (u : ℕ) → u ≢ s → own u state.past ≡ []
-      alone by mine writes = (subst (WriterAgrees state.past) mine writes).1
+      (rows.1.clustered.tables scan.table on.schema there) s (alone_if s chains writer state is agrees) scan.which (lies_in on.schema scan) found are rise)
 
   pub found_then : SightHolds state writer s scan.sight → FoundBy scan.sight → RiseByKey found
       → AreFoundBy (reading_of scan.sight) scan.table (plan_of on) state.past s (map (λ (f : FoundRow). f.row) found)
@@ -160,11 +142,8 @@ module _ (chains : Chains) (writer : Option ℕ) (state : WorldState) (agrees : 
 
 -- ---- how often it may come to its pair anew
 
-less_or : (a b : ℕ) → a ≤ b → a ≢ b → a < b
-less_or a b le differs = elim (cases_lt a b) [ inl less ↦ less | inr least ↦ absurd (differs (omega (arith, le, least))) ]
-
 fewer : (long was since cuts : ℕ) → long ≡ was → since ≤ cuts → cuts ≤ was → since ≢ cuts → long - cuts < was - since
-fewer long was since cuts same le cut later = let less = less_or since cuts le later in omega (arith, same, cut, less)
+fewer long was since cuts same le cut later = omega (arith, same, le, cut, later)
 
 -- ---- in a held world
 
@@ -216,7 +195,7 @@ module _ (s : ℕ) (old : WorldState) (writer : Option ℕ) (desks : List Desk) 
                   since = omega arith;
                   finds =
                       subst (λ (b : Bool). FindsSince b s new held.chains (record on { search = next; cuts = cuts }))
-                      (sym (same_number cuts cuts refl)) on_now.0;
+                      (sym (eq-eqb cuts cuts refl)) on_now.0;
                   sight = subst (SightHolds new writer s) (sym on_now.1.sight) (sight_on s old new writer search.scan.sight moves sight_taken);
                 }),
             moves,
@@ -234,30 +213,22 @@ module _ (s : ℕ) (old : WorldState) (writer : Option ℕ) (desks : List Desk) 
           below next past taken
           (steps_nearer s on.schema old new search next (in_table search.scan.table held.chains) (shows was) finds.searching finds.finds goes was told)
         where
-          same_length : (a b : List Event) → a ≡ b → length a ≡ length b
-          same_length a b same = ap length same
-
           below : (next : RowSearch) → new.past ≡ old.past → IsTakenUp cuts on search
               → IsLess (keys_before s new next) (visit_before new next) (keys_before s old search) (visit_before old search)
               → IsBelow (counted (places_in s new (record on { search = next; cuts = cuts }))) (counted (places_in s old on))
           below next past (inl same) less =
               still_nearer (keys_before s new next) (visit_before new next) (keys_before s old on.search) (visit_before old on.search) _ _
               (subst (λ (r : RowSearch). IsLess (keys_before s new next) (visit_before new next) (keys_before s old r) (visit_before old r)) same.1 less)
-              (let long = same_length new.past old.past past in let cut = same.0 in omega (arith, long, cut))
+              (let long = ap length past in let cut = same.0 in omega (arith, long, cut))
           below next past (inr (later, anew)) less =
-              let since = search_held.since in
-              let cut = held.cut in
-              let long = same_length new.past old.past past in
-              let scan_is = anew.scan in
-              let phase_is = anew.phase in
               let keys : keys_before s old search ≡ keys_before s old on.search
-              = ap (λ (scan : Scan). keys_left (place_in s scan old) (pairs_of old (index_of scan.table scan.which)) search.phase) scan_is
-              ∙ (ap (keys_left (place_in s on.search.scan old) (pairs_of old (index_of on.search.scan.table on.search.scan.which))) phase_is
+              = ap (λ (scan : Scan). keys_left (place_in s scan old) (pairs_of old (index_of scan.table scan.which)) search.phase) anew.scan
+              ∙ (ap (keys_left (place_in s on.search.scan old) (pairs_of old (index_of on.search.scan.table on.search.scan.which))) anew.phase
               ∙ keys_anew (place_in s on.search.scan old) (pairs_of old (index_of on.search.scan.table on.search.scan.which)) on.search.phase) in
               anew_nearer (keys_before s new next) (visit_before new next) (keys_before s old on.search) (visit_before old search)
               (visit_before old on.search) _ _
               (subst (λ (k : ℕ). IsLess (keys_before s new next) (visit_before new next) k (visit_before old search)) keys less)
-              (fewer (length new.past) (length old.past) on.cuts cuts long since cut later)
+              (fewer (length new.past) (length old.past) on.cuts cuts (ap length past) search_held.since held.cut later)
 
       pub ended : (found : List FoundRow) → Ends s on.schema old new search found
           → IsHeld new writer (with_doing s Nothing desks) cuts undo room × MovesPlaces s old new

@@ -1,24 +1,19 @@
 -- The newest change is taken back: its rows, then its undo record, and then the history tells it.
-use Rattle.std.proofs.Common.{◌≡◌, ◌≢◌, inl, inr, ⊎_elim, ℕ, ◌+◌, ◌-◌, ◌^◌, ◌<◌, ◌≤◌, Bool, true, false, cond, List, [], ◌∷◌, length, map, Option, Some, None}
+use Rattle.std.proofs.Common.{◌≡◌, ◌≢◌, inl, inr, ℕ, ◌+◌, ◌-◌, ◌^◌, ◌<◌, ◌≤◌, true, false, List, [], ◌∷◌, length, map, Option, Some}
 use Rattle.std.proofs.Common.{refl, sym, ap, subst, ◌∙◌, arith, slice_get, eq-eqb}
 use Rattle.std.specs.Prelude.{slice_set, is_some}
-use Rattle.std.proofs.lemmas.Bool.{cases_eq}
 use Rattle.std.proofs.lemmas.Bool.Decides.{nat_tests}
-use Rattle.std.proofs.lemmas.List.{length-set}
-use Rattle.std.proofs.lemmas.Option.{get_or_from_slice_get}
-use Rattle.std.proofs.Math.Seq.{map-set_same}
-use Rattle.inno_db.specs.declared.change.Change.{Change}
+use Rattle.std.proofs.lemmas.List.{length-set, set-set}
 use Rattle.inno_model.specs.declared.event.Event.{Event}
 use Rattle.inno_model.specs.declared.event.Event.TheVariants.{Undone}
 use Rattle.inno_model.specs.Past.{is_of, own, started, under_way, of_item, awaits_ack}
 use Rattle.inno_model.proofs.Untouched.{untouched}
 use Rattle.store_api.specs.declared.moves.Move.TheVariants.{Done}
-use Rattle.entries.specs.Index.{AreKept, Index}
+use Rattle.entries.specs.Index.{Index}
 use Rattle.store_api.specs.declared.answers.Undo.{Undo}
 use Rattle.row_versions.specs.Chains.{Chains, Pops}
-use Rattle.law_past_agreement.specs.Order.{IsOfRow}
 use Rattle.law_past_agreement.proofs.Rows.{own_undone}
-use Rattle.world.specs.State.{WorldState, Session, Work, Logged, IsSession, HasWork, standing_of}
+use Rattle.world.specs.State.{WorldState, Session, Work, IsSession, HasWork, standing_of}
 use Rattle.world.specs.Told.{LeavesRows}
 use Rattle.world.specs.Sessions.{undone_added}
 use Rattle.world.specs.declared.undo_room.UndoRoom.{UndoRoom}
@@ -32,7 +27,7 @@ use Rattle.row_changes.specs.Told.{HasRows}
 use Rattle.undo_apply.specs.declared.work_room.WorkRoom.{WorkRoom}
 use Rattle.undo_apply.specs.Stages.{IsPuttingBack, IsDone}
 use Rattle.law_logged_changes.proofs.ReadersLeft.{has_rows_left}
-use Rattle.law_logged_changes.specs.Logs.{IsLogOf, LogsAgree, IsAlone}
+use Rattle.law_logged_changes.specs.Logs.{LogsAgree, IsAlone}
 use Rattle.law_logged_changes.specs.Steps.{LeavesLogs, IsToCut, HasCut}
 use Rattle.law_logged_changes.proofs.Leaving.{rows_leave, cut_left, cut_again}
 use Rattle.law_logged_changes.proofs.GoingOn.{work_beside, work_again, own_beside}
@@ -44,20 +39,14 @@ use Rattle.desks.specs.declared.desk.Desk.{Desk}
 use Rattle.desks.specs.declared.desk.Doing.TheVariants.{Nothing, Undoing}
 use Rattle.desks.specs.Desks.{doing_at, with_doing}
 use Rattle.desks.specs.Leaves.{LeavesOthers}
-use Rattle.desks.specs.Holding.{HasRoom, IsGoingBack, IsHeld}
+use Rattle.desks.specs.Holding.{SearchHeld, IsGoingBack, IsHeld}
 use Rattle.law_held_steps.specs.Undoing.{HasPutBack}
-use Rattle.law_held_steps.proofs.UndoDesks.{given}
-use Rattle.law_held_steps.proofs.UndoSteps.{LeavesAll, done_leaves}
-use Rattle.law_held_steps.proofs.Popping.{without_newest, popped_newest, popped_fewer}
-use Rattle.law_held_steps.proofs.Last.{has_place, alone_if}
-use Rattle.law_held_steps.proofs.Beside.{rows_by_writer, quiet_still, searches_still}
+use Rattle.law_held_steps.proofs.Desks.{given}
+use Rattle.law_held_steps.proofs.SeenEntries.{settings_same}
+use Rattle.law_held_steps.proofs.Beside.{LeavesAll, done_leaves, without_newest, popped_newest, popped_fewer, has_place, alone_if, rows_by_writer}
+use Rattle.law_held_steps.proofs.AnyStep.{waits_not, last_log, held_after}
+use Rattle.row_changes.proofs.Sessions.{same_pairs, same_versions}
 use Rattle.law_held_steps.proofs.Putting.{mine, going, answers}
-
-same_pairs : (index : Index) → AreKept index.pairs index.pairs
-same_pairs index = go index.pairs where
-  go : (pairs : Option _) → AreKept pairs pairs
-  go None = record {}
-  go (Some pairs) = refl
 
 module _ (s : ℕ) (old mid : WorldState) (writer : Option ℕ) (desks : List Desk) (cuts : ℕ) (undo : UndoRoom) (room next : WorkRoom)
     (held : IsHeld old writer desks cuts undo room) (busy : doing_at s desks ≡ Undoing) (put : HasPutBack s (read_into undo) room next old mid Done) where
@@ -133,13 +122,15 @@ module _ (s : ℕ) (old mid : WorldState) (writer : Option ℕ) (desks : List De
       new_is : new ≡ undone_added s keep session_cut work_cut cut
       new_is = added session_cut work_cut has_work_cut
 
-      sessions_now : new.sessions ≡ slice_set (slice_set mid.sessions s session_cut) s session_now
-      sessions_now = ap (λ (state : WorldState). state.sessions) new_is ∙ ap (λ (sessions : List Session). slice_set sessions s session_now) sessions_cut
+      sessions_now : new.sessions ≡ slice_set mid.sessions s session_now
+      sessions_now =
+          ap (λ (state : WorldState). state.sessions) new_is
+          ∙ ap (λ (sessions : List Session). slice_set sessions s session_now) sessions_cut
+          ∙ set-set mid.sessions s session_cut session_now
 
       session_there : slice_get new.sessions s ≡ Some session_now
       session_there =
-          ap (λ (sessions : List Session). slice_get sessions s) sessions_now ∙ set_here (slice_set mid.sessions s session_cut) s session_cut session_now
-          (set_here mid.sessions s back.session session_cut back.has_work.session_is)
+          ap (λ (sessions : List Session). slice_get sessions s) sessions_now ∙ set_here mid.sessions s back.session session_now back.has_work.session_is
 
       has_work_now : HasWork s session_now work_now new
       has_work_now = record { session_is = session_there; work_is = refl }
@@ -147,59 +138,27 @@ module _ (s : ℕ) (old mid : WorldState) (writer : Option ℕ) (desks : List De
       others_now : (t : ℕ) → t ≢ s → slice_get new.sessions t ≡ slice_get old.sessions t
       others_now t differs =
           ap (λ (sessions : List Session). slice_get sessions t) sessions_now
-          ∙ set_other (slice_set mid.sessions s session_cut) s t session_now differs
-          ∙ set_other mid.sessions s t session_cut differs
+          ∙ set_other mid.sessions s t session_now differs
           ∙ ap (λ (state : WorldState). slice_get state.sessions t) left_all.rest
 
-      count_now : length new.sessions ≡ length old.sessions
-      count_now =
-          ap length sessions_now
-          ∙ length-set (slice_set mid.sessions s session_cut) s session_now
-          ∙ length-set mid.sessions s session_cut
-          ∙ ap (λ (state : WorldState). length state.sessions) left_all.rest
-
       pub past_now : new.past ≡ Undone s keep ∷ old.past
-      past_now =
-          ap (λ (state : WorldState). state.past) new_is ∙ ap (λ (state : WorldState). Undone s keep ∷ state.past) back.rest ∙ ap
-          (λ (state : WorldState). Undone s keep ∷ state.past) left_all.rest
+      past_now = ap (λ (x : WorldState). x.past) new_is ∙ ap (λ (h : List Event). Undone s keep ∷ h)
+          (ap (λ (x : WorldState). x.past) back.rest ∙ ap (λ (x : WorldState). x.past) left_all.rest)
 
       pub names_now : new.names ≡ old.names
-      names_now =
-          ap (λ (state : WorldState). state.names) new_is ∙ ap (λ (state : WorldState). state.names) back.rest ∙ ap (λ (state : WorldState). state.names)
-          left_all.rest
+      names_now = ap (λ (x : WorldState). x.names) new_is ∙ ap (λ (x : WorldState). x.names) back.rest ∙ ap (λ (x : WorldState). x.names) left_all.rest
 
       pub schemas_now : new.schemas ≡ old.schemas
-      schemas_now =
-          ap (λ (state : WorldState). state.schemas) new_is ∙ ap (λ (state : WorldState). state.schemas) back.rest ∙ ap
-          (λ (state : WorldState). state.schemas) left_all.rest
+      schemas_now = ap (λ (x : WorldState). x.schemas) new_is ∙ ap (λ (x : WorldState). x.schemas) back.rest ∙ ap (λ (x : WorldState). x.schemas) left_all.rest
 
       pub count_rows_now : new.rows ≡ old.rows
-      count_rows_now =
-          ap (λ (state : WorldState). state.rows) new_is ∙ ap (λ (state : WorldState). state.rows) back.rest ∙ ap (λ (state : WorldState). state.rows)
-          left_all.rest
-
-      txns_now : new.txns ≡ old.txns
-      txns_now =
-          ap (λ (state : WorldState). state.txns) new_is ∙ ap (λ (state : WorldState). state.txns) back.rest ∙ ap (λ (state : WorldState). state.txns)
-          left_all.rest
-
-      -- what a session has set stays
-      settings_set : (sessions : List Session) (before now : Session) → slice_get sessions s ≡ Some before → now.setting ≡ before.setting
-          → map (λ (x : Session). x.setting) (slice_set sessions s now) ≡ map (λ (x : Session). x.setting) sessions
-      settings_set sessions before now there same =
-          map-set_same (λ (x : Session). x.setting) sessions s now before
-          (same ∙ ap (λ (x : Session). x.setting) (sym (get_or_from_slice_get sessions s before before there)))
+      count_rows_now = ap (λ (x : WorldState). x.rows) new_is ∙ ap (λ (x : WorldState). x.rows) back.rest ∙ ap (λ (x : WorldState). x.rows) left_all.rest
 
       pub settings_now : map (λ (x : Session). x.setting) new.sessions ≡ map (λ (x : Session). x.setting) old.sessions
       settings_now =
           ap (map (λ (x : Session). x.setting)) sessions_now
-          ∙ settings_set (slice_set mid.sessions s session_cut) session_cut session_now
-          (set_here mid.sessions s back.session session_cut back.has_work.session_is) refl
-          ∙ settings_set mid.sessions back.session session_cut back.has_work.session_is refl
+          ∙ settings_same mid.sessions s back.session session_now back.has_work.session_is refl
           ∙ ap (λ (state : WorldState). map (λ (x : Session). x.setting) state.sessions) left_all.rest
-
-      indexes_now : new.indexes ≡ mid.indexes
-      indexes_now = ap (λ (state : WorldState). state.indexes) new_is ∙ ap (λ (state : WorldState). state.indexes) back.rest
 
       pub had : HasWork s back.session back.work old
       had = work_beside s back.session back.work old mid left_all.rest back.has_work
@@ -207,14 +166,8 @@ module _ (s : ℕ) (old mid : WorldState) (writer : Option ℕ) (desks : List De
       -- ---- the history
 
       module _ (keep_is : keep ≡ length (own s old.past) - 1) where
-        of_row : IsOfRow back_to.last.change
-        of_row = has_place old.schemas back_to.last.change back_to.place back_to.last.place_is
-
         own_length : length (own s old.past) ≡ length back_to.last.before + 1
         own_length = let is = ap length back_to.last.own_is in omega (arith, is)
-
-        own_now : own s (Undone s keep ∷ old.past) ≡ back_to.last.before
-        own_now = own_undone s keep back_to.last.change back_to.last.before old.past back_to.last.own_is (omega (arith, keep_is, own_length))
 
         abbrev after : Chains
         after = without_newest back_to.place held.chains
@@ -238,16 +191,17 @@ module _ (s : ℕ) (old mid : WorldState) (writer : Option ℕ) (desks : List De
           past = past_now;
           names = names_now;
           schemas = schemas_now;
-          txns = txns_now;
+          txns = ap (λ (x : WorldState). x.txns) new_is ∙ ap (λ (x : WorldState). x.txns) back.rest ∙ ap (λ (x : WorldState). x.txns) left_all.rest;
           others = others_now;
-          count = count_now;
+          count = ap length sessions_now ∙ length-set mid.sessions s session_now ∙ ap (λ (state : WorldState). length state.sessions) left_all.rest;
         }
 
         agrees_now : length new.past < 2 ^ 63 → Agrees after writer new
         agrees_now few =
             let long = ap length past_now in
             taken_back_agrees held.chains after writer old new s keep back_to.last.change back_to.last.before back_to.place held.agrees back_to.last.own_is
-            (omega (arith, keep_is, own_length)) of_row back_to.last.place_is taken_by pops (omega (arith, long, few))
+            (omega (arith, keep_is, own_length)) (has_place old.schemas back_to.last.change back_to.place back_to.last.place_is)
+            back_to.last.place_is taken_by pops (omega (arith, long, few))
 
         -- ---- logs and rows
 
@@ -260,56 +214,41 @@ module _ (s : ℕ) (old mid : WorldState) (writer : Option ℕ) (desks : List De
         alone : IsAlone s old
         alone = alone_if s held.chains writer old by_me held.agrees
 
-        alone_mid : IsAlone s mid
-        alone_mid t differs = own_beside t old mid left_all.rest ∙ alone t differs
-
         to_cut : IsToCut s back_to.logged back_to.last.log back_to.last.before mid
         to_cut =
             to_cut_by_history s held.chains after old mid back_to.last.session back_to.last.work back_to.logged back_to.last.log back_to.last.change
             back_to.last.before back_to.place room next held.logs alone back_to.last.has_work
             back_to.last.log_is back_to.last.own_is back_to.last.place_is putting done_by pops
 
-        log_old : IsLogOf old (back_to.logged ∷ back_to.last.log) (back_to.last.change ∷ back_to.last.before)
-        log_old =
-            subst (λ (log : List Logged). IsLogOf old log (back_to.last.change ∷ back_to.last.before)) back_to.last.log_is
-            (subst (λ (changes : List Change). IsLogOf old back_to.last.work.log changes) back_to.last.own_is
-            (held.logs.each s back_to.last.session back_to.last.work back_to.last.has_work))
-
         rows_mid : HasRows after mid
         rows_mid =
-            rows_then held.chains after old mid back_to.logged back_to.last.log back_to.last.change back_to.last.before back_to.place room next log_old
-            back_to.last.place_is putting done_by pops
+            rows_then held.chains after old mid back_to.logged back_to.last.log back_to.last.change back_to.last.before back_to.place room next
+            (last_log held.logs back_to.last) back_to.last.place_is putting done_by pops
 
         -- the entry of the history leaves pairs and kept versions
         left_rows : LeavesRows cut new
         left_rows =
-            subst (LeavesRows cut) (sym new_is) (record
-            { schemas = refl; pairs = λ index. same_pairs (cut.indexes index); versions = record { told = λ told. told; kept = λ told. refl } })
-
-        rows_now : HasRows after new
-        rows_now = has_rows_left cut new left_rows after (rows_cut s mid cut back_to.logged back_to.last.log back_to.last.before to_cut back after rows_mid)
+            subst (LeavesRows cut) (sym new_is)
+            (record { schemas = refl; pairs = λ index. same_pairs (cut.indexes index).pairs; versions = same_versions cut.versions })
 
         cut_now : HasCut s back_to.last.log back_to.last.before cut
-        cut_now = has_cut s mid cut back_to.logged back_to.last.log back_to.last.before to_cut back alone_mid
+        cut_now = has_cut s mid cut back_to.logged back_to.last.log back_to.last.before to_cut back
+            (λ t differs. own_beside t old mid left_all.rest ∙ alone t differs)
 
         not_of : (t : ℕ) → t ≢ s → is_of t (Undone s keep) ≡ false
         not_of t differs = grind (arith, nat_tests, differs)
-
-        past_from_cut : new.past ≡ Undone s keep ∷ cut.past
-        past_from_cut = ap (λ (state : WorldState). state.past) new_is
 
         left_logs : LeavesLogs (λ t. t ≢ s) cut new
         left_logs t session work differs has = inl (record {
           session = session;
           before = work;
-          has_work =
-              record {
-                session_is = sym (ap (λ (state : WorldState). slice_get state.sessions t) new_is ∙ set_other cut.sessions s t session_now differs) ∙
-                    has.session_is;
-                work_is = has.work_is;
-              };
+          has_work = record {
+            session_is = sym (ap (λ (state : WorldState). slice_get state.sessions t) new_is ∙ set_other cut.sessions s t session_now differs) ∙
+                has.session_is;
+            work_is = has.work_is;
+          };
           log_is = refl;
-          own_is = ap (own t) past_from_cut ∙ (untouched (Undone s keep) cut.past t (not_of t differs)).own_is;
+          own_is = ap (λ (state : WorldState). own t state.past) new_is ∙ (untouched (Undone s keep) cut.past t (not_of t differs)).own_is;
         })
 
         logs_now : LogsAgree new
@@ -318,45 +257,10 @@ module _ (s : ℕ) (old mid : WorldState) (writer : Option ℕ) (desks : List De
             ap (λ (w : Work). w.log) (one_work s session_cut cut_now.session work_cut cut_now.work cut has_work_cut cut_now.has_work) ∙ cut_now.log_is in
             cut_again s back_to.last.log back_to.last.before new
             (cut_left s cut new back_to.last.log back_to.last.before session_now work_now (rows_leave cut new left_rows) left_logs cut_now has_work_now log_is)
-            (ap (own s) past_now ∙ own_now)
+            (ap (own s) past_now ∙
+            own_undone s keep back_to.last.change back_to.last.before old.past back_to.last.own_is (omega (arith, keep_is, own_length)))
 
         -- ---- room for the entries that are to come
-
-        under_way_now : (t : ℕ) → under_way t new.past ≡ under_way t old.past
-        under_way_now t = ap (under_way t) past_now
-
-        session_case : (t : ℕ) (session : Session) (P : Session → Type 0) → IsSession t session new → (t ≡ s → P session_now)
-            → (t ≢ s → IsSession t session old → P session) → P session
-        session_case t session P is here there =
-            ⊎_elim
-            (λ same. subst P (one_session s session_now session new session_there (ap (slice_get new.sessions) (sym same) ∙ is)) (here same))
-            (λ differs. there differs (sym (others_now t differs) ∙ is))
-            (cases_eq t s)
-
-        not_acked : awaits_ack (of_item s (Undone s keep ∷ old.past)) ≡ false
-        not_acked = ap (λ (b : Bool). awaits_ack (cond b (Undone s keep ∷ of_item s old.past) (of_item s old.past))) (eq-eqb s s refl)
-
-        room_now : HasRoom new
-        room_now = record {
-          replies = λ t session is waits.
-              session_case t session (λ x. x.can_reply ≡ true) is
-              (λ same. held.has_room.replies s back.session had.session_is
-              (subst (λ (n : ℕ). is_some (under_way n old.past) ≡ true) same (sym (ap is_some (under_way_now t)) ∙ waits)))
-              (λ differs was. held.has_room.replies t session was (sym (ap is_some (under_way_now t)) ∙ waits));
-          acks = λ t session is waits.
-              session_case t session (λ x. x.can_ack ≡ true) is
-              (λ same. absurd (let e : true ≡ false = sym (subst (λ (n : ℕ). awaits_ack (of_item n new.past) ≡ true) same waits) ∙ ap
-              (λ (h : List Event). awaits_ack (of_item s h)) past_now ∙ not_acked in cc))
-              (λ differs was. held.has_room.acks t session was
-              (sym (ap (λ (h : List Event). awaits_ack (of_item t h)) past_now ∙ ap awaits_ack
-              (untouched (Undone s keep) old.past t (not_of t differs)).entries) ∙ waits));
-          ends = λ t session work has.
-              ⊎_elim
-              (λ same. ap (λ (w : Work). w.can_end) (one_work s session session_now work work_now new
-              (subst (λ (n : ℕ). HasWork n session work new) same has) has_work_now) ∙ held.has_room.ends s back.session back.work had)
-              (λ differs. held.has_room.ends t session work (record { session_is = sym (others_now t differs) ∙ has.session_is; work_is = has.work_is }))
-              (cases_eq t s);
-        }
 
         -- ---- the whole
 
@@ -369,7 +273,9 @@ module _ (s : ℕ) (old mid : WorldState) (writer : Option ℕ) (desks : List De
           tables = λ n schema there. ap (λ (x : List _). slice_get x n) schemas_now ∙ there;
           sessions = others_now;
           places =
-              λ t index differs. ap (λ (indexes : ℕ → Index). (indexes index).place t) indexes_now ∙ ap (λ (place : ℕ → _). place t) (left_all.places index);
+              λ t index differs. ap (λ (indexes : ℕ → Index). (indexes index).place t)
+              (ap (λ (state : WorldState). state.indexes) new_is ∙ ap (λ (state : WorldState). state.indexes) back.rest)
+              ∙ ap (λ (place : ℕ → _). place t) (left_all.places index);
           rights = λ t differs is. is;
           changes = inr by_me;
           kept = inr refl;
@@ -380,22 +286,24 @@ module _ (s : ℕ) (old mid : WorldState) (writer : Option ℕ) (desks : List De
         held_then other joined memory few =
             let gives = given s Nothing desks joined in
             let long = ap length past_now in
-            record {
-              chains = after;
-              agrees = agrees_now few;
-              fits = subst FitsThen (sym past_now) held.fits;
-              rows = rows_by_writer s writer after new (with_doing s Nothing desks) (read_into other) next Nothing by_me gives.here (rows_now, done.anew);
-              quiet = quiet_still s Nothing writer desks (with_doing s Nothing desks) by_me gives held.quiet;
-              searches =
-                  searches_still s Nothing writer desks (with_doing s Nothing desks) by_me gives held.chains after cuts (cuts + 1) old new
-                  (others_left memory few) (record {}) held.searches;
-              logs = logs_now;
-              has_room = room_now;
-              started = λ t. ap (started t) past_now ∙ held.started t ∙ sym (gives.started t);
-              count = gives.count ∙ held.count ∙ ap length (sym names_now);
-              few = subst (λ (n : List (List ℕ)). length n ≤ 68) (sym names_now) held.few;
-              cut = let was = held.cut in omega (arith, was, long);
-              short =
-                  λ place. let was = held.short place in let fewer = popped_fewer back_to.place place held.chains after pops in omega (arith, was, fewer, long);
-              whole = done.whole;
-            }
+            held_after held (others_left memory few) gives.others
+            (record {
+              replies = λ session is busy.
+                  subst (λ (x : Session). x.can_reply ≡ true) (one_session s session_now session new session_there is)
+                  (held.has_room.replies s back.session had.session_is (sym (ap is_some (ap (under_way s) past_now)) ∙ busy));
+              acks = λ session is waits.
+                  absurd (waits_not s (Undone s keep ∷ of_item s old.past) old.past
+                  (sym (ap (λ (h : List Event). awaits_ack (of_item s h)) past_now) ∙ waits) refl);
+              ends = λ session work has.
+                  ap (λ (w : Work). w.can_end) (one_work s session session_now work work_now new has has_work_now) ∙
+                  held.has_room.ends s back.session back.work had;
+              started = ap (started s) past_now ∙ held.started s ∙ sym gives.started;
+              quiet = λ other. absurd (other by_me);
+              search = subst (SearchHeld after new writer (cuts + 1) s) (sym gives.here) (record {});
+            })
+            (subst FitsThen (sym past_now) held.fits)
+            (rows_by_writer s writer after new (with_doing s Nothing desks) (read_into other) next Nothing by_me gives.here
+            (has_rows_left cut new left_rows after
+            (rows_cut s mid cut back_to.logged back_to.last.log back_to.last.before to_cut back after rows_mid), done.anew)) logs_now
+            (gives.count ∙ held.count ∙ ap length (sym names_now)) (subst (λ (n : List (List ℕ)). length n ≤ 68) (sym names_now) held.few)
+            (omega (arith, held.cut, long)) (λ place. omega (arith, held.short place, popped_fewer back_to.place place held.chains after pops, long)) done.whole

@@ -1,14 +1,13 @@
 -- Transactions that open, take views, keep savepoints and end.
-use Rattle.std.proofs.Common.{◌≡◌, ◌≢◌, ⊎_elim, ℕ, ◌+◌, ◌<◌, ◌≤◌, ◌^◌, ◌==◌, eqb, Bool, true, false, cond, Option, Some, None, List, [], ◌∷◌, length, refl, sym}
+use Rattle.std.proofs.Common.{◌≡◌, ◌≢◌, ⊎_elim, ℕ, ◌+◌, ◌<◌, ◌^◌, Bool, true, false, cond, Option, Some, None, List, [], ◌∷◌, length, refl, sym}
 use Rattle.std.proofs.Common.{ap, subst, ◌∙◌, inl, inr, arith, ◌⊎◌, eq-eqb}
 use Rattle.std.specs.Prelude.{slice_get, slice_set, option_map}
 use Rattle.std.proofs.lemmas.Bool.Decides.{nat_tests, eqb_tells}
 use Rattle.std.proofs.lemmas.List.{length-map}
 use Rattle.std.proofs.lemmas.Option.{slice_get-map}
 use Rattle.inno_types.specs.declared.lock.Level.{Level}
-use Rattle.inno_model.specs.declared.event.Event.{Event}
 use Rattle.inno_model.specs.declared.event.Event.TheVariants.{Begin, View, Committed, RolledBack}
-use Rattle.inno_model.specs.Past.{is_of, own, started, of_item, awaits_ack, IsClosed}
+use Rattle.inno_model.specs.Past.{own, of_item, IsClosed}
 use Rattle.sql_history.specs.Settings.{at_end, saved}
 use Rattle.law_past_agreement.specs.Slots.{writer_without}
 use Rattle.law_past_agreement.proofs.Ids.{ids_of}
@@ -29,8 +28,8 @@ use Rattle.desks.specs.declared.desk.Desk.{Desk}
 use Rattle.desks.specs.declared.desk.Doing.TheVariants.{Nothing}
 use Rattle.desks.specs.Desks.{doing_at}
 use Rattle.desks.specs.Holding.{IsHeld}
-use Rattle.law_held_steps.proofs.Entering.{entered}
-use Rattle.law_held_steps.proofs.EntrySessions.{own_session, same_log, same_writer, closed_desks}
+use Rattle.law_held_steps.proofs.AnyStep.{some_same, waits_not}
+use Rattle.law_held_steps.proofs.EntrySessions.{works_by, entered_by, same_log, same_writer, closed_desks}
 
 -- ---- the session of a transaction is changed
 
@@ -64,22 +63,10 @@ txn_here s n session work f sessions there is same =
 none_has : (session : Session) (work : Work) → session.work ≡ None → session.work ≡ Some work → ⊥
 none_has session work none some = cc
 
-absurd_false : false ≡ true → ⊥
-absurd_false is = cc
-
-some_work : (a b : Work) → Some a ≡ Some b → a ≡ b
-some_work a b same = cc
-
 module _ (writer : Option ℕ) (cuts : ℕ) (undo : UndoRoom) (room : WorkRoom) (old : WorldState) (desks : List Desk)
     (held : IsHeld old writer desks cuts undo room)
     (t : ℕ) (rests : doing_at t desks ≡ Nothing) (told : IsTold old) (session : Session) (there : IsSession t session old) where
   -- ---- a transaction opens
-
-  mine_begins : (n : ℕ) (level : Level) → is_of t (Begin t n level) ≡ true
-  mine_begins n level = grind (arith, nat_tests)
-
-  begin_waits : (n : ℕ) (level : Level) → awaits_ack (of_item t (Begin t n level ∷ old.past)) ≡ false
-  begin_waits n level = grind (arith, nat_tests)
 
   begin_own : (n : ℕ) (level : Level) → own t old.past ≡ [] → own t (Begin t n level ∷ old.past) ≡ own t old.past
   begin_own n level none = grind (arith, nat_tests, none)
@@ -97,34 +84,16 @@ module _ (writer : Option ℕ) (cuts : ℕ) (undo : UndoRoom) (room : WorkRoom) 
       λ s differ. set_other (slice_set old.sessions t begun_session) t s after differ ∙ set_other old.sessions t s begun_session differ in
       let empty : own t old.past ≡ [] = (ids_of old.past held.agrees.lists.ordered).closed t closed in
       let own_is : own t new.past ≡ own t old.past = begin_own n level empty in
-      entered t writer writer cuts undo room old new desks desks held rests
-      (record {
-        agrees = opened_agrees held.chains writer old t level session held.agrees there none few;
-        adds = inr (Begin t n level, mine_begins n level, refl);
-        told = told;
-        rows = record { indexes = refl; versions = refl; schemas = refl };
-        others = same_writer t writer old new desks others;
-        count = held.count;
-        few = held.few;
-        own =
-            own_session t old new desks after here
-            (λ work is. inr (record {
-              log_is = ap (λ (w : Work). w.log) (sym (some_work (record (fresh_work n level) { can_end = true }) work is));
-              own_is =
-                  own_is ∙ empty;
-            }))
-            (λ busy. held.has_room.replies t session there busy) (λ waits. absurd (absurd_false (sym (begin_waits n level) ∙ waits)))
-            (λ work is. ap (λ (w : Work). w.can_end) (sym (some_work (record (fresh_work n level) { can_end = true }) work is))) (held.started t);
-        fits = held.fits;
-      })
+      entered_by held rests told here (record { indexes = refl; versions = refl; schemas = refl }) refl (same_writer t writer old new desks others) refl
+      (opened_agrees held.chains writer old t level session held.agrees there none few) (inr (Begin t n level, eq-eqb t t refl, refl)) held.fits
+      (λ work is. inr (record {
+        log_is = ap (λ (w : Work). w.log) (sym (some_same (record (fresh_work n level) { can_end = true }) work is));
+        own_is = own_is ∙ empty;
+      }))
+      (λ busy. held.has_room.replies t session there busy) (λ waits. absurd (waits_not t (Begin t n level ∷ of_item t old.past) old.past waits refl))
+      (λ work is. ap (λ (w : Work). w.can_end) (sym (some_same (record (fresh_work n level) { can_end = true }) work is))) (held.started t)
 
   -- ---- a view is taken
-
-  mine_views : is_of t (View t) ≡ true
-  mine_views = grind (arith, nat_tests)
-
-  view_waits : awaits_ack (of_item t (View t ∷ old.past)) ≡ false
-  view_waits = grind (arith, nat_tests)
 
   pub viewed_held : (work : Work) → session.work ≡ Some work → length old.past + 1 < 2 ^ 63
       → IsHeld (viewed t session work old) writer desks cuts undo room
@@ -133,22 +102,12 @@ module _ (writer : Option ℕ) (cuts : ℕ) (undo : UndoRoom) (room : WorkRoom) 
       let seen : Work = record work { view = Some (record { active = listed_ids old.txns.open_txns; next = old.txns.next }) } in
       let after : Session = record session { work = Some seen } in
       let has : HasWork t session work old = record { session_is = there; work_is = is } in
-      entered t writer writer cuts undo room old new desks desks held rests
-      (record {
-        agrees = viewed_agrees held.chains writer old t session work held.agrees has few;
-        adds = inr (View t, mine_views, refl);
-        told = told;
-        rows = record { indexes = refl; versions = refl; schemas = refl };
-        others = same_writer t writer old new desks (λ s differ. set_other old.sessions t s after differ);
-        count = held.count;
-        few = held.few;
-        own =
-            own_session t old new desks after (set_here old.sessions t session after there)
-            (λ w is_w. same_log t old new session work w has (ap (λ (x : Work). x.log) (sym (some_work seen w is_w))) refl)
-            (λ busy. held.has_room.replies t session there busy) (λ waits. absurd (absurd_false (sym view_waits ∙ waits)))
-            (λ w is_w. ap (λ (x : Work). x.can_end) (sym (some_work seen w is_w)) ∙ held.has_room.ends t session work has) (held.started t);
-        fits = held.fits;
-      })
+      entered_by held rests told (set_here old.sessions t session after there) (record { indexes = refl; versions = refl; schemas = refl }) refl
+      (same_writer t writer old new desks (λ s differ. set_other old.sessions t s after differ)) refl
+      (viewed_agrees held.chains writer old t session work held.agrees has few) (inr (View t, eq-eqb t t refl, refl)) held.fits
+      (λ w is_w. same_log t old new session work w has (ap (λ (x : Work). x.log) (sym (some_same seen w is_w))) refl)
+      (λ busy. held.has_room.replies t session there busy) (λ waits. absurd (waits_not t (View t ∷ of_item t old.past) old.past waits refl))
+      (λ w is_w. ap (λ (x : Work). x.can_end) (sym (some_same seen w is_w)) ∙ held.has_room.ends t session work has) (held.started t)
 
   module _ (work : Work) (is : session.work ≡ Some work) where
     has_work : HasWork t session work old
@@ -164,105 +123,54 @@ module _ (writer : Option ℕ) (cuts : ℕ) (undo : UndoRoom) (room : WorkRoom) 
     saved_else : (f : Session → Session) (u : ℕ) → u ≢ t → slice_get (change_txn work.txn f old.sessions) u ≡ slice_get old.sessions u
     saved_else f u differ = txn_elsewhere work.txn u f old.sessions (λ x other there' has. another u x other differ there' has)
 
-    saved_works : (f : Session → Session) → (f session).work ≡ session.work → (u : ℕ)
-        → option_map (λ (x : Session). x.work) (slice_get (change_txn work.txn f old.sessions) u) ≡ option_map (λ (x : Session). x.work)
-        (slice_get old.sessions u)
-    saved_works f same u = elim (eqb_tells u t) [
-      | inl here ↦ ap (λ v. option_map (λ (x : Session). x.work) (slice_get (change_txn work.txn f old.sessions) v)) here.1
-          ∙ (ap (option_map (λ (x : Session). x.work)) (txn_here t work.txn session work f old.sessions there is refl) ∙
-          (ap Some same ∙ sym (ap (option_map (λ (x : Session). x.work)) there)))
-          ∙ ap (λ v. option_map (λ (x : Session). x.work) (slice_get old.sessions v)) (sym here.1)
-      | inr differ ↦ ap (option_map (λ (x : Session). x.work)) (saved_else f u differ.1)
-    ]
-
     pub saved_held : (name : List ℕ) (count : ℕ) → IsHeld (with_save work.txn name count old) writer desks cuts undo room
     saved_held name count =
         let new = with_save work.txn name count old in
         let f : Session → Session = λ x. record x { setting = record x.setting { saves = saved name count true x.setting.saves } } in
-        entered t writer writer cuts undo room old new desks desks held rests
+        entered_by held rests told (txn_here t work.txn session work f old.sessions there is refl)
+        (record { indexes = refl; versions = refl; schemas = refl }) refl (same_writer t writer old new desks (saved_else f)) refl
+        (unentered_agrees held.chains writer old new held.agrees
         (record {
-          agrees =
-              unentered_agrees held.chains writer old new held.agrees
-              (record {
-                past_is = refl;
-                names = refl;
-                schemas = refl;
-                txns = refl;
-                works = saved_works f refl;
-                count = length-map old.sessions
-                    (λ x. of_txn work.txn f x x.work);
-              });
-          adds = inl refl;
-          told = told;
-          rows = record { indexes = refl; versions = refl; schemas = refl };
-          others = same_writer t writer old new desks (saved_else f);
-          count = held.count;
-          few = held.few;
-          own =
-              own_session t old new desks (f session) (txn_here t work.txn session work f old.sessions there is refl)
-              (λ w is_w. same_log t old new session w w (record { session_is = there; work_is = is_w }) refl refl)
-              (λ busy. held.has_room.replies t session there busy) (λ waits. held.has_room.acks t session there waits)
-              (λ w is_w. held.has_room.ends t session w (record { session_is = there; work_is = is_w })) (held.started t);
-          fits = held.fits;
-        })
+          past_is = refl;
+          names = refl;
+          schemas = refl;
+          txns = refl;
+          works = works_by t old.sessions (change_txn work.txn f old.sessions) there
+              (txn_here t work.txn session work f old.sessions there is refl) refl (saved_else f);
+          count = length-map old.sessions (λ x. of_txn work.txn f x x.work);
+        }))
+        (inl refl) held.fits (λ w is_w. same_log t old new session w w (record { session_is = there; work_is = is_w }) refl refl)
+        (λ busy. held.has_room.replies t session there busy) (λ waits. held.has_room.acks t session there waits)
+        (λ w is_w. held.has_room.ends t session w (record { session_is = there; work_is = is_w })) (held.started t)
 
     -- ---- a transaction ends
-
-    mine_commits : is_of t (Committed t) ≡ true
-    mine_commits = grind (arith, nat_tests)
-
-    mine_rolls : is_of t (RolledBack t) ≡ true
-    mine_rolls = grind (arith, nat_tests)
-
-    rolled_waits : awaits_ack (of_item t (RolledBack t ∷ old.past)) ≡ false
-    rolled_waits = grind (arith, nat_tests)
 
     committed_then : (paged : Option Paged) → StoreGoes old.paged paged → length old.past + 1 < 2 ^ 63
         → IsHeld (record (committed t session work old) { paged = paged }) (writer_without writer t) desks cuts undo room
     committed_then paged later few =
         let new = record (committed t session work old) { paged = paged } in
         let after : Session = record session { can_ack = true; setting = at_end session.setting; work = None } in
-        entered t writer (writer_without writer t) cuts undo room old new desks desks held rests
-        (record {
-          agrees =
-              committed_agrees held.chains writer old new t held.agrees
-              (record { session = session; work = work; has_work = has_work; rest = refl; later = later })
-              few;
-          adds = inr (Committed t, mine_commits, refl);
-          told = record { pairs = told.pairs; versions = told.versions };
-          rows = record { indexes = refl; versions = refl; schemas = refl };
-          others = closed_desks t writer old new desks (λ u differ. set_other old.sessions t u after differ);
-          count = held.count;
-          few = held.few;
-          own =
-              own_session t old new desks after (set_here old.sessions t session after there) (λ w is_w. absurd (none_has after w refl is_w))
-              (λ busy. held.has_room.replies t session there busy) (λ waits. refl) (λ w is_w. absurd (none_has after w refl is_w)) (held.started t);
-          fits = held.fits;
-        })
+        entered_by held rests told (set_here old.sessions t session after there)
+        (record { indexes = refl; versions = refl; schemas = refl }) refl
+        (closed_desks t writer old new desks (λ u differ. set_other old.sessions t u after differ)) refl
+        (committed_agrees held.chains writer old new t held.agrees
+        (record { session = session; work = work; has_work = has_work; rest = refl; later = later }) few) (inr (Committed t, eq-eqb t t refl, refl)) held.fits
+        (λ w is_w. absurd (none_has after w refl is_w)) (λ busy. held.has_room.replies t session there busy) (λ waits. refl)
+        (λ w is_w. absurd (none_has after w refl is_w)) (held.started t)
 
     rolled_back_then : (paged : Option Paged) → StoreGoes old.paged paged → own t old.past ≡ [] → length old.past + 1 < 2 ^ 63
         → IsHeld (record (rolled_back t session work old) { paged = paged }) (writer_without writer t) desks cuts undo room
     rolled_back_then paged later none few =
         let new = record (rolled_back t session work old) { paged = paged } in
         let after : Session = record session { setting = at_end session.setting; work = None } in
-        entered t writer (writer_without writer t) cuts undo room old new desks desks held rests
-        (record {
-          agrees =
-              rolled_back_agrees held.chains writer old new t held.agrees
-              (record { session = session; work = work; has_work = has_work; rest = refl; later = later })
-              none few;
-          adds = inr (RolledBack t, mine_rolls, refl);
-          told = record { pairs = told.pairs; versions = told.versions };
-          rows = record { indexes = refl; versions = refl; schemas = refl };
-          others = closed_desks t writer old new desks (λ u differ. set_other old.sessions t u after differ);
-          count = held.count;
-          few = held.few;
-          own =
-              own_session t old new desks after (set_here old.sessions t session after there) (λ w is_w. absurd (none_has after w refl is_w))
-              (λ busy. held.has_room.replies t session there busy) (λ waits. absurd (absurd_false (sym rolled_waits ∙ waits)))
-              (λ w is_w. absurd (none_has after w refl is_w)) (held.started t);
-          fits = held.fits;
-        })
+        entered_by held rests told (set_here old.sessions t session after there)
+        (record { indexes = refl; versions = refl; schemas = refl }) refl
+        (closed_desks t writer old new desks (λ u differ. set_other old.sessions t u after differ)) refl
+        (rolled_back_agrees held.chains writer old new t held.agrees
+        (record { session = session; work = work; has_work = has_work; rest = refl; later = later }) none few)
+        (inr (RolledBack t, eq-eqb t t refl, refl)) held.fits
+        (λ w is_w. absurd (none_has after w refl is_w)) (λ busy. held.has_room.replies t session there busy)
+        (λ waits. absurd (waits_not t (RolledBack t ∷ of_item t old.past) old.past waits refl)) (λ w is_w. absurd (none_has after w refl is_w)) (held.started t)
 
 -- The session's open transaction has ended. It may write no longer.
 module _ (writer : Option ℕ) (cuts : ℕ) (undo : UndoRoom) (room : WorkRoom) (old new : WorldState) (desks : List Desk)

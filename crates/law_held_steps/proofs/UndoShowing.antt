@@ -1,7 +1,6 @@
 -- What callers see of a change that is taken back: the session's own task alone has changed.
-use Rattle.std.proofs.Common.{◌≡◌, ◌≢◌, ◌⊎◌, inl, inr, ℕ, ◌^◌, ◌<◌, Bool, true, false, List, ◌∷◌, length, map, Option, Some, refl, sym, ap, subst, ◌∙◌}
+use Rattle.std.proofs.Common.{◌≡◌, ◌≢◌, ◌⊎◌, inl, inr, ℕ, ◌^◌, ◌<◌, Bool, true, List, ◌∷◌, length, map, Option, Some, refl, sym, ap, subst, ◌∙◌}
 use Rattle.inno_types.specs.declared.value.Schema.{Schema}
-use Rattle.inno_model.specs.declared.event.Event.{Event}
 use Rattle.inno_model.specs.declared.event.Event.TheVariants.{Undone}
 use Rattle.store_api.specs.declared.moves.Move.TheVariants.{Done, Step}
 use Rattle.law_past_agreement.specs.Order.{MayCome}
@@ -14,7 +13,7 @@ use Rattle.law_logged_changes.specs.Steps.{ChangesPairsAlone}
 use Rattle.world.specs.Memory.{IsInMemory}
 use Rattle.desks.specs.declared.desk.Desk.{Desk}
 use Rattle.desks.specs.declared.desk.Doing.{Doing}
-use Rattle.desks.specs.declared.desk.Doing.TheVariants.{Nothing, Searching, Changing, Lagging, Undoing}
+use Rattle.desks.specs.declared.desk.Doing.TheVariants.{Nothing, Lagging, Undoing}
 use Rattle.desks.specs.Desks.{doing_at, with_doing, is_quiet_doing}
 use Rattle.desks.specs.Shown.{shown, lists_of}
 use Rattle.desks.specs.Undoing.{undo_left_in}
@@ -22,45 +21,17 @@ use Rattle.desks.specs.Holding.{IsHeld}
 use Rattle.desks.proofs.Showing.{task_is}
 use Rattle.shared_lists.specs.Tasks.{Task, MayTakeBack, undo_to_go}
 use Rattle.shared_lists.specs.Tasks as tasks
-use Rattle.shared_lists.specs.State.{task_of, IsNow, Turns}
+use Rattle.shared_lists.specs.State.{task_of, Turns}
 use Rattle.shared_lists.specs.declared.answers.Undone.TheVariants as undone
 use Rattle.law_held_steps.specs.Undoing.{IsReady, HasPutBack}
 use Rattle.law_held_steps.specs.SeenUndoing.{lists_held, TakesBackIn}
-use Rattle.law_held_steps.proofs.UndoDesks.{GivesDoing, given, kept_on}
+use Rattle.law_held_steps.proofs.Desks.{GivesDoing, given, kept_on}
+use Rattle.law_held_steps.proofs.Showing.{shows_now}
 use Rattle.law_held_steps.proofs.Putting.{mine, rest_beside, nearer}
 use Rattle.law_held_steps.proofs.Reading.{may_write, few_begun}
 use Rattle.law_held_steps.proofs.TakenBack.{past_now, names_now, schemas_now, count_rows_now, settings_now}
 
 -- ---- tasks
-
--- of a session that takes nothing back it doesn't show how much is left
-shown_quiet : (schemas : List Schema) (left now : ℕ) (doing : Doing) → is_quiet_doing doing ≡ true → shown schemas now doing ≡ shown schemas left doing
-shown_quiet schemas left now Nothing quiet = refl
-shown_quiet schemas left now (Searching on) quiet = refl
-shown_quiet schemas left now (Changing change) quiet = absurd (let e : false ≡ true = quiet in cc)
-shown_quiet schemas left now Lagging quiet = absurd (let e : false ≡ true = quiet in cc)
-shown_quiet schemas left now Undoing quiet = absurd (let e : false ≡ true = quiet in cc)
-
-some_same : (a b : ℕ) → Some a ≡ Some b → a ≡ b
-some_same a b same = cc
-
--- the names and tables are the same, the past is this, and one session has something else to do
-pub shows_now : (s : ℕ) (doing : Doing) (past : List Event) (old new : WorldState) (writer : Option ℕ) (desks later : List Desk) (left now : ℕ)
-    → writer ≡ Some s → ((t : ℕ) → writer ≢ Some t → is_quiet_doing (doing_at t desks) ≡ true) → GivesDoing s doing desks later
-    → new.names ≡ old.names → new.schemas ≡ old.schemas → new.past ≡ past → (task : Task) → shown new.schemas now doing ≡ task → IsNow past s task writer
-    (lists_of old writer desks left).state (lists_of new writer later now).state
-shows_now s doing past old new writer desks later left now mine quiet gives names schemas is task shows = record {
-  names_are = names;
-  past_is = is;
-  writer_is = refl;
-  task_is = task_is s now new writer later ∙ ap (shown new.schemas now) gives.here ∙ shows;
-  others = λ t differs.
-      task_is t now new writer later
-      ∙ ap (shown new.schemas now) (gives.others t differs)
-      ∙ ap (λ (x : List Schema). shown x now (doing_at t desks)) schemas
-      ∙ shown_quiet old.schemas left now (doing_at t desks) (quiet t (λ is. differs (some_same t s (sym is ∙ mine))))
-      ∙ sym (task_is t left old writer desks);
-}
 
 pub ready_if : (state : WorldState) (writer : Option ℕ) (desks : List Desk) (left s : ℕ) → MayTakeBack (task_of s (lists_of state writer desks left).state)
     → IsReady (doing_at s desks) ⊎ (doing_at s desks ≡ Undoing)
@@ -69,28 +40,19 @@ ready_if state writer desks left s may = go (doing_at s desks) refl where
   go Nothing is = inl (subst IsReady (sym is) (record {}))
   go Lagging is = inl (subst IsReady (sym is) (record {}))
   go Undoing is = inr is
-  go (Searching on) is = absurd (subst MayTakeBack (task_is s left state writer desks ∙ ap (shown state.schemas left) is) may)
-  go (Changing change) is = absurd (subst MayTakeBack (task_is s left state writer desks ∙ ap (shown state.schemas left) is) may)
+  go other is = absurd (subst MayTakeBack (task_is s left state writer desks ∙ ap (shown state.schemas left) is) may)
 
 -- all of it is to go yet
 ready_to_go : (schemas : List Schema) (left : ℕ) (doing : Doing) → IsReady doing → undo_to_go (shown schemas left doing) ≡ 2 ^ 70
 ready_to_go schemas left Nothing is = refl
 ready_to_go schemas left Lagging is = refl
-ready_to_go schemas left (Searching on) is = absurd is
-ready_to_go schemas left (Changing change) is = absurd is
-ready_to_go schemas left Undoing is = absurd is
+ready_to_go schemas left other is = absurd is
 
 -- ---- steps that add no entry
 
 module _ (s keep : ℕ) (old new : WorldState) (writer : Option ℕ) (desks later : List Desk) (left now : ℕ) (mine : writer ≡ Some s)
     (quiet : (t : ℕ) → writer ≢ Some t → is_quiet_doing (doing_at t desks) ≡ true) (gives : GivesDoing s Undoing desks later)
     (rest : ChangesPairsAlone old new) where
-  settings_same : (lists_of new writer later now).settings ≡ (lists_of old writer desks left).settings
-  settings_same = ap (λ (state : WorldState). map (λ (session : Session). session.setting) state.sessions) rest
-
-  count_same : new.rows ≡ old.rows
-  count_same = ap (λ (state : WorldState). state.rows) rest
-
   turned : (task : Task) → shown new.schemas now Undoing ≡ task → Turns s task (lists_of old writer desks left).state (lists_of new writer later now).state
   turned task shows =
       shows_now s Undoing old.past old new writer desks later left now mine quiet gives (ap (λ (state : WorldState). state.names) rest)
@@ -108,8 +70,8 @@ module _ (s keep : ℕ) (old new : WorldState) (writer : Option ℕ) (desks late
       (now, task_now),
       subst (λ (n : ℕ). n < undo_to_go (task_of s (lists_of old writer desks left).state)) (sym (ap undo_to_go task_now)) nearer,
     );
-    settings = settings_same;
-    rows = count_same;
+    settings = ap (λ (state : WorldState). map (λ (session : Session). session.setting) state.sessions) rest;
+    rows = ap (λ (state : WorldState). state.rows) rest;
   }
 
 -- ---- the steps
@@ -136,18 +98,13 @@ module _ (s keep : ℕ) (old new : WorldState) (writer : Option ℕ) (desks : Li
   abbrev is : ℕ
   is = undo_left_in undo.table next.stage new
 
-  by_me : writer ≡ Some s
-  by_me = mine s old new writer desks cuts undo room next held busy
-
-  to_go : undo_to_go (task_of s (lists_of old writer desks was).state) ≡ was
-  to_go = ap undo_to_go (task_is s was old writer desks ∙ ap (shown old.schemas was) busy)
-
   pub shows_went : IsInMemory old → IsInMemory new → HasPutBack s (read_into undo) room next old new Step
       → TakesBackIn s keep (lists_held old writer desks undo room) (lists_held new writer desks undo next) undone.Went
   shows_went memory later put =
-      seen_went s keep old new writer desks desks was is by_me held.quiet (kept_on s Undoing desks busy)
+      seen_went s keep old new writer desks desks was is (mine s old new writer desks cuts undo room next held busy) held.quiet (kept_on s Undoing desks busy)
       (rest_beside s old new writer desks cuts undo room next held busy Step put)
-      (subst (λ (n : ℕ). is < n) (sym to_go) (nearer s old new writer desks cuts undo room next held busy memory later put))
+      (subst (λ (n : ℕ). is < n) (sym (ap undo_to_go (task_is s was old writer desks ∙ ap (shown old.schemas was) busy)))
+      (nearer s old new writer desks cuts undo room next held busy memory later put))
 
 -- ---- the entry of the history
 

@@ -1,5 +1,5 @@
 -- An undo record goes, and with it what it kept.
-use Rattle.std.proofs.Common.{◌≡◌, ◌≢◌, ⊎_elim, ℕ, List, [], ◌∷◌, Option, Some, None, refl, sym, ap, subst, ◌∙◌, slice_get}
+use Rattle.std.proofs.Common.{◌≡◌, ◌≢◌, ⊎_elim, ℕ, List, [], ◌∷◌, Option, Some, refl, sym, ap, subst, ◌∙◌, slice_get}
 use Rattle.std.specs.Prelude.{IsSome, IsTrue}
 use Rattle.std.specs.List.{AllByRecursion}
 use Rattle.std.proofs.lemmas.Bool.{cases_eq}
@@ -35,9 +35,6 @@ module _ (schemas : List Schema) (pairs : ℕ → List Pair) (kept now : ℕ →
   record_without : (table : ℕ) (schema : Schema) (key : List ℕ) (found : Option (List ℕ)) (versions : List Version) → slice_get schemas table ≡ Some schema
       → value_of key (pairs (clustered_index table)) ≡ found
       → IsRecordWith schema key kept found versions → IsRecordWith schema key now found versions
-  record_without table schema key None [] there is record_is = record_is
-  record_without table schema key None (version ∷ older) there is record_is = record_is
-  record_without table schema key (Some bytes) [] there is record_is = record_is
   record_without table schema key (Some bytes) (version ∷ older) there is (coded, code, shown_is, leads) = (
     coded,
     code,
@@ -47,6 +44,7 @@ module _ (schemas : List Schema) (pairs : ℕ → List Pair) (kept now : ℕ →
         { schema = schema; there = there; key = key; bytes = bytes; coded = coded; record_is = is; code_is = code; further = further; reaches = reaches }))
         leads,
   )
+  record_without table schema key found versions there is record_is = record_is
 
   clustered_without : (chains : Chains) → AreClustered schemas pairs kept chains → AreClustered schemas pairs now chains
   clustered_without chains are = record {

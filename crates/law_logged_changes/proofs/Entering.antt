@@ -49,10 +49,6 @@ use Rattle.law_logged_changes.proofs.Staying.{aside_agreed, keys_agreed, keys_en
 abbrev pub with_version : Place → Version → Chains → Chains
 with_version place version chains = (place, version ∷ versions_at place chains) ∷ chains
 
-at_itself : (place : Place) (version : Version) (chains : Chains) → versions_at place (with_version place version chains) ≡ version ∷ versions_at place chains
-at_itself place version chains =
-    ap (λ (b : Bool). unwrap_or (cond b (Some (version ∷ versions_at place chains)) (lookup (is_same_place place) chains)) []) (place_itself place)
-
 apart_back : (place other : Place) → is_same_place place other ≡ false → is_same_place other place ≡ false
 apart_back place other apart = go (is_same_place other place) refl
   where
@@ -61,16 +57,24 @@ apart_back place other apart = go (is_same_place other place) refl
     go true is =
         let e = same_place other place is in let itself = subst (λ (p : Place). is_same_place place p ≡ true) (sym e) (place_itself place) in absurd (cc)
 
-pub pushed_version : (place : Place) (version : Version) (chains : Chains) → Pushes chains (with_version place version chains) place version
-pushed_version place version chains other = go (is_same_place place other) refl
+-- one place has other versions, made of those that it had
+pub chain_with : (place : Place) (f : List Version → List Version) (chains : Chains) (other : Place)
+    → versions_at other ((place, f (versions_at place chains)) ∷ chains)
+    ≡ cond (is_same_place place other) (f (versions_at other chains)) (versions_at other chains)
+chain_with place f chains other = go (is_same_place place other) refl
   where
+    there : Place → Bool → List Version
+    there p b = unwrap_or (cond b (Some (f (versions_at place chains))) (lookup (is_same_place p) chains)) []
+
     go : (b : Bool) → is_same_place place other ≡ b
-        → versions_at other (with_version place version chains) ≡ cond b (version ∷ versions_at other chains) (versions_at other chains)
+        → versions_at other ((place, f (versions_at place chains)) ∷ chains) ≡ cond b (f (versions_at other chains)) (versions_at other chains)
     go true is =
-        subst (λ (p : Place). versions_at p (with_version place version chains) ≡ version ∷ versions_at p chains) (same_place place other is)
-        (at_itself place version chains)
-    go false is =
-        ap (λ (b : Bool). unwrap_or (cond b (Some (version ∷ versions_at place chains)) (lookup (is_same_place other) chains)) []) (apart_back place other is)
+        subst (λ (p : Place). versions_at p ((place, f (versions_at place chains)) ∷ chains) ≡ f (versions_at p chains)) (same_place place other is)
+        (ap (there place) (place_itself place))
+    go false is = ap (there other) (apart_back place other is)
+
+pub pushed_version : (place : Place) (version : Version) (chains : Chains) → Pushes chains (with_version place version chains) place version
+pushed_version place version chains = chain_with place (λ versions. version ∷ versions) chains
 
 -- ---- the entry is that of a change of this row
 
@@ -115,30 +119,27 @@ kept_if false schemas pointer undo old new k told other found is = ap (λ (f : �
 module _ (s : ℕ) (chains : Chains) (old new : WorldState) (change : RecordChange) (bytes : List ℕ) (undo : Undo)
     (recorded : Records s (change_of change.table change.edit) (rows_put change.edit) change.table change.key bytes undo old new) (told : IsTold new) where
   abbrev changed_by : IsChangedBy s (change_of change.table change.edit) old.schemas old new
-  changed_by =
-      record {
-        session = recorded.work.session;
-        work = recorded.work.work;
-        had = recorded.work.had;
-        session_now = recorded.work.session_now;
-        work_now = recorded.work.work_now;
-        has = recorded.work.has;
-        more =
-            record {
-              txn = recorded.work.changed.txn;
-              level = recorded.work.changed.level;
-              view = recorded.work.changed.view;
-              own =
-                  recorded.work.changed.own;
-              id_is = recorded.work.changed.id_is;
-            };
-        past = ap (λ (state : WorldState). state.past) recorded.rest;
-        names = ap (λ (state : WorldState). state.names) recorded.rest;
-        schemas = ap (λ (state : WorldState). state.schemas) recorded.rest;
-        txns = recorded.work.txns;
-        others = recorded.work.others;
-        count = recorded.work.count;
-      }
+  changed_by = record {
+    session = recorded.work.session;
+    work = recorded.work.work;
+    had = recorded.work.had;
+    session_now = recorded.work.session_now;
+    work_now = recorded.work.work_now;
+    has = recorded.work.has;
+    more = record {
+      txn = recorded.work.changed.txn;
+      level = recorded.work.changed.level;
+      view = recorded.work.changed.view;
+      own = recorded.work.changed.own;
+      id_is = recorded.work.changed.id_is;
+    };
+    past = ap (λ (state : WorldState). state.past) recorded.rest;
+    names = ap (λ (state : WorldState). state.names) recorded.rest;
+    schemas = ap (λ (state : WorldState). state.schemas) recorded.rest;
+    txns = recorded.work.txns;
+    others = recorded.work.others;
+    count = recorded.work.count;
+  }
 
   entered_open : (session : Session) (work : Work) → HasWork s session work old → StaysOpen s session work old new
   entered_open session work has =
@@ -159,16 +160,15 @@ module _ (s : ℕ) (chains : Chains) (old new : WorldState) (change : RecordChan
       }
 
   entered_beside : KeepsBeside s old new
-  entered_beside =
-      record {
-        names = changed_by.names;
-        schemas = changed_by.schemas;
-        others = recorded.work.others;
-        count = recorded.work.count;
-        places = recorded.places;
-        kept = kept_if (undo.kind == 2) old.schemas recorded.work.session.next_pointer undo old.versions new.versions recorded.work.versions told.versions;
-        own = entered_open;
-      }
+  entered_beside = record {
+    names = changed_by.names;
+    schemas = changed_by.schemas;
+    others = recorded.work.others;
+    count = recorded.work.count;
+    places = recorded.places;
+    kept = kept_if (undo.kind == 2) old.schemas recorded.work.session.next_pointer undo old.versions new.versions recorded.work.versions told.versions;
+    own = entered_open;
+  }
 
   pub entered : (next : KeysChange) (p : IsChangingRecord s old change) → Agrees chains (Some s) old → length new.past < 2 ^ 63
       → ((pushed : Chains) → PushesEdit s change old chains pushed → IsChangingKeys pushed new next) → EntersAgreed s chains old new change next
@@ -211,15 +211,14 @@ enters s chains old new change next p c told agrees few keys =
 
 -- where no pair changes, no record does
 stays_beside : (old new : WorldState) → RowsStay old new → StaysBesideKeys old new
-stays_beside old new stay =
-    record {
-      told = stays_told old new stay;
-      records = λ table. stay.pairs (clustered_index table);
-      places = stay.places;
-      versions = stay.versions;
-      rest = stay.rest;
-      later = stay.later;
-    }
+stays_beside old new stay = record {
+  told = stays_told old new stay;
+  records = λ table. stay.pairs (clustered_index table);
+  places = stay.places;
+  versions = stay.versions;
+  rest = stay.rest;
+  later = stay.later;
+}
 
 pub goes_on : (s : ℕ) (chains : Chains) (old new : WorldState) (change : RowChange) (reached : Reached RowChange) → Agrees chains (Some s) old
     → IsChangingRow s chains old change → ChangesRow s chains old new change reached → IsTold new → length new.past < 2 ^ 63

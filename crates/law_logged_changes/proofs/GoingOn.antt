@@ -1,14 +1,16 @@
 -- Until a taking back is done, entries of keys alone change.
-use Rattle.std.proofs.Common.{◌≡◌, ◌≢◌, inl, inr, ⊎_elim, ℕ, List, [], refl, sym, ap, subst, ◌∙◌, arith}
+use Rattle.std.proofs.Common.{◌≡◌, ◌≢◌, inl, inr, ⊎_elim, ℕ, List, [], refl, sym, ap, subst, ◌∙◌, arith, Option}
 use Rattle.std.specs.Prelude.{slice_get}
 use Rattle.inno_db.specs.declared.change.Change.{Change}
 use Rattle.inno_model.specs.Past.{own}
 use Rattle.store_api.specs.declared.answers.Undo.{Undo}
 use Rattle.store_api.specs.declared.moves.Move.{Move}
-use Rattle.store_api.specs.declared.moves.Move.TheVariants.{At, End, Done, Step, Latch, Again, Full, TooDeep, Failed, Bad, NoMemory}
+use Rattle.store_api.specs.declared.moves.Move.TheVariants.{Done, Step}
 use Rattle.row_versions.specs.declared.place.Place.{Place}
 use Rattle.row_versions.specs.Chains.{Chains}
 use Rattle.world.specs.State.{WorldState, Session, Work, Logged, HasWork}
+use Rattle.law_world_agreement.specs.Agreement.{Agrees}
+use Rattle.law_world_agreement.proofs.Joining.{agrees_alike}
 use Rattle.undo_apply.specs.declared.work_room.WorkRoom.{WorkRoom}
 use Rattle.undo_apply.specs.Stages.{GoesOn, IsHindered, IsDone, PutsBack}
 use Rattle.undo_apply.proofs.Columns.{few_keys}
@@ -31,6 +33,12 @@ work_again u session work old new rest has =
 
 pub own_beside : (u : ℕ) (old new : WorldState) → ChangesPairsAlone old new → own u new.past ≡ own u old.past
 own_beside u old new rest = ap (λ (state : WorldState). own u state.past) rest
+
+pub agrees_beside : {old new : WorldState} {chains : Chains} {writer : Option ℕ} → ChangesPairsAlone old new → Agrees chains writer old
+    → Agrees chains writer new
+agrees_beside {old} {new} {chains} {writer} rest agrees =
+    agrees_alike chains writer old new agrees (ap (λ (x : WorldState). x.names) rest) (ap (λ (x : WorldState). x.past) rest)
+    (ap (λ (x : WorldState). x.schemas) rest) (ap (λ (x : WorldState). x.txns) rest) (ap (λ (x : WorldState). x.sessions) rest)
 
 pub logs_beside : (old new : WorldState) → ChangesPairsAlone old new → LeavesLogs OfAll old new
 logs_beside old new rest u session work of has = inl (record {
@@ -66,31 +74,10 @@ module _ (chains : Chains) (place : Place) (actor : ℕ) (undo : Undo) (room nex
   step_leaves Done is not_done = absurd (not_done refl)
   step_leaves Step (inl goes) not_done = goes_leaves goes
   step_leaves Step (inr is) not_done = hindered_leaves Step is
-  step_leaves (Latch by) is not_done = hindered_leaves (Latch by) is
-  step_leaves Again is not_done = hindered_leaves Again is
-  step_leaves Failed is not_done = hindered_leaves Failed is
-  step_leaves (Bad page rule) is not_done = hindered_leaves (Bad page rule) is
-  step_leaves End is not_done = hindered_leaves End is
-  step_leaves (At key value) is not_done = hindered_leaves (At key value) is
-  step_leaves (Full need free) is not_done = hindered_leaves (Full need free) is
-  step_leaves TooDeep is not_done = hindered_leaves TooDeep is
-  step_leaves NoMemory is not_done = hindered_leaves NoMemory is
+  step_leaves why is not_done = hindered_leaves why is
 
   pub done_beside : IsDone chains place undo room next old new → ChangesPairsAlone old new
   done_beside done = ⊎_elim (λ stays. stays.rest) (λ puts. puts.rest) done.changes
-
-  beside_by : (answer : Move) → PutsBack chains place actor undo room next old new answer → ChangesPairsAlone old new
-  beside_by Done is = done_beside is
-  beside_by Step is = (step_leaves Step is (λ e. cc)).1
-  beside_by (Latch by) is = is.stays.rest
-  beside_by Again is = is.stays.rest
-  beside_by Failed is = is.stays.rest
-  beside_by (Bad page rule) is = is.stays.rest
-  beside_by End is = is.stays.rest
-  beside_by (At key value) is = is.stays.rest
-  beside_by (Full need free) is = is.stays.rest
-  beside_by TooDeep is = is.stays.rest
-  beside_by NoMemory is = is.stays.rest
 
   pub step_logs : (answer : Move) (log : List Logged) (changes : List Change) → PutsBack chains place actor undo room next old new answer → answer ≢ Done
       → IsLogOf old log changes → IsLogOf new log changes
@@ -100,4 +87,6 @@ module _ (chains : Chains) (place : Place) (actor : ℕ) (undo : Undo) (room nex
   step_all answer is not_done agree = let left = step_leaves answer is not_done in all_left old new left.0 (logs_beside old new left.1) agree
 
   pub step_beside : (answer : Move) → PutsBack chains place actor undo room next old new answer → ChangesPairsAlone old new
-  step_beside answer is = beside_by answer is
+  step_beside Done is = done_beside is
+  step_beside Step is = (step_leaves Step is (λ e. cc)).1
+  step_beside why is = is.stays.rest

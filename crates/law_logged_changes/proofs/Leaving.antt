@@ -94,8 +94,7 @@ log_kept u session work old new leaves each (inl left) =
     subst (λ (log : List Logged). IsLogOf new log (own u new.past)) (sym left.log_is)
     (subst (λ (changes : List Change). IsLogOf new left.before.log changes) (sym left.own_is)
     (log_left old new left.before.log (own u old.past) leaves (each left.session left.before left.has_work)))
-log_kept u session work old new leaves each (inr none) =
-    subst (λ (changes : List Change). IsLogOf new work.log changes) (sym none.own_is) none.log_is
+log_kept u session work old new leaves each (inr none) = subst (λ (changes : List Change). IsLogOf new work.log changes) (sym none.own_is) none.log_is
 
 pub all_left : (old new : WorldState) → LeavesRecords old new → LeavesLogs OfAll old new → LogsAgree old → LogsAgree new
 all_left old new leaves logs agree = record {

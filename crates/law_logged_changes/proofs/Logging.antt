@@ -7,7 +7,7 @@ use Rattle.std.proofs.lemmas.Bool.{cases_eq, cond-true, cond-false, eq-eqb, ne_e
 use Rattle.inno_types.specs.declared.value.Value.{Value}
 use Rattle.inno_types.specs.declared.value.Schema.{Schema}
 use Rattle.inno_db.specs.declared.change.Change.{Change}
-use Rattle.inno_db.specs.declared.change.Change.TheVariants.{Create, Put, Remove}
+use Rattle.inno_db.specs.declared.change.Change.TheVariants.{Create}
 use Rattle.inno_db.proofs.Keys.{key_in-at}
 use Rattle.inno_model.specs.Past.{own}
 use Rattle.inno_model.specs.declared.event.Event.TheVariants.{Changed}
@@ -39,7 +39,7 @@ use Rattle.row_changes.specs.Rows.{IsChangingRow, primary_of}
 use Rattle.row_changes.specs.Told.{HasRows}
 use Rattle.row_changes.proofs.Telling.{pairs_told, puts_pairs, tells}
 use Rattle.row_changes.proofs.Ids.{one_work}
-use Rattle.row_changes.proofs.Sessions.{one_session}
+use Rattle.row_changes.proofs.Sessions.{one_session, one_found}
 use Rattle.row_changes.proofs.Pushed.{key_at, code_first, code_next, small_id}
 use Rattle.row_changes.proofs.Recorded.{key_short, value_short}
 use Rattle.undo_apply.specs.Standing.{TellsOf, LeadsBack, was_before}
@@ -71,17 +71,10 @@ log_keeps : (told : Type 0) (schemas : List Schema) (records : RecordsAt) (kept 
     → LogStands told schemas records kept log changes → AllByRecursion (IsKeptYet kept) log
 log_keeps told schemas records kept log [] at stands = subst (AllByRecursion (IsKeptYet kept)) (sym stands) (record {})
 log_keeps told schemas records kept log (Create schema ∷ changes) at stands = log_keeps told schemas records kept log changes at stands
-log_keeps told schemas records kept [] (Put table row ∷ changes) at stands = record {}
-log_keeps told schemas records kept [] (Remove table key ∷ changes) at stands = record {}
-log_keeps told schemas records kept (logged ∷ log) (Put table row ∷ changes) at stands = (
-  stands_keeps told schemas records kept logged log (Put table row) at stands.0,
-  log_keeps told schemas (taken_back logged.undo records) kept log changes
-      at stands.1,
-)
-log_keeps told schemas records kept (logged ∷ log) (Remove table key ∷ changes) at stands = (
-  stands_keeps told schemas records kept logged log (Remove table key) at stands.0,
-  log_keeps told schemas (taken_back logged.undo records) kept log
-      changes at stands.1,
+log_keeps told schemas records kept [] (change ∷ changes) at stands = record {}
+log_keeps told schemas records kept (logged ∷ log) (change ∷ changes) at stands = (
+  stands_keeps told schemas records kept logged log change at stands.0,
+  log_keeps told schemas (taken_back logged.undo records) kept log changes at stands.1,
 )
 
 -- ---- the step
@@ -268,12 +261,6 @@ none_of : (found : Option (List ℕ)) → is_some found ≡ false → found ≡ 
 none_of None is = refl
 none_of (Some bytes) is = absurd (cc)
 
-one_kept : (there : Option Kept) (a b : Kept) → there ≡ Some a → there ≡ Some b → a ≡ b
-one_kept there a b first second = cc
-
-one_schema : (found : Option Schema) (a b : Schema) → found ≡ Some a → found ≡ Some b → a ≡ b
-one_schema found a b is also = cc
-
 module _ (s : ℕ) (old new : WorldState) (change : RecordChange) (p : IsChangingRecord s old change) where
   abbrev writer : ℕ
   writer = id_for p.work.id old.txns.next
@@ -319,13 +306,12 @@ module _ (s : ℕ) (old new : WorldState) (change : RecordChange) (p : IsChangin
   logging_over former o = record {
     table = p.table;
     rows = all;
-    sound =
-        record {
-          kept = inr (refl, kept.version, kept.kept);
-          key = key_short s old change p;
-          value = value_short p.schema former change.key o.bytes
-              p.table.storable (o.was.code_is.record_is.fits, o.was.code_is.record_is.key_is) o.was.code_is.record_is.value_is;
-        };
+    sound = record {
+      kept = inr (refl, kept.version, kept.kept);
+      key = key_short s old change p;
+      value = value_short p.schema former change.key o.bytes
+          p.table.storable (o.was.code_is.record_is.fits, o.was.code_is.record_is.key_is) o.was.code_is.record_is.value_is;
+    };
     code_is = code_next p.schema change.edit change.key o.bytes former writer o.session.next_pointer p.fits o.was.code_is small o.small;
     was =
         λ told. tells (λ pairs. value_of change.key pairs ≡ Some o.bytes) (old.indexes (clustered_index change.table)).pairs o.was.there
@@ -346,9 +332,8 @@ module _ (s : ℕ) (old new : WorldState) (change : RecordChange) (p : IsChangin
     former_code = λ told two found is.
         let here : new.versions.kept_at (version_by change.edit former.row writer o.session.next_pointer).pointer ≡ Some
         (record { version = kept.version; bytes = o.bytes }) = ap new.versions.kept_at pointer ∙ kept.here told.versions in
-        let same : record { version = kept.version; bytes = o.bytes } ≡ found = one_kept
-        (new.versions.kept_at (version_by change.edit former.row writer o.session.next_pointer).pointer)
-        (record { version = kept.version; bytes = o.bytes }) found here is in
+        let same : record { version = kept.version; bytes = o.bytes } ≡ found =
+        one_found (record { version = kept.version; bytes = o.bytes }) found here is in
         subst (λ (k : Kept). IsCodeOf p.schema change.key k.bytes k.version) same found_code;
     told = λ told. record {
       pairs =
@@ -375,14 +360,14 @@ module _ (s : ℕ) (old new : WorldState) (change : RecordChange) (p : IsChangin
 
     found_code : IsCodeOf p.schema change.key o.bytes kept.version
     found_code =
-        let same = one_schema (slice_get old.schemas change.table) kept.kept.schema p.schema kept.kept.there p.table.there in
+        let same = one_found kept.kept.schema p.schema kept.kept.there p.table.there in
         subst (λ (x : Schema). IsCodeOf x change.key o.bytes kept.version) same (record { record_is = kept.kept.record_is; numbers = kept.kept.small })
 
   -- whichever it is, it is logged
   pub logging : (P : Type 0) → ((kind : ℕ) (value bytes : List ℕ) (coded : Coded) → IsLogging s old new change p.schema kind value bytes coded → P)
       → (before : Option (List Value)) → ChangesRecord s old new change (records.Recorded before) → P
   logging P goal before h =
-      let one = one_schema (slice_get old.schemas change.table) h.0 p.schema h.1.there p.table.there in
+      let one = one_found h.0 p.schema h.1.there p.table.there in
       let puts : PutsVersion s old new change p.schema before = subst (λ (x : Schema). PutsVersion s old new change x before) one h.2 in
       ⊎_elim
       (λ f. goal 1 [] (version_code p.schema (version_by change.edit [] writer 0)) (version_by change.edit [] writer 0) (logging_first f.0))

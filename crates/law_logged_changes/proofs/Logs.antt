@@ -107,14 +107,9 @@ module _ (told now : Type 0) (schemas others : List Schema) (kept found : ℕ �
       → LogStands told schemas was kept log own → LogStands now others is found log own
   log_on was is log [] same keeps stands = stands
   log_on was is log (Create schema ∷ own) same keeps stands = log_on was is log own same keeps stands
-  log_on was is [] (Put table row ∷ own) same keeps stands = stands
-  log_on was is [] (Remove table key ∷ own) same keeps stands = stands
-  log_on was is (logged ∷ log) (Put table row ∷ own) same keeps stands = (
-    stands_on was is logged log (Put table row) same keeps.0 stands.0,
-    log_on (taken_back logged.undo was) (taken_back logged.undo is) log own (same_behind was is logged.undo same) keeps.1 stands.1,
-  )
-  log_on was is (logged ∷ log) (Remove table key ∷ own) same keeps stands = (
-    stands_on was is logged log (Remove table key) same keeps.0 stands.0,
+  log_on was is [] (change ∷ own) same keeps stands = stands
+  log_on was is (logged ∷ log) (change ∷ own) same keeps stands = (
+    stands_on was is logged log change same keeps.0 stands.0,
     log_on (taken_back logged.undo was) (taken_back logged.undo is) log own (same_behind was is logged.undo same) keeps.1 stands.1,
   )
 
@@ -126,16 +121,14 @@ pub newest_stands : (told : Type 0) (schemas : List Schema) (records : RecordsAt
     → LogStands told schemas records kept (logged ∷ log) (change ∷ own) → Stands told schemas records kept logged log change × LogStands told schemas
     (taken_back logged.undo records) kept log own
 newest_stands told schemas records kept logged log (Create schema) own place is stands = absurd (cc)
-newest_stands told schemas records kept logged log (Put table row) own place is stands = stands
-newest_stands told schemas records kept logged log (Remove table key) own place is stands = stands
+newest_stands told schemas records kept logged log change own place is stands = stands
 
 pub one_more : (told : Type 0) (schemas : List Schema) (records : RecordsAt) (kept : ℕ → Option Kept) (logged : Logged) (log : List Logged) (change : Change)
     (own : List Change)
     → Stands told schemas records kept logged log change → LogStands told schemas (taken_back logged.undo records) kept log own → LogStands told schemas
     records kept (logged ∷ log) (change ∷ own)
 one_more told schemas records kept logged log (Create schema) own stands rest = absurd (let is = stands.place_is in cc)
-one_more told schemas records kept logged log (Put table row) own stands rest = (stands, rest)
-one_more told schemas records kept logged log (Remove table key) own stands rest = (stands, rest)
+one_more told schemas records kept logged log change own stands rest = (stands, rest)
 
 -- where nothing is told otherwise, a log without changes is empty
 pub empty_log : (told : Type 0) (schemas : List Schema) (records : RecordsAt) (kept : ℕ → Option Kept) (log : List Logged) (own : List Change) → own ≡ []

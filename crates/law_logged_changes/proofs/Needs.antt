@@ -23,6 +23,7 @@ use Rattle.law_stored_rows.specs.Tables.{in_table, AreClustered}
 use Rattle.law_stored_rows.proofs.Pairs.{same_or_not, others_now, at_index, at_others, other_rows}
 use Rattle.law_stored_rows.proofs.FromTables.{decoded}
 use Rattle.law_stored_rows.proofs.RowRecords.{one_lead, pointer_followed, pointer_leads}
+use Rattle.row_changes.proofs.Sessions.{one_found}
 use Rattle.undo_apply.specs.Standing.{LeadsBack, was_before}
 use Rattle.undo_apply.proofs.Places.{before_new, before_kept}
 use Rattle.law_logged_changes.specs.Pointers.{Reaches, IsNeededBy, AreApart, IsUnneeded}
@@ -101,9 +102,6 @@ pub record StandsIn (undo : Undo) (schemas : List Schema) (schema : Schema) (kep
   pub before : LeadsBack undo kept coded.pointer
   pub without : (table : ℕ) (key : List ℕ) → records_in low table key ≡ taken_back undo (records_in high) table key
 
-one_schema : (found : Option Schema) (a b : Schema) → found ≡ Some a → found ≡ Some b → a ≡ b
-one_schema found a b first second = cc
-
 some_bytes : (found : Option (List ℕ)) (a b : List ℕ) → found ≡ Some a → found ≡ Some b → a ≡ b
 some_bytes found a b first second = cc
 
@@ -121,7 +119,7 @@ module _ (undo : Undo) (schemas : List Schema) (schema : Schema) (kept : ℕ →
       let value : Some bytes ≡ Some undo.value =
       sym found ∙ stands.without table key ∙ taken_here undo (records_in high) table key same also ∙ before_kept undo kind in
       let bytes_are : bytes ≡ former.bytes = cc (value, kept_is) in
-      let schema_is : other ≡ schema = one_schema (slice_get schemas undo.table) other schema (ap (slice_get schemas) (sym same) ∙ there) stands.there in
+      let schema_is : other ≡ schema = one_found other schema (ap (slice_get schemas) (sym same) ∙ there) stands.there in
       let read = pointer_followed schema undo.key kept coded.pointer versions former leads some keeps in
       let code_too : IsCodeOf schema undo.key former.bytes version
       =
@@ -199,7 +197,7 @@ module _ (undo : Undo) (schemas : List Schema) (schema : Schema) (kept : ℕ →
       (λ differs. ⊎_elim (λ table_differs. absurd (table_differs same))
       (λ key_differs.
       let schema_is : needed.schema ≡ schema =
-      one_schema (slice_get schemas undo.table) needed.schema schema (ap (slice_get schemas) (sym same) ∙ needed.there) stands.there in
+      one_found needed.schema schema (ap (slice_get schemas) (sym same) ∙ needed.there) stands.there in
       let code = subst (λ (x : Schema). IsCodeOf x needed.key needed.bytes needed.coded) schema_is needed.code_is in
       let found : records_in high undo.table needed.key ≡ Some needed.bytes
       =
@@ -263,7 +261,7 @@ module _ (undo : Undo) (schemas : List Schema) (schema : Schema) (kept : ℕ →
         ⊎_elim
         (λ here.
         let schema_is : needed.schema ≡ schema =
-        one_schema (slice_get schemas undo.table) needed.schema schema (ap (slice_get schemas) (sym here.0) ∙ needed.there) stands.there in
+        one_found needed.schema schema (ap (slice_get schemas) (sym here.0) ∙ needed.there) stands.there in
         let found : records_in high undo.table undo.key ≡ Some needed.bytes =
         ap (λ (k : List ℕ). records_in high undo.table k) (sym here.1) ∙ ap (λ (t : ℕ). records_in high t needed.key) (sym here.0) ∙ needed.record_is in
         let bytes_are = some_bytes (records_in high undo.table undo.key) needed.bytes stands.bytes found stands.record_is in

@@ -1,5 +1,5 @@
 -- What is reached from a pointer, where it leads to versions.
-use Rattle.std.proofs.Common.{◌≡◌, ◌≢◌, ℕ, zero, suc, ◌+◌, List, [], ◌∷◌, Option, Some, refl, sym, ap, subst, ◌∙◌, arith, slice_get, length}
+use Rattle.std.proofs.Common.{◌≡◌, ◌≢◌, ℕ, zero, suc, ◌+◌, List, [], ◌∷◌, Option, Some, refl, sym, ap, subst, ◌∙◌, arith, length}
 use Rattle.inno_types.specs.declared.value.Column.{Column}
 use Rattle.inno_types.specs.declared.value.Schema.{Schema}
 use Rattle.inno_db.specs.Database.{key_of}
@@ -8,10 +8,8 @@ use Rattle.key_codec.specs.Keys.{key_code}
 use Rattle.row_versions.specs.declared.kept.Kept.{Kept}
 use Rattle.row_versions.specs.declared.version.Version.{Version}
 use Rattle.law_stored_rows.specs.Records.{IsCodeOf, LeadTo, KeepsMore}
+use Rattle.row_changes.proofs.Sessions.{one_found}
 use Rattle.law_logged_changes.specs.Pointers.{Reaches}
-
-one_kept : (there : Option Kept) (a b : Kept) → there ≡ Some a → there ≡ Some b → a ≡ b
-one_kept there a b first second = cc
 
 -- what is reached leads on to the rest
 pub record IsOnWay (schema : Schema) (key : List ℕ) (kept : ℕ → Option Kept) (pointer further : ℕ) (versions : List Version) : Type 0 where
@@ -31,7 +29,7 @@ module _ (schema : Schema) (key : List ℕ) (kept : ℕ → Option Kept) where
   }
   on_way from (suc further) pointer [] leads (some, found, there, reaches) = absurd (some leads)
   on_way from (suc further) pointer (version ∷ older) leads (some, found, there, reaches) =
-      let one = one_kept (kept from) leads.0 found leads.1.there there in
+      let one = one_found leads.0 found leads.1.there there in
       let behind = subst (λ (k : Kept). LeadTo schema key kept k.version.pointer older) one leads.2 in
       let way = on_way found.version.pointer further pointer older behind reaches in
       record { rest = way.rest; leads = way.leads; count = omega (arith, way.count); some = way.some }
@@ -42,7 +40,7 @@ module _ (schema : Schema) (key : List ℕ) (kept : ℕ → Option Kept) where
   reached_before now from zero pointer versions more leads reaches = reaches
   reached_before now from (suc further) pointer [] more leads (some, found, there, reaches) = absurd (some leads)
   reached_before now from (suc further) pointer (version ∷ older) more leads (some, found, there, reaches) =
-      let one = one_kept (now from) leads.0 found (more from leads.0 leads.1.there) there in
+      let one = one_found leads.0 found (more from leads.0 leads.1.there) there in
       let behind = subst (λ (k : Kept). LeadTo schema key kept k.version.pointer older) one leads.2 in
       (some, found, ap kept refl ∙ leads.1.there ∙ ap Some one, reached_before now found.version.pointer further pointer older more behind reaches)
 
@@ -66,15 +64,12 @@ reached_with kept now gone from (suc further) pointer same apart (some, found, t
 
 -- ---- one key
 
-one_column : (found : Option Column) (a b : Column) → found ≡ Some a → found ≡ Some b → a ≡ b
-one_column found a b first second = cc
-
 pub one_key_of : (schema : Schema) (key other bytes others : List ℕ) (coded : Coded) → IsCodeOf schema key bytes coded → IsCodeOf schema other others coded
     → key ≡ other
 one_key_of schema key other bytes others coded first second =
     let a = first.record_is.key_is in
     let b = second.record_is.key_is in
-    let column = one_column (slice_get schema.columns schema.primary) a.column b.column a.primary b.primary in
+    let column = one_found a.column b.column a.primary b.primary in
     a.spelled ∙ ap (λ (c : Column). key_code c.kind (key_of schema coded.row)) column ∙ sym b.spelled
 
 -- a pointer leads to versions of one row of a table
@@ -83,6 +78,6 @@ pub one_row : (schema : Schema) (key other : List ℕ) (kept : ℕ → Option Ke
 one_row schema key other kept pointer [] others some first second = absurd (some first)
 one_row schema key other kept pointer (version ∷ versions) [] some first second = absurd (some second)
 one_row schema key other kept pointer (version ∷ versions) (v ∷ others) some first second =
-    let one = one_kept (kept pointer) second.0 first.0 second.1.there first.1.there in
+    let one = one_found second.0 first.0 second.1.there first.1.there in
     one_key_of schema key other first.0.bytes first.0.bytes first.0.version first.1.code_is
     (subst (λ (k : Kept). IsCodeOf schema other k.bytes k.version) one second.1.code_is)

@@ -56,14 +56,13 @@ module _ (chains : Chains) (place : Place) (done : ℕ) (put : Option EntryPut) 
         (eqb_tells which done)
 
     pub lags : LagsAt chains said
-    lags =
-        record {
-          place = place;
-          lag = so.lag;
-          version = version;
-          versions = versions ∙ ap (λ o. version ∷ o) (sym (ap older versions));
-          tells = λ which column value has. tells_others which column value (ap (some_has column value) (sym (ap older versions)) ∙ has);
-        }
+    lags = record {
+      place = place;
+      lag = so.lag;
+      version = version;
+      versions = versions ∙ ap (λ o. version ∷ o) (sym (ap older versions));
+      tells = λ which column value has. tells_others which column value (ap (some_has column value) (sym (ap older versions)) ∙ has);
+    }
 
 pub readable : (s : ℕ) (chains : Chains) (state : WorldState) (change : RowChange) → IsChangingRow s chains state change → IsTold state
     → IsReadable chains state

@@ -19,7 +19,7 @@ use Rattle.row_changes.specs.declared.entry_put.PutPhase.{PutPhase}
 use Rattle.row_changes.specs.declared.entry_put.PutPhase.TheVariants as puts
 use Rattle.row_changes.specs.declared.record_change.RecordChange.{RecordChange}
 use Rattle.row_changes.specs.declared.record_change.RecordStage.{RecordStage}
-use Rattle.row_changes.specs.declared.record_change.RecordStage.TheVariants.{Enter, Room, Find, Insert, Replace}
+use Rattle.row_changes.specs.declared.record_change.RecordStage.TheVariants.{Insert, Replace}
 use Rattle.row_changes.specs.declared.keys_change.KeysChange.{KeysChange}
 use Rattle.row_changes.specs.declared.row_change.RowChange.{RowChange}
 use Rattle.row_changes.specs.declared.row_change.RowChange.TheVariants.{Record, Keys}
@@ -41,9 +41,6 @@ told_pairs P (Some old) (Some new) kept is = subst P (sym kept) is
 
 stage_kept : (stage : RecordStage) (schema : Schema) (edit : RowEdit) (key : List ℕ) (session : Session) (old new : Index) → AreKept old.pairs new.pairs
     → StageHolds stage schema edit key session old → StageHolds stage schema edit key session new
-stage_kept Enter schema edit key session old new kept is = is
-stage_kept Room schema edit key session old new kept is = is
-stage_kept Find schema edit key session old new kept is = is
 stage_kept Insert schema edit key session old new kept is =
     (is.0, is.1, told_pairs (λ pairs. is_some (value_of key pairs) ≡ false) old.pairs new.pairs kept is.2)
 stage_kept (Replace before bytes) schema edit key session old new kept is = (
@@ -51,6 +48,7 @@ stage_kept (Replace before bytes) schema edit key session old new kept is = (
   is.1,
   record { there = told_pairs (λ pairs. value_of key pairs ≡ Some bytes) old.pairs new.pairs kept is.2.there; code_is = is.2.code_is },
 )
+stage_kept stage schema edit key session old new kept is = is
 
 phase_kept : (phase : PutPhase) (entry : List ℕ) (old new : Index) → AreKept old.pairs new.pairs → PutPhaseHolds phase entry old → PutPhaseHolds phase entry new
 phase_kept puts.Look entry old new kept is = is
@@ -65,11 +63,10 @@ some_kept P Q (Some put) each is = each put is
 
 module _ (old new : WorldState) (leaves : LeavesRows old new) where
   pub left_told : IsTold new → IsTold old
-  left_told told =
-      record {
-        pairs = λ i. told_before (λ before after. after ≡ before) (old.indexes i).pairs (new.indexes i).pairs (leaves.pairs i) (told.pairs i);
-        versions = leaves.versions.told told.versions;
-      }
+  left_told told = record {
+    pairs = λ i. told_before (λ before after. after ≡ before) (old.indexes i).pairs (new.indexes i).pairs (leaves.pairs i) (told.pairs i);
+    versions = leaves.versions.told told.versions;
+  }
 
   pub rows_left : (chains : Chains) (said : Said) → IsTold new → AreRowsAs chains said old → AreRowsAs chains said new
   rows_left chains said told is =
@@ -105,17 +102,16 @@ module _ (old new : WorldState) (leaves : LeavesRows old new) where
 
   entering_left : (schema : Schema) (table which : ℕ) (row : Option (List Value)) (primary : List ℕ) (put : EntryPut)
       → IsEntering schema table which row primary old put → IsEntering schema table which row primary new put
-  entering_left schema table which row primary put p =
-      record {
-        index_is = p.index_is;
-        entry_is = p.entry_is;
-        within = p.within;
-        putting = record {
-          index_is = subst (λ (schemas : List Schema). IsIndex schemas put.index) (sym leaves.schemas) p.putting.index_is;
-          short = p.putting.short;
-          phase = phase_kept put.phase put.entry (old.indexes put.index) (new.indexes put.index) (leaves.pairs put.index) p.putting.phase;
-        };
-      }
+  entering_left schema table which row primary put p = record {
+    index_is = p.index_is;
+    entry_is = p.entry_is;
+    within = p.within;
+    putting = record {
+      index_is = subst (λ (schemas : List Schema). IsIndex schemas put.index) (sym leaves.schemas) p.putting.index_is;
+      short = p.putting.short;
+      phase = phase_kept put.phase put.entry (old.indexes put.index) (new.indexes put.index) (leaves.pairs put.index) p.putting.phase;
+    };
+  }
 
   keys_left : (chains : Chains) (change : KeysChange) → IsChangingKeys chains old change → IsChangingKeys chains new change
   keys_left chains change p =

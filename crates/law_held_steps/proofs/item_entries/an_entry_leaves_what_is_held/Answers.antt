@@ -1,4 +1,4 @@
-use Rattle.law_held_steps.proofs.Entering.{entered}
+use Rattle.law_held_steps.proofs.EntrySessions.{entered}
 use Rattle.law_held_steps.proofs.item_entries.an_entry_leaves_what_is_held.Goals as goal
 
 pub returns : goal.returns

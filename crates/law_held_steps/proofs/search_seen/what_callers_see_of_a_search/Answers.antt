@@ -6,27 +6,16 @@ use Rattle.desks.proofs.Showing.{task_is, idle_shown, places_are}
 use Rattle.law_held_steps.proofs.Callers.{turns_now, search_shown, has_desk, turns_to_search, searches_on}
 use Rattle.law_held_steps.proofs.search_seen.what_callers_see_of_a_search.Goals as goal
 
-pub returns-clause-searching : goal.returns-clause-searching
-returns-clause-searching c = λ s table stage state writer desks found plan reading is.
-    search_shown (undo_left_in table stage state) state.schemas (doing_at s desks) found plan reading
-    (sym (task_is s (undo_left_in table stage state) state writer desks) ∙ is)
-
-pub returns-clause-idle : goal.returns-clause-idle
-returns-clause-idle c = λ s table stage state writer desks is.
-    idle_shown (undo_left_in table stage state) state.schemas (doing_at s desks) (sym (task_is s (undo_left_in table stage state) state writer desks) ∙ is)
-
-pub returns-clause-joined : goal.returns-clause-joined
-returns-clause-joined c = has_desk
-
-pub returns-clause-begun : goal.returns-clause-begun
-returns-clause-begun c = λ s table stage state writer desks. turns_to_search s table stage writer desks state
-
-pub returns-clause-went : goal.returns-clause-went
-returns-clause-went c = λ s table stage old new writer desks. searches_on s table stage writer desks old new
-
-pub returns-clause-before : goal.returns-clause-before
-returns-clause-before c = λ s table stage state. places_are s (undo_left_in table stage state) state
-
-pub returns-clause-over : goal.returns-clause-over
-returns-clause-over c =
-    λ s table stage old new writer desks on is moves told. turns_now s table stage old new writer desks Nothing (has_desk s desks on is) moves told
+pub returns : goal.returns
+returns c = record {
+  searching = λ s table stage state writer desks found plan reading is.
+      search_shown (undo_left_in table stage state) state.schemas (doing_at s desks) found plan reading (sym (task_is s (undo_left_in table stage state) state
+      writer desks) ∙ is);
+  idle = λ s table stage state writer desks is.
+      idle_shown (undo_left_in table stage state) state.schemas (doing_at s desks) (sym (task_is s (undo_left_in table stage state) state writer desks) ∙ is);
+  joined = has_desk;
+  begun = λ s table stage state writer desks. turns_to_search s table stage writer desks state;
+  went = λ s table stage old new writer desks. searches_on s table stage writer desks old new;
+  before = λ s table stage state. places_are s (undo_left_in table stage state) state;
+  over = λ s table stage old new writer desks on is moves told. turns_now s table stage old new writer desks Nothing (has_desk s desks on is) moves told;
+}
