@@ -6,7 +6,7 @@ use Rattle.store_api.specs.declared.moves.Move.{Move}
 use Rattle.store_api.specs.declared.answers.Version.{Version as Coded}
 use Rattle.row_codec.specs.Rows.{IsRecordOf, IsVersion}
 use Rattle.entries.specs.Index.{Index}
-use Rattle.entries.specs.Calls.{Seeks, Fetches}
+use Rattle.entries.specs.Calls.{Seeks, Follows, Fetches}
 use Rattle.world.specs.State.{WorldState}
 use Rattle.world.specs.Indexes.{Calls}
 use Rattle.row_search.specs.declared.scan.Scan.{Scan}
@@ -21,6 +21,11 @@ pub seek_called : {i j : ℕ} {from bound : List ℕ} {a : Move} {old new : Worl
 seek_called {i} {j} {from} {bound} {a} {old} {new} actor b bytes index answer c =
     recast (λ (m : Move) (before after : Index). Seeks actor bound before after m) i j a b old new index answer
     (subst (λ (f : List ℕ). Calls i (λ before after. Seeks actor f before after a) old new) bytes c)
+
+pub follow_called : {i j : ℕ} {a : Move} {old new : WorldState} (actor : ℕ) (b : Move) → i ≡ j → a ≡ b
+    → Calls i (λ before after. Follows actor before after a) old new → Calls j (λ before after. Follows actor before after b) old new
+follow_called {i} {j} {a} {old} {new} actor b index answer c =
+    recast (λ (m : Move) (before after : Index). Follows actor before after m) i j a b old new index answer c
 
 pub fetch_called : {i j : ℕ} {key part : List ℕ} {a : Move} {old new : WorldState} (actor : ℕ) (read : List ℕ) (b : Move) → key ≡ part → i ≡ j → a ≡ b
     → Calls i (λ before after. Fetches actor key read before after a) old new → Calls j (λ before after. Fetches actor part read before after b) old new

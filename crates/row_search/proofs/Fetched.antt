@@ -31,10 +31,7 @@ use Rattle.row_search.proofs.Coming.{passes_by}
 use Rattle.row_search.proofs.Ways.{at_key}
 use Rattle.row_search.proofs.Given.{searching_on}
 use Rattle.row_search.proofs.Exits.{same_scan, told_at, waits}
-use Rattle.row_search.proofs.Visited.{follows_on, is_walked, up_to_place}
-
-none_some : (row : List Value) (found : Option (List Value)) → found ≡ None → found ≡ Some row → ⊥
-none_some row found a b = cc
+use Rattle.row_search.proofs.Visited.{none_some, follows_on, is_walked, up_to_place}
 
 -- a value whose key has no record has no row
 no_row_at : (schema : Schema) (kept : ℕ → Option Kept) (pairs : List Pair) (versions_at : Value → List Version) (seen : ℕ → Bool) (value : Value)

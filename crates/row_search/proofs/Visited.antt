@@ -41,7 +41,7 @@ older_few : (versions : List Version) (most : ℕ) → length versions ≤ most 
 older_few [] most few = few
 older_few (version ∷ rest) most few = omega (arith, few)
 
-none_some : (row : List Value) (found : Option (List Value)) → found ≡ None → found ≡ Some row → ⊥
+pub none_some : (row : List Value) (found : Option (List Value)) → found ≡ None → found ≡ Some row → ⊥
 none_some row found a b = cc
 
 -- the row was come past, or kept

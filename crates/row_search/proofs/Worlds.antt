@@ -5,7 +5,7 @@ use Rattle.store_api.specs.declared.moves.Move.{Move}
 use Rattle.store_api.specs.declared.moves.Move.TheVariants.{At, End, Done, Step, Latch, Again, Full, TooDeep, Failed, Bad, NoMemory}
 use Rattle.entries.specs.Pairs.{Pair}
 use Rattle.entries.specs.Index.{Index, AreKept, IsAsBefore, IsGiven}
-use Rattle.entries.specs.Calls.{Delays, Seeks, Follows, Fetches}
+use Rattle.entries.specs.Calls.{Delays, Seeks, Fetches}
 use Rattle.row_versions.specs.Versions.{Versions, Stays}
 use Rattle.world.specs.State.{WorldState}
 use Rattle.world.specs.Indexes.{Calls}
@@ -62,20 +62,6 @@ seek_put_off actor from old new (Bad page rule) h not_at not_end = put_off actor
 seek_put_off actor from old new Done h not_at not_end = put_off actor old new Done h
 seek_put_off actor from old new (Full need free) h not_at not_end = put_off actor old new (Full need free) h
 seek_put_off actor from old new TooDeep h not_at not_end = put_off actor old new TooDeep h
-
-pub follow_put_off : (actor : ℕ) (old new : Index) (move : Move) → Follows actor old new move → ((key value : List ℕ) → move ≢ At key value) → move ≢ End
-    → IsPutOff actor old new move
-follow_put_off actor old new (At key value) h not_at not_end = absurd (not_at key value refl)
-follow_put_off actor old new End h not_at not_end = absurd (not_end refl)
-follow_put_off actor old new NoMemory h not_at not_end = record { as_before = h; waits = tt }
-follow_put_off actor old new Step h not_at not_end = put_off actor old new Step h
-follow_put_off actor old new (Latch by) h not_at not_end = put_off actor old new (Latch by) h
-follow_put_off actor old new Again h not_at not_end = put_off actor old new Again h
-follow_put_off actor old new Failed h not_at not_end = put_off actor old new Failed h
-follow_put_off actor old new (Bad page rule) h not_at not_end = put_off actor old new (Bad page rule) h
-follow_put_off actor old new Done h not_at not_end = put_off actor old new Done h
-follow_put_off actor old new (Full need free) h not_at not_end = put_off actor old new (Full need free) h
-follow_put_off actor old new TooDeep h not_at not_end = put_off actor old new TooDeep h
 
 pub fetch_put_off : (actor : ℕ) (key read : List ℕ) (old new : Index) (move : Move) → Fetches actor key read old new move → move ≢ Done → move ≢ End
     → IsPutOff actor old new move
