@@ -132,9 +132,6 @@ pub record LeavesAll (old new : WorldState) : Type 0 where
   pub rest : ChangesPairsAlone old new
 
 module _ (chains : Chains) (place : Place) (actor : ℕ) (undo : Undo) (room next : WorkRoom) (old new : WorldState) where
-  hindered_leaves : (why : Move) → IsHindered chains place actor undo room next old new why → LeavesAll old new
-  hindered_leaves why is = record { places = is.stays.places; versions = is.stays.versions; rest = is.stays.rest }
-
   goes_leaves : GoesOn chains place undo room next old new → LeavesAll old new
   goes_leaves goes =
       ⊎_elim
@@ -162,7 +159,7 @@ module _ (chains : Chains) (place : Place) (actor : ℕ) (undo : Undo) (room nex
     pub putting : IsPuttingBack chains place undo next new
 
   of_hindered : (why : Move) → IsHindered chains place actor undo room next old new why → StaysPutting
-  of_hindered why is = record { leaves = hindered_leaves why is; putting = is.holds }
+  of_hindered why is = record { leaves = record { places = is.stays.places; versions = is.stays.versions; rest = is.stays.rest }; putting = is.holds }
 
   of_step : PutsBack chains place actor undo room next old new Step → StaysPutting
   of_step (inl goes) = record { leaves = goes_leaves goes; putting = goes.holds }
