@@ -28,7 +28,7 @@ use Rattle.row_changes.specs.declared.entry_put.PutPhase.{PutPhase}
 use Rattle.row_changes.specs.declared.entry_put.PutPhase.TheVariants.{Look}
 use Rattle.row_changes.specs.declared.keys_change.KeysChange.{KeysChange}
 use Rattle.row_changes.specs.declared.key_entries.KeyEntries.{KeyEntries}
-use Rattle.row_changes.specs.declared.reached.Reached.TheVariants.{Went, Done, Hindered}
+use Rattle.row_changes.specs.declared.reached.Reached.TheVariants.{Done, Hindered}
 use Rattle.row_changes.specs.Pairs.{RowsStay, PutsPair, Hinders}
 use Rattle.row_changes.specs.Entries.{unmarked, marked, put_steps, GoesOnPutting, HindersEntry, PutsEntry}
 use Rattle.law_stored_rows.proofs.Pairs.{no_key}
