@@ -88,11 +88,8 @@ awaits_at actor index step old new in_index here = record { each = go }
         (λ apart. inl (sym (in_index.elsewhere i apart).awaited ∙ is)) (cases_eq i index)
 
 -- no index was called
-pub awaits_as_before : (actor index : ℕ) (old new : WorldState) → ((i : ℕ) → (new.indexes i).awaited ≡ (old.indexes i).awaited) → AwaitsAt actor index old new
-awaits_as_before actor index old new same = record { each = λ i by is. inl (sym (same i) ∙ is) }
-
 pub awaits_same : (actor index : ℕ) (old new : WorldState) → new.indexes ≡ old.indexes → AwaitsAt actor index old new
-awaits_same actor index old new same = awaits_as_before actor index old new (λ i. ap (λ (indexes : ℕ → Index). (indexes i).awaited) same)
+awaits_same actor index old new same = record { each = λ i by is. inl (ap (λ (indexes : ℕ → Index). (indexes i).awaited) (sym same) ∙ is) }
 
 -- a step that calls no index more
 pub awaits_then : (actor index : ℕ) (old mid new : WorldState) → AwaitsAt actor index old mid → new.indexes ≡ mid.indexes → AwaitsAt actor index old new
