@@ -1,5 +1,5 @@
 -- The keys of a table take a row over, step by step.
-use Rattle.std.proofs.Common.{false, ◌≡◌, ◌∙◌, ⊎_elim, inl, inr, sym, ap, subst, refl, ℕ, ◌≤◌, List, length, None, Some, slice_get, arith}
+use Rattle.std.proofs.Common.{false, ◌≡◌, ◌∙◌, ⊎_elim, inl, inr, sym, ap, subst, ℕ, ◌≤◌, List, length, None, Some, slice_get, arith}
 use Rattle.std.specs.Prelude.{All}
 use Rattle.inno_types.specs.declared.value.Value.{Value}
 use Rattle.inno_types.specs.declared.value.Column.{Column}
@@ -16,7 +16,7 @@ use Rattle.entries.specs.Calls.{Inserts}
 use Rattle.law_stored_rows.specs.Edits.{clustered_index}
 use Rattle.world.specs.State.{WorldState}
 use Rattle.world.specs.Stores.{StoreGoes}
-use Rattle.world.proofs.Stores.{store_stays, store_goes_on}
+use Rattle.world.proofs.Stores.{store_goes_on}
 use Rattle.world.specs.Indexes.{Changes}
 use Rattle.row_changes.specs.declared.keys_change.KeysChange.{KeysChange}
 use Rattle.row_changes.specs.declared.reached.Reached.TheVariants.{Went, Done}
@@ -25,7 +25,6 @@ use Rattle.row_changes.specs.Told.{HasRows}
 use Rattle.row_changes.specs.Keys.{IsChangingKeys, ChangesKeys}
 use Rattle.opened_world.specs.Laid.{PutsNewRecord}
 use Rattle.row_changes.specs.Awaited.{AwaitsIn, IsOfTable}
-use Rattle.row_changes.proofs.Awaited.{awaits_none_in}
 
 -- the bytes are the key of the row
 pub row_for : (schema : Schema) (row : List Value) (key : List ℕ) → FitsTable schema row → All Has64Bits row
@@ -68,17 +67,6 @@ pub record IsTaking (start : KeysChange) (old now : WorldState) (change : KeysCh
   pub awaits : AwaitsIn 0 change.table old now
   pub rest : now ≡ record old { indexes = now.indexes; versions = now.versions; paged = now.paged }
   pub later : StoreGoes old.paged now.paged
-
-pub taking_first : (start : KeysChange) (state : WorldState) (chains : Chains) → IsChangingKeys chains state start → IsTaking start state state start
-taking_first start state chains holds = record {
-  chains = chains;
-  holds = holds;
-  follows = λ those is. is;
-  table_is = refl;
-  awaits = awaits_none_in 0 start.table state;
-  rest = refl;
-  later = store_stays state.paged;
-}
 
 -- what two steps leave as it was
 rests : (old mid new : WorldState) → mid ≡ record old { indexes = mid.indexes; versions = mid.versions; paged = mid.paged }

@@ -20,7 +20,7 @@ use inno_db::{key_of_row, to_value};
 use inno_types::{Bytes, Row, Schema};
 use key_codec::put_key;
 use list_world::ListWorld;
-use row_changes::{KeysChange, Reached};
+use row_changes::{Came, KeysChange};
 use row_codec::encode;
 use std::alloc::Global;
 use store_api::{Move, NoMemory, Version};
@@ -133,10 +133,10 @@ pub fn enter_keys(
         put: None,
     };
     for _ in 0..u32::MAX {
-        match change.step(alloc, world, ACTOR) {
-            Reached::Went(next) => change = next,
-            Reached::Done => return Ok(()),
-            Reached::Hindered(..) => return Err(NoMemory),
+        match change.advance(alloc, world, ACTOR) {
+            Came::Went => {}
+            Came::Done => return Ok(()),
+            Came::Hindered(_) => return Err(NoMemory),
         }
     }
     Err(NoMemory)

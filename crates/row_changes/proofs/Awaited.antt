@@ -1,6 +1,6 @@
 -- Who is awaited after the calls of a world's indexes.
 use Rattle.std.proofs.Common.{◌≡◌, ◌⊎◌, ◌+◌, ap, inl, inr, ⊎_elim, ℕ, ◌≤◌, List, Option, Some, None, sym, subst, ◌∙◌, arith}
-use Rattle.std.specs.Prelude.{length, slice_get}
+use Rattle.std.specs.Prelude.{◌<◌, length, slice_get, IfSome}
 use Rattle.std.proofs.lemmas.Bool.{cases_eq}
 use Rattle.inno_types.specs.declared.value.Schema.{Schema}
 use Rattle.store_api.specs.declared.answers.Undo.{Undo}
@@ -22,7 +22,7 @@ use Rattle.row_changes.specs.declared.row_change.RowChange.{RowChange}
 use Rattle.row_changes.specs.declared.row_change.RowChange.TheVariants.{Record}
 use Rattle.row_changes.specs.Entering.{Enters}
 use Rattle.row_changes.specs.KeyEntries.{AreEntries}
-use Rattle.row_changes.specs.Keys.{IsChangingKeys}
+use Rattle.row_changes.specs.Keys.{IsEntering, IsChangingKeys}
 use Rattle.row_changes.specs.Rows.{IsChangingRow, table_of}
 use Rattle.row_changes.specs.Awaited.{AwaitsAt, AwaitsIn, IsOfTable}
 
@@ -88,11 +88,8 @@ awaits_at actor index step old new in_index here = record { each = go }
         (λ apart. inl (sym (in_index.elsewhere i apart).awaited ∙ is)) (cases_eq i index)
 
 -- no index was called
-pub awaits_as_before : (actor index : ℕ) (old new : WorldState) → ((i : ℕ) → (new.indexes i).awaited ≡ (old.indexes i).awaited) → AwaitsAt actor index old new
-awaits_as_before actor index old new same = record { each = λ i by is. inl (sym (same i) ∙ is) }
-
 pub awaits_same : (actor index : ℕ) (old new : WorldState) → new.indexes ≡ old.indexes → AwaitsAt actor index old new
-awaits_same actor index old new same = awaits_as_before actor index old new (λ i. ap (λ (indexes : ℕ → Index). (indexes i).awaited) same)
+awaits_same actor index old new same = record { each = λ i by is. inl (ap (λ (indexes : ℕ → Index). (indexes i).awaited) (sym same) ∙ is) }
 
 -- a step that calls no index more
 pub awaits_then : (actor index : ℕ) (old mid new : WorldState) → AwaitsAt actor index old mid → new.indexes ≡ mid.indexes → AwaitsAt actor index old new
@@ -120,43 +117,34 @@ pub key_of_table : (table which : ℕ) (schemas : List Schema) (schema : Schema)
 key_of_table table which schemas schema there within =
     record { schema = schema; there = there; which = 1 + which; within = omega arith; number = omega arith }
 
--- the entry that is being put stands in an index of the table
-pub keys_await : (chains : Chains) (actor : ℕ) (old new : WorldState) (change : KeysChange) (put : EntryPut)
-    → IsChangingKeys chains old (record change { put = Some put }) → AwaitsAt actor put.index old new → AwaitsIn actor change.table old new
-keys_await chains actor old new change put is awaits =
-    let within = is.put.within in
-    let number = is.put.index_is in
-    awaits_in actor put.index change.table old new
-    (subst (λ (k : ℕ). IsOfTable change.table old.schemas k) (sym number)
-    (key_of_table change.table change.which old.schemas is.schema is.table.there (omega (arith, within)))) awaits
+-- the index is that of a key
+key_awaits : (actor index table which : ℕ) (old new : WorldState) (schema : Schema) → slice_get old.schemas table ≡ Some schema → which < length schema.keys
+    → index ≡ key_index table which → AwaitsAt actor index old new → AwaitsIn actor table old new
+key_awaits actor index table which old new schema there within is awaits =
+    awaits_in actor index table old new
+    (subst (λ (k : ℕ). IsOfTable table old.schemas k) (sym is) (key_of_table table which old.schemas schema there (omega (arith, within)))) awaits
 
--- the same of one whose entry is being put
+-- the entry that is being put stands in an index of the table
 pub put_awaits : (chains : Chains) (actor : ℕ) (old new : WorldState) (change : KeysChange) (put : EntryPut) → change.put ≡ Some put
     → IsChangingKeys chains old change → AwaitsAt actor put.index old new → AwaitsIn actor change.table old new
 put_awaits chains actor old new change put at is awaits =
-    let Holds : Option EntryPut → Type 0 = λ mine. IsChangingKeys chains old (record change { put = mine }) in
-    keys_await chains actor old new change put (subst Holds at is) awaits
+    let Enters : Option EntryPut → Type 0 = λ mine. IfSome mine (IsEntering is.schema change.table change.which change.after change.key old) in
+    let e : Enters (Some put) = subst Enters at is.put in
+    key_awaits actor put.index change.table change.which old new is.schema is.table.there e.within e.index_is awaits
 
 pub mark_awaits : (chains : Chains) (actor index : ℕ) (old new : WorldState) (change : KeysChange) (entries : KeyEntries)
     → (is : IsChangingKeys chains old change) → AreEntries is.schema change.which change.before change.after change.key entries
     → index ≡ key_index change.table entries.which → AwaitsAt actor index old new → AwaitsIn actor change.table old new
 mark_awaits chains actor index old new change entries is are number awaits =
-    let within = are.within in
-    awaits_in actor index change.table old new
-    (subst (λ (k : ℕ). IsOfTable change.table old.schemas k) (sym number)
-    (key_of_table change.table entries.which old.schemas is.schema is.table.there (omega (arith, within)))) awaits
+    key_awaits actor index change.table entries.which old new is.schema is.table.there are.within number awaits
 
-pub record_awaits : (chains : Chains) (s : ℕ) (old new : WorldState) (change : RecordChange) (key : List ℕ) (after : Option (List Value))
-    → IsChangingRow s chains old (Record change key after) → AwaitsAt s (clustered_index change.table) old new → AwaitsIn s change.table old new
-record_awaits chains s old new change key after is awaits =
-    awaits_in s (clustered_index change.table) change.table old new (clustered_of_table change.table old.schemas is.0.schema is.0.table.there) awaits
-
--- the same of a change that is at its record
+-- a change that is at its record
 pub record_awaits_at : (chains : Chains) (s : ℕ) (old new : WorldState) (mine : RowChange) (change : RecordChange) (key : List ℕ) (after : Option (List Value))
     → mine ≡ Record change key after → IsChangingRow s chains old mine → AwaitsAt s (clustered_index change.table) old new → AwaitsIn s (table_of mine) old new
 record_awaits_at chains s old new mine change key after at is awaits =
     subst (λ (r : RowChange). IsChangingRow s chains old r → AwaitsIn s (table_of r) old new) (sym at)
-    (λ holds. record_awaits chains s old new change key after holds awaits) is
+    (λ holds. awaits_in s (clustered_index change.table) change.table old new
+    (clustered_of_table change.table old.schemas holds.0.schema holds.0.table.there) awaits) is
 
 -- a record that was put, and then the entry of the history
 pub entered_awaits : (s index : ℕ) (step : Index → Index → Type 0) (old mid new : WorldState) (change : Change) (rows : ℕ) (session : Session) (work : Work)

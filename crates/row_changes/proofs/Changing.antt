@@ -35,11 +35,7 @@ use Rattle.row_changes.specs.declared.row_edit.RowEdit.TheVariants.{Put, Remove}
 use Rattle.row_changes.specs.Edits.{IsPut, FindsRow, HasNoRow, LacksRow}
 use Rattle.law_stored_rows.specs.Records.{IsCodeOf}
 use Rattle.std.proofs.Common.{cond, Bool, true, false}
-use Rattle.row_changes.specs.declared.record_change.RecordReached.{RecordReached}
 use Rattle.row_changes.specs.declared.record_change.RecordReached.TheVariants.{Went, Hindered}
-use Rattle.row_changes.specs.declared.record_change.RecordCame.{RecordCame}
-use Rattle.row_changes.specs.declared.record_change.RecordCame.TheVariants as record_came
-use Rattle.row_changes.specs.InPlace.{record_reached}
 use Rattle.store_api.specs.declared.moves.Move.{Move}
 use Rattle.store_api.specs.declared.moves.Move.TheVariants as moves
 use Rattle.row_changes.proofs.Sessions.{one_session, aside_of_stay, same_pairs, same_versions, set_here, set_other}
@@ -325,7 +321,3 @@ module _ (s : ℕ) (old new : WorldState) (change : RecordChange) (p : IsChangin
 pub lacks_memory : (s : ℕ) (state : WorldState) (change : RecordChange) → IsChangingRecord s state change
     → ChangesRecord s state state change (Hindered change moves.NoMemory)
 lacks_memory s state change p = hindered s state state change p moves.NoMemory (same_rows state) (inl (record {}))
-
--- A step that was made where the change lies, and went on, hands the same on.
-pub handed_on : (next stands : RecordChange) (came : RecordCame) → came ≡ record_came.Went → next ≡ stands → record_reached next came ≡ Went stands
-handed_on next stands came went is = ap (record_reached next) went ∙ ap (λ (change : RecordChange). let reached : RecordReached = Went change in reached) is

@@ -28,11 +28,7 @@ use Rattle.row_changes.specs.declared.entry_put.PutPhase.{PutPhase}
 use Rattle.row_changes.specs.declared.entry_put.PutPhase.TheVariants.{Look}
 use Rattle.row_changes.specs.declared.keys_change.KeysChange.{KeysChange}
 use Rattle.row_changes.specs.declared.key_entries.KeyEntries.{KeyEntries}
-use Rattle.row_changes.specs.declared.reached.Reached.{Reached}
-use Rattle.row_changes.specs.declared.reached.Reached.TheVariants.{Went, Done, Hindered}
-use Rattle.row_changes.specs.declared.reached.Came.{Came}
-use Rattle.row_changes.specs.declared.reached.Came.TheVariants as came
-use Rattle.row_changes.specs.InPlace.{reached_at}
+use Rattle.row_changes.specs.declared.reached.Reached.TheVariants.{Done, Hindered}
 use Rattle.row_changes.specs.Pairs.{RowsStay, PutsPair, Hinders}
 use Rattle.row_changes.specs.Entries.{unmarked, marked, put_steps, GoesOnPutting, HindersEntry, PutsEntry}
 use Rattle.law_stored_rows.proofs.Pairs.{no_key}
@@ -450,7 +446,3 @@ pub for_its_schema : (result : Result (Option KeyEntries) NoMemory) (P : Schema 
     → found ≡ Some schema → IfOk result (P schema) → IfOk result (λ r. (s : Schema) → found ≡ Some s → P s r)
 for_its_schema (Ok r) P found schema is holds = λ s also. subst (λ (x : Schema). P x r) (one_found schema s is also) holds
 for_its_schema (Err e) P found schema is holds = record {}
-
--- A step that was made where the change lies, and went on, hands the same on.
-pub handed_on : (next stands : KeysChange) (how : Came) → how ≡ came.Went → next ≡ stands → reached_at next how ≡ Went stands
-handed_on next stands how went is = ap (reached_at next) went ∙ ap (λ (change : KeysChange). let reached : Reached KeysChange = Went change in reached) is

@@ -1,5 +1,5 @@
 -- What is known of a change of one entry between its steps, and what each step does.
-use Rattle.std.specs.Prelude.{◌≡◌, ℕ, ◌<◌, ◌≤◌, Bool, true, false, List, [], ◌∷◌, length, None, Some, is_some}
+use Rattle.std.specs.Prelude.{◌≡◌, ℕ, ◌<◌, ◌≤◌, Bool, true, false, List, [], ◌∷◌, length, None, Some, is_some, Result, Ok, Err}
 use Rattle.store_api.specs.declared.moves.Move.{Move}
 use Rattle.store_api.specs.declared.moves.Move.TheVariants.{End}
 use Rattle.entries.specs.Pairs.{value_of}
@@ -64,8 +64,7 @@ HindersEntry actor entry old new other = Hinders actor old new other
 pub record IsMarking (state : WorldState) (mark : EntryMark) : Type 0 where
   pub index_is : IsIndex state.schemas mark.index
 
-abbrev pub MarksEntry : ℕ → WorldState → WorldState → EntryMark → Reached EntryMark → Type 0
-MarksEntry actor old new mark (Went next) = ⊥
-MarksEntry actor old new mark Done = PutsPair mark.index mark.entry (Some marked) old new
-MarksEntry actor old new mark (Hindered same why) =
-    (same ≡ mark) × RowsStay old new × IsMarking new mark × HindersEntry actor mark.entry (old.indexes mark.index) (new.indexes mark.index) why
+abbrev pub MarksEntry : ℕ → WorldState → WorldState → EntryMark → Result (Unit {0}) Move → Type 0
+MarksEntry actor old new mark (Ok done) = PutsPair mark.index mark.entry (Some marked) old new
+MarksEntry actor old new mark (Err why) =
+    RowsStay old new × IsMarking new mark × HindersEntry actor mark.entry (old.indexes mark.index) (new.indexes mark.index) why

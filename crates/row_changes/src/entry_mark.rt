@@ -4,7 +4,6 @@ ghost use Rattle.std.specs.Prelude.{◌≡◌};
 ghost use Rattle.row_changes.specs.Entries.{IsMarking, MarksEntry};
 ghost use Rattle.row_changes.specs.Awaited.{AwaitsAt};
 
-use crate::reached::Reached;
 use inno_types::Bytes;
 use std::alloc::Global;
 use store_api::Move;
@@ -21,14 +20,14 @@ pub struct EntryMark {
 }
 
 impl EntryMark {
-    /// The one step.
-    pub fn step<W: World>(self, alloc: Global, world: &mut W, actor: u32) -> Reached<EntryMark>
-        requires { IsMarking (W.state world.old) self }
-        ensures marks { MarksEntry actor (W.state world.old) (W.state world.new) self result }
-        ensures awaits { AwaitsAt actor self.index (W.state world.old) (W.state world.new) }
+    /// The one step. An error tells which call was not done, and all is as it was.
+    pub fn step<W: World>(&self, alloc: Global, world: &mut W, actor: u32) -> Result<(), Move>
+        requires { IsMarking (W.state world.old) self.now }
+        ensures marks { MarksEntry actor (W.state world.old) (W.state world.new) self.now result }
+        ensures awaits { AwaitsAt actor self.now.index (W.state world.old) (W.state world.new) }
     {
         let Ok(value) = vec![in alloc; MARKED] else {
-            return Reached::Hindered(self, Move::NoMemory);
+            return Err(Move::NoMemory);
         };
         match world.replace(
             self.index,
@@ -37,8 +36,8 @@ impl EntryMark {
             &Bytes::from_vec(value),
             None,
         ) {
-            Move::Done => Reached::Done,
-            hindrance => Reached::Hindered(self, hindrance),
+            Move::Done => Ok(()),
+            hindrance => Err(hindrance),
         }
     }
 }

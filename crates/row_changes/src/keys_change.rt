@@ -8,12 +8,13 @@ ghost use Rattle.law_stored_rows.specs.Edits.{key_index};
 ghost use Rattle.row_changes.specs.KeyEntries.{StayBetween, AreEntries};
 ghost use Rattle.row_changes.specs.Awaited.{AwaitsIn};
 ghost use Rattle.row_changes.specs.Keys.{IsChangingKeys, ChangesKeys, keys_next};
+ghost use Rattle.row_changes.specs.declared.reached.Reached.TheVariants.{Went};
 ghost use Rattle.row_changes.specs.InPlace.{reached_at};
 
 use crate::entry_mark::EntryMark;
 use crate::entry_put::EntryPut;
 use crate::key_entries::{KeyEntries, index_of_key, next_entries};
-use crate::reached::{Came, Reached};
+use crate::reached::Came;
 use inno_types::{Bytes, Row};
 use std::alloc::Global;
 use store_api::{Move, NoMemory};
@@ -37,22 +38,6 @@ pub struct KeysChange {
 
 impl KeysChange {
     /// One step. It asks that nobody else changes rows between the steps.
-    pub fn step<W: World>(mut self, alloc: Global, world: &mut W, actor: u32) -> Reached<KeysChange>
-        requires { (chains : Chains) × IsChangingKeys chains (W.state world.old) self }
-        ensures changes { (chains : Chains) → IsChangingKeys chains (W.state world.old) self → ChangesKeys actor chains (W.state world.old) (W.state world.new) self result }
-        ensures awaits { AwaitsIn actor self.table (W.state world.old) (W.state world.new) }
-    {
-        match self.advance(alloc, world, actor) {
-            Came::Went => Reached::Went(self),
-            Came::Done => {
-                drop(self);
-                Reached::Done
-            }
-            Came::Hindered(why) => Reached::Hindered(self, why),
-        }
-    }
-
-    /// One step, made where the change lies.
     pub fn advance<W: World>(&mut self, alloc: Global, world: &mut W, actor: u32) -> Came
         requires { (chains : Chains) × IsChangingKeys chains (W.state world.old) self.old }
         ensures changes { (chains : Chains) → IsChangingKeys chains (W.state world.old) self.old → ChangesKeys actor chains (W.state world.old) (W.state world.new) self.old (reached_at self.new result) }
@@ -144,17 +129,15 @@ impl KeysChange {
     {
         let index = mark.index;
         match mark.step(alloc, world, actor) {
-            Reached::Done => self.next(index, which, new),
-            Reached::Hindered(_, why) => Came::Hindered(why),
-            Reached::Went(_) => unreachable!(),
+            Ok(()) => self.next(index, which, new),
+            Err(why) => Came::Hindered(why),
         }
     }
 
     /// The new row's entry comes next, or the next key where there is none.
     fn next(&mut self, index: u32, which: usize, entry: Option<Bytes>) -> Came
         requires { which < 4 }
-        ensures went { result ≡ Came.Went }
-        ensures next { self.new ≡ keys_next self.old index which entry }
+        ensures { reached_at self.new result ≡ Went (keys_next self.old index which entry) }
     {
         match entry {
             Some(entry) => {

@@ -2,7 +2,7 @@
 
 use store_api::Move;
 
-/// How far a step came.
+/// How far a step came, and the change as it is by then: what contracts say of a step.
 #[derive(Drop)]
 pub enum Reached<T> {
     /// Some steps are left.
@@ -13,7 +13,7 @@ pub enum Reached<T> {
     Hindered(T, Move),
 }
 
-/// The same of a step that is made where the change lies.
+/// What a step answers, which is made where the change lies.
 #[derive(Drop)]
 pub enum Came {
     Went,

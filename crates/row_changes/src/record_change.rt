@@ -88,8 +88,7 @@ impl RecordChange {
     }
 
     fn then(&mut self, stage: RecordStage) -> RecordCame
-        ensures went { result ≡ RecordCame.Went }
-        ensures then { self.new ≡ record self.old { stage = stage } }
+        ensures { record_reached self.new result ≡ RecordReached.Went (record self.old { stage = stage }) }
     {
         self.stage = stage;
         RecordCame::Went

@@ -40,7 +40,7 @@ impl RowChange {
         Ok(RowChange::Record(change, copy, after))
     }
 
-    /// One step, made where the change lies. It asks that nobody else changes rows between the steps.
+    /// One step. It asks that nobody else changes rows between the steps.
     pub fn advance<W: World>(&mut self, alloc: Global, world: &mut W, s: u32) -> Came
         requires { (chains : Chains) × IsChangingRow s chains (W.state world.old) self.old }
         ensures changes { (chains : Chains) → IsChangingRow s chains (W.state world.old) self.old → ChangesRow s chains (W.state world.old) (W.state world.new) self.old (reached_at self.new result) }

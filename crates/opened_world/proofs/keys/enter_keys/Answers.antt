@@ -4,14 +4,14 @@ use Rattle.opened_world.proofs.keys.enter_keys.Goals as goal
 
 pub returns-in-Done : goal.returns-in-Done
 returns-in-Done c = record {
-  rows = taken_rows _ (world_of c.args.world.now) (world_of c.loop.world) (world_of c.step.new.world) c.loop.change c.loop.invariant c.in-Done.ensures.changes;
-  awaits = same_table _ (world_of c.args.world.now) (world_of c.loop.world) (world_of c.step.new.world) c.loop.change c.loop.invariant c.in-Done.ensures.awaits;
-  rest = taken_rest _ (world_of c.args.world.now) (world_of c.loop.world) (world_of c.step.new.world) c.loop.change c.loop.invariant c.in-Done.ensures.changes;
-  later = taken_later _ (world_of c.args.world.now) (world_of c.loop.world) (world_of c.step.new.world) c.loop.change c.loop.invariant
+  rows = taken_rows _ (world_of c.args.world.now) (world_of c.loop.world) (world_of c.advance.new.world) c.loop.change c.loop.invariant c.in-Done.ensures.changes;
+  awaits = same_table _ (world_of c.args.world.now) (world_of c.loop.world) (world_of c.advance.new.world) c.loop.change c.loop.invariant c.in-Done.ensures.awaits;
+  rest = taken_rest _ (world_of c.args.world.now) (world_of c.loop.world) (world_of c.advance.new.world) c.loop.change c.loop.invariant c.in-Done.ensures.changes;
+  later = taken_later _ (world_of c.args.world.now) (world_of c.loop.world) (world_of c.advance.new.world) c.loop.change c.loop.invariant
       c.in-Done.ensures.changes;
 }
 
 pub loop-preserved : goal.loop-preserved
 loop-preserved c =
-    taking_next _ (world_of c.args.world.now) (world_of c.loop.world) (world_of c.step.new.world) c.loop.change c.loop.invariant c.in-Went.next
+    taking_next _ (world_of c.args.world.now) (world_of c.loop.world) (world_of c.advance.new.world) c.loop.change c.loop.invariant c.advance.new.self
     c.in-Went.ensures.changes c.in-Went.ensures.awaits

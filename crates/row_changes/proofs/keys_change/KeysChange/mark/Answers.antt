@@ -1,26 +1,26 @@
 use Rattle.row_changes.proofs.keys_change.KeysChange.mark.Goals as goal
 use Rattle.std.proofs.Common.{sym, subst, refl, Some}
 use Rattle.row_changes.specs.Keys.{ChangesKeys}
-use Rattle.row_changes.proofs.Keying.{handed_on, marked_on, mark_hindered}
+use Rattle.row_changes.proofs.Keying.{marked_on, mark_hindered}
 use Rattle.row_changes.proofs.Awaited.{mark_awaits}
 
-abbrev pub returns-in-Done-clause-changes : goal.returns-in-Done-clause-changes
-returns-in-Done-clause-changes g c = λ chains p.
+abbrev pub returns-in-Ok-clause-changes : goal.returns-in-Ok-clause-changes
+returns-in-Ok-clause-changes g c = λ chains p.
     subst (ChangesKeys c.args.actor chains (g.W.World.state c.args.world.now) (g.W.World.state c.step.new.world) c.args.self.now)
-    (sym (handed_on c.next.new.self _ c.next.result c.next.ensures.went c.next.ensures.next))
+    (sym c.next.ensures)
     (marked_on chains _ _ c.args.self.now p c.args.mark.index (record { which = c.args.which; old = Some c.args.mark.entry; new = c.args.new })
     c.args.mark.entry
     c.requires.none c.requires.index (c.requires.entries p.schema p.table.there) refl
-    (rw c.in-Done.is at c.step.ensures.marks))
+    c.in-Ok.ensures.marks)
 
-abbrev pub returns-in-Hindered-clause-changes : goal.returns-in-Hindered-clause-changes
-returns-in-Hindered-clause-changes g c = λ chains p.
-    let h = rw c.in-Hindered.is at c.step.ensures.marks in
-    mark_hindered chains _ _ c.args.self.now p c.args.actor c.args.mark.index c.args.which c.args.mark.entry c.in-Hindered.why c.requires.none
-    (c.requires.entries p.schema p.table.there).first.from_there c.requires.index h.1 h.3
+abbrev pub returns-clause-changes : goal.returns-clause-changes
+returns-clause-changes g c = λ chains p.
+    let h = c.in-Err.ensures.marks in
+    mark_hindered chains _ _ c.args.self.now p c.args.actor c.args.mark.index c.args.which c.args.mark.entry c.in-Err.why c.requires.none
+    (c.requires.entries p.schema p.table.there).first.from_there c.requires.index h.0 h.2
 
-pub returns-in-Hindered-clause-awaits : goal.returns-in-Hindered-clause-awaits
-returns-in-Hindered-clause-awaits g c =
+pub returns-clause-awaits : goal.returns-clause-awaits
+returns-clause-awaits g c =
     let p = c.requires.changing.1 in
     mark_awaits c.requires.changing.0 c.args.actor c.args.mark.index _ _ c.args.self.now
     (record { which = c.args.which; old = Some c.args.mark.entry; new = c.args.new }) p (c.requires.entries p.schema p.table.there) c.requires.index

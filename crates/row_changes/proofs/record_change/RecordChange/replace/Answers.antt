@@ -58,9 +58,6 @@ next_pointer-pointer-requires g c =
     let p = c.requires.changing in
     slice_get_within _ c.args.s p.session p.has_work.session_is
 
-abbrev pub returns-in_default-version-clause-changes : goal.returns-in_default-version-clause-changes
-returns-in_default-version-clause-changes g c = lacks_memory c.args.s _ c.args.self.now c.requires.changing
-
 pub returns-in-Done-clause-awaits : goal.returns-in-Done-clause-awaits
 returns-in-Done-clause-awaits g c =
     let p = c.requires.changing in
