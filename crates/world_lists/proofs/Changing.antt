@@ -153,15 +153,6 @@ pub nothing_after : (change : RowChange) → is_told change ≡ false → Nothin
 nothing_after (Record change key after) untold = refl
 nothing_after (Keys change) untold = absurd (false≢true (sym untold))
 
--- the history doesn't tell it where the lists show it as asked for
-untold_as_asked : (s : ℕ) (state : WorldState) (writer : Option ℕ) (desks : List Desk) (left : ℕ) (change : RowChange) (told : Change)
-    → doing_at s desks ≡ Changing change → asked (task_of s (lists_of state writer desks left).state) ≡ Some told → is_told change ≡ false
-untold_as_asked s state writer desks left (Record change key after) told at asks = refl
-untold_as_asked s state writer desks left (Keys change) told at asks =
-    absurd (
-    let none = ap asked (task_is s left state writer desks ∙ ap (shown state.schemas left) at) in
-    let clash = sym none ∙ asks in cc)
-
 -- ---- the table that a change finds
 
 pub one_there : (schemas : List Schema) (n : ℕ) {schema found : Schema} → slice_get schemas n ≡ Some schema → found ≡ slice_index_or schemas n found
@@ -391,12 +382,6 @@ module _ (s : ℕ) {old : WorldState} {writer : Option ℕ} {desks : List Desk} 
     step_stops asks asked_is is =
         subst (λ (o : Option Change). Turns s (left_by o) lists.state (seen_of undo.table room.stage new writer later).state) asked_is
         (subst (Changes s lists.state (seen_of undo.table room.stage new writer later).state) is step_shown.changes)
-
-  -- the history doesn't tell a change that was asked for
-  pub asked_untold : {change : RowChange} → doing_at s desks ≡ Changing change → {asks : Change} → asked (task_of s lists.state) ≡ Some asks
-      → is_told change ≡ false
-  asked_untold {change} at {asks} asked_is =
-      untold_as_asked s old writer desks left change asks at (ap (λ (l : Lists). asked (task_of s l.state)) view ∙ asked_is)
 
   module _ (changing : is_changing (task_of s lists.state) ≡ true) where
     -- who shows that it changes a row has a change under way
