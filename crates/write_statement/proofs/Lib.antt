@@ -1,12 +1,7 @@
 pub mod Moving
 mod Resting
-pub mod Writing
-pub mod Replies
-pub mod Ends
 pub mod Others
-pub mod MayReply
 pub mod Joining
-pub mod Own
 pub mod Found
 pub mod Plans
 pub mod TupleByTuple
