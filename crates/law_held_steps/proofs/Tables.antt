@@ -204,4 +204,3 @@ module _ (cuts : ℕ) (undo : UndoRoom) (room : WorkRoom) (old new : WorldState)
     where
       one_session : (session : Session) → IsSession t session new → session ≡ rooms.session_now
       one_session session has = let is = rooms.has.session_is in cc
-

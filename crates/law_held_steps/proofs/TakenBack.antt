@@ -302,8 +302,10 @@ module _ (s : ℕ) (old mid : WorldState) (writer : Option ℕ) (desks : List De
               search = subst (SearchHeld after new writer (cuts + 1) s) (sym gives.here) (record {});
             })
             (subst FitsThen (sym past_now) held.fits)
-            (rows_by_writer s writer after new (with_doing s Nothing desks) (read_into other) next Nothing by_me gives.here
-            (has_rows_left cut new left_rows after
-            (rows_cut s mid cut back_to.logged back_to.last.log back_to.last.before to_cut back after rows_mid), done.anew)) logs_now
+            (rows_by_writer s writer after new (with_doing s Nothing desks) (read_into other) next Nothing by_me gives.here (
+              has_rows_left cut new left_rows after
+                  (rows_cut s mid cut back_to.logged back_to.last.log back_to.last.before to_cut back after rows_mid),
+              done.anew,
+            )) logs_now
             (gives.count ∙ held.count ∙ ap length (sym names_now)) (subst (λ (n : List (List ℕ)). length n ≤ 68) (sym names_now) held.few)
             (omega (arith, held.cut, long)) (λ place. omega (arith, held.short place, popped_fewer back_to.place place held.chains after pops, long)) done.whole
