@@ -1,5 +1,6 @@
 #!/usr/bin/env bash
-# Times a load in transactions of 50,000 rows (one has 65,535 changes at most) and selects by key, by the built program and by sqlite3 in memory, and prints the ratio.
+# Times a load in transactions of 50,000 rows (one has 65,535 changes at most) and selects by key, by the built program and by sqlite3 in
+# memory, and prints the ratio (of instructions, with INSTRUCTIONS=1).
 # Use: bench/beside_sqlite.sh [ROWS [SELECTS]]      (INNOD names another program than crates/innod/out/innod)
 set -euo pipefail
 source "$(dirname "$0")/common.sh"
@@ -30,8 +31,8 @@ statements() {
     statements
 } >"$work/sqlite.sql"
 
-sqlite() { sqlite3 :memory: <"$work/sqlite.sql"; }
+sqlite() { "${counter[@]}" sqlite3 :memory: <"$work/sqlite.sql"; }
 
 ours="$(timed_script "$work/innod.sql")"
 theirs="$(timed sqlite)"
-awk -v a="$ours" -v b="$theirs" 'BEGIN { printf "innod %d ms, sqlite3 %d ms, ratio %.1f\n", a, b, a / b }'
+awk -v a="$ours" -v b="$theirs" -v unit="$unit" 'BEGIN { printf "innod %d, sqlite3 %d %s, ratio %.1f\n", a, b, unit, a / b }'

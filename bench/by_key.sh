@@ -1,5 +1,6 @@
 #!/usr/bin/env bash
-# Times single-row statements by key over a small table and over a large one, and prints ratios of times of this one run.
+# Times single-row statements by key over a small table and over a large one, and prints ratios of times of this one run (or of instructions,
+# with INSTRUCTIONS=1: a load of many rows takes longer than the statements, so that other work on the machine hides what they take).
 # Use: bench/by_key.sh [SMALL [LARGE [STATEMENTS]]]      (INNOD names another program than crates/innod/out/innod)
 set -euo pipefail
 source "$(dirname "$0")/common.sh"
@@ -34,10 +35,10 @@ load "$small" >"$work/small.sql"
 load "$large" >"$work/large.sql"
 few="$(timed_script "$work/small.sql")"
 many="$(timed_script "$work/large.sql")"
-echo "load of $small rows $few ms, of $large rows $many ms"
+echo "load of $small rows $few $unit, of $large rows $many"
 for kind in INSERT SELECT UPDATE DELETE LOOKUP; do
     a="$(cost "$kind" "$small" "$few")"
     b="$(cost "$kind" "$large" "$many")"
     awk -v kind="$kind" -v count="$count" -v a="$a" -v b="$b" \
-        'BEGIN { printf "%d of %-6s  small %d ms, large %d ms, ratio %s\n", count, kind, a, b, (a > 0 ? sprintf("%.2f", b / a) : "-") }'
+        'BEGIN { printf "%d of %-6s  small %d, large %d, ratio %s\n", count, kind, a, b, (a > 0 ? sprintf("%.2f", b / a) : "-") }'
 done

@@ -8,16 +8,30 @@ fi
 work="$(mktemp -d)"
 trap 'rm -rf "$work"' EXIT
 
+# With INSTRUCTIONS set, `valgrind` counts what a command does in place of the clock: thousands of instructions, the same in each run, whatever
+# else the machine does.
+unit=ms
+counter=()
+if [ -n "${INSTRUCTIONS:-}" ]; then
+    unit="thousand instructions"
+    counter=(valgrind --tool=callgrind --callgrind-out-file=/dev/null "--log-file=$work/counted")
+fi
+
 # Plays a script over the files of a new database.
 play() {
     rm -f "$work"/file.*
     "$innod" init "$work/file"
-    "$innod" play "$work/file" "$1"
+    "${counter[@]}" "$innod" play "$work/file" "$1"
 }
 
-# Milliseconds of a command, the least of three; what it printed last stands in $work/out.
+# Milliseconds of a command, the least of three (or instructions, counted once); what it printed last stands in $work/out.
 timed() {
     local best='' start end took
+    if [ -n "${INSTRUCTIONS:-}" ]; then
+        "$@" >"$work/out"
+        awk '/Collected/ { print int($4 / 1000) }' "$work/counted"
+        return
+    fi
     for _ in 1 2 3; do
         start="$(date +%s%N)"
         "$@" >"$work/out"
